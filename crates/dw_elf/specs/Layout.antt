@@ -1,0 +1,30 @@
+-- What the parts of a file's layout that code reads stand for.
+use Rattle.dw_model.specs.Reading.{start}
+use Rattle.dw_model.specs.Elf as model
+use Rattle.dw_elf.specs.declared.layout.FileHeader.{FileHeader}
+use Rattle.dw_elf.specs.declared.layout.SectionHeader.{SectionHeader}
+use Rattle.dw_elf.specs.declared.layout.Table.{Table}
+
+abbrev pub file_header_of : FileHeader → model.FileHeader
+file_header_of h = record {
+  magic = h.magic.now;
+  class = h.class;
+  encoding = h.encoding;
+  e_type = h.e_type;
+  e_shoff = h.e_shoff;
+  e_shentsize = h.e_shentsize;
+  e_shnum = h.e_shnum;
+  e_shstrndx = h.e_shstrndx;
+}
+
+abbrev pub section_header_of : SectionHeader → model.SectionHeader
+section_header_of h = record {
+  sh_name = h.sh_name;
+  sh_type = h.sh_type;
+  sh_offset = h.sh_offset;
+  sh_size = h.sh_size;
+  sh_link = h.sh_link;
+}
+
+abbrev pub table_shown : Table → model.Table
+table_shown t = record { headers = model.section_headers t.count (start t.headers.now); names = t.names.now }

@@ -1,0 +1,4 @@
+pub mod Name
+pub mod OpenFault
+pub mod Layout
+pub mod Elf

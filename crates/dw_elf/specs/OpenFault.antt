@@ -1,0 +1,41 @@
+-- What an error says of the file.
+use Rattle.std.specs.Prelude.{◌≡◌, ℕ, Option, Some, None, IsSome}
+use Rattle.dw_model.specs.Faults as model
+use Rattle.dw_model.specs.Faults.{Refusal}
+use Rattle.dw_elf.specs.declared.fault.OpenFault.{OpenFault}
+use Rattle.dw_elf.specs.declared.fault.OpenFault.TheVariants.{NotElf, NotElf64Little, Relocatable, SectionTable, SectionRange, Compressed, UnitHeader, WideFormat, AddressSize, Root, RootRanges, Memory}
+use Rattle.dw_elf.specs.Name.{text_of}
+
+-- the refusal that an error tells: want of memory tells none
+abbrev pub refusal_of : OpenFault → Option Refusal
+refusal_of NotElf = Some model.not_elf
+refusal_of NotElf64Little = Some model.not_elf64_little
+refusal_of Relocatable = Some model.relocatable
+refusal_of SectionTable = Some model.section_table
+refusal_of (SectionRange name) = Some (model.section_range (text_of name))
+refusal_of (Compressed name) = Some (model.compressed (text_of name))
+refusal_of (UnitHeader offset) = Some (model.unit_header offset)
+refusal_of (WideFormat offset) = Some (model.wide_format offset)
+refusal_of (AddressSize offset) = Some (model.address_size offset)
+refusal_of (Root offset) = Some (model.root offset)
+refusal_of (RootRanges offset) = Some (model.root_ranges offset)
+refusal_of Memory = None
+
+-- there is a refusal, and the error tells just that one
+abbrev pub Refuses : OpenFault → Option Refusal → Type 0
+Refuses fault refusal = IsSome refusal × (refusal_of fault ≡ refusal)
+
+-- the numbers of the errors
+abbrev pub number_of : OpenFault → ℕ
+number_of NotElf = 1
+number_of NotElf64Little = 2
+number_of Relocatable = 3
+number_of SectionTable = 4
+number_of (SectionRange name) = 5
+number_of (Compressed name) = 6
+number_of (UnitHeader offset) = 7
+number_of (WideFormat offset) = 8
+number_of (AddressSize offset) = 9
+number_of (Root offset) = 10
+number_of (RootRanges offset) = 11
+number_of Memory = 12

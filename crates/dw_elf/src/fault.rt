@@ -1,0 +1,72 @@
+//! Why a file is refused.
+
+ghost use Rattle.std.specs.Prelude.{◌≡◌};
+
+use crate::name::Name;
+use thiserror::Error;
+
+/// Why a file is refused. Of several reasons the first in this order is told, and of several units
+/// or sections the first that fails. Offsets count from the first byte of .debug_info.
+#[derive(Clone, Copy, Debug, PartialEq, Eq, Error)]
+pub enum OpenFault {
+    /// It has fewer bytes than a header, or doesn't begin as an ELF file does.
+    #[error("this is no ELF file")]
+    NotElf,
+    /// Its class isn't 64 bit, or its numbers aren't little-endian.
+    #[error("this ELF file isn't a 64-bit little-endian one")]
+    NotElf64Little,
+    /// It is a relocatable object: relocations aren't applied.
+    #[error("this is a relocatable object, which has to be linked first")]
+    Relocatable,
+    /// The section header table, or the section with the sections' names, can't be read.
+    #[error("the section header table can't be read")]
+    SectionTable,
+    /// The bytes of a section aren't all in the file.
+    #[error("the section {} runs past the end of the file", .0.text())]
+    SectionRange(Name),
+    /// A section is compressed.
+    #[error("the section {} is compressed", .0.text())]
+    Compressed(Name),
+    /// A unit's header can't be read, or its length runs past the section.
+    #[error("the header of the unit at {0:#x} can't be read")]
+    UnitHeader(u64),
+    /// A unit has the 64-bit DWARF format.
+    #[error("the unit at {0:#x} has the 64-bit format")]
+    WideFormat(u64),
+    /// A unit's addresses haven't 8 bytes.
+    #[error("the unit at {0:#x} has addresses that aren't of 8 bytes")]
+    AddressSize(u64),
+    /// A unit's first entry or its abbreviations can't be read.
+    #[error("the first entry of the unit at {0:#x} can't be read")]
+    Root(u64),
+    /// The ranges of a unit's first entry can't be read.
+    #[error("the ranges of the unit at {0:#x} can't be read")]
+    RootRanges(u64),
+    /// A growth of memory was refused. It says nothing of the file.
+    #[error("out of memory")]
+    Memory,
+}
+
+impl OpenFault {
+    ghost use Rattle.dw_elf.specs.OpenFault.{number_of};
+
+    /// The number of the reason, from 1 to 12.
+    pub fn number(&self) -> u8
+        ensures { result ≡ number_of self.now }
+    {
+        match self {
+            OpenFault::NotElf => 1,
+            OpenFault::NotElf64Little => 2,
+            OpenFault::Relocatable => 3,
+            OpenFault::SectionTable => 4,
+            OpenFault::SectionRange(_) => 5,
+            OpenFault::Compressed(_) => 6,
+            OpenFault::UnitHeader(_) => 7,
+            OpenFault::WideFormat(_) => 8,
+            OpenFault::AddressSize(_) => 9,
+            OpenFault::Root(_) => 10,
+            OpenFault::RootRanges(_) => 11,
+            OpenFault::Memory => 12,
+        }
+    }
+}

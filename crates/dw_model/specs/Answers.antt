@@ -1,0 +1,18 @@
+-- How a call's answer is what a definition gives.
+use Rattle.std.specs.Prelude.{◌≡◌, Option, Some, None, Result, Ok, Err}
+use Rattle.dw_model.specs.Reading.{Place}
+
+-- A call that reads at a place: it found what the definition finds there, and stands just past it; or it found nothing, and stands where it stood.
+abbrev pub Reads : {X Y : Type 0} → (X → Y) → Option X → Option (Y × Place) → Place → Place → Type 0
+Reads view None found old new = (found ≡ None) × (new ≡ old)
+Reads view (Some x) found old new = found ≡ Some (view x, new)
+
+-- the definition gives just this fault; want of memory, which is no fault of a file, isn't one
+abbrev pub Tells : {Y F : Type 0} → Option F → Result Y F → Type 0
+Tells None given = ⊥
+Tells (Some fault) given = given ≡ Err fault
+
+-- A call that takes no memory answers what the definition gives: its value, seen by `view`, or its fault, which `told` finds in the error.
+abbrev pub Gives : {X Y E F : Type 0} → (X → Y) → (E → Option F) → Result X E → Result Y F → Type 0
+Gives view told (Ok x) given = given ≡ Ok (view x)
+Gives view told (Err e) given = Tells (told e) given

@@ -1,0 +1,10 @@
+pub mod Options
+pub mod Results
+pub mod Reading
+pub mod Faults
+pub mod Answers
+pub mod Elf
+pub mod Section
+pub mod Unit
+pub mod Refusal
+pub mod Output

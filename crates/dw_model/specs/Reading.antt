@@ -1,0 +1,43 @@
+-- Reading bytes from the front: a value and the place just past it, or nothing.
+use Rattle.std.specs.Prelude.{ℕ, zero, suc, ◌+◌, List, [], ◌∷◌, length, take, drop, Option, Some, None, Result, Ok, nat_le, ◌==◌, if◌then◌else◌}
+use Rattle.std.specs.List.{position}
+use Rattle.std.specs.Option.{option_map_or}
+use Rattle.byteorder.specs.Endian.{little_number}
+use Rattle.dw_model.specs.Options as options
+use Rattle.dw_model.specs.Results.{◌>>=◌}
+
+-- where a reader stands in a piece of bytes: how many it has passed, and which are left
+pub record Place : Type 0 where
+  pub at : ℕ
+  pub left : List ℕ
+
+-- before the first of the bytes
+abbrev pub start : List ℕ → Place
+start bytes = record { at = 0; left = bytes }
+
+-- n bytes further on
+abbrev pub past : ℕ → Place → Place
+past n p = record { at = p.at + n; left = drop n p.left }
+
+-- an unsigned number of n bytes, the lowest first
+abbrev pub number_at : ℕ → Place → Option (ℕ × Place)
+number_at n p = if nat_le n (length p.left) then Some (little_number n p.left, past n p) else None
+
+-- the next n bytes
+abbrev pub bytes_at : ℕ → Place → Option (List ℕ × Place)
+bytes_at n p = if nat_le n (length p.left) then Some (take n p.left, past n p) else None
+
+-- a text: the bytes before the next zero byte, which is passed
+abbrev pub text_at : Place → Option (List ℕ × Place)
+text_at p = options.◌>>=◌ (position (λ b. b == 0) p.left) (λ n. Some (take n p.left, past (n + 1) p))
+
+-- The items that `next` gives one after the other, each from the state that the one before it left, until it gives none: at most `most` of them.
+unfoldable pub items_up_to : {S A E : Type 0} → (S → Result (Option A × S) E) → ℕ → S → Result (List A × S) E
+items_up_to next zero s = Ok ([], s)
+items_up_to next (suc most) s = do
+  found ← next s
+  option_map_or (λ item. items_up_to next most found.1 >>= λ others. Ok (item ∷ others.0, others.1)) found.0 (Ok ([], found.1))
+
+-- All of the items. Each takes a byte at least of those that are left, so there are no more items than bytes.
+abbrev pub items : {S A E : Type 0} → (S → List ℕ) → (S → Result (Option A × S) E) → S → Result (List A × S) E
+items left next s = items_up_to next (suc (length (left s))) s

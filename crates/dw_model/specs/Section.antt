@@ -1,0 +1,47 @@
+-- The sections of a file, and the conditions under which an ELF file is refused.
+use Rattle.std.specs.Prelude.{Bool, true, not, List, [], ◌∷◌, Option, Some, Result, Ok, Err, ok_or, is_some, option_map, unwrap_or, option_and_then, find, bytes_eq, ◌==◌, if◌then◌else◌, codes}
+use Rattle.std.specs.Option.{option_map_or}
+use Rattle.std.specs.Result.{result_unwrap_or, result_err}
+use Rattle.std.specs.Prelude.{ℕ}
+use Rattle.dw_model.specs.declared.elf.TheConstants.{ELFMAG, ELFCLASS64, ELFDATA2LSB, ET_REL}
+use Rattle.dw_model.specs.Results.{◌>>=◌, refuse_if, refuse_found}
+use Rattle.dw_model.specs.Faults.{Refusal, not_elf, not_elf64_little, relocatable, section_table, section_range}
+use Rattle.dw_model.specs.Elf.{Table, no_sections, file_header, table_at, header_named, contents}
+
+-- The table of a file of the kind that is read: an ELF64 file of little-endian numbers that is no relocatable object. Without e_shoff there are no sections (section 3).
+unfoldable pub table_of : List ℕ → Result Table Refusal
+table_of file = do
+  header ← ok_or (file_header file) not_elf
+  _ ← refuse_if (not (bytes_eq header.magic ELFMAG)) not_elf
+  _ ← refuse_if (not (header.class == ELFCLASS64)) not_elf64_little
+  _ ← refuse_if (not (header.encoding == ELFDATA2LSB)) not_elf64_little
+  _ ← refuse_if (header.e_type == ET_REL) relocatable
+  if header.e_shoff == 0 then Ok no_sections else ok_or (table_at file header) section_table
+
+-- the bytes that the first header of a name gives; none where there is no such header
+unfoldable pub section_in : List ℕ → Table → List ℕ → List ℕ
+section_in file table name = unwrap_or (option_and_then (contents file) (header_named name table)) []
+
+unfoldable pub section : List ℕ → List ℕ → List ℕ
+section file name = section_in file (result_unwrap_or (table_of file) no_sections) name
+
+-- the sections that are used, in the order in which they are tested (own)
+abbrev pub used_names : List (List ℕ)
+used_names =
+    codes ".debug_info" ∷ codes ".debug_abbrev" ∷ codes ".debug_line" ∷ codes ".debug_line_str"
+    ∷ codes ".debug_str" ∷ codes ".debug_str_offsets" ∷ codes ".debug_addr" ∷ codes ".debug_rnglists" ∷ []
+
+-- the first header of the name gives bytes that lie in the file, or there is none
+unfoldable pub lies_in : List ℕ → Table → List ℕ → Bool
+lies_in file table name = option_map_or (λ header. is_some (contents file header)) (header_named name table) true
+
+-- The table of a file that is accepted, or the first condition that it fails: those on its header and its table, then that each used section lies in the file.
+unfoldable pub accepted_table : List ℕ → Result Table Refusal
+accepted_table file = do
+  table ← table_of file
+  _ ← refuse_found section_range (find (λ name. not (lies_in file table name)) used_names)
+  Ok table
+
+-- the first condition that the ELF file fails
+abbrev pub elf_refusal : List ℕ → Option Refusal
+elf_refusal file = result_err (accepted_table file)
