@@ -1,5 +1,5 @@
 -- What an error says of the file.
-use Rattle.std.specs.Prelude.{◌≡◌, ℕ, Option, Some, None, IsSome}
+use Rattle.std.specs.Prelude.{◌≡◌, ℕ, Option, Some, None, IsSome, MatchOption}
 use Rattle.dw_model.specs.Faults as model
 use Rattle.dw_model.specs.Faults.{Refusal}
 use Rattle.dw_elf.specs.declared.fault.OpenFault.{OpenFault}
@@ -24,6 +24,10 @@ refusal_of Memory = None
 -- there is a refusal, and the error tells just that one
 abbrev pub Refuses : OpenFault → Option Refusal → Type 0
 Refuses fault refusal = IsSome refusal × (refusal_of fault ≡ refusal)
+
+-- the same of a call that takes memory: want of it may come in place of any answer
+abbrev pub RefusesUnlessMemory : OpenFault → Option Refusal → Type 0
+RefusesUnlessMemory fault refusal = MatchOption (refusal_of fault) (Unit {0}) (λ told. refusal ≡ Some told)
 
 -- the numbers of the errors
 abbrev pub number_of : OpenFault → ℕ

@@ -3,6 +3,7 @@
 ghost use Rattle.std.specs.Prelude.{◌≡◌};
 
 use crate::name::Name;
+use std::alloc::{AllocError, AllocFailed};
 use thiserror::Error;
 
 /// Why a file is refused. Of several reasons the first in this order is told, and of several units
@@ -68,5 +69,27 @@ impl OpenFault {
             OpenFault::RootRanges(_) => 11,
             OpenFault::Memory => 12,
         }
+    }
+}
+
+impl From<AllocError> for OpenFault {
+    ghost use Rattle.std.specs.Prelude.{◌≡◌};
+    ghost use Rattle.dw_elf.specs.declared.fault.OpenFault.TheVariants.{Memory};
+
+    ghost from_gives = { λ _ e. e ≡ Memory };
+
+    fn from(_error: AllocError) -> Self {
+        OpenFault::Memory
+    }
+}
+
+impl<T: Drop> From<AllocFailed<T>> for OpenFault {
+    ghost use Rattle.std.specs.Prelude.{◌≡◌};
+    ghost use Rattle.dw_elf.specs.declared.fault.OpenFault.TheVariants.{Memory};
+
+    ghost from_gives = { λ _ e. e ≡ Memory };
+
+    fn from(_error: AllocFailed<T>) -> Self {
+        OpenFault::Memory
     }
 }

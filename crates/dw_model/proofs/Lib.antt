@@ -1,2 +1,6 @@
+pub mod StepLemmas
+pub mod ItemsLemmas
+pub mod ReadingLemmas
+pub mod UnitLemmas
 pub mod Samples
 pub mod Rows

@@ -5,14 +5,14 @@ use Rattle.dw_model.specs.Reading.{items_up_to}
 use Rattle.dw_model.specs.Faults.{not_elf, section_table, unit_header, wide_format, address_size}
 use Rattle.dw_model.specs.Elf.{file_header, section_header_at, section_headers, contents, names_at, table_at, name_of, has_name, header_named}
 use Rattle.dw_model.specs.Section.{table_of, section_in, section, lies_in, accepted_table}
-use Rattle.dw_model.specs.Unit.{kept_unit, unit_of, piece_at, next_piece, units_of}
+use Rattle.dw_model.specs.Unit.{kept_unit, unit_of, unit_behind, piece_at, next_piece, cut_from}
 use Rattle.dw_model.specs.Refusal.{refusal}
 use Rattle.dw_model.specs.Output.{listing}
 use Rattle.dw_model.proofs.Samples.{hex, poke, smallest, inlined, mixed_versions}
 
 -- opens every definition that a row computes with
 on_samples : ℕ
-unfolding hex smallest inlined mixed_versions digits items_up_to file_header section_header_at section_headers contents names_at table_at name_of has_name header_named table_of section_in section lies_in accepted_table kept_unit unit_of piece_at next_piece units_of
+unfolding hex smallest inlined mixed_versions digits items_up_to file_header section_header_at section_headers contents names_at table_at name_of has_name header_named table_of section_in section lies_in accepted_table kept_unit unit_of unit_behind piece_at next_piece cut_from
 on_samples = 0
 
 inlined_length : length inlined ≡ 686

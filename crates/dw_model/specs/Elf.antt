@@ -3,7 +3,7 @@ use Rattle.std.specs.Prelude.{ℕ, zero, suc, ◌+◌, ◌*◌, ◌||◌, Bool, 
 use Rattle.std.specs.Option.{option_eq, option_map_or}
 use Rattle.dw_model.specs.declared.elf.TheConstants.{SHDR_SIZE, SHN_UNDEF, SHN_XINDEX, SHT_NOBITS}
 use Rattle.dw_model.specs.Options.{◌>>=◌, only_if}
-use Rattle.dw_model.specs.Reading.{Place, start, past, number_at, bytes_at, text_at}
+use Rattle.dw_model.specs.Reading.{Place, start, number_at, bytes_at, text_at}
 
 -- the fields of the file header that are used (section 3, Elf64_Ehdr); the first three stand in e_ident
 pub record FileHeader : Type 0 where

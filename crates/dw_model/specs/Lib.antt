@@ -1,6 +1,7 @@
 pub mod Options
 pub mod Results
 pub mod Reading
+pub mod InitialLength
 pub mod Faults
 pub mod Answers
 pub mod Elf

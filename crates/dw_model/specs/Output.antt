@@ -1,9 +1,8 @@
 -- The bytes that are written.
-use Rattle.std.specs.Prelude.{ℕ, false, List, ◌++◌, codes, decimal, flat_map, []}
+use Rattle.std.specs.Prelude.{ℕ, false, List, ◌++◌, codes, decimal, flat_map}
 use Rattle.std.specs.Fmt.{digits}
-use Rattle.std.specs.Result.{result_unwrap_or}
 use Rattle.dw_model.specs.Section.{section}
-use Rattle.dw_model.specs.Unit.{Kind, compile, partial, skeleton, skipped, DwarfUnit, units_of}
+use Rattle.dw_model.specs.Unit.{Kind, compile, partial, skeleton, skipped, DwarfUnit, units}
 
 -- a number in hexadecimal digits of lower case, without leading zeros
 abbrev pub hexadecimal : ℕ → List ℕ
@@ -26,4 +25,4 @@ unit_lines units = flat_map unit_line units
 
 -- what --units writes for an accepted file
 abbrev pub listing : List ℕ → List ℕ
-listing file = unit_lines (result_unwrap_or (units_of (section file (codes ".debug_info"))) [])
+listing file = unit_lines (units (section file (codes ".debug_info")))

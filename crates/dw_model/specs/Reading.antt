@@ -31,12 +31,16 @@ bytes_at n p = if nat_le n (length p.left) then Some (take n p.left, past n p) e
 abbrev pub text_at : Place → Option (List ℕ × Place)
 text_at p = options.◌>>=◌ (position (λ b. b == 0) p.left) (λ n. Some (take n p.left, past (n + 1) p))
 
+-- an item before the others
+abbrev pub onto : {S A E : Type 0} → A → Result (List A × S) E → Result (List A × S) E
+onto item read = read >>= λ others. Ok (item ∷ others.0, others.1)
+
 -- The items that `next` gives one after the other, each from the state that the one before it left, until it gives none: at most `most` of them.
 unfoldable pub items_up_to : {S A E : Type 0} → (S → Result (Option A × S) E) → ℕ → S → Result (List A × S) E
 items_up_to next zero s = Ok ([], s)
 items_up_to next (suc most) s = do
   found ← next s
-  option_map_or (λ item. items_up_to next most found.1 >>= λ others. Ok (item ∷ others.0, others.1)) found.0 (Ok ([], found.1))
+  option_map_or (λ item. onto item (items_up_to next most found.1)) found.0 (Ok ([], found.1))
 
 -- All of the items. Each takes a byte at least of those that are left, so there are no more items than bytes.
 abbrev pub items : {S A E : Type 0} → (S → List ℕ) → (S → Result (Option A × S) E) → S → Result (List A × S) E

@@ -1,5 +1,5 @@
 -- The sections of a file, and the conditions under which an ELF file is refused.
-use Rattle.std.specs.Prelude.{Bool, true, not, List, [], ◌∷◌, Option, Some, Result, Ok, Err, ok_or, is_some, option_map, unwrap_or, option_and_then, find, bytes_eq, ◌==◌, if◌then◌else◌, codes}
+use Rattle.std.specs.Prelude.{Bool, true, not, List, [], ◌∷◌, Option, Result, Ok, ok_or, is_some, unwrap_or, option_and_then, find, bytes_eq, ◌==◌, if◌then◌else◌, codes}
 use Rattle.std.specs.Option.{option_map_or}
 use Rattle.std.specs.Result.{result_unwrap_or, result_err}
 use Rattle.std.specs.Prelude.{ℕ}

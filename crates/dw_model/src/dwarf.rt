@@ -6,6 +6,9 @@ pub const DWARF_VERSION: u16 = 5;
 /// Bytes of an address on the machines that are read: `address_size` (section 7.5.1).
 pub const ADDRESS_SIZE: u8 = 8;
 
+/// Bytes of an offset in the 32-bit format (section 7.4).
+pub const OFFSET_SIZE_32: usize = 4;
+
 /// The least of the unit lengths that are reserved, and no length of the 32-bit format
 /// (section 7.4).
 pub const DW_LENGTH_RESERVED: u32 = 0xffff_fff0;

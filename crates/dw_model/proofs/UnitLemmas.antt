@@ -1,0 +1,86 @@
+-- The cut of .debug_info into units goes on by at least a byte with each piece.
+use Rattle.std.proofs.Common.{◌≡◌, ℕ, ◌<◌, ◌≤◌, Bool, true, false, cond, List, [], length, Option, Some, None, Result, Ok, Err, refl, ap, ◌∙◌, arith}
+use Rattle.std.specs.Prelude.{ok_or, filter_map, ◌==◌}
+use Rattle.std.specs.List.{cons_option}
+use Rattle.dw_model.specs.Results.{◌>>=◌}
+use Rattle.dw_model.specs.Reading.{Place, number_at, bytes_at, onto, items}
+use Rattle.dw_model.specs.InitialLength.{InitialLength, of_length, wide, reserved, initial_length_of, initial_length}
+use Rattle.dw_model.specs.Faults.{Refusal, unit_header}
+use Rattle.dw_model.specs.Unit.{DwarfUnit, unit_of, unit_behind, piece_at, next_piece, cut_from}
+use Rattle.dw_model.proofs.StepLemmas.{bind_ok, bind_some, ok_or-ok, ok_is}
+use Rattle.dw_model.proofs.ReadingLemmas.{number_at-took, bytes_at-took, took-left}
+use Rattle.dw_model.proofs.ItemsLemmas.{Advances, items-turn}
+
+abbrev Piece : Type 0
+Piece = Option DwarfUnit × Place
+
+-- where the unit of a length ends, whether it is padding or not
+end_is : (padding : Bool) (unit : Result DwarfUnit Refusal) (end : Place) (x : Piece) → cond padding (Ok (None, end)) (unit >>= λ u. Ok (Some u, end)) ≡ Ok x → end ≡ x.1
+end_is true unit end x e = cc
+end_is false (Ok u) end x e = cc
+end_is false (Err d) end x e = absurd cc
+
+unit_behind-left : (offset : ℕ) (n : InitialLength) (p : Place) (x : Piece) → unit_behind offset n p ≡ Ok x → length x.1.left ≤ length p.left
+unfolding unit_behind
+unit_behind-left offset reserved p x e = absurd cc
+unit_behind-left offset wide p x e = absurd cc
+unit_behind-left offset (of_length n size) p x e =
+    let b = bind_ok (ok_or (bytes_at n p) (unit_header offset)) (λ bytes. cond (n == 0) (Ok (None, bytes.1)) (unit_of (record { offset = offset; base = p.at; end = bytes.1.at }) size bytes.0 >>= λ unit. Ok (Some unit, bytes.1))) x e in
+    let took = bytes_at-took n p b.0 (ok_or-ok (bytes_at n p) (unit_header offset) b.0 b.1) in
+    let ends = end_is (n == 0) (unit_of (record { offset = offset; base = p.at; end = b.0.1.at }) size b.0.0) b.0.1 x b.2 in
+    let left : length b.0.1.left ≡ length x.1.left = ap (λ (q : Place). length q.left) ends in
+    omega (arith, took-left n p b.0.1 took)
+
+pub piece_at-left : (p : Place) (x : Piece) → piece_at p ≡ Ok x → length x.1.left < length p.left
+unfolding piece_at
+piece_at-left p x e =
+    let b = bind_ok (ok_or (initial_length p) (unit_header p.at)) (λ unit_length. unit_behind p.at unit_length.0 unit_length.1) x e in
+    let l = bind_some (number_at 4 p) (λ n. Some (initial_length_of n.0, n.1)) b.0 (ok_or-ok (initial_length p) (unit_header p.at) b.0 b.1) in
+    let took = number_at-took 4 p l.0 l.1 in
+    let same : length l.0.1.left ≡ length b.0.1.left = let e : l.0.1 ≡ b.0.1 = cc in ap (λ (q : Place). length q.left) e in
+    omega (arith, took-left 4 p l.0.1 took, unit_behind-left p.at b.0.0 b.0.1 x b.2)
+
+abbrev Next : Type 0
+Next = Option (Option DwarfUnit) × Place
+
+next_is : (ended : Bool) (p : Place) (piece : Result Piece Refusal) (x : Next) (item : Option DwarfUnit) → cond ended (Ok (None, p)) (piece >>= λ y. Ok (Some y.0, y.1)) ≡ Ok x → x.0 ≡ Some item → piece ≡ Ok (item, x.1)
+next_is true p piece x item e some =
+    let first : None ≡ Some item = ap (λ (y : Next). y.0) (ok_is (None, p) x e) ∙ some in
+    absurd cc
+next_is false p (Ok y) x item e some =
+    let first : Some y.0 ≡ Some item = ap (λ (z : Next). z.0) (ok_is (Some y.0, y.1) x e) ∙ some in
+    let second : y.1 ≡ x.1 = ap (λ (z : Next). z.1) (ok_is (Some y.0, y.1) x e) in
+    let unit : y.0 ≡ item = cc in
+    rw (← unit, ← second) refl
+next_is false p (Err d) x item e some = absurd cc
+
+pub pieces_advance : Advances (λ p. p.left) next_piece
+unfolding next_piece
+pieces_advance p item q e = piece_at-left p (item, q) (next_is (length p.left == 0) p (piece_at p) (Some item, q) item e refl)
+
+-- ---- the cut, a piece at a time
+
+-- the units of a piece and then others
+abbrev pub with_piece : Option DwarfUnit → Result (List DwarfUnit) Refusal → Result (List DwarfUnit) Refusal
+with_piece piece others = others >>= λ units. Ok (cons_option piece units)
+
+units_onto : (piece : Option DwarfUnit) (others : Result (List (Option DwarfUnit) × Place) Refusal) → (onto piece others >>= λ x. Ok (filter_map (λ piece. piece) x.0)) ≡ with_piece piece (others >>= λ x. Ok (filter_map (λ piece. piece) x.0))
+units_onto piece (Ok x) = refl
+units_onto piece (Err d) = refl
+
+next_piece-some : (p : Place) (x : Piece) → (length p.left == 0) ≡ false → piece_at p ≡ Ok x → next_piece p ≡ Ok (Some x.0, x.1)
+unfolding next_piece
+next_piece-some p x more e = rw (more, e) refl
+
+pub cut-piece : (p : Place) (x : Piece) → (length p.left == 0) ≡ false → piece_at p ≡ Ok x → cut_from p ≡ with_piece x.0 (cut_from x.1)
+unfolding cut_from
+cut-piece p x more e =
+    rw (items-turn next_piece (λ q. q.left) pieces_advance p, next_piece-some p x more e) (units_onto x.0 (items (λ q. q.left) next_piece x.1))
+
+pub cut-fault : (p : Place) (refusal : Refusal) → (length p.left == 0) ≡ false → piece_at p ≡ Err refusal → cut_from p ≡ Err refusal
+unfolding cut_from next_piece
+cut-fault p refusal more e = rw (items-turn next_piece (λ q. q.left) pieces_advance p, more, e) refl
+
+pub cut-end : (p : Place) → (length p.left == 0) ≡ true → cut_from p ≡ Ok []
+unfolding cut_from next_piece
+cut-end p ended = rw (items-turn next_piece (λ q. q.left) pieces_advance p, ended) refl

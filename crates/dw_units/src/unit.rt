@@ -1,0 +1,161 @@
+//! One unit of .debug_info: its header, by section 7.5.1 of DWARF 5.
+
+ghost use Rattle.std.specs.Prelude.{◌≡◌, ◌+◌, ◌<◌, ◌^◌, length, option_map};
+ghost use Rattle.dw_model.specs.declared.dwarf.TheConstants.{OFFSET_SIZE_32};
+ghost use Rattle.dw_model.specs.Unit as model;
+ghost use Rattle.dw_model.specs.Answers.{Gives};
+ghost use Rattle.dw_elf.specs.OpenFault.{refusal_of};
+ghost use Rattle.dw_units.specs.Unit.{kind_shown, unit_shown, extent_shown};
+
+use dw_bytes::Cursor;
+use dw_elf::OpenFault;
+use dw_model::dwarf::{
+    ADDRESS_SIZE, DW_LENGTH_64BIT, DW_LENGTH_RESERVED, DW_UT_COMPILE, DW_UT_PARTIAL,
+    DW_UT_SKELETON, DWARF_VERSION, DWO_ID_SIZE,
+};
+
+/// What is done with a unit. Compile and skeleton units answer addresses, partial ones are only
+/// targets of references, and all others are skipped: those of a version other than 5, type units
+/// and split units.
+#[derive(Clone, Copy, Debug, PartialEq, Eq)]
+pub enum Kind {
+    Compile,
+    Partial,
+    Skeleton,
+    Skipped,
+}
+
+/// A unit of .debug_info. Offsets count from the first byte of the section.
+#[derive(Clone, Copy, Debug, PartialEq, Eq)]
+pub struct Unit {
+    /// The offset of its first byte.
+    pub offset: u64,
+    /// The offset just past its last byte.
+    pub end: u64,
+    /// The version of the standard by which it is written.
+    pub version: u16,
+    pub kind: Kind,
+    /// Where its abbreviations begin in .debug_abbrev; 0 in a skipped unit.
+    pub debug_abbrev_offset: u64,
+    /// The offset of its first entry; its end in a skipped unit.
+    pub first_entry: u64,
+}
+
+/// Where the bytes behind a unit's length stand.
+#[derive(Clone, Copy)]
+pub struct Extent {
+    pub offset: u64,
+    pub base: u64,
+    pub end: u64,
+}
+
+impl Kind {
+    /// The kind of a unit of version 5 by its type (table 7.2).
+    fn of_type(unit_type: u8) -> Self
+        ensures { kind_shown result ≡ model.kind_of unit_type }
+    {
+        match unit_type {
+            DW_UT_COMPILE => Kind::Compile,
+            DW_UT_PARTIAL => Kind::Partial,
+            DW_UT_SKELETON => Kind::Skeleton,
+            _ => Kind::Skipped,
+        }
+    }
+
+    /// No entry of such a unit is read.
+    pub fn is_skipped(self) -> bool
+        ensures { result ≡ model.is_skipped (kind_shown self) }
+    {
+        matches!(self, Kind::Skipped)
+    }
+
+    /// Bytes of the `dwo_id` that ends the header.
+    fn dwo_id_size(self) -> usize
+        ensures { result ≡ model.dwo_id_size (kind_shown self) }
+    {
+        match self {
+            Kind::Skeleton => DWO_ID_SIZE,
+            Kind::Compile | Kind::Partial | Kind::Skipped => 0,
+        }
+    }
+}
+
+fn skipped_unit(extent: Extent, version: u16) -> Unit
+    ensures { unit_shown result ≡ model.skipped_unit (extent_shown extent) OFFSET_SIZE_32 version }
+{
+    Unit {
+        offset: extent.offset,
+        end: extent.end,
+        version,
+        kind: Kind::Skipped,
+        debug_abbrev_offset: 0,
+        first_entry: extent.end,
+    }
+}
+
+/// The header of a unit that isn't skipped, behind its type.
+#[tactic(auto, unfolding(dw_model::specs::Unit::kept_unit))]
+fn kept_unit(extent: Extent, kind: Kind, cursor: &mut Cursor<'_>) -> Result<Unit, OpenFault>
+    requires { extent.base + (cursor.old.at + length cursor.old.left) < 2 ^ 64 }
+    ensures { Gives unit_shown refusal_of result (model.kept_unit (extent_shown extent) OFFSET_SIZE_32 (kind_shown kind) cursor.old) }
+{
+    let fault = OpenFault::UnitHeader(extent.offset);
+    let address_size = cursor.u8().ok_or(fault)?;
+    let debug_abbrev_offset = cursor.u32().ok_or(fault)?;
+    cursor.take(kind.dwo_id_size()).ok_or(fault)?;
+    if address_size != ADDRESS_SIZE {
+        return Err(OpenFault::AddressSize(extent.offset));
+    }
+    Ok(Unit {
+        offset: extent.offset,
+        end: extent.end,
+        version: DWARF_VERSION,
+        kind,
+        debug_abbrev_offset: u64::from(debug_abbrev_offset),
+        first_entry: extent.base + cursor.at() as u64,
+    })
+}
+
+/// The unit whose bytes behind its length are these.
+#[tactic(auto, unfolding(dw_model::specs::Unit::unit_of))]
+fn unit_of(extent: Extent, bytes: &[u8]) -> Result<Unit, OpenFault>
+    requires { extent.base + length bytes.now < 2 ^ 64 }
+    ensures { Gives unit_shown refusal_of result (model.unit_of (extent_shown extent) OFFSET_SIZE_32 bytes.now) }
+{
+    let fault = OpenFault::UnitHeader(extent.offset);
+    let mut cursor = Cursor::new(bytes);
+    let version = cursor.u16().ok_or(fault)?;
+    if version != DWARF_VERSION {
+        return Ok(skipped_unit(extent, version));
+    }
+    let kind = Kind::of_type(cursor.u8().ok_or(fault)?);
+    if kind.is_skipped() {
+        return Ok(skipped_unit(extent, version));
+    }
+    kept_unit(extent, kind, &mut cursor)
+}
+
+/// The piece of .debug_info at the cursor, which goes just past it: a unit, or padding, which is
+/// none.
+#[tactic(auto, unfolding(dw_model::specs::Unit::piece_at, dw_model::specs::Unit::unit_behind))]
+pub fn piece(cursor: &mut Cursor<'_>) -> Result<Option<Unit>, OpenFault>
+    ensures { Gives (λ unit. (option_map unit_shown unit, cursor.new)) refusal_of result (model.piece_at cursor.old) }
+{
+    let offset = cursor.at() as u64;
+    let fault = OpenFault::UnitHeader(offset);
+    let unit_length = cursor.u32().ok_or(fault)?;
+    if unit_length == DW_LENGTH_64BIT {
+        return Err(OpenFault::WideFormat(offset));
+    }
+    if unit_length >= DW_LENGTH_RESERVED {
+        return Err(fault);
+    }
+    let base = cursor.at() as u64;
+    let bytes = cursor.take(unit_length as usize).ok_or(fault)?;
+    if unit_length == 0 {
+        return Ok(None);
+    }
+    let end = cursor.at() as u64;
+    let unit = unit_of(Extent { offset, base, end }, bytes)?;
+    Ok(Some(unit))
+}
