@@ -13,6 +13,7 @@ use dw_model::dwarf::{
     ADDRESS_SIZE, DW_LENGTH_64BIT, DW_LENGTH_RESERVED, DW_UT_COMPILE, DW_UT_PARTIAL,
     DW_UT_SKELETON, DWARF_VERSION, DWO_ID_SIZE,
 };
+use std::fmt;
 
 /// What is done with a unit. Compile and skeleton units answer addresses, partial ones are only
 /// targets of references, and all others are skipped: those of a version other than 5, type units
@@ -77,6 +78,24 @@ impl Kind {
             Kind::Skeleton => DWO_ID_SIZE,
             Kind::Compile | Kind::Partial | Kind::Skipped => 0,
         }
+    }
+}
+
+impl fmt::Display for Kind {
+    ghost use Rattle.std.specs.Prelude.{Some};
+    ghost use Rattle.dw_model.specs.Output.{kind_name};
+    ghost use Rattle.dw_units.specs.Unit.{kind_shown};
+
+    ghost output = { λ kind. Some (kind_name (kind_shown kind)) };
+
+    fn fmt<W: fmt::Write>(&self, f: &mut fmt::Formatter<W>) -> fmt::Result {
+        let name = match self {
+            Kind::Compile => "compile",
+            Kind::Partial => "partial",
+            Kind::Skeleton => "skeleton",
+            Kind::Skipped => "skipped",
+        };
+        write!(f, "{name}")
     }
 }
 

@@ -1,0 +1,152 @@
+//! The command line.
+
+ghost use Rattle.std.specs.Prelude.{◌≡◌, ◌≤◌, IfOk};
+ghost use Rattle.a2l.specs.Command.{IsCount};
+
+use clap::error::ErrorKind;
+use clap::{Arg, ArgAction, ArgMatches, Command};
+use std::alloc::{AllocError, AllocFailed, Global};
+use std::convert::AsStr;
+use thiserror::Error;
+
+/// The line that says how the program is called.
+pub const USAGE: &str = "usage: a2l -e FILE [-f] [-i] [-a] [--workers N] [--senders N] [--units] [ADDRESS..]\n";
+
+/// Workers that answer, where the command line doesn't say.
+const DEFAULT_WORKERS: u8 = 4;
+
+/// Senders that ask, where the command line doesn't say.
+const DEFAULT_SENDERS: u8 = 1;
+
+/// The most workers, and the most senders.
+const MOST_THREADS: u8 = 64;
+
+/// How addresses are answered.
+#[derive(Debug, Drop)]
+pub struct Options<'a> {
+    /// `-f`: the function of each frame is written.
+    pub functions: bool,
+    /// `-i`: all frames are written, and not the innermost alone.
+    pub inlines: bool,
+    /// `-a`: the address is written before its frames.
+    pub addresses: bool,
+    /// Threads that answer, 1 to 64.
+    pub workers: u8,
+    /// Threads that ask, 1 to 64.
+    pub senders: u8,
+    /// The addresses, as they were written. None: they are read from the input.
+    pub words: Vec<&'a str>,
+}
+
+/// What the program is to do.
+#[derive(Debug, Drop)]
+pub struct Job<'a> {
+    /// The path of the file.
+    pub file: &'a str,
+    /// `--units`: the units are listed, and no address is read.
+    pub units: bool,
+    pub options: Options<'a>,
+}
+
+/// Why a command line gives no job.
+#[derive(Clone, Copy, Debug, PartialEq, Eq, Error)]
+pub enum ParseFault {
+    /// It isn't of the form that the usage line shows.
+    #[error("the command line is refused")]
+    Refused,
+    #[error("out of memory")]
+    Memory,
+}
+
+impl From<AllocError> for ParseFault {
+    fn from(_error: AllocError) -> Self {
+        ParseFault::Memory
+    }
+}
+
+impl<T: Drop> From<AllocFailed<T>> for ParseFault {
+    fn from(_error: AllocFailed<T>) -> Self {
+        ParseFault::Memory
+    }
+}
+
+impl From<clap::Error> for ParseFault {
+    fn from(error: clap::Error) -> Self {
+        match error.kind() {
+            ErrorKind::OutOfMemory => ParseFault::Memory,
+            _ => ParseFault::Refused,
+        }
+    }
+}
+
+/// A word that is there or not.
+fn flag(alloc: Global, id: &'static str) -> Arg<'static> {
+    Arg::new(alloc, id).action(ArgAction::SetTrue)
+}
+
+/// A word with a value behind it.
+fn option(alloc: Global, id: &'static str) -> Arg<'static> {
+    Arg::new(alloc, id).action(ArgAction::Set)
+}
+
+/// The command line, as `clap` reads it.
+fn command<'a>(alloc: Global) -> Result<Command<'a>, AllocError> {
+    Command::new(alloc, "a2l")
+        .no_binary_name(true)
+        .disable_help_flag(true)
+        .disable_version_flag(true)
+        .arg(option(alloc, "file").short('e').required(true))?
+        .arg(flag(alloc, "functions").short('f'))?
+        .arg(flag(alloc, "inlines").short('i'))?
+        .arg(flag(alloc, "addresses").short('a'))?
+        .arg(option(alloc, "workers").long("workers"))?
+        .arg(option(alloc, "senders").long("senders"))?
+        .arg(flag(alloc, "units").long("units"))?
+        .arg(Arg::new(alloc, "words").action(ArgAction::Append).num_args(0..))
+}
+
+/// How many threads an option asks for.
+fn count(matches: &ArgMatches<'_>, id: &str, default: u8) -> Result<u8, ParseFault>
+    requires { IsCount default }
+    ensures { IfOk result IsCount }
+{
+    let Some(text) = matches.get_str(id) else {
+        return Ok(default);
+    };
+    match text.parse::<u8>() {
+        Ok(count) if count >= 1 && count <= MOST_THREADS => Ok(count),
+        _ => Err(ParseFault::Refused),
+    }
+}
+
+/// Reads a command line, whose words are without the program's own name.
+pub fn parse<'a, S: AsStr>(alloc: Global, words: &'a [S]) -> Result<Job<'a>, ParseFault>
+    ensures workers { IfOk result (λ job. IsCount job.options.workers) }
+    ensures senders { IfOk result (λ job. IsCount job.options.senders) }
+{
+    let command = command(alloc)?;
+    let matches = command.try_get_matches_from(words)?;
+    let Some(file) = matches.get_str("file") else {
+        return Err(ParseFault::Refused);
+    };
+    let workers = count(&matches, "workers", DEFAULT_WORKERS)?;
+    let senders = count(&matches, "senders", DEFAULT_SENDERS)?;
+    let words = match matches.get_strs("words") {
+        Some(words) => Vec::from_slice(alloc, words)?,
+        None => Vec::new(alloc),
+    };
+    let options = Options {
+        functions: matches.get_flag("functions"),
+        inlines: matches.get_flag("inlines"),
+        addresses: matches.get_flag("addresses"),
+        workers,
+        senders,
+        words,
+    };
+    let units = matches.get_flag("units");
+    Ok(Job {
+        file,
+        units,
+        options,
+    })
+}
