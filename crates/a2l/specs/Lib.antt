@@ -1,3 +1,3 @@
 pub mod Ends
-pub mod Listing
+pub mod Fault
 pub mod Command

@@ -1,5 +1,5 @@
 -- What an error says of the file.
-use Rattle.std.specs.Prelude.{◌≡◌, ℕ, Option, Some, None, IsSome, MatchOption}
+use Rattle.std.specs.Prelude.{◌≡◌, ℕ, List, codes, Option, Some, None, IsSome, MatchOption}
 use Rattle.dw_model.specs.Faults as model
 use Rattle.dw_model.specs.Faults.{Refusal}
 use Rattle.dw_elf.specs.declared.fault.OpenFault.{OpenFault}
@@ -43,3 +43,18 @@ number_of (AddressSize offset) = 9
 number_of (Root offset) = 10
 number_of (RootRanges offset) = 11
 number_of Memory = 12
+
+-- their names
+abbrev pub name_of : OpenFault → List ℕ
+name_of NotElf = codes "NotElf"
+name_of NotElf64Little = codes "NotElf64Little"
+name_of Relocatable = codes "Relocatable"
+name_of SectionTable = codes "SectionTable"
+name_of (SectionRange name) = codes "SectionRange"
+name_of (Compressed name) = codes "Compressed"
+name_of (UnitHeader offset) = codes "UnitHeader"
+name_of (WideFormat offset) = codes "WideFormat"
+name_of (AddressSize offset) = codes "AddressSize"
+name_of (Root offset) = codes "Root"
+name_of (RootRanges offset) = codes "RootRanges"
+name_of Memory = codes "Memory"

@@ -49,7 +49,7 @@ pub enum OpenFault {
 }
 
 impl OpenFault {
-    ghost use Rattle.dw_elf.specs.OpenFault.{number_of};
+    ghost use Rattle.dw_elf.specs.OpenFault.{number_of, name_of};
 
     /// The number of the reason, from 1 to 12.
     pub fn number(&self) -> u8
@@ -68,6 +68,26 @@ impl OpenFault {
             OpenFault::Root(_) => 10,
             OpenFault::RootRanges(_) => 11,
             OpenFault::Memory => 12,
+        }
+    }
+
+    /// The name of the reason.
+    pub fn name(&self) -> &'static str
+        ensures { result.now ≡ name_of self.now }
+    {
+        match self {
+            OpenFault::NotElf => "NotElf",
+            OpenFault::NotElf64Little => "NotElf64Little",
+            OpenFault::Relocatable => "Relocatable",
+            OpenFault::SectionTable => "SectionTable",
+            OpenFault::SectionRange(_) => "SectionRange",
+            OpenFault::Compressed(_) => "Compressed",
+            OpenFault::UnitHeader(_) => "UnitHeader",
+            OpenFault::WideFormat(_) => "WideFormat",
+            OpenFault::AddressSize(_) => "AddressSize",
+            OpenFault::Root(_) => "Root",
+            OpenFault::RootRanges(_) => "RootRanges",
+            OpenFault::Memory => "Memory",
         }
     }
 }
