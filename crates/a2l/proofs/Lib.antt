@@ -1,2 +1,3 @@
 pub mod WriteLemmas
 pub mod LineLemmas
+pub mod ListingLemmas

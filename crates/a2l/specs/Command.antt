@@ -1,6 +1,19 @@
 -- What a command line asks for.
-use Rattle.std.specs.Prelude.{ℕ, ◌≤◌}
+use Rattle.std.specs.Prelude.{◌≡◌, ◌≤◌, ℕ, List, Option, Some, None, Result, Ok, MatchResult}
+use Rattle.std.specs.Str.Parse.{IsNumeral, digits_value, without_leading_plus}
+use Rattle.a2l.specs.declared.command.ParseFault.{ParseFault}
+use Rattle.a2l.specs.declared.command.ParseFault.TheVariants.{Refused}
 
 -- a number of threads
 abbrev pub IsCount : ℕ → Type 0
 IsCount n = (1 ≤ n) × (n ≤ 64)
+
+-- the text writes a number of threads in decimal digits, before which a plus may stand
+abbrev pub WritesCount : List ℕ → Type 0
+WritesCount text = IsNumeral 10 (without_leading_plus text) × IsCount (digits_value 10 (without_leading_plus text))
+
+-- How many threads an option asks for: the number that its text writes, or the default where the option isn't there; any other text is refused.
+abbrev pub AsksFor : Option (List ℕ) → ℕ → Result ℕ ParseFault → Type 0
+AsksFor None default found = found ≡ Ok default
+AsksFor (Some text) default found =
+    MatchResult found (λ n. WritesCount text × (n ≡ digits_value 10 (without_leading_plus text))) (λ fault. (fault ≡ Refused) × ¬ (WritesCount text))

@@ -1,5 +1,5 @@
 -- What reads and writes do.
-use Rattle.std.specs.Prelude.{◌≡◌, ◌++◌, ◌<◌, ◌&&◌, not, ℕ, List, [], take, Option, Result, Ok, Err, ◌==◌, if◌then◌else◌}
+use Rattle.std.specs.Prelude.{◌≡◌, ◌++◌, ◌&&◌, not, ℕ, List, [], take, Option, Result, Ok, Err, ◌==◌, if◌then◌else◌}
 use Rattle.std.specs.Io.KnownBytes.{append_known}
 use Rattle.a2l.specs.declared.ends.Failed.{Failed}
 

@@ -1,3 +1,5 @@
 pub mod Ends
 pub mod Fault
 pub mod Command
+pub mod Conversions
+pub mod Listing

@@ -1,7 +1,8 @@
 //! The command line.
 
 ghost use Rattle.std.specs.Prelude.{◌≡◌, ◌≤◌, IfOk};
-ghost use Rattle.a2l.specs.Command.{IsCount};
+ghost use Rattle.clap.specs.Words.{first_value, found_of};
+ghost use Rattle.a2l.specs.Command.{IsCount, AsksFor};
 
 use clap::error::ErrorKind;
 use clap::{Arg, ArgAction, ArgMatches, Command};
@@ -10,7 +11,8 @@ use std::convert::AsStr;
 use thiserror::Error;
 
 /// The line that says how the program is called.
-pub const USAGE: &str = "usage: a2l -e FILE [-f] [-i] [-a] [--workers N] [--senders N] [--units] [ADDRESS..]\n";
+pub const USAGE: &str =
+    "usage: a2l -e FILE [-f] [-i] [-a] [--workers N] [--senders N] [--units] [ADDRESS..]\n";
 
 /// Workers that answer, where the command line doesn't say.
 const DEFAULT_WORKERS: u8 = 4;
@@ -102,13 +104,18 @@ fn command<'a>(alloc: Global) -> Result<Command<'a>, AllocError> {
         .arg(option(alloc, "workers").long("workers"))?
         .arg(option(alloc, "senders").long("senders"))?
         .arg(flag(alloc, "units").long("units"))?
-        .arg(Arg::new(alloc, "words").action(ArgAction::Append).num_args(0..))
+        .arg(
+            Arg::new(alloc, "words")
+                .action(ArgAction::Append)
+                .num_args(0..),
+        )
 }
 
 /// How many threads an option asks for.
 fn count(matches: &ArgMatches<'_>, id: &str, default: u8) -> Result<u8, ParseFault>
     requires { IsCount default }
-    ensures { IfOk result IsCount }
+    ensures asked { AsksFor (first_value (found_of matches.now) id.now) default result }
+    ensures bounds { IfOk result IsCount }
 {
     let Some(text) = matches.get_str(id) else {
         return Ok(default);

@@ -1,6 +1,6 @@
 //! What the program reads from and writes to, so that it can be run on anything.
 
-ghost use Rattle.std.specs.Prelude.{◌≡◌, ◌+◌, ◌≤◌, List, Option, ℕ, length, IfOk};
+ghost use Rattle.std.specs.Prelude.{◌≡◌, ◌+◌, ◌≤◌, List, Option, ℕ, length, IfOk, IfSome};
 ghost use Rattle.std.specs.Io.KnownBytes.{append_known, Consumes};
 ghost use Rattle.a2l.specs.Ends.{taken, failures_of, given};
 
@@ -23,8 +23,12 @@ pub enum LoadFault {
 
 /// What gives the bytes of a file by its path.
 pub trait Load {
+    /// The bytes of the file at a path, where they are known.
+    ghost known: { Self → List ℕ → Option (List ℕ) };
+
     /// All bytes of the file.
-    fn load(&mut self, path: &str) -> Result<Vec<u8>, LoadFault>;
+    fn load(&mut self, path: &str) -> Result<Vec<u8>, LoadFault>
+        ensures { IfOk result (λ bytes. IfSome (known self.old path.now) (λ file. bytes.items ≡ file)) };
 }
 
 /// Where input comes from.

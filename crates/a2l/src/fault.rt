@@ -1,13 +1,15 @@
 //! Why a run ends early, and what is told of it.
 
 ghost use Rattle.std.specs.Prelude.{◌≡◌, ◌⊎◌, IfOk, string_bytes};
-ghost use Rattle.a2l.specs.Fault.{subject_of, refusal_line};
+ghost use Rattle.std.specs.Cow.{cow_str_bytes};
+ghost use Rattle.a2l.specs.Fault.{subject_of, refusal_line, line_of, status_of, Tells, Reports};
 
 use crate::command::{ParseFault, USAGE};
 use crate::ends::{LoadFault, Sink};
-use crate::listing::write_all;
+use crate::writing::write_all;
 use dw_elf::OpenFault;
 use std::alloc::{AllocError, AllocFailed, Global};
+use std::borrow::CowStr;
 use thiserror::Error;
 
 /// Why input or output came to an end too early.
@@ -62,6 +64,11 @@ pub enum Fault {
 }
 
 impl From<ParseFault> for Fault {
+    ghost use Rattle.std.specs.Prelude.{◌≡◌};
+    ghost use Rattle.a2l.specs.Conversions.{fault_of_parse};
+
+    ghost from_gives = { λ fault made. made ≡ fault_of_parse fault };
+
     fn from(fault: ParseFault) -> Self {
         match fault {
             ParseFault::Refused => Fault::CommandLine,
@@ -71,6 +78,11 @@ impl From<ParseFault> for Fault {
 }
 
 impl From<LoadFault> for Fault {
+    ghost use Rattle.std.specs.Prelude.{◌≡◌};
+    ghost use Rattle.a2l.specs.Conversions.{fault_of_load};
+
+    ghost from_gives = { λ fault made. made ≡ fault_of_load fault };
+
     fn from(fault: LoadFault) -> Self {
         match fault {
             LoadFault::Device => Fault::File,
@@ -80,6 +92,11 @@ impl From<LoadFault> for Fault {
 }
 
 impl From<OpenFault> for Fault {
+    ghost use Rattle.std.specs.Prelude.{◌≡◌};
+    ghost use Rattle.a2l.specs.Conversions.{fault_of_open};
+
+    ghost from_gives = { λ fault made. made ≡ fault_of_open fault };
+
     fn from(fault: OpenFault) -> Self {
         match fault {
             OpenFault::Memory => Fault::Memory,
@@ -89,6 +106,11 @@ impl From<OpenFault> for Fault {
 }
 
 impl From<RunFault> for Fault {
+    ghost use Rattle.std.specs.Prelude.{◌≡◌};
+    ghost use Rattle.a2l.specs.Conversions.{fault_of_run};
+
+    ghost from_gives = { λ fault made. made ≡ fault_of_run fault };
+
     fn from(fault: RunFault) -> Self {
         match fault {
             RunFault::Read => Fault::Read,
@@ -99,6 +121,18 @@ impl From<RunFault> for Fault {
 }
 
 const OUT_OF_MEMORY: &str = "a2l: out of memory\n";
+
+impl Fault {
+    /// The status of the run.
+    fn status(&self) -> u8
+        ensures { result ≡ status_of self.now }
+    {
+        match self {
+            Fault::CommandLine | Fault::Refused(_) => 2,
+            Fault::File | Fault::Read | Fault::Write | Fault::Memory => 3,
+        }
+    }
+}
 
 /// What a refusal speaks of, with a blank before it: a section, the unit at an offset, or nothing.
 fn subject(alloc: Global, fault: &OpenFault) -> Result<String, AllocError>
@@ -135,27 +169,34 @@ fn refusal_line(alloc: Global, fault: &OpenFault) -> Result<String, AllocError>
     format!(in alloc; "a2l: file refused: {number} {name}{subject}\n")
 }
 
+/// The text that tells a fault, and the fault that it tells: want of memory, where the text itself
+/// couldn't be made.
+fn told(alloc: Global, fault: Fault) -> (Fault, CowStr<'static>)
+    ensures line { cow_str_bytes result.1 ≡ line_of result.0 }
+    ensures fault { (result.0 ≡ fault) ⊎ (result.0 ≡ Fault.Memory) }
+{
+    let line = match fault {
+        Fault::CommandLine => USAGE,
+        Fault::Refused(refusal) => {
+            return match refusal_line(alloc, &refusal) {
+                Ok(line) => (fault, CowStr::Owned(line)),
+                Err(AllocError) => (Fault::Memory, CowStr::Borrowed(OUT_OF_MEMORY)),
+            };
+        }
+        Fault::File => "a2l: cannot read file\n",
+        Fault::Read => "a2l: read failed\n",
+        Fault::Write => "a2l: write failed\n",
+        Fault::Memory => OUT_OF_MEMORY,
+    };
+    (fault, CowStr::Borrowed(line))
+}
+
 /// Tells a fault on the error stream, and answers the status of the run. A failure of that stream
 /// changes no status.
 pub fn report<E: Sink>(alloc: Global, errors: &mut E, fault: Fault) -> u8
-    ensures { (result ≡ 2) ⊎ (result ≡ 3) }
+    ensures { Reports fault result (E.told errors.old) (E.told errors.new) (E.failures errors.old) (E.failures errors.new) }
 {
-    match fault {
-        Fault::CommandLine => told(errors, USAGE, 2),
-        Fault::Refused(fault) => match refusal_line(alloc, &fault) {
-            Ok(line) => told(errors, line.as_str(), 2),
-            Err(AllocError) => told(errors, OUT_OF_MEMORY, 3),
-        },
-        Fault::File => told(errors, "a2l: cannot read file\n", 3),
-        Fault::Read => told(errors, "a2l: read failed\n", 3),
-        Fault::Write => told(errors, "a2l: write failed\n", 3),
-        Fault::Memory => told(errors, OUT_OF_MEMORY, 3),
-    }
-}
-
-fn told<E: Sink>(errors: &mut E, line: &str, status: u8) -> u8
-    ensures { result ≡ status }
-{
-    let _ = write_all(errors, line.as_bytes());
-    status
+    let (told, line) = told(alloc, fault);
+    let _ = write_all(errors, line.as_str().as_bytes());
+    told.status()
 }

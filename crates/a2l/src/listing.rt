@@ -1,37 +1,20 @@
-//! The lines of `--units`, and writing a text whole.
+//! The lines of `--units`.
 
-ghost use Rattle.std.specs.Prelude.{◌≡◌, ◌≢◌, ◌++◌, ◌<◌, ◌≤◌, Err, OnOk, OnErr, IfOk, IsErrOf, string_bytes};
+ghost use Rattle.std.specs.Prelude.{◌≡◌, ◌≢◌, ◌++◌, ◌<◌, None, Err, OnOk, OnErr, IfOk, IfErr, IsErrOf, string_bytes};
 ghost use Rattle.std.specs.Io.KnownBytes.{append_known};
 ghost use Rattle.dw_model.specs.Unit as model;
-ghost use Rattle.dw_model.specs.Output.{unit_line, unit_lines};
+ghost use Rattle.dw_model.specs.Refusal.{refusal};
+ghost use Rattle.dw_model.specs.Output.{unit_line, unit_lines, listing};
 ghost use Rattle.dw_units.specs.Unit.{unit_shown};
 ghost use Rattle.a2l.specs.Ends.{WritesBeginning};
+ghost use Rattle.a2l.specs.Fault.{ListFails, IsRefused};
 
 use crate::ends::{Failed, Sink};
-use crate::fault::RunFault;
+use crate::fault::{Fault, RunFault};
+use crate::writing::write_all;
+use dw_elf::Elf;
 use dw_units::{Unit, Units};
 use std::alloc::{AllocError, Global};
-
-/// Writes all of a text.
-///
-/// A write that takes nothing of what is left is a failure. After a failure a beginning of the text
-/// was written.
-pub fn write_all<W: Sink>(writer: &mut W, text: &[u8]) -> Result<(), Failed>
-    ensures written { OnOk result (W.told writer.new ≡ append_known (W.told writer.old) text.now) }
-    ensures failed { OnErr result (W.failures writer.old < W.failures writer.new) }
-    ensures beginning { OnErr result (WritesBeginning (W.told writer.old) (W.told writer.new) text.now) }
-    ensures counted { W.failures writer.old ≤ W.failures writer.new }
-{
-    let mut left = text;
-    while !left.is_empty() {
-        let count = writer.write(left)?;
-        if count == 0 {
-            return Err(Failed);
-        }
-        left = left.split_at(count).1;
-    }
-    Ok(())
-}
 
 /// Adds the line of a unit to a text.
 fn push_line(text: &mut String, unit: &Unit) -> Result<(), AllocError>
@@ -57,11 +40,7 @@ fn listing(alloc: Global, units: &Units<'_>) -> Result<String, AllocError>
 /// Writes the lines of `--units`: one for each unit, in order of offset.
 ///
 /// After an error a beginning of them was written.
-pub fn list_units<W: Sink>(
-    alloc: Global,
-    writer: &mut W,
-    units: &Units<'_>,
-) -> Result<(), RunFault>
+pub fn list_units<W: Sink>(alloc: Global, writer: &mut W, units: &Units<'_>) -> Result<(), RunFault>
     ensures written { OnOk result (W.told writer.new ≡ append_known (W.told writer.old) (unit_lines (model.units units.now))) }
     ensures beginning { OnErr result (WritesBeginning (W.told writer.old) (W.told writer.new) (unit_lines (model.units units.now))) }
     ensures write { IsErrOf result RunFault.Write → W.failures writer.old < W.failures writer.new }
@@ -73,4 +52,18 @@ pub fn list_units<W: Sink>(
         Ok(()) => Ok(()),
         Err(Failed) => Err(RunFault::Write),
     }
+}
+
+/// Lists the units of a file.
+pub fn list_file<W: Sink>(alloc: Global, writer: &mut W, file: &[u8]) -> Result<(), Fault>
+    ensures listed { OnOk result (refusal file.now ≡ None) }
+    ensures written { OnOk result (W.told writer.new ≡ append_known (W.told writer.old) (listing file.now)) }
+    ensures beginning { OnErr result (WritesBeginning (W.told writer.old) (W.told writer.new) (listing file.now)) }
+    ensures fault { IfErr result (λ fault. ListFails fault (refusal file.now) (W.failures writer.old) (W.failures writer.new)) }
+    ensures refused { IfErr result (λ fault. IsRefused fault → writer.new ≡ writer.old) }
+{
+    let elf = Elf::open(file)?;
+    let units = Units::read(alloc, &elf)?;
+    list_units(alloc, writer, &units)?;
+    Ok(())
 }

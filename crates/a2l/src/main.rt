@@ -8,6 +8,7 @@ mod fault;
 mod listing;
 mod real;
 mod run;
+mod writing;
 
 ghost use Rattle.std.specs.Prelude.{◌≡◌, ◌<◌};
 
@@ -15,12 +16,11 @@ use crate::count::Count;
 use crate::fault::{Fault, report};
 use crate::real::{Disk, Stream};
 use crate::run::run;
-use std::env;
-use std::io;
 use std::io::{ErrorKind, Lock};
 use std::marker::Brand;
 use std::process::ExitCode;
 use std::sync::ledger::{Blank, Ledger};
+use std::{env, io};
 
 /// The words of the command line, without the program's own name.
 fn words(rt: &HostRuntime) -> Result<Vec<String>, Fault> {
@@ -77,3 +77,6 @@ fn main(rt: HostRuntime) -> ExitCode {
     let status = served::<Brand, Brand, Brand>(&rt, Blank::new(1), Blank::new(1), Blank::new(1));
     ExitCode::from(status)
 }
+
+#[cfg(test)]
+mod tests;

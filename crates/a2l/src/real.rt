@@ -16,6 +16,8 @@ pub struct Disk<'r, R> {
 }
 
 impl<R: Files + AllocGlobal> Load for Disk<'_, R> {
+    ghost known = { λ _ _. None };
+
     fn load(&mut self, path: &str) -> Result<Vec<u8>, LoadFault> {
         match fs::read(self.rt, path) {
             Ok(bytes) => Ok(bytes),

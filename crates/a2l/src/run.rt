@@ -1,13 +1,15 @@
 //! The whole program, over any ends.
 
-ghost use Rattle.std.specs.Prelude.{◌≤◌};
+ghost use Rattle.std.specs.Prelude.{◌≡◌, ◌≢◌, ◌<◌, ◌≤◌, [], OnOk, IsErrOf};
+ghost use Rattle.std.specs.Io.KnownBytes.{append_known};
+ghost use Rattle.a2l.specs.Fault.{usage_line, EndsBadly};
+ghost use Rattle.a2l.specs.Listing.{ListsSome};
 
 use crate::command::{USAGE, parse};
 use crate::ends::{Failed, Load, Sink, Source};
 use crate::fault::{Fault, report};
-use crate::listing::{list_units, write_all};
-use dw_elf::Elf;
-use dw_units::Units;
+use crate::listing::list_file;
+use crate::writing::write_all;
 use std::alloc::Global;
 use std::convert::AsStr;
 
@@ -22,7 +24,11 @@ pub fn run<S: AsStr, L: Load, R: Source, W: Sink, E: Sink>(
     writer: &mut W,
     errors: &mut E,
 ) -> u8
-    ensures { result ≤ 3 }
+    ensures status { result ≤ 3 }
+    ensures no_words { words.now ≡ [] → result ≡ 0 → W.told writer.new ≡ append_known (W.told writer.old) usage_line }
+    ensures listed { words.now ≢ [] → result ≡ 0 → ListsSome (L.known loader.old) (W.told writer.old) (W.told writer.new) }
+    ensures well { result ≡ 0 → errors.new ≡ errors.old }
+    ensures badly { result ≢ 0 → EndsBadly result (E.told errors.old) (E.told errors.new) (E.failures errors.old) (E.failures errors.new) }
 {
     match answer(alloc, words, loader, reader, writer) {
         Ok(()) => 0,
@@ -37,7 +43,11 @@ fn answer<S: AsStr, L: Load, R: Source, W: Sink>(
     loader: &mut L,
     _reader: &mut R,
     writer: &mut W,
-) -> Result<(), Fault> {
+) -> Result<(), Fault>
+    ensures no_words { words.now ≡ [] → OnOk result (W.told writer.new ≡ append_known (W.told writer.old) usage_line) }
+    ensures listed { words.now ≢ [] → OnOk result (ListsSome (L.known loader.old) (W.told writer.old) (W.told writer.new)) }
+    ensures write { IsErrOf result Fault.Write → W.failures writer.old < W.failures writer.new }
+{
     if words.is_empty() {
         return match write_all(writer, USAGE.as_bytes()) {
             Ok(()) => Ok(()),
@@ -49,8 +59,5 @@ fn answer<S: AsStr, L: Load, R: Source, W: Sink>(
         return Err(Fault::CommandLine);
     }
     let file = loader.load(job.file)?;
-    let elf = Elf::open(&file)?;
-    let units = Units::read(alloc, &elf)?;
-    list_units(alloc, writer, &units)?;
-    Ok(())
+    list_file(alloc, writer, &file)
 }

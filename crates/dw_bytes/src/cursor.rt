@@ -15,7 +15,7 @@ use std::marker::Model;
 #[derive(Drop)]
 pub struct Cursor<'a> {
     left: &'a [u8],
-    at: usize,
+    passed: usize,
 }
 
 impl<'a> Model for Cursor<'a> {
@@ -24,9 +24,9 @@ impl<'a> Model for Cursor<'a> {
 
     ghost Value = { Place };
 
-    ghost view = { λ c. record { at = c.at; left = c.left.now } };
+    ghost view = { λ c. record { at = c.passed; left = c.left.now } };
 
-    ghost invariant = { λ c. c.at + length c.left.now < 2 ^ 64 };
+    ghost invariant = { λ c. c.passed + length c.left.now < 2 ^ 64 };
 }
 
 impl<'a> Cursor<'a> {
@@ -34,7 +34,10 @@ impl<'a> Cursor<'a> {
     pub fn new(bytes: &'a [u8]) -> Self
         ensures { result ≡ start bytes.now }
     {
-        Cursor { left: bytes, at: 0 }
+        Cursor {
+            left: bytes,
+            passed: 0,
+        }
     }
 
     /// How many bytes it has passed: the offset of the next byte from the first of those that
@@ -42,7 +45,7 @@ impl<'a> Cursor<'a> {
     pub fn at(&self) -> usize
         ensures { result ≡ self.now.at }
     {
-        self.at
+        self.passed
     }
 
     /// How many bytes are left.
@@ -56,63 +59,45 @@ impl<'a> Cursor<'a> {
     pub fn u8(&mut self) -> Option<u8>
         ensures { Reads (λ x. x) result (number_at 1 self.old) self.old self.new }
     {
-        let left = self.left;
-        let (first, left) = left.split_first()?;
-        self.left = left;
-        self.at += 1;
-        Some(*first)
+        let byte = self.take(1)?;
+        Some(byte[0])
     }
 
     /// An unsigned number of two bytes, the lowest first. `None` where fewer are left.
     pub fn u16(&mut self) -> Option<u16>
         ensures { Reads (λ x. x) result (number_at 2 self.old) self.old self.new }
     {
-        let left = self.left;
-        if left.len() < 2 {
-            return None;
-        }
-        self.left = &left[2..];
-        self.at += 2;
-        Some(LittleEndian::read_u16(left))
+        let bytes = self.take(2)?;
+        Some(LittleEndian::read_u16(bytes))
     }
 
     /// An unsigned number of four bytes, the lowest first. `None` where fewer are left.
     pub fn u32(&mut self) -> Option<u32>
         ensures { Reads (λ x. x) result (number_at 4 self.old) self.old self.new }
     {
-        let left = self.left;
-        if left.len() < 4 {
-            return None;
-        }
-        self.left = &left[4..];
-        self.at += 4;
-        Some(LittleEndian::read_u32(left))
+        let bytes = self.take(4)?;
+        Some(LittleEndian::read_u32(bytes))
     }
 
     /// An unsigned number of eight bytes, the lowest first. `None` where fewer are left.
     pub fn u64(&mut self) -> Option<u64>
         ensures { Reads (λ x. x) result (number_at 8 self.old) self.old self.new }
     {
-        let left = self.left;
-        if left.len() < 8 {
-            return None;
-        }
-        self.left = &left[8..];
-        self.at += 8;
-        Some(LittleEndian::read_u64(left))
+        let bytes = self.take(8)?;
+        Some(LittleEndian::read_u64(bytes))
     }
 
     /// The next `n` bytes, as a slice of those that `new` was given. `None` where fewer are left.
     pub fn take(&mut self, n: usize) -> Option<&'a [u8]>
         ensures { Reads (λ bytes. bytes.now) result (bytes_at n self.old) self.old self.new }
     {
-        let left = self.left;
+        let Cursor { left, passed } = self;
         if left.len() < n {
             return None;
         }
-        let (front, left) = left.split_at(n);
-        self.left = left;
-        self.at += n;
+        let (front, rest) = left.split_at(n);
+        *left = rest;
+        *passed += n;
         Some(front)
     }
 
@@ -120,11 +105,9 @@ impl<'a> Cursor<'a> {
     pub fn text(&mut self) -> Option<&'a [u8]>
         ensures { Reads (λ bytes. bytes.now) result (text_at self.old) self.old self.new }
     {
-        let left = self.left;
-        let len = zero_position(left)?;
-        self.left = &left[len + 1..];
-        self.at += len + 1;
-        Some(&left[..len])
+        let len = zero_position(self.left)?;
+        let text = self.take(len + 1)?;
+        Some(&text[..len])
     }
 }
 

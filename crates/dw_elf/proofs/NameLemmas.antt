@@ -1,5 +1,5 @@
 -- Looking for a name among the used ones.
-use Rattle.std.proofs.Common.{◌≡◌, ℕ, Bool, true, false, cond, Option, Some, None, Ok, List, [], ◌∷◌, map, refl, sym, ap, ◌∙◌}
+use Rattle.std.proofs.Common.{◌≡◌, ℕ, Bool, true, false, cond, Option, Some, Ok, List, [], ◌∷◌, map, refl, sym, ap, ◌∙◌}
 use Rattle.std.specs.Prelude.{find, not, option_map}
 use Rattle.dw_model.specs.Elf.{Table}
 use Rattle.dw_model.specs.Section.{table_of, lies_in, used_names, accepted_table, elf_refusal}

@@ -1,7 +1,6 @@
 -- Cutting .debug_info piece by piece, as a loop does.
 use Rattle.std.proofs.Common.{◌≡◌, ℕ, ◌<◌, false, List, [], ◌∷◌, ◌++◌, length, map, Option, Some, None, Result, Ok, Err, refl, sym, ap, ◌∙◌, append_assoc, eq-eqb, arith}
 use Rattle.std.specs.Prelude.{option_map, option_to_list, ◌==◌, MatchOption}
-use Rattle.std.specs.List.{cons_option}
 use Rattle.std.specs.Result.{result_err}
 use Rattle.std.proofs.lemmas.Bool.{ne_eqb}
 use Rattle.std.proofs.lemmas.List.{append-nil}
@@ -39,7 +38,7 @@ pub goes_on : (units : List CodeUnit) (unit : Option CodeUnit) (p q : Place) (wh
     → with_front (map unit_shown units) (cut_from p) ≡ whole → with_front (map unit_shown (units ++ option_to_list unit)) (cut_from q) ≡ whole
 goes_on units unit p q whole more e so_far =
     let step : with_front (map unit_shown units) (cut_from p) ≡ with_front (map unit_shown units ++ option_to_list (option_map unit_shown unit)) (cut_from q) =
-        rw (cut-piece p (option_map unit_shown unit, q) (more-eqb (length p.left) more) e) (with_front-piece (map unit_shown units) (option_map unit_shown unit) (cut_from q)) in
+    rw (cut-piece p (option_map unit_shown unit, q) (more-eqb (length p.left) more) e) (with_front-piece (map unit_shown units) (option_map unit_shown unit) (cut_from q)) in
     rw (map-push_some units unit) (sym step ∙ so_far)
 
 pub stops : (front : List DwarfUnit) (p : Place) (told : Option Refusal) (whole : Result (List DwarfUnit) Refusal) → 0 < length p.left → Tells told (piece_at p)

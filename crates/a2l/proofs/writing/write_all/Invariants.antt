@@ -1,6 +1,6 @@
 use Rattle.std.proofs.Common.{◌≤◌, length}
 use Rattle.a2l.specs.Ends.{Writes}
-use Rattle.a2l.proofs.listing.write_all.Given as goal
+use Rattle.a2l.proofs.writing.write_all.Given as goal
 
 abbrev pub invariant-loop-left : goal.invariant-loop-left
 invariant-loop-left g l =

@@ -1,6 +1,6 @@
 use Rattle.std.proofs.Common.{arith}
 use Rattle.a2l.proofs.WriteLemmas.{Writes-more}
-use Rattle.a2l.proofs.listing.write_all.Goals as goal
+use Rattle.a2l.proofs.writing.write_all.Goals as goal
 
 pub loop-left-preserved : goal.loop-left-preserved
 loop-left-preserved g c =
