@@ -3,7 +3,7 @@
 ghost use Rattle.std.specs.Prelude.{◌≡◌, ◌≢◌, ◌++◌, ◌<◌, None, Err, OnOk, OnErr, IfOk, IfErr, IsErrOf, string_bytes};
 ghost use Rattle.std.specs.Io.KnownBytes.{append_known};
 ghost use Rattle.dw_model.specs.Unit as model;
-ghost use Rattle.dw_model.specs.Refusal.{refusal};
+ghost use Rattle.dw_model.specs.Refusal.{headers_refusal};
 ghost use Rattle.dw_model.specs.Output.{unit_line, unit_lines, listing};
 ghost use Rattle.dw_units.specs.Unit.{unit_shown};
 ghost use Rattle.a2l.specs.Ends.{WritesBeginning};
@@ -56,10 +56,10 @@ pub fn list_units<W: Sink>(alloc: Global, writer: &mut W, units: &Units<'_>) -> 
 
 /// Lists the units of a file.
 pub fn list_file<W: Sink>(alloc: Global, writer: &mut W, file: &[u8]) -> Result<(), Fault>
-    ensures listed { OnOk result (refusal file.now ≡ None) }
+    ensures listed { OnOk result (headers_refusal file.now ≡ None) }
     ensures written { OnOk result (W.told writer.new ≡ append_known (W.told writer.old) (listing file.now)) }
     ensures beginning { OnErr result (WritesBeginning (W.told writer.old) (W.told writer.new) (listing file.now)) }
-    ensures fault { IfErr result (λ fault. ListFails fault (refusal file.now) (W.failures writer.old) (W.failures writer.new)) }
+    ensures fault { IfErr result (λ fault. ListFails fault (headers_refusal file.now) (W.failures writer.old) (W.failures writer.new)) }
     ensures refused { IfErr result (λ fault. IsRefused fault → writer.new ≡ writer.old) }
 {
     let elf = Elf::open(file)?;

@@ -278,7 +278,7 @@ fn refusals(rt: HostRuntime) -> Result<(), Fail> {
         "",
         "a2l: file refused: 4 SectionTable\n",
     );
-    let table: [(usize, &[u8], &str); 8] = [
+    let table: [(usize, &[u8], &str); 10] = [
         (0, &[0], "1 NotElf"),
         (4, &[1], "2 NotElf64Little"),
         (5, &[2], "2 NotElf64Little"),
@@ -287,6 +287,8 @@ fn refusals(rt: HostRuntime) -> Result<(), Fail> {
         (64, &[0x58], "7 UnitHeader 0x5c"),
         (64, &[0xff, 0xff, 0xff, 0xff], "8 WideFormat 0x0"),
         (71, &[4], "9 AddressSize 0x0"),
+        (567, &[8], "6 Compressed .debug_line"),
+        (344, b".zdebug_line\0", "6 Compressed .debug_line"),
     ];
     for (at, new, fault) in table {
         let file = poked(alloc, INLINED, at, new)?;
@@ -305,6 +307,19 @@ fn section_past_the_end(rt: HostRuntime) -> Result<(), Fail> {
     // A section of type SHT_NOBITS takes no bytes of the file.
     let mut file = file;
     *file.get_mut(366 + 2 * 64 + 4).ok_or("the section's type")? = 8;
+    expect(
+        &rt,
+        &run_on(rt.alloc(), &file, &LIST),
+        0,
+        INLINED_LISTING,
+        "",
+    );
+    Ok(())
+}
+
+#[test]
+fn without_lines(rt: HostRuntime) -> Result<(), Fail> {
+    let file = poked(rt.alloc(), INLINED, 354, b"x")?;
     expect(
         &rt,
         &run_on(rt.alloc(), &file, &LIST),

@@ -21,6 +21,7 @@ abbrev pub section_header_of : SectionHeader → model.SectionHeader
 section_header_of h = record {
   sh_name = h.sh_name;
   sh_type = h.sh_type;
+  sh_flags = h.sh_flags;
   sh_offset = h.sh_offset;
   sh_size = h.sh_size;
   sh_link = h.sh_link;

@@ -1,7 +1,7 @@
 //! An ELF64 file that was accepted, and its sections.
 
 ghost use Rattle.std.specs.Prelude.{◌≡◌, not, List, map, find, option_map, OnOk, IfOk, IfErr, None};
-ghost use Rattle.dw_model.specs.Section.{section, section_in, lies_in, elf_refusal};
+ghost use Rattle.dw_model.specs.Section.{section, section_in, lies_in, is_compressed, elf_refusal};
 ghost use Rattle.dw_model.specs.Section as model;
 ghost use Rattle.dw_model.specs.Answers.{Gives};
 ghost use Rattle.dw_elf.specs.Name.{text_of};
@@ -11,7 +11,7 @@ ghost use Rattle.dw_elf.specs.Layout.{table_shown};
 use crate::fault::OpenFault;
 use crate::layout::{Table, contents, file_header, header_named, table_at};
 use crate::name::Name;
-use dw_model::elf::{ELFCLASS64, ELFDATA2LSB, ELFMAG, ET_REL};
+use dw_model::elf::{ELFCLASS64, ELFDATA2LSB, ELFMAG, ET_REL, SHF_COMPRESSED};
 use std::marker::Model;
 
 /// An ELF64 file. Contracts see it as the bytes of the file.
@@ -64,6 +64,27 @@ fn first_outside(file: &[u8], table: &Table<'_>, names: &[Name]) -> Option<Name>
         .find(|name| !lies_in(file, table, *name))
 }
 
+/// The bytes of the name's section are compressed, or only its older compressed form is there.
+#[tactic(auto, unfolding(dw_model::specs::Section::is_compressed))]
+fn is_compressed(table: &Table<'_>, name: Name) -> bool
+    ensures { result ≡ model.is_compressed (table_shown table.now) (text_of name) }
+{
+    match header_named(name.text(), table) {
+        Some(header) => header.sh_flags & SHF_COMPRESSED != 0 && !header.takes_nothing(),
+        None => header_named(name.compressed_text(), table).is_some(),
+    }
+}
+
+/// The first of the names whose section is compressed.
+fn first_compressed(table: &Table<'_>, names: &[Name]) -> Option<Name>
+    ensures { result ≡ find (λ name. is_compressed (table_shown table.now) (text_of name)) names.now }
+{
+    names
+        .iter()
+        .copied()
+        .find(|name| is_compressed(table, *name))
+}
+
 impl<'a> Model for Elf<'a> {
     ghost use Rattle.std.specs.Prelude.{List, ℕ};
     ghost use Rattle.std.specs.Coded.{coded_list, coded_ℕ};
@@ -80,7 +101,8 @@ impl<'a> Model for Elf<'a> {
 }
 
 impl<'a> Elf<'a> {
-    /// Opens a file: its header, its section header table, and that each used section lies in it.
+    /// Opens a file: its header, its section header table, that each used section lies in it, and
+    /// that none is compressed.
     ///
     /// The error is the first condition that fails.
     #[tactic(auto, unfolding(dw_model::specs::Section::accepted_table))]
@@ -90,9 +112,12 @@ impl<'a> Elf<'a> {
         ensures refused { IfErr result (λ fault. Refuses fault (elf_refusal file.now)) }
     {
         let table = table_of(file)?;
-        match first_outside(file, &table, &Name::ALL) {
+        if let Some(name) = first_outside(file, &table, &Name::ALL) {
+            return Err(OpenFault::SectionRange(name));
+        }
+        match first_compressed(&table, &Name::ALL) {
             None => Ok(Elf { file, table }),
-            Some(name) => Err(OpenFault::SectionRange(name)),
+            Some(name) => Err(OpenFault::Compressed(name)),
         }
     }
 

@@ -28,6 +28,7 @@ pub struct FileHeader<'a> {
 pub struct SectionHeader {
     pub sh_name: u32,
     pub sh_type: u32,
+    pub sh_flags: u64,
     pub sh_offset: u64,
     pub sh_size: u64,
     pub sh_link: u32,
@@ -39,6 +40,15 @@ pub struct Table<'a> {
     pub headers: &'a [u8],
     pub count: u64,
     pub names: &'a [u8],
+}
+
+impl SectionHeader {
+    /// The section takes no bytes of the file.
+    pub fn takes_nothing(&self) -> bool
+        ensures { result ≡ model.takes_nothing (section_header_of self.now) }
+    {
+        self.sh_type == SHT_NOBITS || self.sh_size == 0
+    }
 }
 
 impl Table<'_> {
@@ -98,7 +108,7 @@ pub fn section_header(cursor: &mut Cursor<'_>) -> Option<SectionHeader>
 {
     let sh_name = cursor.u32()?;
     let sh_type = cursor.u32()?;
-    let _sh_flags = cursor.u64()?;
+    let sh_flags = cursor.u64()?;
     let _sh_addr = cursor.u64()?;
     let sh_offset = cursor.u64()?;
     let sh_size = cursor.u64()?;
@@ -109,6 +119,7 @@ pub fn section_header(cursor: &mut Cursor<'_>) -> Option<SectionHeader>
     Some(SectionHeader {
         sh_name,
         sh_type,
+        sh_flags,
         sh_offset,
         sh_size,
         sh_link,
@@ -134,7 +145,7 @@ pub fn part<'a>(file: &'a [u8], offset: u64, size: u64) -> Option<&'a [u8]>
 pub fn contents<'a>(file: &'a [u8], header: &SectionHeader) -> Option<&'a [u8]>
     ensures { option_copied result ≡ model.contents file.now (section_header_of header.now) }
 {
-    if header.sh_type == SHT_NOBITS || header.sh_size == 0 {
+    if header.takes_nothing() {
         return Some(&[]);
     }
     part(file, header.sh_offset, header.sh_size)

@@ -17,6 +17,7 @@ pub enum Name {
 
 impl Name {
     ghost use Rattle.dw_elf.specs.Name.{text_of};
+    ghost use Rattle.dw_model.specs.Section.{compressed_name};
 
     /// All of them, in order.
     pub const ALL: [Name; 8] = [
@@ -43,6 +44,22 @@ impl Name {
             Name::DebugStrOffsets => ".debug_str_offsets",
             Name::DebugAddr => ".debug_addr",
             Name::DebugRnglists => ".debug_rnglists",
+        }
+    }
+
+    /// The name of the same section where it is compressed in the older way.
+    pub fn compressed_text(self) -> &'static str
+        ensures { result.now ≡ compressed_name (text_of self) }
+    {
+        match self {
+            Name::DebugInfo => ".zdebug_info",
+            Name::DebugAbbrev => ".zdebug_abbrev",
+            Name::DebugLine => ".zdebug_line",
+            Name::DebugLineStr => ".zdebug_line_str",
+            Name::DebugStr => ".zdebug_str",
+            Name::DebugStrOffsets => ".zdebug_str_offsets",
+            Name::DebugAddr => ".zdebug_addr",
+            Name::DebugRnglists => ".zdebug_rnglists",
         }
     }
 }

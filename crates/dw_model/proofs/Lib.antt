@@ -3,4 +3,5 @@ pub mod ItemsLemmas
 pub mod ReadingLemmas
 pub mod UnitLemmas
 pub mod Samples
+pub mod OnSamples
 pub mod Rows

@@ -1,5 +1,5 @@
 -- Sample files, built as a linker lays them out, for the rows that the definitions are held against.
-use Rattle.std.specs.Prelude.{ℕ, ◌+◌, ◌*◌, ◌-◌, List, [], ◌∷◌, ◌++◌, length, take, drop, replicate, Option, Some, None, codes, nat_lt, ◌==◌, if◌then◌else◌, flat_map}
+use Rattle.std.specs.Prelude.{ℕ, zero, suc, ◌+◌, ◌*◌, ◌-◌, List, [], ◌∷◌, ◌++◌, length, take, drop, replicate, Option, Some, None, codes, nat_lt, ◌==◌, if◌then◌else◌, flat_map}
 use Rattle.byteorder.specs.Endian.{little_bytes}
 
 -- the value of a hexadecimal digit
@@ -125,3 +125,77 @@ inlined = three_sections inlined_info inlined_abbrev inlined_line
 unfoldable pub mixed_versions : List ℕ
 unfolding three_sections inlined_info inlined_abbrev inlined_line
 mixed_versions = three_sections (hex (codes "07 00 00 00 04 00 00 00 00 00 08") ++ inlined_info) inlined_abbrev inlined_line
+
+-- the same with other bytes in .debug_info
+unfoldable pub with_info : List ℕ → List ℕ
+unfolding three_sections inlined_abbrev inlined_line
+with_info info = three_sections info inlined_abbrev inlined_line
+
+-- a compile unit over [0x500000, 0x500004) without a line table, with the abbreviations of the sample
+unfoldable pub bare_unit : List ℕ
+unfolding hex
+bare_unit = hex (codes "1a 00 00 00 05 00 01 08 00 00 00 00 01 00 00 00 00 00 00 50 00 00 00 00 00 04 00 00 00 00")
+
+-- the sample and then that unit
+unfoldable pub with_bare_unit : List ℕ
+unfolding with_info inlined_info bare_unit
+with_bare_unit = with_info (inlined_info ++ bare_unit)
+
+-- ---- two units that cover the same addresses
+
+-- [0x1000, 0x3000), without lines
+unfoldable pub wide_unit : List ℕ
+unfolding hex
+wide_unit = hex (codes "15 00 00 00 05 00 01 08 00 00 00 00 01 00 10 00 00 00 00 00 00 00 20 00 00")
+
+-- [0x2000, 0x2010), with lines
+unfoldable pub narrow_unit : List ℕ
+unfolding hex
+narrow_unit = hex (codes "19 00 00 00 05 00 01 08 00 00 00 00 02 00 00 00 00 00 20 00 00 00 00 00 00 10 00 00 00")
+
+unfoldable pub overlapping : List ℕ → List ℕ
+unfolding three_sections hex line_table
+overlapping info =
+    three_sections info (hex (codes "01 11 00 11 01 12 06 00 00 02 11 00 10 17 11 01 12 06 00 00 00"))
+    (line_table (hex (codes "00 09 02 00 20 00 00 00 00 00 00 14 02 10 00 01 01")))
+
+-- ---- deep trees, and names far away
+
+-- a unit of this length, whose first entry is followed by n lexical blocks, each in the one before it
+unfoldable pub deep : (length n : ℕ) → List ℕ
+unfolding hex with_info
+deep length n =
+    with_info (little_bytes 4 length ++ hex (codes "05 00 01 08 00 00 00 00")
+    ++ hex (codes "01 00 00 00 00 00 10 40 00 00 00 00 00 0e 00 00 00") ++ replicate n 4)
+
+-- entries with a reference each, to offsets that rise by 5
+references : ℕ → ℕ → List ℕ
+references zero at = []
+references (suc n) at = (3 ∷ little_bytes 4 at) ++ references n (at + 5)
+
+-- A function over [0x1000, 0x1010) whose only name stands n references away, n at least 1.
+unfoldable pub far_name : ℕ → List ℕ
+unfolding hex references three_sections
+far_name n =
+    let body = hex (codes "05 00 01 08 00 00 00 00")
+    ++ hex (codes "01 00 10 00 00 00 00 00 00 10 00 00 00")
+    ++ (2 ∷ little_bytes 4 42) ++ hex (codes "00 10 00 00 00 00 00 00 10 00 00 00")
+    ++ references (n - 1) 47
+    ++ (4 ∷ codes "deep") ++ 0 ∷ 0 ∷ [] in
+    three_sections (little_bytes 4 (length body) ++ body)
+    (hex (codes "01 11 01 11 01 12 06 00 00 02 2e 00 31 13 11 01 12 06 00 00 03 2e 00 31 13 00 00 04 2e 00 03 08 00 00 00")) []
+
+-- ---- directories and files
+
+abbrev zero_ended : List ℕ → List ℕ
+zero_ended text = text ++ 0 ∷ []
+
+-- a line table with these directories, and files with the numbers of their directories
+unfoldable pub path_table : List (List ℕ) → List (List ℕ × ℕ) → List ℕ
+unfolding hex
+path_table directories files =
+    let header = hex (codes "01 01 01 fb 0e 0d 00 01 01 01 01 00 00 00 01 00 00 01")
+    ++ hex (codes "01 01 08") ++ length directories ∷ flat_map zero_ended directories
+    ++ hex (codes "02 01 08 02 0b") ++ length files ∷ flat_map (λ file. zero_ended file.0 ++ file.1 ∷ []) files in
+    let body = hex (codes "05 00 08 00") ++ little_bytes 4 (length header) ++ header in
+    little_bytes 4 (length body) ++ body

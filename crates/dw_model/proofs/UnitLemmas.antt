@@ -6,7 +6,7 @@ use Rattle.dw_model.specs.Results.{◌>>=◌}
 use Rattle.dw_model.specs.Reading.{Place, number_at, bytes_at, onto, items}
 use Rattle.dw_model.specs.InitialLength.{InitialLength, of_length, wide, reserved, initial_length_of, initial_length}
 use Rattle.dw_model.specs.Faults.{Refusal, unit_header}
-use Rattle.dw_model.specs.Unit.{DwarfUnit, unit_of, unit_behind, piece_at, next_piece, cut_from}
+use Rattle.dw_model.specs.Unit.{DwarfUnit, Test, unit_of, unit_behind, piece_at, next_piece, cut_from}
 use Rattle.dw_model.proofs.StepLemmas.{bind_ok, bind_some, ok_or-ok, ok_is}
 use Rattle.dw_model.proofs.ReadingLemmas.{number_at-took, bytes_at-took, took-left}
 use Rattle.dw_model.proofs.ItemsLemmas.{Advances, items-turn}
@@ -15,30 +15,34 @@ abbrev Piece : Type 0
 Piece = Option DwarfUnit × Place
 
 -- where the unit of a length ends, whether it is padding or not
-end_is : (padding : Bool) (unit : Result DwarfUnit Refusal) (end : Place) (x : Piece) → cond padding (Ok (None, end)) (unit >>= λ u. Ok (Some u, end)) ≡ Ok x → end ≡ x.1
-end_is true unit end x e = cc
-end_is false (Ok u) end x e = cc
-end_is false (Err d) end x e = absurd cc
+end_is : (padding : Bool) (unit : Result DwarfUnit Refusal) (test : Test) (end : Place) (x : Piece) → cond padding (Ok (None, end)) (unit >>= λ u. test u >>= λ _. Ok (Some u, end)) ≡ Ok x → end ≡ x.1
+end_is true unit test end x e = cc
+end_is false unit test end x e =
+    let b = bind_ok unit (λ u. test u >>= λ _. Ok (Some u, end)) x e in
+    let t = bind_ok (test b.0) (λ _. Ok (Some b.0, end)) x b.2 in
+    let same = ok_is (Some b.0, end) x t.2 in
+    ap (λ (y : Piece). y.1) same
 
-unit_behind-left : (offset : ℕ) (n : InitialLength) (p : Place) (x : Piece) → unit_behind offset n p ≡ Ok x → length x.1.left ≤ length p.left
+unit_behind-left : (test : Test) (offset : ℕ) (n : InitialLength) (p : Place) (x : Piece) → unit_behind test offset n p ≡ Ok x → length x.1.left ≤ length p.left
 unfolding unit_behind
-unit_behind-left offset reserved p x e = absurd cc
-unit_behind-left offset wide p x e = absurd cc
-unit_behind-left offset (of_length n size) p x e =
-    let b = bind_ok (ok_or (bytes_at n p) (unit_header offset)) (λ bytes. cond (n == 0) (Ok (None, bytes.1)) (unit_of (record { offset = offset; base = p.at; end = bytes.1.at }) size bytes.0 >>= λ unit. Ok (Some unit, bytes.1))) x e in
+unit_behind-left test offset reserved p x e = absurd cc
+unit_behind-left test offset wide p x e = absurd cc
+unit_behind-left test offset (of_length n size) p x e =
+    let unit : List ℕ × Place → Result DwarfUnit Refusal = λ bytes. unit_of (record { offset = offset; base = p.at; end = bytes.1.at }) size bytes.0 in
+    let b = bind_ok (ok_or (bytes_at n p) (unit_header offset)) (λ bytes. cond (n == 0) (Ok (None, bytes.1)) (unit bytes >>= λ u. test u >>= λ _. Ok (Some u, bytes.1))) x e in
     let took = bytes_at-took n p b.0 (ok_or-ok (bytes_at n p) (unit_header offset) b.0 b.1) in
-    let ends = end_is (n == 0) (unit_of (record { offset = offset; base = p.at; end = b.0.1.at }) size b.0.0) b.0.1 x b.2 in
+    let ends = end_is (n == 0) (unit b.0) test b.0.1 x b.2 in
     let left : length b.0.1.left ≡ length x.1.left = ap (λ (q : Place). length q.left) ends in
     omega (arith, took-left n p b.0.1 took)
 
-pub piece_at-left : (p : Place) (x : Piece) → piece_at p ≡ Ok x → length x.1.left < length p.left
+pub piece_at-left : (test : Test) (p : Place) (x : Piece) → piece_at test p ≡ Ok x → length x.1.left < length p.left
 unfolding piece_at
-piece_at-left p x e =
-    let b = bind_ok (ok_or (initial_length p) (unit_header p.at)) (λ unit_length. unit_behind p.at unit_length.0 unit_length.1) x e in
+piece_at-left test p x e =
+    let b = bind_ok (ok_or (initial_length p) (unit_header p.at)) (λ unit_length. unit_behind test p.at unit_length.0 unit_length.1) x e in
     let l = bind_some (number_at 4 p) (λ n. Some (initial_length_of n.0, n.1)) b.0 (ok_or-ok (initial_length p) (unit_header p.at) b.0 b.1) in
     let took = number_at-took 4 p l.0 l.1 in
     let same : length l.0.1.left ≡ length b.0.1.left = let e : l.0.1 ≡ b.0.1 = cc in ap (λ (q : Place). length q.left) e in
-    omega (arith, took-left 4 p l.0.1 took, unit_behind-left p.at b.0.0 b.0.1 x b.2)
+    omega (arith, took-left 4 p l.0.1 took, unit_behind-left test p.at b.0.0 b.0.1 x b.2)
 
 abbrev Next : Type 0
 Next = Option (Option DwarfUnit) × Place
@@ -54,9 +58,9 @@ next_is false p (Ok y) x item e some =
     rw (← unit, ← second) refl
 next_is false p (Err d) x item e some = absurd cc
 
-pub pieces_advance : Advances (λ p. p.left) next_piece
+pub pieces_advance : (test : Test) → Advances (λ p. p.left) (next_piece test)
 unfolding next_piece
-pieces_advance p item q e = piece_at-left p (item, q) (next_is (length p.left == 0) p (piece_at p) (Some item, q) item e refl)
+pieces_advance test p item q e = piece_at-left test p (item, q) (next_is (length p.left == 0) p (piece_at test p) (Some item, q) item e refl)
 
 -- ---- the cut, a piece at a time
 
@@ -68,19 +72,19 @@ units_onto : (piece : Option DwarfUnit) (others : Result (List (Option DwarfUnit
 units_onto piece (Ok x) = refl
 units_onto piece (Err d) = refl
 
-next_piece-some : (p : Place) (x : Piece) → (length p.left == 0) ≡ false → piece_at p ≡ Ok x → next_piece p ≡ Ok (Some x.0, x.1)
+next_piece-some : (test : Test) (p : Place) (x : Piece) → (length p.left == 0) ≡ false → piece_at test p ≡ Ok x → next_piece test p ≡ Ok (Some x.0, x.1)
 unfolding next_piece
-next_piece-some p x more e = rw (more, e) refl
+next_piece-some test p x more e = rw (more, e) refl
 
-pub cut-piece : (p : Place) (x : Piece) → (length p.left == 0) ≡ false → piece_at p ≡ Ok x → cut_from p ≡ with_piece x.0 (cut_from x.1)
+pub cut-piece : (test : Test) (p : Place) (x : Piece) → (length p.left == 0) ≡ false → piece_at test p ≡ Ok x → cut_from test p ≡ with_piece x.0 (cut_from test x.1)
 unfolding cut_from
-cut-piece p x more e =
-    rw (items-turn next_piece (λ q. q.left) pieces_advance p, next_piece-some p x more e) (units_onto x.0 (items (λ q. q.left) next_piece x.1))
+cut-piece test p x more e =
+    rw (items-turn (next_piece test) (λ q. q.left) (pieces_advance test) p, next_piece-some test p x more e) (units_onto x.0 (items (λ q. q.left) (next_piece test) x.1))
 
-pub cut-fault : (p : Place) (refusal : Refusal) → (length p.left == 0) ≡ false → piece_at p ≡ Err refusal → cut_from p ≡ Err refusal
+pub cut-fault : (test : Test) (p : Place) (refusal : Refusal) → (length p.left == 0) ≡ false → piece_at test p ≡ Err refusal → cut_from test p ≡ Err refusal
 unfolding cut_from next_piece
-cut-fault p refusal more e = rw (items-turn next_piece (λ q. q.left) pieces_advance p, more, e) refl
+cut-fault test p refusal more e = rw (items-turn (next_piece test) (λ q. q.left) (pieces_advance test) p, more, e) refl
 
-pub cut-end : (p : Place) → (length p.left == 0) ≡ true → cut_from p ≡ Ok []
+pub cut-end : (test : Test) (p : Place) → (length p.left == 0) ≡ true → cut_from test p ≡ Ok []
 unfolding cut_from next_piece
-cut-end p ended = rw (items-turn next_piece (λ q. q.left) pieces_advance p, ended) refl
+cut-end test p ended = rw (items-turn (next_piece test) (λ q. q.left) (pieces_advance test) p, ended) refl

@@ -51,6 +51,7 @@ file_header file = do
 pub record SectionHeader : Type 0 where
   pub sh_name : ℕ
   pub sh_type : ℕ
+  pub sh_flags : ℕ
   pub sh_offset : ℕ
   pub sh_size : ℕ
   pub sh_link : ℕ
@@ -72,6 +73,7 @@ section_header_at p = do
     record {
       sh_name = sh_name.0;
       sh_type = sh_type.0;
+      sh_flags = sh_flags.0;
       sh_offset = sh_offset.0;
       sh_size = sh_size.0;
       sh_link = sh_link.0;
@@ -88,10 +90,14 @@ section_headers (suc count) p = option_map_or (λ header. header.0 ∷ section_h
 abbrev pub part : List ℕ → ℕ → ℕ → Option (List ℕ)
 part file offset size = if nat_le (offset + size) (length file) then Some (take size (drop offset file)) else None
 
--- the bytes that a header gives, where they lie in the file: none are taken by SHT_NOBITS or the size 0
+-- a section of the type SHT_NOBITS or of the size 0 takes no bytes of the file
+abbrev pub takes_nothing : SectionHeader → Bool
+takes_nothing header = header.sh_type == SHT_NOBITS || header.sh_size == 0
+
+-- the bytes that a header gives, where they lie in the file
 unfoldable pub contents : List ℕ → SectionHeader → Option (List ℕ)
 contents file header =
-    if header.sh_type == SHT_NOBITS || header.sh_size == 0 then Some [] else part file header.sh_offset header.sh_size
+    if takes_nothing header then Some [] else part file header.sh_offset header.sh_size
 
 -- the section header table, and the bytes of the section that has the names
 pub record Table : Type 0 where

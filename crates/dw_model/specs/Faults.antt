@@ -14,3 +14,20 @@ pub data Refusal : Type 0 where
   address_size : (offset : ℕ) → Refusal
   root : (offset : ℕ) → Refusal
   root_ranges : (offset : ℕ) → Refusal
+
+-- Why bytes can't be read as a number, a value or an entry: they end too early, the form is unknown, a number is too wide, or an abbreviation has no declaration.
+pub data Fault : Type 0 where
+  ends_early : Fault
+  unknown_form : Fault
+  too_wide : Fault
+  undeclared : Fault
+
+-- the one fault of range lists and of line tables
+pub data Bad : Type 0 where
+  bad : Bad
+
+-- Why the entries of a unit can't be used: one can't be read, one stands too deep, or the ranges of a function are bad.
+pub data TreeFault : Type 0 where
+  entry_fault : TreeFault
+  depth_fault : TreeFault
+  ranges_fault : TreeFault

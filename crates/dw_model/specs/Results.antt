@@ -15,3 +15,13 @@ refuse_if false e = Ok tt
 abbrev pub refuse_found : {A E : Type 0} → (A → E) → Option A → Result (Unit {0}) E
 refuse_found fault None = Ok tt
 refuse_found fault (Some x) = Err (fault x)
+
+-- the same value, and one fault for every other
+abbrev pub or_fault : {A E F : Type 0} → F → Result A E → Result A F
+or_fault fault (Ok x) = Ok x
+or_fault fault (Err e) = Err fault
+
+-- the same value, and each fault as another tells it
+abbrev pub with_code : {A E F : Type 0} → (E → F) → Result A E → Result A F
+with_code code (Ok x) = Ok x
+with_code code (Err e) = Err (code e)

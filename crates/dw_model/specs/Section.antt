@@ -1,12 +1,13 @@
 -- The sections of a file, and the conditions under which an ELF file is refused.
-use Rattle.std.specs.Prelude.{Bool, true, not, List, [], ◌∷◌, Option, Result, Ok, ok_or, is_some, unwrap_or, option_and_then, find, bytes_eq, ◌==◌, if◌then◌else◌, codes}
+use Rattle.std.specs.Prelude.{◌&&◌, ◌++◌, drop, bit_and, Bool, true, not, List, [], ◌∷◌, Option, Result, Ok, ok_or, is_some, unwrap_or, option_and_then, find, bytes_eq, ◌==◌, if◌then◌else◌, codes}
 use Rattle.std.specs.Option.{option_map_or}
 use Rattle.std.specs.Result.{result_unwrap_or, result_err}
 use Rattle.std.specs.Prelude.{ℕ}
-use Rattle.dw_model.specs.declared.elf.TheConstants.{ELFMAG, ELFCLASS64, ELFDATA2LSB, ET_REL}
+use Rattle.dw_model.specs.declared.elf.TheConstants.{ELFMAG, ELFCLASS64, ELFDATA2LSB, ET_REL, SHF_COMPRESSED}
 use Rattle.dw_model.specs.Results.{◌>>=◌, refuse_if, refuse_found}
-use Rattle.dw_model.specs.Faults.{Refusal, not_elf, not_elf64_little, relocatable, section_table, section_range}
-use Rattle.dw_model.specs.Elf.{Table, no_sections, file_header, table_at, header_named, contents}
+use Rattle.dw_model.specs.Faults.{Refusal, not_elf, not_elf64_little, relocatable, section_table, section_range, compressed}
+use Rattle.dw_model.specs.Elf.{Table, no_sections, file_header, table_at, takes_nothing, header_named, contents}
+use Rattle.dw_model.specs.Text.{Tables}
 
 -- The table of a file of the kind that is read: an ELF64 file of little-endian numbers that is no relocatable object. Without e_shoff there are no sections (section 3).
 unfoldable pub table_of : List ℕ → Result Table Refusal
@@ -25,6 +26,27 @@ section_in file table name = unwrap_or (option_and_then (contents file) (header_
 unfoldable pub section : List ℕ → List ℕ → List ℕ
 section file name = section_in file (result_unwrap_or (table_of file) no_sections) name
 
+-- the sections of a file that are used
+pub record Sections : Type 0 where
+  pub info : List ℕ
+  pub abbrevs : List ℕ
+  pub line : List ℕ
+  pub tables : Tables
+
+abbrev pub sections : List ℕ → Sections
+sections file = record {
+  info = section file (codes ".debug_info");
+  abbrevs = section file (codes ".debug_abbrev");
+  line = section file (codes ".debug_line");
+  tables = record {
+    str = section file (codes ".debug_str");
+    line_str = section file (codes ".debug_line_str");
+    str_offsets = section file (codes ".debug_str_offsets");
+    addr = section file (codes ".debug_addr");
+    rnglists = section file (codes ".debug_rnglists");
+  };
+}
+
 -- the sections that are used, in the order in which they are tested (own)
 abbrev pub used_names : List (List ℕ)
 used_names =
@@ -35,11 +57,22 @@ used_names =
 unfoldable pub lies_in : List ℕ → Table → List ℕ → Bool
 lies_in file table name = option_map_or (λ header. is_some (contents file header)) (header_named name table) true
 
--- The table of a file that is accepted, or the first condition that it fails: those on its header and its table, then that each used section lies in the file.
+-- the name of the same section, compressed in the older way: `.zdebug_..` in place of `.debug_..`
+abbrev pub compressed_name : List ℕ → List ℕ
+compressed_name name = codes ".z" ++ drop 1 name
+
+-- A section is compressed where its bytes are, by SHF_COMPRESSED, or where only its older compressed form is there.
+unfoldable pub is_compressed : Table → List ℕ → Bool
+is_compressed table name =
+    option_map_or (λ header. not (bit_and header.sh_flags SHF_COMPRESSED == 0) && not (takes_nothing header)) (header_named name table)
+    (is_some (header_named (compressed_name name) table))
+
+-- The table of a file that is accepted, or the first condition that it fails: those on its header and its table, then that each used section lies in the file, and then that none of them is compressed.
 unfoldable pub accepted_table : List ℕ → Result Table Refusal
 accepted_table file = do
   table ← table_of file
   _ ← refuse_found section_range (find (λ name. not (lies_in file table name)) used_names)
+  _ ← refuse_found compressed (find (is_compressed table) used_names)
   Ok table
 
 -- the first condition that the ELF file fails

@@ -76,42 +76,51 @@ unit_of extent offset_size bytes = do
     if is_skipped (kind_of unit_type.0) then Ok (skipped_unit extent offset_size version.0)
         else kept_unit extent offset_size (kind_of unit_type.0) unit_type.1)
 
+-- what else a unit has to meet, beside its header
+abbrev pub Test : Type 0
+Test = DwarfUnit → Result (Unit {0}) Refusal
+
+-- nothing else
+abbrev pub untested : Test
+untested unit = Ok tt
+
 -- the unit behind its initial length; length 0 is padding and no unit (own)
-unfoldable pub unit_behind : ℕ → InitialLength → Place → Result (Option DwarfUnit × Place) Refusal
-unit_behind offset reserved p = Err (unit_header offset)
-unit_behind offset wide p = Err (wide_format offset)
-unit_behind offset (of_length n offset_size) p = do
+unfoldable pub unit_behind : Test → ℕ → InitialLength → Place → Result (Option DwarfUnit × Place) Refusal
+unit_behind test offset reserved p = Err (unit_header offset)
+unit_behind test offset wide p = Err (wide_format offset)
+unit_behind test offset (of_length n offset_size) p = do
   bytes ← ok_or (bytes_at n p) (unit_header offset)
   if n == 0 then Ok (None, bytes.1) else (do
     unit ← unit_of (record { offset = offset; base = p.at; end = bytes.1.at }) offset_size bytes.0
+    _ ← test unit
     Ok (Some unit, bytes.1))
 
 -- a piece of .debug_info: an initial length, and as many bytes
-unfoldable pub piece_at : Place → Result (Option DwarfUnit × Place) Refusal
-piece_at p = do
+unfoldable pub piece_at : Test → Place → Result (Option DwarfUnit × Place) Refusal
+piece_at test p = do
   unit_length ← ok_or (initial_length p) (unit_header p.at)
-  unit_behind p.at unit_length.0 unit_length.1
+  unit_behind test p.at unit_length.0 unit_length.1
 
 -- the next piece, and none at the end
-unfoldable pub next_piece : Place → Result (Option (Option DwarfUnit) × Place) Refusal
-next_piece p = if length p.left == 0 then Ok (None, p) else (do
-  piece ← piece_at p
+unfoldable pub next_piece : Test → Place → Result (Option (Option DwarfUnit) × Place) Refusal
+next_piece test p = if length p.left == 0 then Ok (None, p) else (do
+  piece ← piece_at test p
   Ok (Some piece.0, piece.1))
 
 -- the units from a place on, or the first fault in them
-unfoldable pub cut_from : Place → Result (List DwarfUnit) Refusal
-cut_from p = do
-  pieces ← items (λ p. p.left) next_piece p
+unfoldable pub cut_from : Test → Place → Result (List DwarfUnit) Refusal
+cut_from test p = do
+  pieces ← items (λ p. p.left) (next_piece test) p
   Ok (filter_map (λ piece. piece) pieces.0)
 
--- the one cut of .debug_info into units, or the first fault in it
+-- the one cut of .debug_info into units, or the first fault in their headers
 abbrev pub cut : List ℕ → Result (List DwarfUnit) Refusal
-cut info = cut_from (start info)
+cut info = cut_from untested (start info)
 
 -- the units of a .debug_info that is accepted
 abbrev pub units : List ℕ → List DwarfUnit
 units info = result_unwrap_or (cut info) []
 
--- the first condition that a unit fails, unit by unit
-abbrev pub unit_refusal : List ℕ → Option Refusal
-unit_refusal info = result_err (cut info)
+-- the first condition that a unit's header fails, unit by unit
+abbrev pub header_refusal : List ℕ → Option Refusal
+header_refusal info = result_err (cut info)

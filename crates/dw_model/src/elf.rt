@@ -24,3 +24,7 @@ pub const SHN_XINDEX: u16 = 0xffff;
 
 /// `sh_type` of a section that takes no bytes of the file (section 4).
 pub const SHT_NOBITS: u32 = 8;
+
+/// Bit of `sh_flags` on a section whose bytes are compressed (System V ABI, chapter 4, section
+/// compression).
+pub const SHF_COMPRESSED: u64 = 0x800;

@@ -158,7 +158,7 @@ fn unit_of(extent: Extent, bytes: &[u8]) -> Result<Unit, OpenFault>
 /// none.
 #[tactic(auto, unfolding(dw_model::specs::Unit::piece_at, dw_model::specs::Unit::unit_behind))]
 pub fn piece(cursor: &mut Cursor<'_>) -> Result<Option<Unit>, OpenFault>
-    ensures { Gives (λ unit. (option_map unit_shown unit, cursor.new)) refusal_of result (model.piece_at cursor.old) }
+    ensures { Gives (λ unit. (option_map unit_shown unit, cursor.new)) refusal_of result (model.piece_at model.untested cursor.old) }
 {
     let offset = cursor.at() as u64;
     let fault = OpenFault::UnitHeader(offset);

@@ -2,7 +2,7 @@
 
 ghost use Rattle.std.specs.Prelude.{◌≡◌, ◌++◌, ◌<◌, Some, None, OnOk, IfOk, IfErr, length, slice_get, codes, option_to_list};
 ghost use Rattle.dw_model.specs.Section.{section};
-ghost use Rattle.dw_model.specs.Unit.{units, unit_refusal};
+ghost use Rattle.dw_model.specs.Unit.{units, header_refusal};
 ghost use Rattle.dw_elf.specs.OpenFault.{RefusesUnlessMemory};
 ghost use Rattle.dw_units.specs.Unit.{unit_shown};
 
@@ -50,9 +50,9 @@ impl<'a> Units<'a> {
     /// refused.
     pub fn read(alloc: Global, elf: &Elf<'a>) -> Result<Self, OpenFault>
         ensures info { IfOk result (λ units. units ≡ section elf.now (codes ".debug_info")) }
-        ensures accepted { OnOk result (unit_refusal (section elf.now (codes ".debug_info")) ≡ None) }
+        ensures accepted { OnOk result (header_refusal (section elf.now (codes ".debug_info")) ≡ None) }
         ensures refused { IfErr result
-            (λ fault. RefusesUnlessMemory fault (unit_refusal (section elf.now (codes ".debug_info")))) }
+            (λ fault. RefusesUnlessMemory fault (header_refusal (section elf.now (codes ".debug_info")))) }
     {
         let info = elf.section(Name::DebugInfo);
         let mut units = Vec::new(alloc);

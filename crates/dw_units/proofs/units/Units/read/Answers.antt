@@ -1,7 +1,7 @@
 use Rattle.std.proofs.Common.{◌≡◌, ◌<◌, length, map, refl, arith}
 use Rattle.std.specs.Prelude.{option_map}
 use Rattle.std.proofs.lemmas.Result.{err_from_is_err_and}
-use Rattle.dw_model.specs.Unit.{cut}
+use Rattle.dw_model.specs.Unit.{untested, cut}
 use Rattle.dw_model.proofs.UnitLemmas.{piece_at-left}
 use Rattle.dw_elf.specs.OpenFault.{refusal_of}
 use Rattle.dw_units.specs.Unit.{unit_shown}
@@ -10,7 +10,7 @@ use Rattle.dw_units.proofs.units.Units.read.Goals as goal
 
 pub loop-cursor-smaller : goal.loop-cursor-smaller
 loop-cursor-smaller c =
-    omega (arith, piece_at-left c.loop-cursor.cursor (option_map unit_shown c.in_ok-unit.unit, c.piece.new.cursor) c.in_ok-unit.ensures)
+    omega (arith, piece_at-left untested c.loop-cursor.cursor (option_map unit_shown c.in_ok-unit.unit, c.piece.new.cursor) c.in_ok-unit.ensures)
 
 pub loop-cursor-preserved : goal.loop-cursor-preserved
 loop-cursor-preserved c =

@@ -1,0 +1,111 @@
+-- What is refused, and what is listed.
+use Rattle.std.specs.Prelude.{◌≡◌, [], length, take, Some, None, codes, refl}
+use Rattle.dw_model.specs.Faults.{not_elf, not_elf64_little, relocatable, section_table, section_range, compressed, unit_header, wide_format, address_size, root, root_ranges}
+use Rattle.dw_model.specs.Refusal.{refusal, listing_refusal, headers_refusal}
+use Rattle.dw_model.specs.Output.{listing}
+use Rattle.dw_model.proofs.Samples.{hex, poke, smallest, inlined, mixed_versions}
+use Rattle.dw_model.proofs.OnSamples.{on_samples}
+
+inlined_length : length inlined ≡ 686
+unfolding on_samples
+inlined_length = refl
+
+inlined_accepted : refusal inlined ≡ None
+unfolding on_samples
+inlined_accepted = refl
+
+inlined_listing : listing inlined ≡ codes "0x0 version 5 compile\n0x5b version 5 partial\n"
+unfolding on_samples
+inlined_listing = refl
+
+smallest_accepted : refusal smallest ≡ None
+unfolding on_samples
+smallest_accepted = refl
+
+smallest_listing : listing smallest ≡ []
+unfolding on_samples
+smallest_listing = refl
+
+mixed_versions_accepted : refusal mixed_versions ≡ None
+unfolding on_samples
+mixed_versions_accepted = refl
+
+mixed_versions_listing : listing mixed_versions ≡ codes "0x0 version 4 skipped\n0xb version 5 compile\n0x66 version 5 partial\n"
+unfolding on_samples
+mixed_versions_listing = refl
+
+cut_header : refusal (take 63 smallest) ≡ Some not_elf
+unfolding on_samples
+cut_header = refl
+
+cut_table : refusal (take 685 inlined) ≡ Some section_table
+unfolding on_samples
+cut_table = refl
+
+no_magic : refusal (poke inlined 0 (hex (codes "00"))) ≡ Some not_elf
+unfolding on_samples
+no_magic = refl
+
+class_32 : refusal (poke inlined 4 (hex (codes "01"))) ≡ Some not_elf64_little
+unfolding on_samples
+class_32 = refl
+
+big_endian : refusal (poke inlined 5 (hex (codes "02"))) ≡ Some not_elf64_little
+unfolding on_samples
+big_endian = refl
+
+object_file : refusal (poke inlined 16 (hex (codes "01"))) ≡ Some relocatable
+unfolding on_samples
+object_file = refl
+
+header_size : refusal (poke inlined 58 (hex (codes "3f"))) ≡ Some section_table
+unfolding on_samples
+header_size = refl
+
+abbrev_past_the_end : refusal (poke inlined 527 (hex (codes "04"))) ≡ Some (section_range (codes ".debug_abbrev"))
+unfolding on_samples
+abbrev_past_the_end = refl
+
+compressed_line : refusal (poke inlined 567 (hex (codes "08"))) ≡ Some (compressed (codes ".debug_line"))
+unfolding on_samples
+compressed_line = refl
+
+renamed_line : refusal (poke inlined 354 (hex (codes "78"))) ≡ None
+unfolding on_samples
+renamed_line = refl
+
+unit_too_long : refusal (poke inlined 64 (hex (codes "58"))) ≡ Some (unit_header 0x5c)
+unfolding on_samples
+unit_too_long = refl
+
+wide_length : refusal (poke inlined 64 (hex (codes "ff ff ff ff"))) ≡ Some (wide_format 0)
+unfolding on_samples
+wide_length = refl
+
+reserved_length : refusal (poke inlined 64 (hex (codes "f0 ff ff ff"))) ≡ Some (unit_header 0)
+unfolding on_samples
+reserved_length = refl
+
+short_addresses : refusal (poke inlined 71 (hex (codes "04"))) ≡ Some (address_size 0)
+unfolding on_samples
+short_addresses = refl
+
+root_undeclared : refusal (poke inlined 174 (hex (codes "08"))) ≡ Some (root 0)
+unfolding on_samples
+root_undeclared = refl
+
+root_undeclared_headers : headers_refusal (poke inlined 174 (hex (codes "08"))) ≡ None
+unfolding on_samples
+root_undeclared_headers = refl
+
+root_without_base : refusal (poke inlined 180 (hex (codes "1b"))) ≡ Some (root_ranges 0)
+unfolding on_samples
+root_without_base = refl
+
+root_without_base_listed : listing_refusal (poke inlined 180 (hex (codes "1b"))) ≡ None
+unfolding on_samples
+root_without_base_listed = refl
+
+root_without_base_listing : listing (poke inlined 180 (hex (codes "1b"))) ≡ codes "0x0 version 5 compile\n0x5b version 5 partial\n"
+unfolding on_samples
+root_without_base_listing = refl
