@@ -190,12 +190,17 @@ far_name n =
 abbrev zero_ended : List ℕ → List ℕ
 zero_ended text = text ++ 0 ∷ []
 
--- a line table with these directories, and files with the numbers of their directories
-unfoldable pub path_table : List (List ℕ) → List (List ℕ × ℕ) → List ℕ
+-- a line table of version 5 with this header, from minimum_instruction_length on, and a program
+unfoldable pub line_table_of : (header program : List ℕ) → List ℕ
 unfolding hex
-path_table directories files =
-    let header = hex (codes "01 01 01 fb 0e 0d 00 01 01 01 01 00 00 00 01 00 00 01")
-    ++ hex (codes "01 01 08") ++ length directories ∷ flat_map zero_ended directories
-    ++ hex (codes "02 01 08 02 0b") ++ length files ∷ flat_map (λ file. zero_ended file.0 ++ file.1 ∷ []) files in
-    let body = hex (codes "05 00 08 00") ++ little_bytes 4 (length header) ++ header in
+line_table_of header program =
+    let body = hex (codes "05 00 08 00") ++ little_bytes 4 (length header) ++ header ++ program in
     little_bytes 4 (length body) ++ body
+
+-- one with these directories, and files with the numbers of their directories
+unfoldable pub path_table : List (List ℕ) → List (List ℕ × ℕ) → List ℕ
+unfolding hex line_table_of
+path_table directories files =
+    line_table_of (hex (codes "01 01 01 fb 0e 0d 00 01 01 01 01 00 00 00 01 00 00 01")
+    ++ hex (codes "01 01 08") ++ length directories ∷ flat_map zero_ended directories
+    ++ hex (codes "02 01 08 02 0b") ++ length files ∷ flat_map (λ file. zero_ended file.0 ++ file.1 ∷ []) files) []
