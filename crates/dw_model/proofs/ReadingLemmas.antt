@@ -1,9 +1,10 @@
 -- What was read took its bytes from those that were left.
-use Rattle.std.proofs.Common.{◌≡◌, ℕ, ◌+◌, ◌≤◌, Bool, true, false, cond, List, length, take, drop, Some, None, refl, sym, ap, arith, length-drop}
+use Rattle.std.proofs.Common.{◌≡◌, ℕ, ◌+◌, ◌≤◌, Bool, true, false, cond, List, length, take, drop, ◌++◌, Result, Ok, Some, None, refl, sym, ap, arith, length-drop}
 use Rattle.std.specs.Prelude.{nat_le}
 use Rattle.std.proofs.lemmas.Bool.{leb-true}
+use Rattle.std.proofs.lemmas.List.{take_at, drop_at, take-append-drop, length-take-le}
 use Rattle.byteorder.specs.Endian.{little_number}
-use Rattle.dw_model.specs.Reading.{Place, past, number_at, bytes_at}
+use Rattle.dw_model.specs.Reading.{Place, past, Between, number_at, bytes_at}
 
 -- a test that was passed on the way to a value
 pub if_some : {A : Type 0} (b : Bool) (x y : A) → cond b (Some x) None ≡ Some y → (b ≡ true) × (x ≡ y)
@@ -30,3 +31,23 @@ took-left n old new took =
     let e : length new.left ≡ length (drop n old.left) = ap (λ (p : Place). length p.left) (sym took.new_is) in
     let enough = took.enough in
     omega (arith, e, length-drop n old.left)
+
+-- ---- pieces between places
+
+place_of : (a b : ℕ) (s t : List ℕ) → a ≡ b → s ≡ t → ◌≡◌ {A = Place} (record { at = a; left = s }) (record { at = b; left = t })
+place_of a b s t e f = cc
+
+-- the place behind a piece
+pub past-between : (p q : Place) (piece : List ℕ) (n : ℕ) → length piece ≡ n → Between p piece q → past n p ≡ q
+past-between p q piece n e b =
+    let left : drop n p.left ≡ q.left = rw (b.0) (drop_at piece q.left n e) in
+    place_of (p.at + n) q.at (drop n p.left) q.left (omega (arith, b.1, e)) left
+
+pub take-between : (p q : Place) (piece : List ℕ) (n : ℕ) → length piece ≡ n → Between p piece q → take n p.left ≡ piece
+take-between p q piece n e b = rw (b.0) (take_at piece q.left n e)
+
+pub between-past : (p : Place) (n : ℕ) → n ≤ length p.left → Between p (take n p.left) (past n p)
+between-past p n h = (sym (take-append-drop n p.left), omega (arith, length-take-le n p.left h))
+
+pub read_is : {A : Type 0} {E : Type 0} (x y : A) (p q : Place) → x ≡ y → p ≡ q → ◌≡◌ {A = Result (A × Place) E} (Ok (x, p)) (Ok (y, q))
+read_is x y p q e f = cc

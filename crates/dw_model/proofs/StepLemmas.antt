@@ -20,3 +20,7 @@ ok_or-ok None d x e = absurd cc
 -- two values that a call gave are one
 pub ok_is : {A E : Type 0} (x y : A) → ◌≡◌ {A = Result A E} (Ok x) (Ok y) → x ≡ y
 ok_is x y e = cc
+
+-- a value is no fault
+pub ok-err : {A E : Type 0} (x : A) (f : E) → ◌≡◌ {A = Result A E} (Ok x) (Err f) → ⊥
+ok-err x f e = absurd cc

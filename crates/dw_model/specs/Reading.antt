@@ -1,5 +1,5 @@
 -- Reading bytes from the front: a value and the place just past it, or nothing.
-use Rattle.std.specs.Prelude.{ℕ, zero, suc, ◌+◌, List, [], ◌∷◌, length, take, drop, Option, Some, None, Result, Ok, nat_le, ◌==◌, if◌then◌else◌}
+use Rattle.std.specs.Prelude.{◌≡◌, ◌++◌, ℕ, zero, suc, ◌+◌, List, [], ◌∷◌, length, take, drop, Option, Some, None, Result, Ok, nat_le, ◌==◌, if◌then◌else◌}
 use Rattle.std.specs.List.{position}
 use Rattle.std.specs.Option.{option_map_or}
 use Rattle.byteorder.specs.Endian.{little_number}
@@ -18,6 +18,18 @@ start bytes = record { at = 0; left = bytes }
 -- n bytes further on
 abbrev pub past : ℕ → Place → Place
 past n p = record { at = p.at + n; left = drop n p.left }
+
+-- The piece of bytes stands between the two places.
+abbrev pub Between : Place → List ℕ → Place → Type 0
+Between p piece q = (p.left ≡ piece ++ q.left) × (q.at ≡ p.at + length piece)
+
+-- What stands between the two places is a piece of which `Is` speaks.
+abbrev pub Spans : (List ℕ → Type 0) → Place → Place → Type 0
+Spans Is p q = (piece : List ℕ) × Between p piece q × Is piece
+
+-- The bytes begin with a piece of which `Is` speaks.
+abbrev pub BeginsWith : (List ℕ → Type 0) → List ℕ → Type 0
+BeginsWith Is bytes = (piece rest : List ℕ) × (bytes ≡ piece ++ rest) × Is piece
 
 -- an unsigned number of n bytes, the lowest first
 abbrev pub number_at : ℕ → Place → Option (ℕ × Place)
