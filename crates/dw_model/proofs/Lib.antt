@@ -3,6 +3,12 @@ pub mod ItemsLemmas
 pub mod ReadingLemmas
 pub mod UnitLemmas
 pub mod LebLemmas
+pub mod NumberLemmas
+pub mod TextLemmas
+pub mod LebReading
+pub mod SpellingLemmas
+pub mod SpellingFaults
+pub mod ValueLemmas
 pub mod Samples
 pub mod OnSamples
 pub mod Rows

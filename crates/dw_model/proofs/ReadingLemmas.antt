@@ -1,5 +1,5 @@
 -- What was read took its bytes from those that were left.
-use Rattle.std.proofs.Common.{◌≡◌, ℕ, ◌+◌, ◌≤◌, Bool, true, false, cond, List, length, take, drop, ◌++◌, Result, Ok, Some, None, refl, sym, ap, arith, length-drop}
+use Rattle.std.proofs.Common.{◌≡◌, ◌∙◌, [], ℕ, ◌+◌, ◌≤◌, Bool, true, false, cond, List, length, take, drop, ◌++◌, Option, Result, Ok, Some, None, refl, sym, ap, arith, length-drop, length-append}
 use Rattle.std.specs.Prelude.{nat_le}
 use Rattle.std.proofs.lemmas.Bool.{leb-true}
 use Rattle.std.proofs.lemmas.List.{take_at, drop_at, take-append-drop, length-take-le}
@@ -51,3 +51,27 @@ between-past p n h = (sym (take-append-drop n p.left), omega (arith, length-take
 
 pub read_is : {A : Type 0} {E : Type 0} (x y : A) (p q : Place) → x ≡ y → p ≡ q → ◌≡◌ {A = Result (A × Place) E} (Ok (x, p)) (Ok (y, q))
 read_is x y p q e f = cc
+
+pub some_is : {A : Type 0} (x y : A) (p q : Place) → x ≡ y → p ≡ q → ◌≡◌ {A = Option (A × Place)} (Some (x, p)) (Some (y, q))
+some_is x y p q e f = cc
+
+pub between-length : (p q : Place) (piece : List ℕ) → Between p piece q → length p.left ≡ length piece + length q.left
+between-length p q piece b = rw (b.0) (length-append piece q.left)
+
+-- nothing stands between a place and itself
+pub between-none : (p q : Place) → p ≡ q → Between p [] q
+between-none p q e = (ap (λ (place : Place). place.left) e, omega (arith, ap (λ (place : Place). place.at) e))
+
+pub empty-between : (p q : Place) (piece : List ℕ) → Between p piece q → piece ≡ [] → p ≡ q
+empty-between p q piece b e =
+    let left : p.left ≡ q.left = b.0 ∙ ap (λ (s : List ℕ). s ++ q.left) e in
+    let none : length piece ≡ 0 = ap (λ (s : List ℕ). length s) e in
+    place_of p.at q.at p.left q.left (omega (arith, b.1, none)) left
+
+-- the place behind a front
+abbrev pub behind_front : (front rest : List ℕ) → Place
+behind_front front rest = record { at = length front; left = rest }
+
+pub same_front : (first second rest others : List ℕ) → first ++ rest ≡ second ++ others → length first ≡ length second → first ≡ second
+same_front first second rest others e size =
+    sym (take_at first rest (length second) size) ∙ ap (λ (s : List ℕ). take (length second) s) e ∙ take_at second others (length second) refl

@@ -6,7 +6,7 @@ use Rattle.byteorder.specs.Endian.{little_number}
 use Rattle.dw_model.specs.declared.dwarf.TheConstants as constants
 use Rattle.dw_model.specs.Results.{◌>>=◌}
 use Rattle.dw_model.specs.Reading.{Place, number_at, bytes_at, text_at, items}
-use Rattle.dw_model.specs.Leb.{IsUleb, IsSleb, fits_i64, uleb_at, sleb_at}
+use Rattle.dw_model.specs.Leb.{IsUleb, IsSleb, fits_i64, BeginsTooWide, BeginsTooWideSigned, uleb_at, sleb_at}
 use Rattle.dw_model.specs.Faults.{Fault, ends_early, unknown_form}
 
 -- A value, of the class that its form gives it. Offsets and indexes are numbers of their sections; what they lead to is looked up later.
@@ -151,3 +151,28 @@ pub data Spells (size : ℕ) : (form : ℕ) → (constant : Option ℤ) → List
       → lookup (nat_eq form) forms ≡ Some spelling → IsSpelling size spelling constant front v → Spells size form constant front v
   indirect : {constant : Option ℤ} {v : Value} (number front : List ℕ) (form : ℕ)
       → IsUleb number form → form < 2 ^ 64 → Spells size form None front v → Spells size constants.DW_FORM_indirect constant (number ++ front) v
+
+-- ---- why a value isn't read
+
+-- The form is unknown, or its number doesn't stand in the declaration, or so it is of the form that DW_FORM_indirect names.
+pub data IsUnknown : (form : ℕ) → (constant : Option ℤ) → List ℕ → Type 0 where
+  missing : {form : ℕ} {constant : Option ℤ} {left : List ℕ}
+      → form ≢ constants.DW_FORM_indirect → lookup (nat_eq form) forms ≡ None → IsUnknown form constant left
+  no_constant : {form : ℕ} {left : List ℕ} → lookup (nat_eq form) forms ≡ Some implicit → IsUnknown form None left
+  unknown_behind : {constant : Option ℤ} (number left : List ℕ) (form : ℕ)
+      → IsUleb number form → form < 2 ^ 64 → IsUnknown form None left → IsUnknown constants.DW_FORM_indirect constant (number ++ left)
+
+-- the spelling begins with a LEB128 number, and that doesn't fit 64 bits
+abbrev pub BeginsWide : Spelling → List ℕ → Type 0
+BeginsWide (uleb make) left = BeginsTooWide left
+BeginsWide sleb left = BeginsTooWideSigned left
+BeginsWide uleb_counted left = BeginsTooWide left
+BeginsWide _ left = ⊥
+
+-- A LEB128 number doesn't fit: that of the value, or that of a form behind DW_FORM_indirect.
+pub data IsWide : (form : ℕ) → List ℕ → Type 0 where
+  in_value : {form : ℕ} {left : List ℕ} (spelling : Spelling)
+      → lookup (nat_eq form) forms ≡ Some spelling → BeginsWide spelling left → IsWide form left
+  in_form : {left : List ℕ} → BeginsTooWide left → IsWide constants.DW_FORM_indirect left
+  wide_behind : (number left : List ℕ) (form : ℕ)
+      → IsUleb number form → form < 2 ^ 64 → IsWide form left → IsWide constants.DW_FORM_indirect (number ++ left)

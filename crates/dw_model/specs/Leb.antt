@@ -1,7 +1,7 @@
 -- LEB128 numbers (DWARF 5, section 7.6).
-use Rattle.std.specs.Prelude.{◌≡◌, ℕ, ◌+◌, ◌*◌, ◌^◌, ◌%◌, ◌<◌, ◌≤◌, ℤ, pos, ◌-ℤ◌, neg_ℤ, Bool, false, ◌&&◌, List, [], ◌∷◌, length, take, Result, Ok, Err, ok_or, position, nat_lt, nat_le, int_lt, int_le, if◌then◌else◌}
+use Rattle.std.specs.Prelude.{◌≡◌, ℕ, ◌+◌, ◌*◌, ◌^◌, ◌%◌, ◌<◌, ◌≤◌, ℤ, pos, ◌-ℤ◌, neg_ℤ, Bool, false, IsFalse, ◌&&◌, List, [], ◌∷◌, length, take, Result, Ok, Err, ok_or, position, nat_lt, nat_le, int_lt, int_le, if◌then◌else◌}
 use Rattle.dw_model.specs.Results.{◌>>=◌}
-use Rattle.dw_model.specs.Reading.{Place, past}
+use Rattle.dw_model.specs.Reading.{Place, past, BeginsWith}
 use Rattle.dw_model.specs.Faults.{Fault, ends_early, too_wide}
 
 -- the number whose groups of seven bits are the low seven bits of each byte, the lowest first
@@ -32,14 +32,22 @@ IsUleb bytes n = IsLeb bytes × (n ≡ groups bytes)
 abbrev pub IsSleb : List ℕ → ℤ → Type 0
 IsSleb bytes z = IsLeb bytes × (z ≡ signed_groups bytes)
 
+abbrev pub fits_i64 : ℤ → Bool
+fits_i64 z = int_le (neg_ℤ (pos (2 ^ 63))) z && int_lt z (pos (2 ^ 63))
+
+-- the bytes begin with a spelling of a number that doesn't fit 64 bits
+abbrev pub BeginsTooWide : List ℕ → Type 0
+BeginsTooWide = BeginsWith (λ piece. (n : ℕ) × IsUleb piece n × (2 ^ 64 ≤ n))
+
+-- the same of a signed number
+abbrev pub BeginsTooWideSigned : List ℕ → Type 0
+BeginsTooWideSigned = BeginsWith (λ piece. (z : ℤ) × IsSleb piece z × IsFalse (fits_i64 z))
+
 -- the bytes up to and with the next one whose top bit isn't set
 abbrev pub leb_at : Place → Result (List ℕ × Place) Fault
 leb_at p = do
   n ← ok_or (position (λ b. nat_lt b 128) p.left) ends_early
   Ok (take (n + 1) p.left, past (n + 1) p)
-
-abbrev pub fits_i64 : ℤ → Bool
-fits_i64 z = int_le (neg_ℤ (pos (2 ^ 63))) z && int_lt z (pos (2 ^ 63))
 
 -- an unsigned number, which fits 64 bits
 unfoldable pub uleb_at : Place → Result (ℕ × Place) Fault

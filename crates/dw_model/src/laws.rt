@@ -3,32 +3,20 @@
 //! A definition says how bytes are read; a law says that what is read is what the standard spells,
 //! and nothing else.
 
-ghost use Rattle.std.specs.Prelude.{
-  ◌≡◌,
-  ◌↔◌,
-  ◌⊎◌,
-  ◌++◌,
-  ◌<◌,
-  ◌≤◌,
-  ◌^◌,
-  ℕ,
-  ℤ,
-  List,
-  Ok,
-  Err,
-  IsTrue,
-  IsFalse,
-};
+ghost use Rattle.std.specs.Prelude.{◌≡◌, ◌↔◌, ◌⊎◌, ◌<◌, ◌^◌, ◌++◌, ℕ, ℤ, List};
+ghost use Rattle.std.specs.Prelude.{Option, Ok, Err, IsTrue};
 ghost use Rattle.dw_model.specs.Reading.{Place, Spans, BeginsWith};
-ghost use Rattle.dw_model.specs.Leb.{IsLeb, IsUleb, IsSleb, fits_i64, uleb_at, sleb_at};
-ghost use Rattle.dw_model.specs.Faults.{Fault, ends_early, too_wide};
+ghost use Rattle.dw_model.specs.Leb.{IsLeb, IsUleb, IsSleb, fits_i64};
+ghost use Rattle.dw_model.specs.Leb.{BeginsTooWide, BeginsTooWideSigned, uleb_at, sleb_at};
+ghost use Rattle.dw_model.specs.Form.{Value, value_at, Spells, IsUnknown, IsWide};
+ghost use Rattle.dw_model.specs.Faults.{Fault, ends_early, unknown_form, too_wide};
 
 /// An unsigned LEB128 number is read exactly where the bytes begin with a spelling of one that
 /// fits 64 bits; it is too wide exactly where they begin with a spelling of one that doesn't; else
 /// they end before it does (section 7.6).
 pub fn law_of_uleb()
     ensures spelled { (p q : Place) (n : ℕ) → (uleb_at p ≡ Ok (n, q)) ↔ Spans (λ piece. IsUleb piece n × (n < 2 ^ 64)) p q }
-    ensures wide { (p : Place) → (uleb_at p ≡ Err too_wide) ↔ BeginsWith (λ piece. (n : ℕ) × IsUleb piece n × (2 ^ 64 ≤ n)) p.left }
+    ensures wide { (p : Place) → (uleb_at p ≡ Err too_wide) ↔ BeginsTooWide p.left }
     ensures ends { (p : Place) → (uleb_at p ≡ Err ends_early) ↔ (BeginsWith IsLeb p.left → ⊥) }
     ensures no_other { (p : Place) (fault : Fault) → uleb_at p ≡ Err fault → (fault ≡ ends_early) ⊎ (fault ≡ too_wide) }
 {}
@@ -36,7 +24,7 @@ pub fn law_of_uleb()
 /// The same for signed numbers (section 7.6).
 pub fn law_of_sleb()
     ensures spelled { (p q : Place) (z : ℤ) → (sleb_at p ≡ Ok (z, q)) ↔ Spans (λ piece. IsSleb piece z × IsTrue (fits_i64 z)) p q }
-    ensures wide { (p : Place) → (sleb_at p ≡ Err too_wide) ↔ BeginsWith (λ piece. (z : ℤ) × IsSleb piece z × IsFalse (fits_i64 z)) p.left }
+    ensures wide { (p : Place) → (sleb_at p ≡ Err too_wide) ↔ BeginsTooWideSigned p.left }
     ensures ends { (p : Place) → (sleb_at p ≡ Err ends_early) ↔ (BeginsWith IsLeb p.left → ⊥) }
     ensures no_other { (p : Place) (fault : Fault) → sleb_at p ≡ Err fault → (fault ≡ ends_early) ⊎ (fault ≡ too_wide) }
 {}
@@ -44,4 +32,17 @@ pub fn law_of_sleb()
 /// No spelling of a LEB128 number begins another.
 pub fn law_of_one_spelling()
     ensures alone { (first second rest others : List ℕ) → IsLeb first → IsLeb second → first ++ rest ≡ second ++ others → first ≡ second }
+{}
+
+/// The value of a form is read exactly where the bytes begin with a spelling of it, through any
+/// number of DW_FORM_indirect. Else the fault is the form where that is unknown, or has its number
+/// in no declaration; the width, where a whole LEB128 number doesn't fit 64 bits; and the end in
+/// all other cases (sections 7.5.5 and 7.5.6). `size` is that of an offset, `constant` the number
+/// that stands in the declaration.
+pub fn law_of_values()
+    ensures spelled { (size form : ℕ) (constant : Option ℤ) (p q : Place) (v : Value) → (value_at size form constant p ≡ Ok (v, q)) ↔ Spans (λ piece. Spells size form constant piece v) p q }
+    ensures unknown { (size form : ℕ) (constant : Option ℤ) (p : Place) → (value_at size form constant p ≡ Err unknown_form) ↔ IsUnknown form constant p.left }
+    ensures wide { (size form : ℕ) (constant : Option ℤ) (p : Place) → (value_at size form constant p ≡ Err too_wide) ↔ IsWide form p.left }
+    ensures no_other { (size form : ℕ) (constant : Option ℤ) (p : Place) (fault : Fault) → value_at size form constant p ≡ Err fault → (fault ≡ ends_early) ⊎ (fault ≡ unknown_form) ⊎ (fault ≡ too_wide) }
+    ensures alone { (size form : ℕ) (constant : Option ℤ) (first second rest others : List ℕ) (v w : Value) → Spells size form constant first v → Spells size form constant second w → first ++ rest ≡ second ++ others → (first ≡ second) × (v ≡ w) }
 {}

@@ -4,9 +4,10 @@ use Rattle.dw_model.proofs.laws.law_of_sleb.Goals as goal
 
 pub returns-clause-spelled : goal.returns-clause-spelled
 unfolding sleb_at
-returns-clause-spelled c p q z =
-    (λ e. let s = fitting-spans signed_groups fits_i64 p q z e in (s.0.0, s.0.1, (s.0.2, s.1)),
-    λ s. fitting-ok signed_groups fits_i64 p q z (s.0, s.1, s.2.0) s.2.1)
+returns-clause-spelled c p q z = (
+  λ e. let s = fitting-spans signed_groups fits_i64 p q z e in (s.0.0, s.0.1, (s.0.2, s.1)),
+  λ s. fitting-ok signed_groups fits_i64 p q z (s.0, s.1, s.2.0) s.2.1,
+)
 
 pub returns-clause-wide : goal.returns-clause-wide
 unfolding sleb_at
