@@ -1,5 +1,5 @@
 -- Reading bytes from the front: a value and the place just past it, or nothing.
-use Rattle.std.specs.Prelude.{◌≡◌, ◌++◌, ℕ, zero, suc, ◌+◌, List, [], ◌∷◌, length, take, drop, Option, Some, None, Result, Ok, nat_le, ◌==◌, if◌then◌else◌}
+use Rattle.std.specs.Prelude.{◌≡◌, ◌↔◌, ◌++◌, ℕ, zero, suc, ◌+◌, List, [], ◌∷◌, length, take, drop, Option, Some, None, Result, Ok, Err, nat_le, ◌==◌, if◌then◌else◌}
 use Rattle.std.specs.List.{position}
 use Rattle.std.specs.Option.{option_map_or}
 use Rattle.byteorder.specs.Endian.{little_number}
@@ -57,3 +57,18 @@ items_up_to next (suc most) s = do
 -- All of the items. Each takes a byte at least of those that are left, so there are no more items than bytes.
 abbrev pub items : {S A E : Type 0} → (S → List ℕ) → (S → Result (Option A × S) E) → S → Result (List A × S) E
 items left next s = items_up_to next (suc (length (left s))) s
+
+-- The items are those that `next` gives one after the other, and the last state that in which it gives none.
+abbrev pub AreItems : {S A E : Type 0} → (S → Result (Option A × S) E) → S → List A → S → Type 0
+AreItems next s [] t = next s ≡ Ok (None, t)
+AreItems {S} next s (item ∷ others) u = (t : S) × (next s ≡ Ok (Some item, t)) × AreItems next t others u
+
+-- `next` gives the items one after the other, and then the fault.
+abbrev pub FailsAfter : {S A E : Type 0} → (S → Result (Option A × S) E) → S → List A → E → Type 0
+FailsAfter next s [] fault = next s ≡ Err fault
+FailsAfter {S} next s (item ∷ others) fault = (t : S) × (next s ≡ Ok (Some item, t)) × FailsAfter next t others fault
+
+-- All items are read exactly where they are the items, and the fault is the one before which there are items.
+pub record AreRead {S A E : Type 0} (left : S → List ℕ) (next : S → Result (Option A × S) E) : Type 0 where
+  pub read : (s t : S) (all : List A) → (items left next s ≡ Ok (all, t)) ↔ AreItems next s all t
+  pub fails : (s : S) (fault : E) → (items left next s ≡ Err fault) ↔ ((before : List A) × FailsAfter next s before fault)
