@@ -9,6 +9,8 @@ pub mod LebReading
 pub mod SpellingLemmas
 pub mod SpellingFaults
 pub mod ValueLemmas
+pub mod InstructionLemmas
+pub mod ProgramLemmas
 pub mod Samples
 pub mod OnSamples
 pub mod Rows

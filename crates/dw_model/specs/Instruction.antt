@@ -1,11 +1,11 @@
 -- The instructions of a line program (DWARF 5, section 6.2.5).
-use Rattle.std.specs.Prelude.{ℕ, zero, suc, ◌-◌, ℤ, List, [], ◌∷◌, length, Option, Some, None, Result, Ok, Err, ok_or, slice_index, nat_eq, nat_le, ◌==◌, if◌then◌else◌}
+use Rattle.std.specs.Prelude.{◌≡◌, ◌≢◌, ◌<◌, ◌≤◌, ◌^◌, ◌++◌, IsTrue, ℕ, zero, suc, ◌-◌, ℤ, List, [], ◌∷◌, length, Option, Some, None, Result, Ok, Err, ok_or, slice_index, nat_eq, nat_le, ◌==◌, if◌then◌else◌}
 use Rattle.std.specs.Map.{lookup}
 use Rattle.byteorder.specs.Endian.{little_number}
 use Rattle.dw_model.specs.declared.dwarf.TheConstants as constants
 use Rattle.dw_model.specs.Results.{◌>>=◌, or_fault}
 use Rattle.dw_model.specs.Reading.{Place, start, number_at, bytes_at, items}
-use Rattle.dw_model.specs.Leb.{uleb_at, sleb_at}
+use Rattle.dw_model.specs.Leb.{IsUleb, IsSleb, fits_i64, uleb_at, sleb_at}
 use Rattle.dw_model.specs.LineHeader.{LineHeader}
 use Rattle.dw_model.specs.Faults.{Bad, bad}
 
@@ -83,16 +83,17 @@ extended_at p = do
   instruction ← extended bytes.0
   Ok (instruction, bytes.1)
 
+-- the rest of an instruction behind a standard opcode, with its operands where the standard names it
+abbrev pub standard_at : LineHeader → ℕ → Option Operands → Place → Result (Instruction × Place) Bad
+standard_at header opcode None p = unknown_at (slice_index header.standard_opcode_lengths (opcode - 1)) p
+standard_at header opcode (Some operands) p = operands_at operands p
+
 -- the rest of an instruction behind its opcode
 unfoldable pub opcode_at : LineHeader → ℕ → Place → Result (Instruction × Place) Bad
 opcode_at header opcode p =
     if nat_le header.opcode_base opcode then Ok (special (opcode - header.opcode_base), p) else (
     if opcode == constants.DW_LNS_extended then extended_at p
     else standard_at header opcode (lookup (nat_eq opcode) standard_opcodes) p)
-  where
-    standard_at : LineHeader → ℕ → Option Operands → Place → Result (Instruction × Place) Bad
-    standard_at header opcode None p = unknown_at (slice_index header.standard_opcode_lengths (opcode - 1)) p
-    standard_at header opcode (Some operands) p = operands_at operands p
 
 -- the next instruction, and none at the program's end
 unfoldable pub next_instruction : LineHeader → Place → Result (Option Instruction × Place) Bad
@@ -104,3 +105,43 @@ next_instruction header p = if length p.left == 0 then Ok (None, p) else (do
 -- the instructions of a header's program
 unfoldable pub instructions : LineHeader → Result (List Instruction) Bad
 instructions header = items (λ p. p.left) (next_instruction header) (start header.program) >>= λ found. Ok found.0
+
+-- ---- whole spellings
+
+-- The bytes are the operands, and they make the instruction.
+abbrev pub AreOperands : Operands → List ℕ → Instruction → Type 0
+AreOperands (none instruction) bytes i = (bytes ≡ []) × (i ≡ instruction)
+AreOperands (unsigned make) bytes i = (n : ℕ) × IsUleb bytes n × (n < 2 ^ 64) × (i ≡ make n)
+AreOperands (signed make) bytes i = (z : ℤ) × IsSleb bytes z × IsTrue (fits_i64 z) × (i ≡ make z)
+AreOperands (two_bytes make) bytes i = (length bytes ≡ 2) × (i ≡ make (little_number 2 bytes))
+
+-- the bytes are so many LEB128 numbers, one after the other
+abbrev pub AreNumbers : ℕ → List ℕ → Type 0
+AreNumbers zero bytes = bytes ≡ []
+AreNumbers (suc count) bytes =
+    (first others : List ℕ) × (n : ℕ) × (bytes ≡ first ++ others) × IsUleb first n × (n < 2 ^ 64) × AreNumbers count others
+
+-- the bytes are the length of an extended opcode and what it counts
+abbrev pub IsExtended : List ℕ → Instruction → Type 0
+IsExtended bytes i =
+    (len content : List ℕ) × (bytes ≡ len ++ content) × IsUleb len (length content) × (length content < 2 ^ 64) × (extended content ≡ Ok i)
+
+-- The bytes are what stands behind the opcode, and with it they make the instruction.
+pub data IsBehind (header : LineHeader) (opcode : ℕ) (bytes : List ℕ) (i : Instruction) : Type 0 where
+  is_special : header.opcode_base ≤ opcode → bytes ≡ [] → i ≡ special (opcode - header.opcode_base) → IsBehind header opcode bytes i
+  is_extended : opcode < header.opcode_base → opcode ≡ constants.DW_LNS_extended → IsExtended bytes i → IsBehind header opcode bytes i
+  is_standard : opcode < header.opcode_base
+      → (operands : Operands) → lookup (nat_eq opcode) standard_opcodes ≡ Some operands → AreOperands operands bytes i → IsBehind header opcode bytes i
+  is_unknown : opcode < header.opcode_base → opcode ≢ constants.DW_LNS_extended
+      → lookup (nat_eq opcode) standard_opcodes ≡ None → AreNumbers (slice_index header.standard_opcode_lengths (opcode - 1)) bytes → i ≡ no_effect → IsBehind header opcode bytes i
+
+-- The bytes are one whole spelling of the instruction.
+abbrev pub IsInstruction : LineHeader → List ℕ → Instruction → Type 0
+IsInstruction header [] i = ⊥
+IsInstruction header (opcode ∷ bytes) i = IsBehind header opcode bytes i
+
+-- The bytes are the spellings of the instructions, one after the other.
+abbrev pub AreInstructions : LineHeader → List ℕ → List Instruction → Type 0
+AreInstructions header bytes [] = bytes ≡ []
+AreInstructions header bytes (i ∷ others) =
+    (first rest : List ℕ) × (bytes ≡ first ++ rest) × IsInstruction header first i × AreInstructions header rest others
