@@ -11,6 +11,7 @@ pub mod SpellingFaults
 pub mod ValueLemmas
 pub mod InstructionLemmas
 pub mod ProgramLemmas
+pub mod RegisterLemmas
 pub mod Samples
 pub mod OnSamples
 pub mod Rows

@@ -18,6 +18,7 @@ pub mod Refusal
 pub mod LineHeader
 pub mod Instruction
 pub mod Matrix
+pub mod Registers
 pub mod Path
 pub mod Tree
 pub mod Name
