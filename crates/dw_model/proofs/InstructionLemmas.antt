@@ -105,9 +105,9 @@ extended-spans p q i e =
 named : (opcode : ℕ) (operands : Operands) → lookup (nat_eq opcode) standard_opcodes ≡ Some operands → (opcode == DW_LNS_extended) ≡ false
 named opcode operands e =
     ne_eqb opcode DW_LNS_extended (λ same.
-      let none : lookup (nat_eq DW_LNS_extended) standard_opcodes ≡ None = refl in
-      let both : Some operands ≡ None = sym e ∙ ap (λ (n : ℕ). lookup (nat_eq n) standard_opcodes) same ∙ none in
-      absurd cc)
+    let none : lookup (nat_eq DW_LNS_extended) standard_opcodes ≡ None = refl in
+    let both : Some operands ≡ None = sym e ∙ ap (λ (n : ℕ). lookup (nat_eq n) standard_opcodes) same ∙ none in
+    absurd cc)
 
 opcode-ok : (header : LineHeader) (opcode : ℕ) (p q : Place) (piece : List ℕ) (i : Instruction) → Between p piece q → IsBehind header opcode piece i → opcode_at header opcode p ≡ Ok (i, q)
 unfolding opcode_at

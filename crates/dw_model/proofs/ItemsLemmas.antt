@@ -59,16 +59,18 @@ module _ {S A E : Type 0} (next : S → Result (Option A × S) E) where
   are-below left advances zero s u all h e = absurd (omega arith)
   are-below left advances (suc n) s u all h e =
       elim (turn-read (items_up_to next n) (next s) all u e) [
-        inl x ↦ subst (λ all. AreItems next s all u) (sym x.1) x.0
-        | inr x ↦ subst (λ all. AreItems next s all u) (sym x.5) (x.1, x.3, are-below left advances n x.1 u x.2 (omega (arith, advances s x.0 x.1 x.3, h)) x.4) ]
+        | inl x ↦ subst (λ all. AreItems next s all u) (sym x.1) x.0
+        | inr x ↦ subst (λ all. AreItems next s all u) (sym x.5) (x.1, x.3, are-below left advances n x.1 u x.2 (omega (arith, advances s x.0 x.1 x.3, h)) x.4)
+      ]
 
   fails-below : (left : S → List ℕ) → Advances left next → (n : ℕ) (s : S) (e : E) → length (left s) < n → items_up_to next n s ≡ Err e → (before : List A) × FailsAfter next s before e
   unfolding items_up_to
   fails-below left advances zero s e h f = absurd (omega arith)
   fails-below left advances (suc n) s e h f =
       elim (turn-fails (items_up_to next n) (next s) e f) [
-        inl x ↦ ([], x)
-        | inr x ↦ (let later = fails-below left advances n x.1 e (omega (arith, advances s x.0 x.1 x.2, h)) x.3 in (x.0 ∷ later.0, (x.1, x.2, later.1))) ]
+        | inl x ↦ ([], x)
+        | inr x ↦ (let later = fails-below left advances n x.1 e (omega (arith, advances s x.0 x.1 x.2, h)) x.3 in (x.0 ∷ later.0, (x.1, x.2, later.1)))
+      ]
 
   pub are-read : (left : S → List ℕ) → Advances left next → (all : List A) (s u : S) → AreItems next s all u → items left next s ≡ Ok (all, u)
   are-read left advances [] s u h = rw (items-turn left advances s, h) refl

@@ -12,6 +12,7 @@ pub mod ValueLemmas
 pub mod InstructionLemmas
 pub mod ProgramLemmas
 pub mod RegisterLemmas
+pub mod AdvanceLemmas
 pub mod Samples
 pub mod OnSamples
 pub mod Rows

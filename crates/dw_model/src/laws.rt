@@ -9,6 +9,11 @@ ghost use Rattle.dw_model.specs.Reading.{Place, Spans, BeginsWith};
 ghost use Rattle.dw_model.specs.Leb.{IsLeb, IsUleb, IsSleb, fits_i64};
 ghost use Rattle.dw_model.specs.Leb.{BeginsTooWide, BeginsTooWideSigned, uleb_at, sleb_at};
 ghost use Rattle.dw_model.specs.Form.{Value, value_at, Spells, IsUnknown, IsWide};
+ghost use Rattle.dw_model.specs.LineHeader.{LineHeader};
+ghost use Rattle.dw_model.specs.Instruction.{Instruction, instructions};
+ghost use Rattle.dw_model.specs.Instruction.{IsInstruction, AreInstructions};
+ghost use Rattle.dw_model.specs.Matrix.{matrix};
+ghost use Rattle.dw_model.specs.Registers.{initial, run};
 ghost use Rattle.dw_model.specs.Faults.{Fault, ends_early, unknown_form, too_wide};
 
 /// An unsigned LEB128 number is read exactly where the bytes begin with a spelling of one that
@@ -45,4 +50,18 @@ pub fn law_of_values()
     ensures wide { (size form : ℕ) (constant : Option ℤ) (p : Place) → (value_at size form constant p ≡ Err too_wide) ↔ IsWide form p.left }
     ensures no_other { (size form : ℕ) (constant : Option ℤ) (p : Place) (fault : Fault) → value_at size form constant p ≡ Err fault → (fault ≡ ends_early) ⊎ (fault ≡ unknown_form) ⊎ (fault ≡ too_wide) }
     ensures alone { (size form : ℕ) (constant : Option ℤ) (first second rest others : List ℕ) (v w : Value) → Spells size form constant first v → Spells size form constant second w → first ++ rest ≡ second ++ others → (first ≡ second) × (v ≡ w) }
+{}
+
+/// The instructions of a line program are exactly those whose spellings, one after the other, are
+/// its bytes; so a program that is none such is bad. No spelling of an instruction begins another
+/// (section 6.2.5).
+pub fn law_of_line_programs()
+    ensures spelled { (header : LineHeader) (list : List Instruction) → (instructions header ≡ Ok list) ↔ AreInstructions header header.program list }
+    ensures alone { (header : LineHeader) (first second rest others : List ℕ) (i j : Instruction) → IsInstruction header first i → IsInstruction header second j → first ++ rest ≡ second ++ others → (first ≡ second) × (i ≡ j) }
+{}
+
+/// The registers of the line number machine, whose numbers run modulo 2^64, append the rows of the
+/// matrix, which is defined by sums (section 6.2.2).
+pub fn law_of_registers()
+    ensures matrix { (header : LineHeader) (list : List Instruction) → matrix header list ≡ run header initial list }
 {}
