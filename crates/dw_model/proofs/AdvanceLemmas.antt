@@ -1,19 +1,26 @@
 -- What is read one item after the other goes on by at least a byte with each item.
 use Rattle.std.proofs.Common.{◌≡◌, ◌⊎◌, inl, inr, ℕ, ◌+◌, ◌<◌, ◌≤◌, ℤ, Bool, true, false, cond, List, [], ◌∷◌, length, Option, Some, None, Result, Ok, Err, refl, subst, sym, ap, ◌∙◌, arith}
-use Rattle.std.specs.Prelude.{ok_or, not, nat_eq, ◌==◌, ◌&&◌}
+use Rattle.std.specs.Prelude.{ok_or, not, option_map, nat_eq, ◌==◌, ◌&&◌, ◌||◌}
+use Rattle.std.specs.Option.{option_map_or}
 use Rattle.std.specs.Map.{lookup}
+use Rattle.std.specs.List.{AllByRecursion}
+use Rattle.std.proofs.lemmas.Option.{same_Some}
 use Rattle.dw_model.specs.declared.dwarf.TheConstants as constants
 use Rattle.dw_model.specs.Results.{◌>>=◌, or_fault}
 use Rattle.dw_model.specs.Reading.{Place, Between, Spans, number_at, items, AreItems}
-use Rattle.dw_model.specs.Faults.{Fault, ends_early, Bad, bad}
+use Rattle.dw_model.specs.Faults.{Fault, ends_early, undeclared, Bad, bad, TreeFault, entry_fault}
 use Rattle.dw_model.specs.Leb.{uleb_at, sleb_at}
 use Rattle.dw_model.specs.Form.{Value, value_at}
-use Rattle.dw_model.specs.Abbrev.{Specification, Declaration, next_specification, declaration_behind, next_declaration}
+use Rattle.dw_model.specs.Abbrev.{Specification, Declaration, declared, next_specification, declaration_behind, next_declaration}
+use Rattle.dw_model.specs.Entry.{Attribute, Entry, attributes_at, entry_at}
+use Rattle.dw_model.specs.Tree.{Node, Reading, checked, depth_behind, next_node}
+use Rattle.dw_model.specs.Ranges.{Range, RangeEntry, base_addressx, startx_endx, startx_length, offset_pair, base_address, start_end, start_length, Operand, leb, eight_bytes, one, two, operands, next_range_entry}
 use Rattle.dw_model.proofs.StepLemmas.{bind_ok, ok_or-ok, ok_is}
 use Rattle.dw_model.proofs.ReadingLemmas.{between-length}
 use Rattle.dw_model.proofs.ItemsLemmas.{Advances, read_by}
 use Rattle.dw_model.proofs.NumberLemmas.{number_at-spans}
 use Rattle.dw_model.proofs.LebReading.{uleb-left, sleb-spans}
+use Rattle.dw_model.proofs.InstructionLemmas.{or_fault-ok}
 use Rattle.dw_model.proofs.ValueLemmas.{value-spans}
 
 -- no more bytes are left than before
@@ -105,3 +112,121 @@ declarations_advance p item t e =
     let last = ends_at (Some declaration.0.0) (Some item) declaration.0.1 t declaration.2 in
     let behind : Onward code.0.1 t = onward_at code.0.1 declaration.0.1 t last (declaration-onward code.0.0 code.0.1 declaration.0 declaration.1) in
     omega (arith, uleb-left p code.0.1 code.0.0 code.1, behind)
+
+-- ---- entries
+
+value-onward : (size form : ℕ) (constant : Option ℤ) (p : Place) (x : Value × Place) → value_at size form constant p ≡ Ok x → Onward p x.1
+value-onward size form constant p x e =
+    let s = value-spans size form constant p x.1 x.0 e in
+    omega (arith, between-length p x.1 s.0 s.1)
+
+attributes-onward : (size : ℕ) (specifications : List Specification) (p : Place) (x : List Attribute × Place) → attributes_at size specifications p ≡ Ok x → Onward p x.1
+unfolding attributes_at
+attributes-onward size [] p x e = onward_at p p x.1 (ends_at [] x.0 p x.1 e) (omega arith)
+attributes-onward size (specification ∷ specifications) p x e =
+    let more : Value × Place → Result (List Attribute × Place) Fault = λ value. attributes_at size specifications value.1 >>= λ others. Ok (record { name = specification.name; value = value.0 } ∷ others.0, others.1) in
+    let value = bind_ok (value_at size specification.form specification.constant p) more x e in
+    let others = bind_ok (attributes_at size specifications value.0.1) (λ others. Ok (record { name = specification.name; value = value.0.0 } ∷ others.0, others.1)) x value.2 in
+    let last = ends_at (record { name = specification.name; value = value.0.0 } ∷ others.0.0) x.0 others.0.1 x.1 others.2 in
+    onward_at p others.0.1 x.1 last (omega (arith, value-onward size specification.form specification.constant p value.0 value.1, attributes-onward size specifications value.0.1 others.0 others.1))
+
+entry_behind : (size : ℕ) (at tag : ℕ) (children : Bool) (specifications : List Specification) (q : Place) (x : Option Entry × Place) → ◌>>=◌ {B = Option Entry × Place} (attributes_at size specifications q) (λ attributes. Ok (Some (record { offset = at; tag = tag; children = children; attributes = attributes.0 }), attributes.1)) ≡ Ok x → Onward q x.1
+entry_behind size at tag children specifications q x e =
+    let attributes = bind_ok (attributes_at size specifications q) (λ attributes. Ok (Some (record { offset = at; tag = tag; children = children; attributes = attributes.0 }), attributes.1)) x e in
+    let last = ends_at (Some (record { offset = at; tag = tag; children = children; attributes = attributes.0.0 })) x.0 attributes.0.1 x.1 attributes.2 in
+    onward_at q attributes.0.1 x.1 last (attributes-onward size specifications q attributes.0 attributes.1)
+
+pub entry-onward : (size : ℕ) (declarations : List Declaration) (p : Place) (x : Option Entry × Place) → entry_at size declarations p ≡ Ok x → length x.1.left < length p.left
+unfolding entry_at
+entry-onward size declarations p x e =
+    let behind : ℕ → Place → Declaration → Result (Option Entry × Place) Fault = λ code q declaration. attributes_at size declaration.specifications q >>= λ attributes. Ok (Some (record { offset = p.at; tag = declaration.tag; children = declaration.children; attributes = attributes.0 }), attributes.1) in
+    let rest : ℕ × Place → Result (Option Entry × Place) Fault = λ code. cond {A = Result (Option Entry × Place) Fault} (code.0 == 0) (Ok (None, code.1)) (ok_or (declared declarations code.0) undeclared >>= behind code.0 code.1) in
+    let code = bind_ok (uleb_at p) rest x e in
+    let after : Onward code.0.1 x.1 = elim (either (code.0.0 == 0) (Ok (None, code.0.1)) (ok_or (declared declarations code.0.0) undeclared >>= behind code.0.0 code.0.1) (Ok x) code.2) [
+      | inl null ↦ onward_at code.0.1 code.0.1 x.1 (ends_at None x.0 code.0.1 x.1 null) (omega arith)
+      | inr more ↦ (
+          let declaration = bind_ok (ok_or (declared declarations code.0.0) undeclared) (behind code.0.0 code.0.1) x more in
+          entry_behind size p.at declaration.0.tag declaration.0.children declaration.0.specifications code.0.1 x declaration.2)
+    ] in
+    omega (arith, uleb-left p code.0.1 code.0.0 code.1, after)
+
+-- ---- the nodes of a tree
+
+pub nodes_advance : (ranges : Entry → Result (List Range) Bad) (size : ℕ) (declarations : List Declaration) → Advances (λ s. s.place.left) (next_node ranges size declarations)
+unfolding next_node
+nodes_advance ranges size declarations s item t e =
+    let node : Option Entry × Place → Result (Option (Option Node) × Reading) TreeFault = λ found. option_map_or (checked ranges s.depth) found.0 (Ok tt) >>= λ _. Ok (Some (option_map (λ entry. record { depth = s.depth; entry = entry }) found.0), record { place = found.1; depth = depth_behind s.depth found.0 }) in
+    let more = past_none (s.depth == 0 || length s.place.left == 0) s (or_fault entry_fault (entry_at size declarations s.place) >>= node) item t e in
+    let found = bind_ok (or_fault entry_fault (entry_at size declarations s.place)) node (Some item, t) more in
+    let passed = bind_ok (option_map_or (checked ranges s.depth) found.0.0 (Ok tt)) (λ _. Ok (Some (option_map (λ entry. record { depth = s.depth; entry = entry }) found.0.0), record { place = found.0.1; depth = depth_behind s.depth found.0.0 })) (Some item, t) found.2 in
+    let last : found.0.1 ≡ t.place = ap (λ (x : Option (Option Node) × Reading). x.1.place) (ok_is (Some (option_map (λ entry. record { depth = s.depth; entry = entry }) found.0.0), record { place = found.0.1; depth = depth_behind s.depth found.0.0 }) (Some item, t) passed.2) in
+    let read = entry-onward size declarations s.place found.0 (or_fault-ok entry_fault (entry_at size declarations s.place) found.0 found.1) in
+    let same : length found.0.1.left ≡ length t.place.left = ap (λ (p : Place). length p.left) last in
+    omega (arith, read, same)
+
+-- ---- range lists
+
+one-onward : (first : Operand) (make : ℕ → RangeEntry) → ((p : Place) (x : ℕ × Place) → first p ≡ Ok x → Onward p x.1) → (p : Place) (x : RangeEntry × Place) → one first make p ≡ Ok x → Onward p x.1
+one-onward first make step p x e =
+    let a = bind_ok (first p) (λ a. Ok (make a.0, a.1)) x e in
+    onward_at p a.0.1 x.1 (ends_at (make a.0.0) x.0 a.0.1 x.1 a.2) (step p a.0 a.1)
+
+two-onward : (first second : Operand) (make : ℕ → ℕ → RangeEntry) → ((p : Place) (x : ℕ × Place) → first p ≡ Ok x → Onward p x.1) → ((p : Place) (x : ℕ × Place) → second p ≡ Ok x → Onward p x.1) → (p : Place) (x : RangeEntry × Place) → two first second make p ≡ Ok x → Onward p x.1
+two-onward first second make step other p x e =
+    let a = bind_ok (first p) (λ a. second a.1 >>= λ b. Ok (make a.0 b.0, b.1)) x e in
+    let b = bind_ok (second a.0.1) (λ b. Ok (make a.0.0 b.0, b.1)) x a.2 in
+    onward_at p b.0.1 x.1 (ends_at (make a.0.0 b.0.0) x.0 b.0.1 x.1 b.2) (omega (arith, step p a.0 a.1, other a.0.1 b.0 b.1))
+
+leb-onward : (p : Place) (x : ℕ × Place) → leb p ≡ Ok x → Onward p x.1
+leb-onward p x e = omega (arith, uleb-left p x.1 x.0 (or_fault-ok bad (uleb_at p) x e))
+
+eight-onward : (p : Place) (x : ℕ × Place) → eight_bytes p ≡ Ok x → Onward p x.1
+eight-onward p x e = omega (arith, number-onward 8 p bad x e)
+
+-- what holds of each value of a table holds of the one that is found
+found_in : {X : Type 0} (P : X → Type 0) (test : ℕ → Bool) (table : List (ℕ × X)) (x : X) → AllByRecursion (λ row. P row.1) table → lookup test table ≡ Some x → P x
+found_in P test [] x all e = absurd cc
+found_in P test (row ∷ table) x all e =
+    elim (either (test row.0) (Some row.1) (lookup test table) (Some x) e) [
+      | inl here ↦ subst P (same_Some row.1 x here) all.0
+      | inr there ↦ found_in P test table x all.1 there
+    ]
+
+abbrev StepsOnward : (Place → Result (RangeEntry × Place) Bad) → Type 0
+StepsOnward read = (p : Place) (x : RangeEntry × Place) → read p ≡ Ok x → Onward p x.1
+
+operands-onward : AllByRecursion (λ row. StepsOnward row.1) operands
+operands-onward = (
+  one-onward leb base_addressx leb-onward,
+  (
+    two-onward leb leb startx_endx leb-onward leb-onward,
+    (
+      two-onward leb leb startx_length leb-onward leb-onward,
+      (
+        two-onward leb leb offset_pair leb-onward leb-onward,
+        (
+          one-onward eight_bytes base_address eight-onward,
+          (
+            two-onward eight_bytes eight_bytes start_end eight-onward eight-onward,
+            (two-onward eight_bytes leb start_length eight-onward leb-onward, tt),
+          ),
+        ),
+      ),
+    ),
+  ),
+)
+
+pub range_entries_advance : Advances (λ p. p.left) next_range_entry
+unfolding next_range_entry
+range_entries_advance p item t e =
+    let entry : Place → (Place → Result (RangeEntry × Place) Bad) → Result (Option RangeEntry × Place) Bad = λ q read. read q >>= λ entry. Ok (Some entry.0, entry.1) in
+    let rest : ℕ × Place → Result (Option RangeEntry × Place) Bad = λ code. cond {A = Result (Option RangeEntry × Place) Bad} (code.0 == constants.DW_RLE_end_of_list) (Ok (None, code.1)) (ok_or (lookup (nat_eq code.0) operands) bad >>= entry code.1) in
+    let code = bind_ok (ok_or (number_at 1 p) bad) rest (Some item, t) e in
+    let more = past_none (code.0.0 == constants.DW_RLE_end_of_list) code.0.1 (ok_or (lookup (nat_eq code.0.0) operands) bad >>= entry code.0.1) item t code.2 in
+    let read = bind_ok (ok_or (lookup (nat_eq code.0.0) operands) bad) (entry code.0.1) (Some item, t) more in
+    let some = ok_or-ok (lookup (nat_eq code.0.0) operands) bad read.0 read.1 in
+    let found = bind_ok (read.0 code.0.1) (λ entry. Ok (Some entry.0, entry.1)) (Some item, t) read.2 in
+    let step : StepsOnward read.0 = found_in StepsOnward (nat_eq code.0.0) operands read.0 operands-onward some in
+    let last = ends_at (Some found.0.0) (Some item) found.0.1 t found.2 in
+    let behind : Onward code.0.1 t = onward_at code.0.1 found.0.1 t last (step code.0.1 found.0 found.1) in
+    omega (arith, number-onward 1 p bad code.0 code.1, behind)

@@ -19,7 +19,7 @@ use Rattle.dw_model.proofs.LebReading.{uleb-ok, uleb-spans, sleb-ok, sleb-spans}
 use Rattle.dw_model.proofs.SpellingLemmas.{between, parted, joined}
 
 -- the value behind a fault that was told otherwise
-or_fault-ok : {A E F : Type 0} (f : F) (r : Result A E) (x : A) → or_fault f r ≡ Ok x → r ≡ Ok x
+pub or_fault-ok : {A E F : Type 0} (f : F) (r : Result A E) (x : A) → or_fault f r ≡ Ok x → r ≡ Ok x
 or_fault-ok f (Ok y) x e = let same : y ≡ x = cc in ap Ok same
 or_fault-ok f (Err d) x e = absurd cc
 

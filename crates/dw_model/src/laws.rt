@@ -4,17 +4,22 @@
 //! and nothing else.
 
 ghost use Rattle.std.specs.Prelude.{◌≡◌, ◌↔◌, ◌⊎◌, ◌<◌, ◌^◌, ◌++◌, ℕ, ℤ, List};
-ghost use Rattle.std.specs.Prelude.{Option, Ok, Err, IsTrue};
-ghost use Rattle.dw_model.specs.Reading.{Place, Spans, BeginsWith};
+ghost use Rattle.std.specs.Prelude.{Option, Result, Ok, Err, IsTrue};
+ghost use Rattle.dw_model.specs.Reading.{Place, Spans, BeginsWith, AreRead};
 ghost use Rattle.dw_model.specs.Leb.{IsLeb, IsUleb, IsSleb, fits_i64};
 ghost use Rattle.dw_model.specs.Leb.{BeginsTooWide, BeginsTooWideSigned, uleb_at, sleb_at};
 ghost use Rattle.dw_model.specs.Form.{Value, value_at, Spells, IsUnknown, IsWide};
+ghost use Rattle.dw_model.specs.Abbrev.{Declaration, next_specification, next_declaration};
+ghost use Rattle.dw_model.specs.Entry.{Entry};
+ghost use Rattle.dw_model.specs.Ranges.{Range, next_range_entry};
+ghost use Rattle.dw_model.specs.Tree.{next_node};
+ghost use Rattle.dw_model.specs.Unit.{Test, next_piece};
 ghost use Rattle.dw_model.specs.LineHeader.{LineHeader};
-ghost use Rattle.dw_model.specs.Instruction.{Instruction, instructions};
+ghost use Rattle.dw_model.specs.Instruction.{Instruction, instructions, next_instruction};
 ghost use Rattle.dw_model.specs.Instruction.{IsInstruction, AreInstructions};
 ghost use Rattle.dw_model.specs.Matrix.{matrix};
 ghost use Rattle.dw_model.specs.Registers.{initial, run};
-ghost use Rattle.dw_model.specs.Faults.{Fault, ends_early, unknown_form, too_wide};
+ghost use Rattle.dw_model.specs.Faults.{Fault, ends_early, unknown_form, too_wide, Bad};
 
 /// An unsigned LEB128 number is read exactly where the bytes begin with a spelling of one that
 /// fits 64 bits; it is too wide exactly where they begin with a spelling of one that doesn't; else
@@ -64,4 +69,17 @@ pub fn law_of_line_programs()
 /// matrix, which is defined by sums (section 6.2.2).
 pub fn law_of_registers()
     ensures matrix { (header : LineHeader) (list : List Instruction) → matrix header list ≡ run header initial list }
+{}
+
+/// What is read one item after the other is the items that stand there by the relation, whichever
+/// bound the reading has: the pairs of a declaration, the declarations of a table, the entries of a
+/// range list, the instructions of a line program, the nodes of a tree and the pieces of
+/// .debug_info.
+pub fn law_of_items()
+    ensures specifications { AreRead (λ p. p.left) next_specification }
+    ensures declarations { AreRead (λ p. p.left) next_declaration }
+    ensures range_entries { AreRead (λ p. p.left) next_range_entry }
+    ensures instructions { (header : LineHeader) → AreRead (λ p. p.left) (next_instruction header) }
+    ensures nodes { (ranges : Entry → Result (List Range) Bad) (size : ℕ) (declarations : List Declaration) → AreRead (λ s. s.place.left) (next_node ranges size declarations) }
+    ensures pieces { (test : Test) → AreRead (λ p. p.left) (next_piece test) }
 {}
