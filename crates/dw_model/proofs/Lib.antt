@@ -13,6 +13,7 @@ pub mod InstructionLemmas
 pub mod ProgramLemmas
 pub mod RegisterLemmas
 pub mod AdvanceLemmas
+pub mod CutLaws
 pub mod Samples
 pub mod OnSamples
 pub mod Rows

@@ -2,6 +2,8 @@
 use Rattle.std.proofs.Common.{◌≡◌, ℕ, ◌<◌, ◌≤◌, Bool, true, false, cond, List, [], length, Option, Some, None, Result, Ok, Err, refl, ap, ◌∙◌, arith}
 use Rattle.std.specs.Prelude.{ok_or, filter_map, ◌==◌}
 use Rattle.std.specs.List.{cons_option}
+use Rattle.std.proofs.lemmas.Bool.{eqb-true}
+use Rattle.std.proofs.lemmas.List.{nil_from_length}
 use Rattle.dw_model.specs.Results.{◌>>=◌}
 use Rattle.dw_model.specs.Reading.{Place, number_at, bytes_at, onto, items}
 use Rattle.dw_model.specs.InitialLength.{InitialLength, of_length, wide, reserved, initial_length_of, initial_length}
@@ -61,6 +63,21 @@ next_is false p (Err d) x item e some = absurd cc
 pub pieces_advance : (test : Test) → Advances (λ p. p.left) (next_piece test)
 unfolding next_piece
 pieces_advance test p item q e = piece_at-left test p (item, q) (next_is (length p.left == 0) p (piece_at test p) (Some item, q) item e refl)
+
+pub next-some : (test : Test) (p q : Place) (item : Option DwarfUnit) → next_piece test p ≡ Ok (Some item, q) → piece_at test p ≡ Ok (item, q)
+unfolding next_piece
+next-some test p q item e = next_is (length p.left == 0) p (piece_at test p) (Some item, q) item e refl
+
+ended_is : (ended : Bool) (p q : Place) (piece : Result Piece Refusal) → cond {A = Result Next Refusal} ended (Ok (None, p)) (piece >>= λ y. Ok (Some y.0, y.1)) ≡ Ok (None, q) → ended ≡ true
+ended_is true p q piece e = refl
+ended_is false p q (Ok y) e =
+    let same : Some y.0 ≡ None = ap (λ (z : Next). z.0) (ok_is (Some y.0, y.1) (None, q) e) in
+    absurd cc
+ended_is false p q (Err d) e = absurd cc
+
+pub next-end : (test : Test) (p q : Place) → next_piece test p ≡ Ok (None, q) → p.left ≡ []
+unfolding next_piece
+next-end test p q e = nil_from_length p.left (eqb-true (length p.left) 0 (ended_is (length p.left == 0) p q (piece_at test p) e))
 
 -- ---- the cut, a piece at a time
 

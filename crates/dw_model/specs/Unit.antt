@@ -1,7 +1,9 @@
 -- The units of .debug_info (DWARF 5, section 7.5.1).
-use Rattle.std.specs.Prelude.{ℕ, ◌+◌, Bool, true, false, not, List, [], filter_map, length, Option, Some, None, Result, Ok, Err, ok_or, ◌==◌, if◌then◌else◌}
+use Rattle.std.specs.Prelude.{◌≡◌, ◌<◌, ◌++◌, ◌∷◌, ℕ, ◌+◌, Bool, true, false, not, List, [], filter_map, length, Option, Some, None, Result, Ok, Err, ok_or, ◌==◌, if◌then◌else◌}
+use Rattle.std.specs.List.{cons_option}
+use Rattle.byteorder.specs.Endian.{little_number}
 use Rattle.std.specs.Result.{result_unwrap_or, result_err}
-use Rattle.dw_model.specs.declared.dwarf.TheConstants.{DWARF_VERSION, ADDRESS_SIZE, DW_UT_COMPILE, DW_UT_PARTIAL, DW_UT_SKELETON, DWO_ID_SIZE}
+use Rattle.dw_model.specs.declared.dwarf.TheConstants.{DWARF_VERSION, ADDRESS_SIZE, DW_UT_COMPILE, DW_UT_PARTIAL, DW_UT_SKELETON, DWO_ID_SIZE, DW_LENGTH_RESERVED, OFFSET_SIZE_32}
 use Rattle.dw_model.specs.Results.{◌>>=◌, refuse_if}
 use Rattle.dw_model.specs.Reading.{Place, start, number_at, bytes_at, items}
 use Rattle.dw_model.specs.InitialLength.{InitialLength, of_length, wide, reserved, initial_length}
@@ -124,3 +126,33 @@ units info = result_unwrap_or (cut info) []
 -- the first condition that a unit's header fails, unit by unit
 abbrev pub header_refusal : List ℕ → Option Refusal
 header_refusal info = result_err (cut info)
+
+-- ---- whole pieces
+
+-- The piece is an initial length of the 32-bit format and the content that it counts.
+abbrev pub IsPiece : List ℕ → List ℕ → Type 0
+IsPiece content piece =
+    (len : List ℕ) × (piece ≡ len ++ content) × (length len ≡ 4) × (little_number 4 len ≡ length content) × (length content < DW_LENGTH_RESERVED)
+
+-- The bytes are pieces with these contents, one after the other.
+abbrev pub AreContents : List ℕ → List (List ℕ) → Type 0
+AreContents bytes [] = bytes ≡ []
+AreContents bytes (content ∷ others) =
+    (piece rest : List ℕ) × (bytes ≡ piece ++ rest) × IsPiece content piece × AreContents rest others
+
+-- where the bytes behind a unit's length stand, for a unit of the 32-bit format
+abbrev pub extent_at : ℕ → List ℕ → Extent
+extent_at offset content = record { offset = offset; base = offset + 4; end = offset + 4 + length content }
+
+-- The unit of a piece that begins at the offset; no content makes none.
+abbrev pub IsUnitOf : Test → ℕ → List ℕ → Option DwarfUnit → Type 0
+IsUnitOf test offset [] found = found ≡ None
+IsUnitOf test offset (b ∷ bytes) found =
+    (unit : DwarfUnit) × (found ≡ Some unit) × (unit_of (extent_at offset (b ∷ bytes)) OFFSET_SIZE_32 (b ∷ bytes) ≡ Ok unit) × (test unit ≡ Ok tt)
+
+-- The units of the pieces with these contents, the first of which begins at the offset.
+abbrev pub AreUnits : Test → ℕ → List (List ℕ) → List DwarfUnit → Type 0
+AreUnits test offset [] found = found ≡ []
+AreUnits test offset (content ∷ others) found =
+    (unit : Option DwarfUnit) × (rest : List DwarfUnit) × (found ≡ cons_option unit rest) × IsUnitOf test offset content unit
+    × AreUnits test (offset + 4 + length content) others rest
