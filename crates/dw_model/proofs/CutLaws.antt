@@ -134,7 +134,7 @@ piece-spans test p x e =
 
 -- ---- the cut
 
-piece-long : (content piece : List ℕ) → IsPiece content piece → length piece ≡ 4 + length content
+pub piece-long : (content piece : List ℕ) → IsPiece content piece → length piece ≡ 4 + length content
 piece-long content piece h = rw (h.1) (omega (arith, length-append h.0 content, h.2))
 
 pub cut-ok : (test : Test) (contents : List (List ℕ)) (p : Place) (bytes : List ℕ) (found : List DwarfUnit) → p.left ≡ bytes → AreContents bytes contents → AreUnits test p.at contents found → cut_from test p ≡ Ok found

@@ -14,6 +14,7 @@ pub mod ProgramLemmas
 pub mod RegisterLemmas
 pub mod AdvanceLemmas
 pub mod CutLaws
+pub mod BoundLemmas
 pub mod Samples
 pub mod OnSamples
 pub mod Rows

@@ -1,5 +1,5 @@
 -- The units of .debug_info (DWARF 5, section 7.5.1).
-use Rattle.std.specs.Prelude.{◌≡◌, ◌<◌, ◌++◌, ◌∷◌, ℕ, ◌+◌, Bool, true, false, not, List, [], filter_map, length, Option, Some, None, Result, Ok, Err, ok_or, ◌==◌, if◌then◌else◌}
+use Rattle.std.specs.Prelude.{◌≡◌, ◌<◌, ◌≤◌, ◌++◌, ◌∷◌, ℕ, ◌+◌, Bool, true, false, not, List, [], filter_map, length, Option, Some, None, Result, Ok, Err, ok_or, ◌==◌, if◌then◌else◌}
 use Rattle.std.specs.List.{cons_option}
 use Rattle.byteorder.specs.Endian.{little_number}
 use Rattle.std.specs.Result.{result_unwrap_or, result_err}
@@ -156,3 +156,7 @@ AreUnits test offset [] found = found ≡ []
 AreUnits test offset (content ∷ others) found =
     (unit : Option DwarfUnit) × (rest : List DwarfUnit) × (found ≡ cons_option unit rest) × IsUnitOf test offset content unit
     × AreUnits test (offset + 4 + length content) others rest
+
+-- A unit that stands in a section of so many bytes: its first entry is behind its beginning, and no later than its end.
+abbrev pub StandsIn : ℕ → DwarfUnit → Type 0
+StandsIn size unit = (unit.offset < unit.first_entry) × (unit.first_entry ≤ unit.end) × (unit.end ≤ size)

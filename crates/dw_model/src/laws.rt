@@ -4,17 +4,22 @@
 //! and nothing else.
 
 ghost use Rattle.std.specs.Prelude.{◌≡◌, ◌↔◌, ◌⊎◌, ◌<◌, ◌^◌, ◌++◌, ℕ, ℤ, List};
+ghost use Rattle.std.specs.Prelude.{◌≤◌, ◌+◌, length, drop, Some};
+ghost use Rattle.std.specs.List.{AllByRecursion};
 ghost use Rattle.std.specs.Prelude.{Option, Result, Ok, Err, IsTrue};
-ghost use Rattle.dw_model.specs.Reading.{Place, Spans, BeginsWith, AreRead};
+ghost use Rattle.dw_model.specs.Reading.{Place, start, Spans, BeginsWith, AreRead};
 ghost use Rattle.dw_model.specs.Leb.{IsLeb, IsUleb, IsSleb, fits_i64};
 ghost use Rattle.dw_model.specs.Leb.{BeginsTooWide, BeginsTooWideSigned, uleb_at, sleb_at};
 ghost use Rattle.dw_model.specs.Form.{Value, value_at, Spells, IsUnknown, IsWide};
-ghost use Rattle.dw_model.specs.Abbrev.{Declaration, next_specification, next_declaration};
+ghost use Rattle.dw_model.specs.Abbrev.{Declaration, next_specification, next_declaration, abbreviations};
 ghost use Rattle.dw_model.specs.Entry.{Entry};
-ghost use Rattle.dw_model.specs.Ranges.{Range, next_range_entry};
+ghost use Rattle.dw_model.specs.Ranges.{Range, RangeEntry, next_range_entry, range_entries};
 ghost use Rattle.dw_model.specs.Tree.{next_node};
-ghost use Rattle.dw_model.specs.Unit.{Test, next_piece};
-ghost use Rattle.dw_model.specs.LineHeader.{LineHeader};
+ghost use Rattle.dw_model.specs.Unit.{Test, DwarfUnit, next_piece, cut_from, AreContents, AreUnits, StandsIn};
+ghost use Rattle.dw_model.specs.Text.{Tables, Bases, number_in, text_in};
+ghost use Rattle.dw_model.specs.Section.{Sections};
+ghost use Rattle.dw_model.specs.Root.{entry};
+ghost use Rattle.dw_model.specs.LineHeader.{LineHeader, line_header};
 ghost use Rattle.dw_model.specs.Instruction.{Instruction, instructions, next_instruction};
 ghost use Rattle.dw_model.specs.Instruction.{IsInstruction, AreInstructions};
 ghost use Rattle.dw_model.specs.Matrix.{matrix};
@@ -82,4 +87,24 @@ pub fn law_of_items()
     ensures instructions { (header : LineHeader) → AreRead (λ p. p.left) (next_instruction header) }
     ensures nodes { (ranges : Entry → Result (List Range) Bad) (size : ℕ) (declarations : List Declaration) → AreRead (λ s. s.place.left) (next_node ranges size declarations) }
     ensures pieces { (test : Test) → AreRead (λ p. p.left) (next_piece test) }
+{}
+
+/// .debug_info is cut into units in one way: where it is read, it is pieces, each a length and as
+/// many bytes, and the units are those of the pieces that aren't empty; where such pieces with such
+/// units stand there, it is read so; and no other pieces do (section 7.5.1).
+pub fn law_of_the_cut()
+    ensures cut { (test : Test) (info : List ℕ) (found : List DwarfUnit) → (cut_from test (start info) ≡ Ok found) ↔ ((contents : List (List ℕ)) × AreContents info contents × AreUnits test 0 contents found) }
+    ensures only { (info : List ℕ) (first second : List (List ℕ)) → AreContents info first → AreContents info second → first ≡ second }
+{}
+
+/// The length of a section bounds each offset at which a definition reads something in it: so an
+/// offset that is larger, be it a sum without bounds, reads nothing.
+pub fn law_of_bounds()
+    ensures units { (test : Test) (info : List ℕ) (found : List DwarfUnit) → cut_from test (start info) ≡ Ok found → AllByRecursion (StandsIn (length info)) found }
+    ensures entries { (sections : Sections) (unit : DwarfUnit) (offset : ℕ) (found : Option Entry × Place) → entry sections unit offset ≡ Ok found → (unit.first_entry ≤ offset) × (offset < unit.end) × (offset < length sections.info) }
+    ensures abbreviations { (section : List ℕ) (offset : ℕ) (found : List Declaration) → abbreviations section offset ≡ Ok found → offset ≤ length section }
+    ensures numbers { (section : List ℕ) (offset n x : ℕ) → 0 < n → number_in section offset n ≡ Some x → offset + n ≤ length section }
+    ensures texts { (section : List ℕ) (offset : ℕ) (text : List ℕ) → text_in section offset ≡ Some text → offset + length text < length section }
+    ensures range_lists { (section : List ℕ) (offset : ℕ) (found : List RangeEntry) → range_entries (record { at = offset; left = drop offset section }) ≡ Ok found → offset < length section }
+    ensures line_tables { (tables : Tables) (bases : Bases) (section : List ℕ) (offset : ℕ) (found : LineHeader) → line_header tables bases section offset ≡ Ok found → offset + 4 ≤ length section }
 {}
