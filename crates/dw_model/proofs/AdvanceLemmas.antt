@@ -1,5 +1,5 @@
 -- What is read one item after the other goes on by at least a byte with each item.
-use Rattle.std.proofs.Common.{◌≡◌, ◌⊎◌, inl, inr, ℕ, ◌+◌, ◌<◌, ◌≤◌, ℤ, Bool, true, false, cond, List, [], ◌∷◌, length, Option, Some, None, Result, Ok, Err, refl, subst, sym, ap, ◌∙◌, arith}
+use Rattle.std.proofs.Common.{◌≡◌, ◌⊎◌, inl, inr, ℕ, ◌+◌, ◌<◌, ◌≤◌, ℤ, Bool, true, false, cond, List, [], ◌∷◌, length, Option, Some, None, Result, Ok, subst, ap, arith}
 use Rattle.std.specs.Prelude.{ok_or, not, option_map, nat_eq, ◌==◌, ◌&&◌, ◌||◌}
 use Rattle.std.specs.Option.{option_map_or}
 use Rattle.std.specs.Map.{lookup}
@@ -7,7 +7,7 @@ use Rattle.std.specs.List.{AllByRecursion}
 use Rattle.std.proofs.lemmas.Option.{same_Some}
 use Rattle.dw_model.specs.declared.dwarf.TheConstants as constants
 use Rattle.dw_model.specs.Results.{◌>>=◌, or_fault}
-use Rattle.dw_model.specs.Reading.{Place, Between, Spans, number_at, items, AreItems}
+use Rattle.dw_model.specs.Reading.{Place, Spans, number_at, items, AreItems}
 use Rattle.dw_model.specs.Faults.{Fault, ends_early, undeclared, Bad, bad, TreeFault, entry_fault}
 use Rattle.dw_model.specs.Leb.{uleb_at, sleb_at}
 use Rattle.dw_model.specs.Form.{Value, value_at}

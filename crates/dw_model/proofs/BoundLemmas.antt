@@ -1,14 +1,14 @@
 -- Where something is read at an offset, the offset lies in its section.
-use Rattle.std.proofs.Common.{◌≡◌, inl, inr, ℕ, zero, suc, ◌+◌, ◌-◌, ◌<◌, ◌≤◌, Bool, true, false, cond, List, [], ◌∷◌, ◌++◌, length, take, drop, Option, Some, None, Result, Ok, Err, refl, subst, sym, ap, ◌∙◌, arith, length-append, length-drop, length-take}
-use Rattle.std.specs.Prelude.{ok_or, option_map, option_and_then, nat_eq, nat_lt, nat_le, not, ◌||◌, ◌==◌}
+use Rattle.std.proofs.Common.{◌≡◌, inl, inr, ℕ, ◌+◌, ◌<◌, ◌≤◌, Bool, true, false, cond, List, [], ◌∷◌, length, take, drop, Option, Some, None, Result, Ok, Err, refl, subst, sym, ap, ◌∙◌, arith, length-append, length-drop, length-take}
+use Rattle.std.specs.Prelude.{ok_or, option_map, nat_eq, nat_lt, nat_le, not, ◌||◌, ◌==◌}
 use Rattle.std.specs.List.{cons_option, AllByRecursion}
 use Rattle.std.proofs.Math.Nat.{min-le_right}
 use Rattle.std.proofs.lemmas.Option.{same_Some}
-use Rattle.std.proofs.lemmas.Bool.{leb-true, leb-false, ltb-false, or_parts, true≢false}
+use Rattle.std.proofs.lemmas.Bool.{leb-true, leb-false, ltb-false, or_parts}
 use Rattle.dw_model.specs.declared.dwarf.TheConstants.{DWARF_VERSION, ADDRESS_SIZE, DW_RLE_end_of_list, OFFSET_SIZE_32}
 use Rattle.dw_model.specs.Results.{◌>>=◌, refuse_if}
-use Rattle.dw_model.specs.Reading.{Place, start, Between, Spans, number_at, bytes_at, text_at, items, AreItems}
-use Rattle.dw_model.specs.InitialLength.{InitialLength, initial_length_of, initial_length}
+use Rattle.dw_model.specs.Reading.{Place, start, Between, number_at, bytes_at, text_at, items, AreItems}
+use Rattle.dw_model.specs.InitialLength.{initial_length_of, initial_length}
 use Rattle.dw_model.specs.Faults.{Fault, ends_early, Refusal, unit_header, address_size, Bad, bad}
 use Rattle.dw_model.specs.Abbrev.{Declaration, next_declaration, abbreviations}
 use Rattle.dw_model.specs.Entry.{Entry, entry_at}
@@ -16,12 +16,12 @@ use Rattle.dw_model.specs.Text.{Tables, Bases, number_in, text_in}
 use Rattle.dw_model.specs.Ranges.{RangeEntry, operands, next_range_entry, range_entries}
 use Rattle.dw_model.specs.LineHeader.{LineHeader, length_of, table_behind, line_header}
 use Rattle.dw_model.specs.Section.{Sections}
-use Rattle.dw_model.specs.Unit.{DwarfUnit, Test, Kind, Extent, skipped_unit, dwo_id_size, is_skipped, kind_of, kept_unit, unit_of, IsPiece, AreContents, extent_at, IsUnitOf, AreUnits, StandsIn}
+use Rattle.dw_model.specs.Unit.{DwarfUnit, Test, Kind, Extent, skipped_unit, dwo_id_size, is_skipped, kind_of, kept_unit, unit_of, AreContents, extent_at, AreUnits, StandsIn}
 use Rattle.dw_model.specs.Root.{place_in, entry}
 use Rattle.dw_model.proofs.StepLemmas.{bind_ok, bind_some, ok_or-ok, ok_is}
 use Rattle.dw_model.proofs.ReadingLemmas.{between-length}
 use Rattle.dw_model.proofs.NumberLemmas.{number_at-spans, bytes_at-between}
-use Rattle.dw_model.proofs.TextLemmas.{IsText, text_at-spans}
+use Rattle.dw_model.proofs.TextLemmas.{text_at-spans}
 use Rattle.dw_model.proofs.CutLaws.{piece-long}
 use Rattle.dw_model.proofs.AdvanceLemmas.{either, entry-onward, number-onward, range_entries_advance}
 use Rattle.dw_model.proofs.ItemsLemmas.{read_by}

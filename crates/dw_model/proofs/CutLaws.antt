@@ -1,24 +1,22 @@
 -- .debug_info is cut into units in one way.
-use Rattle.std.proofs.Common.{◌≡◌, ◌⊎◌, inl, inr, ℕ, zero, suc, ◌+◌, ◌<◌, ◌≤◌, Bool, true, false, cond, List, [], ◌∷◌, ◌++◌, length, Option, Some, None, Result, Ok, Err, refl, subst, sym, ap, ◌∙◌, arith, length-append}
-use Rattle.std.specs.Prelude.{ok_or, option_and_then, nat_le, ◌==◌, filter_map}
-use Rattle.std.specs.List.{cons_option}
+use Rattle.std.proofs.Common.{◌≡◌, ℕ, ◌+◌, ◌<◌, Bool, true, false, cond, List, [], ◌∷◌, ◌++◌, length, Option, Some, None, Result, Ok, Err, refl, subst, sym, ap, ◌∙◌, arith, length-append}
+use Rattle.std.specs.Prelude.{ok_or, nat_le, ◌==◌, filter_map}
 use Rattle.std.proofs.lemmas.Option.{same_Some}
 use Rattle.std.proofs.lemmas.Bool.{true≢false, ne_eqb, eqb-true, eq-eqb, leb-false, lt-leb}
-use Rattle.std.proofs.lemmas.List.{append_assoc, append_cancel_left, nil_from_length}
+use Rattle.std.proofs.lemmas.List.{append_assoc, append_cancel_left}
 use Rattle.byteorder.specs.Endian.{little_number}
 use Rattle.dw_model.specs.declared.dwarf.TheConstants.{DW_LENGTH_RESERVED, DW_LENGTH_64BIT, OFFSET_SIZE_32}
 use Rattle.dw_model.specs.Results.{◌>>=◌}
-use Rattle.dw_model.specs.Reading.{Place, start, Between, Spans, number_at, bytes_at, items, AreItems}
+use Rattle.dw_model.specs.Reading.{Place, Between, Spans, number_at, bytes_at, items, AreItems}
 use Rattle.dw_model.specs.InitialLength.{InitialLength, of_length, wide, reserved, initial_length_of, initial_length}
 use Rattle.dw_model.specs.Faults.{Refusal, unit_header}
-use Rattle.dw_model.specs.Unit.{DwarfUnit, Test, Extent, unit_of, unit_behind, piece_at, next_piece, cut_from, IsPiece, AreContents, extent_at, IsUnitOf, AreUnits}
+use Rattle.dw_model.specs.Unit.{DwarfUnit, Test, Extent, unit_of, unit_behind, piece_at, next_piece, cut_from, IsPiece, AreContents, IsUnitOf, AreUnits}
 use Rattle.dw_model.proofs.StepLemmas.{bind_ok, bind_some, ok_or-ok, ok_is}
-use Rattle.dw_model.proofs.ReadingLemmas.{between-length, behind_front, same_front, between-none, empty-between}
+use Rattle.dw_model.proofs.ReadingLemmas.{between-length, same_front}
 use Rattle.dw_model.proofs.NumberLemmas.{number_at-ok, number_at-spans, bytes_at-ok, bytes_at-between}
 use Rattle.dw_model.proofs.SpellingLemmas.{between, parted, joined}
 use Rattle.dw_model.proofs.ItemsLemmas.{read_by}
-use Rattle.dw_model.proofs.AdvanceLemmas.{either}
-use Rattle.dw_model.proofs.UnitLemmas.{next-some, next-end, pieces_advance, with_piece, cut-piece, cut-end}
+use Rattle.dw_model.proofs.UnitLemmas.{next-some, next-end, pieces_advance, cut-piece, cut-end}
 
 -- ---- the initial length
 

@@ -1,5 +1,5 @@
 -- An instruction of a line program is read exactly where a piece of the bytes spells it.
-use Rattle.std.proofs.Common.{◌≡◌, ◌≢◌, ◌⊎◌, inl, inr, ℕ, zero, suc, ◌+◌, ◌*◌, ◌-◌, ◌<◌, ◌≤◌, ◌^◌, ℤ, Bool, true, false, cond, List, [], ◌∷◌, ◌++◌, length, Option, Some, None, Result, Ok, Err, refl, subst, sym, ap, ◌∙◌, arith}
+use Rattle.std.proofs.Common.{◌≡◌, ℕ, zero, suc, ◌-◌, ◌<◌, ◌^◌, Bool, true, false, cond, List, [], ◌∷◌, ◌++◌, length, Option, Some, None, Result, Ok, Err, refl, subst, sym, ap, ◌∙◌, arith}
 use Rattle.std.specs.Prelude.{ok_or, nat_eq, nat_le, slice_index, ◌==◌}
 use Rattle.std.specs.Map.{lookup}
 use Rattle.std.proofs.lemmas.Option.{same_Some}
@@ -8,7 +8,7 @@ use Rattle.byteorder.specs.Endian.{little_number}
 use Rattle.dw_model.specs.declared.dwarf.TheConstants.{DW_LNS_extended}
 use Rattle.dw_model.specs.Results.{◌>>=◌, or_fault}
 use Rattle.dw_model.specs.Reading.{Place, Between, Spans, number_at, bytes_at}
-use Rattle.dw_model.specs.Faults.{Fault, Bad, bad}
+use Rattle.dw_model.specs.Faults.{Bad, bad}
 use Rattle.dw_model.specs.Leb.{IsUleb, uleb_at, sleb_at}
 use Rattle.dw_model.specs.LineHeader.{LineHeader}
 use Rattle.dw_model.specs.Instruction.{Instruction, special, no_effect, Operands, none, unsigned, signed, two_bytes, standard_opcodes, as_instruction, operands_at, unknown_at, extended, extended_at, standard_at, opcode_at, next_instruction, AreOperands, AreNumbers, IsExtended, IsBehind, is_special, is_extended, is_standard, is_unknown, IsInstruction}

@@ -1,9 +1,8 @@
 -- LEB128 numbers are read exactly where a front of the bytes spells them.
-use Rattle.std.proofs.Common.{◌≡◌, ◌⊎◌, inl, inr, ◌^◌, ℕ, zero, suc, ◌+◌, ◌<◌, ◌≤◌, Bool, true, false, cond, List, [], ◌∷◌, ◌++◌, length, take, drop, Option, Some, None, Result, Ok, Err, refl, ap, sym, ◌∙◌, arith, length-append}
+use Rattle.std.proofs.Common.{◌≡◌, ◌⊎◌, inl, inr, ◌^◌, ℕ, suc, ◌+◌, ◌<◌, Bool, true, false, cond, List, [], ◌∷◌, ◌++◌, length, take, Some, None, Result, Ok, Err, refl, ap, sym, ◌∙◌, arith, length-append}
 use Rattle.std.specs.Prelude.{not, nat_lt, ok_or}
 use Rattle.std.specs.List.{position_or_len}
-use Rattle.std.proofs.lemmas.Bool.{lt-ltb, le-ltb, ltb-true, ltb-false, cases_Bool}
-use Rattle.std.proofs.lemmas.List.{take_at, drop_at, take-append-drop, length-take-le}
+use Rattle.std.proofs.lemmas.Bool.{lt-ltb, le-ltb, ltb-true, ltb-false}
 use Rattle.dw_model.specs.Reading.{Place, start, past, Between, Spans, BeginsWith}
 use Rattle.dw_model.specs.Leb.{IsLeb, leb_at}
 use Rattle.dw_model.specs.Results.{◌>>=◌}

@@ -1,11 +1,10 @@
 -- Fixed numbers, bytes and texts stand in a piece of the bytes.
-use Rattle.std.proofs.Common.{◌≡◌, ◌≢◌, ℕ, zero, suc, ◌+◌, ◌*◌, ◌<◌, ◌≤◌, Bool, true, false, cond, List, [], ◌∷◌, ◌++◌, length, take, drop, Option, Some, None, refl, sym, ap, ◌∙◌, arith, length-append}
-use Rattle.std.specs.Prelude.{not, nat_le, nat_lt, slice_index, ◌==◌, option_and_then}
-use Rattle.std.specs.List.{position_or_len, AllByRecursion}
-use Rattle.std.proofs.lemmas.Bool.{leb-true, le-leb, lt-ltb, ltb-true, eqb-true, eq-eqb, ne_eqb, eqb-false}
+use Rattle.std.proofs.Common.{◌≡◌, ℕ, zero, suc, ◌+◌, ◌≤◌, true, List, ◌++◌, length, take, drop, Some, refl, sym, ap, ◌∙◌, arith, length-append}
+use Rattle.std.specs.Prelude.{nat_le, slice_index}
+use Rattle.std.proofs.lemmas.Bool.{leb-true, le-leb}
 use Rattle.std.proofs.lemmas.List.{get_or_append_left, length-take-le, take-append-drop}
 use Rattle.byteorder.specs.Endian.{little_from, little_number}
-use Rattle.dw_model.specs.Reading.{Place, past, Between, Spans, number_at, bytes_at, text_at}
+use Rattle.dw_model.specs.Reading.{Place, past, Between, Spans, number_at, bytes_at}
 use Rattle.dw_model.proofs.ReadingLemmas.{if_some, past-between, take-between, between-past, some_is}
 
 little_from-append : (n i : ℕ) (xs ys : List ℕ) → i + n ≤ length xs → little_from i n (xs ++ ys) ≡ little_from i n xs

@@ -1,7 +1,6 @@
 -- Why a value in its spelling isn't read.
-use Rattle.std.proofs.Common.{◌≡◌, ◌⊎◌, inl, inr, ℕ, ◌^◌, ℤ, List, Option, Some, None, Result, Ok, Err, refl, sym, ap, ◌∙◌}
+use Rattle.std.proofs.Common.{◌≡◌, inl, inr, ℕ, ℤ, List, Option, Some, None, Err, refl, ap, ◌∙◌}
 use Rattle.std.specs.Prelude.{ok_or}
-use Rattle.dw_model.specs.Results.{◌>>=◌}
 use Rattle.dw_model.specs.Reading.{Place, number_at, bytes_at, text_at}
 use Rattle.dw_model.specs.Faults.{Fault, ends_early, unknown_form, too_wide}
 use Rattle.dw_model.specs.Leb.{uleb_at, sleb_at}

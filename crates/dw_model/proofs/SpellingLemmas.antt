@@ -1,21 +1,19 @@
 -- A value is read in its spelling exactly where a piece of the bytes is one.
-use Rattle.std.proofs.Common.{◌≡◌, ◌≢◌, ◌⊎◌, inl, inr, ℕ, zero, suc, ◌+◌, ◌<◌, ◌≤◌, ◌^◌, ℤ, Bool, true, false, List, [], ◌∷◌, ◌++◌, length, take, drop, Option, Some, None, Result, Ok, Err, refl, sym, ap, ◌∙◌, arith, length-append}
+use Rattle.std.proofs.Common.{◌≡◌, ℕ, ◌+◌, ◌<◌, ◌^◌, ℤ, true, List, [], ◌++◌, length, Option, Some, None, Result, Ok, Err, refl, sym, ap, ◌∙◌, arith, length-append}
 use Rattle.std.specs.Prelude.{ok_or}
-use Rattle.std.specs.List.{AllByRecursion}
 use Rattle.std.proofs.lemmas.List.{append_assoc}
 use Rattle.byteorder.specs.Endian.{little_number}
-use Rattle.dw_model.specs.Results.{◌>>=◌}
 use Rattle.dw_model.specs.Reading.{Place, Between, Spans, number_at, bytes_at, text_at}
-use Rattle.dw_model.specs.Faults.{Fault, ends_early, unknown_form, too_wide}
-use Rattle.dw_model.specs.Leb.{IsUleb, IsSleb, uleb_at, sleb_at}
+use Rattle.dw_model.specs.Faults.{Fault, ends_early}
+use Rattle.dw_model.specs.Leb.{IsUleb, uleb_at, sleb_at}
 use Rattle.dw_model.specs.Form.{Value, Spelling, fixed, offset, uleb, sleb, block, counted, uleb_counted, implicit, present, bytes, signed, flag, inline, as_value, spelled_at, IsSpelling, BeginsWide}
 use Rattle.dw_model.specs.Form as form
 use Rattle.dw_model.proofs.StepLemmas.{bind_ok, ok_or-ok, ok_is}
 use Rattle.std.proofs.lemmas.Option.{same_Some}
 use Rattle.dw_model.proofs.ReadingLemmas.{read_is, empty-between, between-none}
 use Rattle.dw_model.proofs.NumberLemmas.{number_at-ok, number_at-spans, bytes_at-ok, bytes_at-between}
-use Rattle.dw_model.proofs.TextLemmas.{IsText, text_at-ok, text_at-spans}
-use Rattle.dw_model.proofs.LebReading.{uleb-ok, uleb-spans, sleb-ok, sleb-spans, uleb-wide, uleb-wide-only, uleb-faults, sleb-wide, sleb-wide-only, sleb-faults}
+use Rattle.dw_model.proofs.TextLemmas.{text_at-ok, text_at-spans}
+use Rattle.dw_model.proofs.LebReading.{uleb-ok, uleb-spans, sleb-ok, sleb-spans}
 
 -- ---- two pieces, one after the other
 

@@ -1,5 +1,5 @@
 -- A value is read, through DW_FORM_indirect or not, exactly where a piece of the bytes spells it.
-use Rattle.std.proofs.Common.{◌≡◌, ◌≢◌, ◌⊎◌, inl, inr, ℕ, zero, suc, ◌+◌, ◌<◌, ◌^◌, ℤ, Bool, true, false, cond, List, [], ◌∷◌, ◌++◌, length, Option, Some, None, Result, Ok, Err, refl, subst, sym, ap, ◌∙◌, arith}
+use Rattle.std.proofs.Common.{◌≡◌, ◌⊎◌, inl, inr, ℕ, zero, suc, ◌+◌, ◌<◌, ◌^◌, ℤ, Bool, true, false, cond, List, ◌++◌, length, Option, Some, None, Result, Ok, Err, refl, subst, sym, ap, ◌∙◌, arith}
 use Rattle.std.specs.Prelude.{ok_or, nat_eq, ◌==◌}
 use Rattle.std.specs.Map.{lookup}
 use Rattle.std.proofs.lemmas.Bool.{ne_eqb, eqb-true, eqb-false}
@@ -8,7 +8,7 @@ use Rattle.dw_model.specs.Results.{◌>>=◌}
 use Rattle.dw_model.specs.Reading.{Place, start, Between, Spans, onto, items_up_to, items}
 use Rattle.dw_model.specs.Faults.{Fault, ends_early, unknown_form, too_wide}
 use Rattle.dw_model.specs.Leb.{IsUleb, BeginsTooWide, uleb_at}
-use Rattle.dw_model.specs.Form.{Value, Spelling, implicit, forms, spelled_at, next_form, direct_form, value_at, IsSpelling, Spells, direct, indirect, IsUnknown, missing, no_constant, unknown_behind, BeginsWide, IsWide, in_value, in_form, wide_behind}
+use Rattle.dw_model.specs.Form.{Value, Spelling, implicit, forms, spelled_at, next_form, direct_form, value_at, Spells, direct, indirect, IsUnknown, missing, no_constant, unknown_behind, BeginsWide, IsWide, in_value, in_form, wide_behind}
 use Rattle.dw_model.proofs.StepLemmas.{bind_ok, bind_err, ok_or-ok, ok_is}
 use Rattle.dw_model.proofs.ReadingLemmas.{behind_front, same_front}
 use Rattle.dw_model.proofs.ItemsLemmas.{Advances, turn, items-turn}

@@ -1,8 +1,7 @@
-use Rattle.std.proofs.Common.{◌≡◌, ℕ, ◌<◌, ◌≤◌, ◌^◌, arith}
-use Rattle.std.specs.Prelude.{nat_lt}
+use Rattle.std.proofs.Common.{◌^◌}
 use Rattle.std.proofs.lemmas.Bool.{lt-ltb, le-ltb, ltb-true, ltb-false}
 use Rattle.dw_model.specs.Leb.{groups, uleb_at}
-use Rattle.dw_model.proofs.LebLemmas.{fits_u64, fitting-ok, fitting-spans, fitting-wide, fitting-fault, wide_since, ends_since, fitting-ends, ended_or_wide}
+use Rattle.dw_model.proofs.LebLemmas.{fits_u64, fitting-ok, fitting-spans, fitting-wide, wide_since, ends_since, fitting-ends, ended_or_wide}
 use Rattle.dw_model.proofs.laws.law_of_uleb.Goals as goal
 
 pub returns-clause-spelled : goal.returns-clause-spelled

@@ -1,4 +1,4 @@
-use Rattle.std.proofs.Common.{inl, inr, refl}
+use Rattle.std.proofs.Common.{refl}
 use Rattle.dw_model.proofs.ValueLemmas.{value-spans, spells-ok, unknown-fault, unknown_since, wide-fault, wide_since, no_other, alone}
 use Rattle.dw_model.proofs.laws.law_of_values.Goals as goal
 
