@@ -2,8 +2,11 @@
 
 ghost use Rattle.std.specs.Prelude.{◌≡◌, ◌==◌, length, position};
 ghost use Rattle.dw_model.specs.Reading.{Place, start, number_at, bytes_at, text_at};
-ghost use Rattle.dw_model.specs.Answers.{Reads};
+ghost use Rattle.dw_model.specs.Leb.{uleb_at, sleb_at};
+ghost use Rattle.dw_model.specs.Answers.{Reads, ReadsOrTells};
+ghost use Rattle.dw_bytes.specs.Leb.{leb_fault};
 
+use crate::leb::{Leb, last_byte, signed, unsigned};
 use byteorder::{ByteOrder, LittleEndian};
 use std::marker::Model;
 
@@ -108,6 +111,36 @@ impl<'a> Cursor<'a> {
         let len = zero_position(self.left)?;
         let text = self.take(len + 1)?;
         Some(&text[..len])
+    }
+
+    /// An unsigned LEB128 number (section 7.6), in any spelling. `End` where the bytes stop before
+    /// it does, else `Wide` where it doesn't fit 64 bits.
+    #[tactic(auto, unfolding(dw_model::specs::Leb::uleb_at))]
+    pub fn uleb(&mut self) -> Result<u64, Leb>
+        ensures { ReadsOrTells (λ x. x) leb_fault result (uleb_at self.old) self.old self.new }
+    {
+        let Cursor { left, passed } = self;
+        let last = last_byte(left).ok_or(Leb::End)?;
+        let (front, rest) = left.split_at(last + 1);
+        let value = unsigned(front).ok_or(Leb::Wide)?;
+        *left = rest;
+        *passed += last + 1;
+        Ok(value)
+    }
+
+    /// A signed LEB128 number (section 7.6), in any spelling. `End` where the bytes stop before it
+    /// does, else `Wide` where it doesn't fit 64 bits.
+    #[tactic(auto, unfolding(dw_model::specs::Leb::sleb_at))]
+    pub fn sleb(&mut self) -> Result<i64, Leb>
+        ensures { ReadsOrTells (λ x. x) leb_fault result (sleb_at self.old) self.old self.new }
+    {
+        let Cursor { left, passed } = self;
+        let last = last_byte(left).ok_or(Leb::End)?;
+        let (front, rest) = left.split_at(last + 1);
+        let value = signed(front).ok_or(Leb::Wide)?;
+        *left = rest;
+        *passed += last + 1;
+        Ok(value)
     }
 }
 

@@ -16,3 +16,8 @@ Tells (Some fault) given = given ≡ Err fault
 abbrev pub Gives : {X Y E F : Type 0} → (X → Y) → (E → Option F) → Result X E → Result Y F → Type 0
 Gives view told (Ok x) given = given ≡ Ok (view x)
 Gives view told (Err e) given = Tells (told e) given
+
+-- The same of a call that reads at a place: at a fault it stands where it stood.
+abbrev pub ReadsOrTells : {X Y E F : Type 0} → (X → Y) → (E → Option F) → Result X E → Result (Y × Place) F → Place → Place → Type 0
+ReadsOrTells view told (Ok x) given old new = given ≡ Ok (view x, new)
+ReadsOrTells view told (Err e) given old new = Tells (told e) given × (new ≡ old)

@@ -1,0 +1,75 @@
+//! LEB128 numbers, by section 7.6 of DWARF 5.
+
+ghost use Rattle.std.specs.Prelude.{◌≡◌, position, nat_lt};
+ghost use Rattle.dw_model.specs.Leb.{groups, signed_groups, is_negative};
+ghost use Rattle.dw_bytes.specs.Leb.{fits_u64, fits_u63, fits_signed, complements};
+
+/// Why a LEB128 number can't be read.
+#[derive(Clone, Copy, Debug, PartialEq, Eq)]
+pub enum Leb {
+    /// The bytes stop before one whose top bit isn't set.
+    End,
+    /// The number, all bytes of which are there, doesn't fit 64 bits.
+    Wide,
+}
+
+/// The place of the first byte whose top bit isn't set: the last of a number.
+pub(crate) fn last_byte(bytes: &[u8]) -> Option<usize>
+    ensures { result ≡ position (λ byte. nat_lt byte 128) bytes.now }
+{
+    bytes.iter().position(|byte| *byte < 128)
+}
+
+/// The number of these groups, where it fits 64 bits.
+pub(crate) fn unsigned(bytes: &[u8]) -> Option<u64>
+    ensures { result ≡ fits_u64 (groups bytes.now) }
+{
+    let mut value: u64 = 0;
+    for i in 0..bytes.len() {
+        if value > u64::MAX >> 7 {
+            return None;
+        }
+        let byte = bytes[bytes.len() - 1 - i];
+        value = value * 128 + (byte % 128) as u64;
+    }
+    Some(value)
+}
+
+/// The number of the groups' complements, where it fits 63 bits: one less than how far a negative
+/// number of these groups lies below zero.
+fn below_zero(bytes: &[u8]) -> Option<u64>
+    ensures { result ≡ fits_u63 (complements bytes.now) }
+{
+    let mut value: u64 = 0;
+    for i in 0..bytes.len() {
+        if value > u64::MAX >> 8 {
+            return None;
+        }
+        let byte = bytes[bytes.len() - 1 - i];
+        value = value * 128 + (127 - byte % 128) as u64;
+    }
+    Some(value)
+}
+
+/// Bit 6 of the last byte is set.
+#[tactic(auto, using(crate::proofs::GroupLemmas::sign_of))]
+fn negative(bytes: &[u8]) -> bool
+    ensures { result ≡ is_negative bytes.now }
+{
+    !bytes.is_empty() && bytes[bytes.len() - 1] % 128 >= 64
+}
+
+/// The number of these groups in two's complement, where it fits 64 bits.
+pub(crate) fn signed(bytes: &[u8]) -> Option<i64>
+    ensures { result ≡ fits_signed (signed_groups bytes.now) }
+{
+    if negative(bytes) {
+        let below = below_zero(bytes)?;
+        return Some(-1 - below as i64);
+    }
+    let value = unsigned(bytes)?;
+    if value > i64::MAX as u64 {
+        return None;
+    }
+    Some(value as i64)
+}
