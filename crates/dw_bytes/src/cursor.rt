@@ -58,6 +58,16 @@ impl<'a> Cursor<'a> {
         self.left.len()
     }
 
+    /// Another cursor at the same place.
+    pub fn fork(&self) -> Self
+        ensures { result ≡ self.now }
+    {
+        Cursor {
+            left: self.left,
+            passed: self.passed,
+        }
+    }
+
     /// An unsigned number of one byte. `None` where no byte is left.
     pub fn u8(&mut self) -> Option<u8>
         ensures { Reads (λ x. x) result (number_at 1 self.old) self.old self.new }
@@ -72,6 +82,14 @@ impl<'a> Cursor<'a> {
     {
         let bytes = self.take(2)?;
         Some(LittleEndian::read_u16(bytes))
+    }
+
+    /// An unsigned number of three bytes, the lowest first. `None` where fewer are left.
+    pub fn u24(&mut self) -> Option<u32>
+        ensures { Reads (λ x. x) result (number_at 3 self.old) self.old self.new }
+    {
+        let bytes = self.take(3)?;
+        Some(LittleEndian::read_u24(bytes))
     }
 
     /// An unsigned number of four bytes, the lowest first. `None` where fewer are left.

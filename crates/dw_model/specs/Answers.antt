@@ -17,7 +17,12 @@ abbrev pub Gives : {X Y E F : Type 0} → (X → Y) → (E → Option F) → Res
 Gives view told (Ok x) given = given ≡ Ok (view x)
 Gives view told (Err e) given = Tells (told e) given
 
--- The same of a call that reads at a place: at a fault it stands where it stood.
+-- The same of a call that reads at a place, and may stand anywhere after a fault.
+abbrev pub ReadsOn : {X Y E F : Type 0} → (X → Y) → (E → Option F) → Result X E → Result (Y × Place) F → Place → Type 0
+ReadsOn view told (Ok x) given new = given ≡ Ok (view x, new)
+ReadsOn view told (Err e) given new = Tells (told e) given
+
+-- The same of a call that stands after a fault where it stood.
 abbrev pub ReadsOrTells : {X Y E F : Type 0} → (X → Y) → (E → Option F) → Result X E → Result (Y × Place) F → Place → Place → Type 0
 ReadsOrTells view told (Ok x) given old new = given ≡ Ok (view x, new)
 ReadsOrTells view told (Err e) given old new = Tells (told e) given × (new ≡ old)

@@ -1,0 +1,13 @@
+-- What an error says of the bytes.
+use Rattle.std.specs.Prelude.{Option, Some, None}
+use Rattle.dw_model.specs.Faults as model
+use Rattle.dw_forms.specs.declared.fault.FormFault.{FormFault}
+use Rattle.dw_forms.specs.declared.fault.FormFault.TheVariants.{End, Form, Wide, Memory, Code}
+
+-- the fault that an error tells: want of memory tells none
+abbrev pub form_fault : FormFault → Option model.Fault
+form_fault End = Some model.ends_early
+form_fault Form = Some model.unknown_form
+form_fault Wide = Some model.too_wide
+form_fault Memory = None
+form_fault Code = Some model.undeclared
