@@ -6,4 +6,4 @@ mod form;
 mod value;
 
 pub use fault::FormFault;
-pub use value::Value;
+pub use value::{Value, read_value};

@@ -128,3 +128,41 @@ fn spelled<'a>(
         Spelling::Present => Ok(Value::Flag(true)),
     }
 }
+
+/// The value of a form (section 7.5.6); `implicit` is the number that stands in the declaration,
+/// where one does. `Form` where the form, through any number of DW_FORM_indirect, is unknown or has
+/// its number in no declaration; `Wide` where a LEB128 number doesn't fit 64 bits; else `End` where
+/// the bytes end too early. A refusal leaves the cursor where it was.
+#[tactic(auto, unfolding(dw_model::specs::Form::value_at))]
+pub fn read_value<'a>(
+    cursor: &mut Cursor<'a>,
+    form: u64,
+    implicit: Option<i64>,
+) -> Result<Value<'a>, FormFault>
+    ensures { ReadsOrTells value_shown form_fault result (value_at OFFSET_SIZE_32 form implicit cursor.old) cursor.old cursor.new }
+{
+    let mut ahead = cursor.fork();
+    let value = value_ahead(&mut ahead, form, implicit)?;
+    *cursor = ahead;
+    Ok(value)
+}
+
+/// The same, but after a refusal the cursor may stand anywhere.
+fn value_ahead<'a>(
+    cursor: &mut Cursor<'a>,
+    form: u64,
+    implicit: Option<i64>,
+) -> Result<Value<'a>, FormFault>
+    ensures { ReadsOn value_shown form_fault result (value_at OFFSET_SIZE_32 form implicit cursor.old) cursor.new }
+{
+    let mut named = form;
+    let mut constant = implicit;
+    while named == DW_FORM_indirect {
+        named = cursor.uleb()?;
+        constant = None;
+    }
+    let Some(spelling) = spelling_of(named) else {
+        return Err(FormFault::Form);
+    };
+    spelled(cursor, spelling, constant)
+}
