@@ -3,7 +3,9 @@
 
 mod fault;
 mod form;
+mod tables;
 mod value;
 
 pub use fault::FormFault;
+pub use tables::{Bases, Tables};
 pub use value::{Value, read_value};
