@@ -1,3 +1,4 @@
+pub mod Declaration
 pub mod Fault
 pub mod Spelling
 pub mod Tables

@@ -1,11 +1,13 @@
 //! Abbreviations, the values of attributes, and the texts and addresses to which they lead.
 #![tactic(auto)]
 
+mod declaration;
 mod fault;
 mod form;
 mod tables;
 mod value;
 
+pub use declaration::{Decl, Spec};
 pub use fault::FormFault;
 pub use tables::{Bases, Tables};
 pub use value::{Value, read_value};

@@ -1,7 +1,8 @@
 -- Items one after the other: how many are asked for doesn't matter once there are enough.
-use Rattle.std.proofs.Common.{◌≡◌, ◌⊎◌, inl, inr, ◌∷◌, ◌∙◌, sym, subst, ℕ, zero, suc, ◌<◌, List, [], length, Option, Some, None, Result, Ok, Err, refl, ap, arith}
+use Rattle.std.proofs.Common.{◌≡◌, ◌⊎◌, inl, inr, ◌∷◌, ◌++◌, ◌∙◌, sym, subst, ℕ, zero, suc, ◌<◌, List, [], length, Option, Some, None, Result, Ok, Err, refl, ap, arith}
 use Rattle.std.specs.Option.{option_map_or}
 use Rattle.dw_model.specs.Results.{◌>>=◌}
+use Rattle.std.proofs.lemmas.List.{append-nil, append_assoc}
 use Rattle.dw_model.proofs.StepLemmas.{bind_ok, bind_err, ok_is, ok-err}
 use Rattle.dw_model.specs.Reading.{onto, items_up_to, items, AreItems, FailsAfter, AreRead}
 
@@ -87,3 +88,33 @@ module _ {S A E : Type 0} (next : S → Result (Option A × S) E) where
     read = λ s t all. (are-below left advances (suc (length (left s))) s t all (omega arith), are-read left advances all s t);
     fails = λ s e. (fails-below left advances (suc (length (left s))) s e (omega arith), λ f. fails-read left advances f.0 s e f.1);
   }
+
+  -- ---- the items, as a loop reads them
+
+  -- those that were read before, and then those that are still read
+  abbrev pub with_front : List A → Result (List A × S) E → Result (List A × S) E
+  with_front front read = read >>= λ x. Ok (front ++ x.0, x.1)
+
+  pub with_front-nil : (read : Result (List A × S) E) → with_front [] read ≡ read
+  with_front-nil (Ok x) = refl
+  with_front-nil (Err e) = refl
+
+  with_front-onto : (front : List A) (item : A) (read : Result (List A × S) E) → with_front front (onto item read) ≡ with_front (front ++ item ∷ []) read
+  with_front-onto front item (Ok x) = ap (λ (xs : List A). Ok (xs, x.1)) (sym (append_assoc front (item ∷ []) x.0))
+  with_front-onto front item (Err e) = refl
+
+  pub loop_more : (left : S → List ℕ) → Advances left next → (front : List A) (item : A) (s t : S) (all : Result (List A × S) E) → next s ≡ Ok (Some item, t) → with_front front (items left next s) ≡ all → with_front (front ++ item ∷ []) (items left next t) ≡ all
+  loop_more left advances front item s t all e so_far =
+      let step : items left next s ≡ onto item (items left next t) = rw (items-turn left advances s, e) refl in
+      sym (with_front-onto front item (items left next t)) ∙ ap (with_front front) (sym step) ∙ so_far
+
+  pub loop_done : (left : S → List ℕ) → Advances left next → (front : List A) (s t : S) (all : Result (List A × S) E) → next s ≡ Ok (None, t) → with_front front (items left next s) ≡ all → all ≡ Ok (front, t)
+  loop_done left advances front s t all e so_far =
+      let step : items left next s ≡ Ok ([], t) = rw (items-turn left advances s, e) refl in
+      let last : with_front front (items left next s) ≡ Ok (front, t) = rw step (ap (λ (xs : List A). Ok (xs, t)) (append-nil front)) in
+      sym so_far ∙ last
+
+  pub loop_fault : (left : S → List ℕ) → Advances left next → (front : List A) (s : S) (e : E) (all : Result (List A × S) E) → next s ≡ Err e → with_front front (items left next s) ≡ all → all ≡ Err e
+  loop_fault left advances front s e all f so_far =
+      let step : items left next s ≡ Err e = rw (items-turn left advances s, f) refl in
+      sym so_far ∙ rw step refl

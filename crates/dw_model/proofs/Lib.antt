@@ -1,5 +1,6 @@
 pub mod StepLemmas
 pub mod ItemsLemmas
+pub mod LoopLemmas
 pub mod ReadingLemmas
 pub mod UnitLemmas
 pub mod LebLemmas

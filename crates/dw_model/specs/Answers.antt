@@ -1,5 +1,5 @@
 -- How a call's answer is what a definition gives.
-use Rattle.std.specs.Prelude.{◌≡◌, Option, Some, None, Result, Ok, Err}
+use Rattle.std.specs.Prelude.{◌≡◌, Option, Some, None, Result, Ok, Err, MatchOption}
 use Rattle.dw_model.specs.Reading.{Place}
 
 -- A call that reads at a place: it found what the definition finds there, and stands just past it; or it found nothing, and stands where it stood.
@@ -26,3 +26,13 @@ ReadsOn view told (Err e) given new = Tells (told e) given
 abbrev pub ReadsOrTells : {X Y E F : Type 0} → (X → Y) → (E → Option F) → Result X E → Result (Y × Place) F → Place → Place → Type 0
 ReadsOrTells view told (Ok x) given old new = given ≡ Ok (view x, new)
 ReadsOrTells view told (Err e) given old new = Tells (told e) given × (new ≡ old)
+
+-- A call that takes memory: want of it may be told in place of any answer.
+abbrev pub GivesUnlessMemory : {X Y E F : Type 0} → (X → Y) → (E → Option F) → Result X E → Result Y F → Type 0
+GivesUnlessMemory view told (Ok x) given = given ≡ Ok (view x)
+GivesUnlessMemory view told (Err e) given = MatchOption (told e) (Unit {0}) (λ fault. given ≡ Err fault)
+
+-- The same of a call that reads at a place, and may stand anywhere after a fault.
+abbrev pub ReadsUnlessMemory : {X Y E F : Type 0} → (X → Y) → (E → Option F) → Result X E → Result (Y × Place) F → Place → Type 0
+ReadsUnlessMemory view told (Ok x) given new = given ≡ Ok (view x, new)
+ReadsUnlessMemory view told (Err e) given new = MatchOption (told e) (Unit {0}) (λ fault. given ≡ Err fault)
