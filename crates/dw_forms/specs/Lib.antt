@@ -1,3 +1,5 @@
+pub mod Abbrevs
+pub mod AbbrevsInside
 pub mod Declaration
 pub mod Fault
 pub mod Spelling

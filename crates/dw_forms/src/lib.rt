@@ -1,12 +1,14 @@
 //! Abbreviations, the values of attributes, and the texts and addresses to which they lead.
 #![tactic(auto)]
 
+mod abbrevs;
 mod declaration;
 mod fault;
 mod form;
 mod tables;
 mod value;
 
+pub use abbrevs::Abbrevs;
 pub use declaration::{Decl, Spec};
 pub use fault::FormFault;
 pub use tables::{Bases, Tables};

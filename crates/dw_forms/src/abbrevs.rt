@@ -1,0 +1,124 @@
+//! A table of abbreviation declarations, by section 7.5.3 of DWARF 5.
+
+ghost use Rattle.std.specs.Prelude.{◌≡◌, ◌≤◌, ◌<◌, ◌+◌, ℕ, IfOk, Some, map, length, option_map};
+ghost use Rattle.std.specs.Ordering.{nat_cmp};
+ghost use Rattle.std.specs.BTreeMap as tree;
+ghost use Rattle.dw_model.specs.Reading.{items};
+ghost use Rattle.dw_model.specs.Abbrev.{next_declaration, abbreviations, declared};
+ghost use Rattle.dw_model.specs.Answers.{GivesUnlessMemory, ReadsUnlessMemory};
+ghost use Rattle.dw_forms.specs.Fault.{form_fault};
+ghost use Rattle.dw_forms.specs.Declaration.{declaration_shown};
+ghost use Rattle.dw_forms.specs.Abbrevs.{code_at, IsFirst};
+
+use crate::declaration::{Decl, next_decl};
+use crate::fault::FormFault;
+use dw_bytes::Cursor;
+use std::alloc::{AllocError, Global};
+use std::collections::BTreeMap;
+use std::marker::Model;
+
+/// The declarations of a table.
+fn declarations_of(alloc: Global, cursor: &mut Cursor<'_>) -> Result<Vec<Decl>, FormFault>
+    ensures { ReadsUnlessMemory (λ declarations. map declaration_shown declarations.items) form_fault result (items (λ p. p.left) next_declaration cursor.old) cursor.new }
+{
+    let mut declarations = Vec::new(alloc);
+    loop {
+        let Some(declaration) = next_decl(alloc, cursor)? else {
+            return Ok(declarations);
+        };
+        declarations.push(declaration)?;
+    }
+}
+
+/// How many of the first declarations have the codes 1, 2 and so on.
+fn count_in_order(declarations: &[Decl]) -> usize
+    ensures within { result ≤ length declarations.now }
+    ensures codes { (k : ℕ) → k < result → code_at declarations.now k ≡ Some (k + 1) }
+{
+    for i in 0..declarations.len() {
+        if declarations[i].code != i as u64 + 1 {
+            return i;
+        }
+    }
+    declarations.len()
+}
+
+/// The place of the first declaration of each code, of those from a place on.
+fn first_places(
+    alloc: Global,
+    declarations: &[Decl],
+    from: usize,
+) -> Result<BTreeMap<u64, usize>, AllocError>
+    ensures { IfOk result (λ places. (code : ℕ) → IsFirst from (length declarations.now) declarations.now code (tree.get nat_cmp places code)) }
+{
+    let mut places = BTreeMap::new(alloc);
+    for i in from..declarations.len() {
+        let code = declarations[i].code;
+        if places.get(&code).is_none() {
+            places.insert(code, i)?;
+        }
+    }
+    Ok(places)
+}
+
+/// The declarations of a table. Contracts see them as a list, in order.
+#[derive(Drop)]
+pub struct Abbrevs {
+    declarations: Vec<Decl>,
+    /// How many of the first have the codes 1, 2 and so on: those are found by their code alone, as
+    /// all are in the tables of real compilers.
+    in_order: usize,
+    /// The place of the first declaration of each code, of those behind these.
+    others: BTreeMap<u64, usize>,
+}
+
+impl Model for Abbrevs {
+    ghost use Rattle.std.specs.Prelude.{List};
+    ghost use Rattle.dw_model.specs.Abbrev.{Declaration};
+    ghost use Rattle.dw_forms.specs.AbbrevsInside.{declarations_in, IsIndexed};
+
+    ghost Value = { List Declaration };
+
+    ghost view = { declarations_in };
+
+    ghost invariant = { IsIndexed };
+}
+
+impl Abbrevs {
+    /// Reads the table at an offset of .debug_abbrev. An offset past the section's end is `End`;
+    /// `Memory` comes only where a growth was refused.
+    #[tactic(auto, unfolding(dw_model::specs::Abbrev::abbreviations))]
+    pub fn read(alloc: Global, section: &[u8], offset: u64) -> Result<Self, FormFault>
+        ensures { GivesUnlessMemory (λ abbrevs. abbrevs) form_fault result (abbreviations section.now offset) }
+    {
+        if offset > section.len() as u64 {
+            return Err(FormFault::End);
+        }
+        let mut cursor = Cursor::new(section);
+        let Some(_) = cursor.take(offset as usize) else {
+            return Err(FormFault::End);
+        };
+        let declarations = declarations_of(alloc, &mut cursor)?;
+        let in_order = count_in_order(&declarations);
+        let others = first_places(alloc, &declarations, in_order)?;
+        Ok(Abbrevs {
+            declarations,
+            in_order,
+            others,
+        })
+    }
+
+    /// The first declaration of a code, where there is one.
+    pub fn get(&self, code: u64) -> Option<&Decl>
+        ensures { option_map (λ declaration. declaration_shown declaration.now) result ≡ declared self.now code }
+    {
+        let place = code.wrapping_sub(1);
+        if place < self.in_order as u64 {
+            return self.declarations.get(place as usize);
+        }
+        let Some(place) = self.others.get(&code) else {
+            return None;
+        };
+        self.declarations.get(*place)
+    }
+}
