@@ -1,1 +1,2 @@
 pub mod IndirectLemmas
+pub mod FindLemmas

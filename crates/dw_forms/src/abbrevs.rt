@@ -1,6 +1,6 @@
 //! A table of abbreviation declarations, by section 7.5.3 of DWARF 5.
 
-ghost use Rattle.std.specs.Prelude.{◌≡◌, ◌≤◌, ◌<◌, ◌+◌, ℕ, IfOk, Some, map, length, option_map};
+ghost use Rattle.std.specs.Prelude.{◌≡◌, ◌≤◌, ◌<◌, ◌+◌, ◌&&◌, ℕ, IfOk, Some, map, length, nat_le, nat_lt, option_map};
 ghost use Rattle.std.specs.Ordering.{nat_cmp};
 ghost use Rattle.std.specs.BTreeMap as tree;
 ghost use Rattle.dw_model.specs.Reading.{items};
@@ -61,6 +61,13 @@ fn first_places(
     Ok(places)
 }
 
+/// The code is one of the first, which are in order.
+fn is_among_first(code: u64, in_order: usize) -> bool
+    ensures { result ≡ (nat_lt 0 code && nat_le code in_order) }
+{
+    code > 0 && code <= in_order as u64
+}
+
 /// The declarations of a table. Contracts see them as a list, in order.
 #[derive(Drop)]
 pub struct Abbrevs {
@@ -112,13 +119,12 @@ impl Abbrevs {
     pub fn get(&self, code: u64) -> Option<&Decl>
         ensures { option_map (λ declaration. declaration_shown declaration.now) result ≡ declared self.now code }
     {
-        let place = code.wrapping_sub(1);
-        if place < self.in_order as u64 {
-            return self.declarations.get(place as usize);
+        if is_among_first(code, self.in_order) {
+            return Some(&self.declarations[(code - 1) as usize]);
         }
         let Some(place) = self.others.get(&code) else {
             return None;
         };
-        self.declarations.get(*place)
+        Some(&self.declarations[*place])
     }
 }
