@@ -1,11 +1,11 @@
 -- The number of groups of seven bits, from the last group on.
-use Rattle.std.proofs.Common.{◌≡◌, ℕ, zero, suc, ◌+◌, ◌-◌, ◌*◌, ◌%◌, ◌^◌, ◌<◌, ◌≤◌, ℤ, pos, negsuc, Bool, true, false, List, [], ◌∷◌, length, drop, get_or, Option, Some, None, cond, w64, to_z, of_z, refl, sym, ap, ◌∙◌, arith}
+use Rattle.std.proofs.Common.{◌≡◌, ℕ, zero, suc, ◌+◌, ◌-◌, ◌*◌, ◌%◌, ◌^◌, ◌<◌, ◌≤◌, pos, negsuc, Bool, true, false, List, [], ◌∷◌, length, drop, get_or, Some, None, cond, w64, to_z, of_z, refl, sym, arith}
 use Rattle.std.specs.Prelude.{nat_lt, nat_le, ◌-ℤ◌}
-use Rattle.std.proofs.lemmas.Bool.{le-ltb, lt-ltb}
+use Rattle.std.proofs.lemmas.Bool.{le-ltb}
 use Rattle.std.proofs.lemmas.Option.{same_Some}
 use Rattle.std.proofs.Math.Nat.{pow-succ'}
 use Rattle.std.proofs.lemmas.List.{drop_more}
-use Rattle.dw_model.specs.Leb.{groups, signed_groups, is_negative, fits_i64}
+use Rattle.dw_model.specs.Leb.{groups, signed_groups, is_negative}
 use Rattle.dw_bytes.specs.Leb.{fits_u64, fits_u63, fits_signed, complements}
 
 -- a number that is a group and 128 times the number of the others

@@ -1,6 +1,6 @@
 -- A form that names another one, and the form that is reached.
-use Rattle.std.proofs.Common.{◌≡◌, ℕ, ◌<◌, ℤ, Bool, true, false, length, Option, Some, None, option_map, Result, Ok, Err, refl, subst, sym, ap, ◌∙◌}
-use Rattle.std.specs.Prelude.{ok_or, nat_eq, ◌==◌}
+use Rattle.std.proofs.Common.{◌≡◌, ℕ, ℤ, Option, Some, None, Result, Ok, Err, refl, subst, sym, ap, ◌∙◌}
+use Rattle.std.specs.Prelude.{ok_or, nat_eq}
 use Rattle.std.specs.Map.{lookup}
 use Rattle.std.proofs.lemmas.Bool.{ne_eqb}
 use Rattle.dw_model.specs.declared.dwarf.TheConstants.{OFFSET_SIZE_32, DW_FORM_indirect}

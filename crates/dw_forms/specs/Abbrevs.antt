@@ -1,5 +1,5 @@
 -- How declarations are found by their codes.
-use Rattle.std.specs.Prelude.{◌≡◌, ◌≢◌, ◌≤◌, ◌<◌, ℕ, List, Option, Some, None, option_map, slice_get, length}
+use Rattle.std.specs.Prelude.{◌≡◌, ◌≢◌, ◌≤◌, ◌<◌, ℕ, List, Option, Some, None, option_map, slice_get}
 use Rattle.dw_forms.specs.declared.declaration.Decl.{Decl}
 
 -- the code of the declaration at a place

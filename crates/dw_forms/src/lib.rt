@@ -13,3 +13,6 @@ pub use declaration::{Decl, Spec};
 pub use fault::FormFault;
 pub use tables::{Bases, Tables};
 pub use value::{Value, read_value};
+
+#[cfg(test)]
+mod tests;

@@ -9,7 +9,7 @@ use Rattle.dw_model.specs.Reading.{Place, number_at, bytes_at, text_at, items}
 use Rattle.dw_model.specs.Leb.{IsUleb, IsSleb, fits_i64, BeginsTooWide, BeginsTooWideSigned, uleb_at, sleb_at}
 use Rattle.dw_model.specs.Faults.{Fault, ends_early, unknown_form}
 
--- A value, of the class that its form gives it. Offsets and indexes are numbers of their sections; what they lead to is looked up later.
+-- A value, of the kind that its form gives it here. Offsets and indexes are numbers of their sections; what they lead to is looked up later.
 pub data Value : Type 0 where
   address : ℕ → Value
   unsigned : ℕ → Value
@@ -43,7 +43,7 @@ pub data Spelling : Type 0 where
 abbrev is_set : ℕ → Value
 is_set n = flag (not (n == 0))
 
--- the forms by their codes, in the order of table 7.6; DW_FORM_indirect is none of them, since it only names another
+-- the forms by their codes, in the order of table 7.6, and behind them two of the GNU tools; DW_FORM_indirect is none of them, since it only names another
 abbrev pub forms : List (ℕ × Spelling)
 forms =
     (constants.DW_FORM_addr, fixed 8 address)

@@ -55,7 +55,7 @@ abbrev pub as_directory : Value → ℕ
 as_directory (values.unsigned n) = n
 as_directory _ = 0
 
--- the first path and the first directory index of an entry; without an index that is a number, it is 0
+-- the first path and the first directory index of an entry; without an index that is an unsigned number, it is 0 (own)
 abbrev pub line_entry : Tables → Bases → List (ℕ × Value) → LineEntry
 line_entry tables bases contents = record {
   path = option_and_then (text tables bases) (lookup (nat_eq DW_LNCT_path) contents);

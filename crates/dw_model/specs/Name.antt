@@ -59,6 +59,6 @@ name_within sections zero here = own_name sections here
 name_within sections (suc more) here =
     option_or (own_name sections here) (option_and_then (name_within sections more) (referred sections here))
 
--- The name of an entry: the first own name among itself and the entries to which 16 references lead (own).
+-- The name of an entry: the first own name among itself and the entries to which at most 16 references lead (own).
 abbrev pub name : Sections → UnitEntry → Option (List ℕ)
 name sections here = name_within sections 16 here

@@ -51,7 +51,7 @@ abbrev pub without_prefix : List ℕ → List ℕ
 without_prefix text =
     if slice_index text 0 == 48 && (slice_index text 1 == 120 || slice_index text 1 == 88) then drop 2 text else text
 
--- an address is 1 to 16 hexadecimal digits of either case; anything else is a bad address
+-- an address is 1 to 16 hexadecimal digits of either case, behind `0x`, `0X` or nothing; anything else is a bad address (own)
 abbrev pub address_in : List ℕ → Option ℕ
 address_in text =
     let digits = without_prefix text in

@@ -95,7 +95,7 @@ address_at tables bases index = address_of tables bases (values.address_index in
 abbrev pub onto_ranges : ℕ → ℕ → Result (List Range) Bad → Result (List Range) Bad
 onto_ranges begin end others = others >>= λ ranges. Ok (range begin end ∷ ranges)
 
--- The range of each entry that makes one, in order. The base in force is that of the last entry that set it, else the first base, which is needed only where an offset_pair stands before any other.
+-- The range of each entry that makes one, in order. The base in force is that of the last entry that set it, else the first base, which is needed only where an offset_pair stands before any entry that sets it (own).
 unfoldable pub entry_ranges : Tables → Bases → Result ℕ Bad → List RangeEntry → Result (List Range) Bad
 entry_ranges tables bases base [] = Ok []
 entry_ranges tables bases base (base_addressx index ∷ entries) = do

@@ -293,10 +293,10 @@ pub const DW_LNS_set_epilogue_begin: u8 = 0x0b;
 /// Sets a register that isn't kept.
 pub const DW_LNS_set_isa: u8 = 0x0c;
 
-/// Begins an extended opcode (section 6.2.5.3).
-pub const DW_LNS_extended: u8 = 0x00;
-
 // Extended opcodes of line programs (section 7.22, table 7.26).
+
+/// The byte that begins an extended opcode (section 6.2.5.3). The name is ours.
+pub const DW_LNS_extended: u8 = 0x00;
 
 /// Appends a row that ends the sequence.
 pub const DW_LNE_end_sequence: u8 = 0x01;

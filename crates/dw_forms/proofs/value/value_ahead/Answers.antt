@@ -1,4 +1,4 @@
-use Rattle.std.proofs.Common.{rules, ◌≡◌, refl, sym, ◌∙◌}
+use Rattle.std.proofs.Common.{sym}
 use Rattle.std.proofs.lemmas.Result.{err_from_is_err_and}
 use Rattle.dw_model.specs.declared.dwarf.TheConstants.{OFFSET_SIZE_32}
 use Rattle.dw_model.specs.Form.{value_at}

@@ -1,0 +1,293 @@
+//! Values, declarations, texts and addresses, worked out by hand from the standard's tables.
+
+use crate::{Abbrevs, Bases, FormFault, Tables, Value, read_value};
+use dw_bytes::Cursor;
+use dw_model::dwarf::{
+    DW_FORM_GNU_ref_alt, DW_FORM_GNU_strp_alt, DW_FORM_addr, DW_FORM_addrx, DW_FORM_addrx1,
+    DW_FORM_addrx2, DW_FORM_addrx3, DW_FORM_addrx4, DW_FORM_block, DW_FORM_block1, DW_FORM_block2,
+    DW_FORM_block4, DW_FORM_data1, DW_FORM_data2, DW_FORM_data4, DW_FORM_data8, DW_FORM_data16,
+    DW_FORM_exprloc, DW_FORM_flag, DW_FORM_flag_present, DW_FORM_implicit_const, DW_FORM_indirect,
+    DW_FORM_line_strp, DW_FORM_loclistx, DW_FORM_ref_addr, DW_FORM_ref_sig8, DW_FORM_ref_sup4,
+    DW_FORM_ref_sup8, DW_FORM_ref_udata, DW_FORM_ref1, DW_FORM_ref2, DW_FORM_ref4, DW_FORM_ref8,
+    DW_FORM_rnglistx, DW_FORM_sdata, DW_FORM_sec_offset, DW_FORM_string, DW_FORM_strp,
+    DW_FORM_strp_sup, DW_FORM_strx, DW_FORM_strx1, DW_FORM_strx2, DW_FORM_strx3, DW_FORM_strx4,
+    DW_FORM_udata,
+};
+
+/// The value of each form, of bytes that are one spelling of it.
+const ROWS: [(u64, &[u8], Value<'static>); 43] = [
+    (
+        DW_FORM_addr,
+        &[1, 2, 3, 4, 5, 6, 7, 8],
+        Value::Address(0x0807_0605_0403_0201),
+    ),
+    (DW_FORM_block2, &[2, 0, 7, 9], Value::Bytes(&[7, 9])),
+    (DW_FORM_block4, &[1, 0, 0, 0, 7], Value::Bytes(&[7])),
+    (DW_FORM_data2, &[1, 2], Value::Unsigned(0x0201)),
+    (DW_FORM_data4, &[1, 2, 3, 4], Value::Unsigned(0x0403_0201)),
+    (
+        DW_FORM_data8,
+        &[1, 2, 3, 4, 5, 6, 7, 8],
+        Value::Unsigned(0x0807_0605_0403_0201),
+    ),
+    (DW_FORM_string, b"ab\0", Value::Inline(b"ab")),
+    (DW_FORM_block, &[2, 7, 9], Value::Bytes(&[7, 9])),
+    (DW_FORM_block1, &[1, 7], Value::Bytes(&[7])),
+    (DW_FORM_data1, &[0xff], Value::Unsigned(0xff)),
+    (DW_FORM_flag, &[2], Value::Flag(true)),
+    (DW_FORM_sdata, &[0x80, 0x7f], Value::Signed(-128)),
+    (DW_FORM_strp, &[1, 2, 3, 4], Value::Str(0x0403_0201)),
+    (DW_FORM_udata, &[0xe5, 0x8e, 0x26], Value::Unsigned(624_485)),
+    (
+        DW_FORM_ref_addr,
+        &[1, 2, 3, 4],
+        Value::SectionRef(0x0403_0201),
+    ),
+    (DW_FORM_ref1, &[9], Value::UnitRef(9)),
+    (DW_FORM_ref2, &[1, 2], Value::UnitRef(0x0201)),
+    (DW_FORM_ref4, &[1, 2, 3, 4], Value::UnitRef(0x0403_0201)),
+    (
+        DW_FORM_ref8,
+        &[1, 0, 0, 0, 0, 0, 0, 0x80],
+        Value::UnitRef(0x8000_0000_0000_0001),
+    ),
+    (DW_FORM_ref_udata, &[0x80, 1], Value::UnitRef(128)),
+    (
+        DW_FORM_sec_offset,
+        &[1, 2, 3, 4],
+        Value::SectionOffset(0x0403_0201),
+    ),
+    (DW_FORM_exprloc, &[1, 0x9c], Value::Bytes(&[0x9c])),
+    (DW_FORM_strx, &[5], Value::StrIndex(5)),
+    (DW_FORM_addrx, &[5], Value::AddressIndex(5)),
+    (DW_FORM_ref_sup4, &[1, 2, 3, 4], Value::Unused(0x0403_0201)),
+    (DW_FORM_strp_sup, &[1, 2, 3, 4], Value::Unused(0x0403_0201)),
+    (
+        DW_FORM_data16,
+        &[0, 1, 2, 3, 4, 5, 6, 7, 8, 9, 10, 11, 12, 13, 14, 15],
+        Value::Bytes(&[0, 1, 2, 3, 4, 5, 6, 7, 8, 9, 10, 11, 12, 13, 14, 15]),
+    ),
+    (
+        DW_FORM_line_strp,
+        &[1, 2, 3, 4],
+        Value::LineStr(0x0403_0201),
+    ),
+    (
+        DW_FORM_ref_sig8,
+        &[1, 0, 0, 0, 0, 0, 0, 0],
+        Value::Unused(1),
+    ),
+    (DW_FORM_loclistx, &[6], Value::Unused(6)),
+    (DW_FORM_rnglistx, &[6], Value::RangeIndex(6)),
+    (
+        DW_FORM_ref_sup8,
+        &[1, 0, 0, 0, 0, 0, 0, 0],
+        Value::Unused(1),
+    ),
+    (DW_FORM_strx1, &[0xfe], Value::StrIndex(0xfe)),
+    (DW_FORM_strx2, &[1, 2], Value::StrIndex(0x0201)),
+    (DW_FORM_strx3, &[1, 2, 3], Value::StrIndex(0x03_0201)),
+    (DW_FORM_strx4, &[1, 2, 3, 4], Value::StrIndex(0x0403_0201)),
+    (DW_FORM_addrx1, &[0xfe], Value::AddressIndex(0xfe)),
+    (DW_FORM_addrx2, &[1, 2], Value::AddressIndex(0x0201)),
+    (DW_FORM_addrx3, &[1, 2, 3], Value::AddressIndex(197_121)),
+    (
+        DW_FORM_addrx4,
+        &[1, 2, 3, 4],
+        Value::AddressIndex(0x0403_0201),
+    ),
+    (
+        DW_FORM_GNU_ref_alt,
+        &[1, 2, 3, 4],
+        Value::Unused(0x0403_0201),
+    ),
+    (
+        DW_FORM_GNU_strp_alt,
+        &[1, 2, 3, 4],
+        Value::Unused(0x0403_0201),
+    ),
+    (DW_FORM_indirect, &[0x16, 0x0b, 7], Value::Unsigned(7)),
+];
+
+#[test]
+fn value_of_each_form(rt: HostRuntime) {
+    for (form, bytes, value) in ROWS {
+        let mut cursor = Cursor::new(bytes);
+        assert_eq!(rt;
+            read_value(&mut cursor, form, None),
+            Ok(value),
+            "form {form}"
+        );
+        assert_eq!(rt; cursor.left(), 0, "form {form}");
+        let mut short = Cursor::new(bytes.split_at(bytes.len().saturating_sub(1)).0);
+        assert_eq!(rt;
+            read_value(&mut short, form, None),
+            Err(FormFault::End),
+            "form {form}"
+        );
+        assert_eq!(rt; short.at(), 0, "form {form}");
+    }
+}
+
+#[test]
+fn values_without_bytes(rt: HostRuntime) {
+    let mut cursor = Cursor::new(&[]);
+    assert_eq!(rt;
+        read_value(&mut cursor, DW_FORM_flag_present, None),
+        Ok(Value::Flag(true))
+    );
+    assert_eq!(rt;
+        read_value(&mut cursor, DW_FORM_implicit_const, Some(-3)),
+        Ok(Value::Signed(-3))
+    );
+    assert_eq!(rt;
+        read_value(&mut cursor, DW_FORM_implicit_const, None),
+        Err(FormFault::Form)
+    );
+}
+
+#[test]
+fn faults_of_values(rt: HostRuntime) {
+    let rows: &[(u64, &[u8], FormFault)] = &[
+        (0, &[1], FormFault::Form),
+        (2, &[1], FormFault::Form),
+        (0x2d, &[1], FormFault::Form),
+        (0x1f01, &[1, 2, 3, 4], FormFault::Form),
+        (0x1f02, &[1, 2, 3, 4], FormFault::Form),
+        (DW_FORM_indirect, &[0x21, 1], FormFault::Form),
+        (DW_FORM_indirect, &[0x16, 0x16], FormFault::End),
+        (DW_FORM_block, &[5, 1], FormFault::End),
+        (DW_FORM_string, b"ab", FormFault::End),
+        (
+            DW_FORM_udata,
+            &[0xff, 0xff, 0xff, 0xff, 0xff, 0xff, 0xff, 0xff, 0xff, 2],
+            FormFault::Wide,
+        ),
+        (
+            DW_FORM_udata,
+            &[0xff, 0xff, 0xff, 0xff, 0xff, 0xff, 0xff, 0xff, 0xff, 0xff],
+            FormFault::End,
+        ),
+    ];
+    for (form, bytes, fault) in rows {
+        let mut cursor = Cursor::new(bytes);
+        assert_eq!(rt;
+            read_value(&mut cursor, *form, Some(1)),
+            Err(*fault),
+            "form {form}"
+        );
+        assert_eq!(rt; cursor.at(), 0, "form {form}");
+    }
+}
+
+/// Codes 1, 2, 9 and then 2 and 9 once more; the second has the pair of a number in the declaration,
+/// the zero of its end is padded.
+const TABLE: &[u8] = &[
+    0xaa, 1, 0x11, 1, 3, 8, 0, 0, 2, 0x2e, 0, 0x3a, 0x21, 0x7f, 0x80, 0, 0, 9, 0x34, 2, 0, 0, 2, 1,
+    0, 0, 0, 9, 2, 0, 0, 0, 0,
+];
+
+#[test]
+fn tables_of_declarations(rt: HostRuntime) {
+    let alloc = rt.alloc();
+    let Ok(table) = Abbrevs::read(alloc, TABLE, 1) else {
+        assert!(rt; false, "not found");
+        return;
+    };
+    let Some(unit) = table.get(1) else {
+        assert!(rt; false, "not found");
+        return;
+    };
+    assert_eq!(rt; (unit.code, unit.tag, unit.children), (1, 0x11, true));
+    let Some(function) = table.get(2) else {
+        assert!(rt; false, "not found");
+        return;
+    };
+    assert_eq!(rt;
+        (function.tag, function.children, function.specs.len()),
+        (0x2e, false, 1)
+    );
+    assert_eq!(rt; function.specs.as_slice()[0].implicit, Some(-1));
+    let Some(variable) = table.get(9) else {
+        assert!(rt; false, "not found");
+        return;
+    };
+    assert_eq!(rt; (variable.tag, variable.children), (0x34, true));
+    assert!(rt; table.get(0).is_none() && table.get(3).is_none() && table.get(u64::MAX).is_none());
+}
+
+#[test]
+fn tables_that_end(rt: HostRuntime) {
+    let alloc = rt.alloc();
+    assert!(rt; Abbrevs::read(alloc, &[], 0).is_ok());
+    assert!(rt; Abbrevs::read(alloc, &[1, 0x11, 0, 0, 0], 0).is_ok());
+    assert!(rt; Abbrevs::read(alloc, TABLE, 33).is_ok());
+    let rows: &[(&[u8], u64, FormFault)] = &[
+        (TABLE, 34, FormFault::End),
+        (TABLE, u64::MAX, FormFault::End),
+        (&[1, 0x11, 0, 0], 0, FormFault::End),
+        (&[1, 0x11], 0, FormFault::End),
+    ];
+    for (bytes, offset, fault) in rows {
+        match Abbrevs::read(alloc, bytes, *offset) {
+            Ok(_) => assert!(rt; false, "read at {offset}"),
+            Err(found) => assert_eq!(rt; found, *fault),
+        }
+    }
+}
+
+#[test]
+fn texts_and_addresses(rt: HostRuntime) {
+    let tables = Tables {
+        str: b"ab\0c\0d",
+        line_str: b"\0e\0",
+        str_offsets: &[0xee, 3, 0, 0, 0, 0, 0, 0, 0, 5, 0, 0, 0],
+        addr: &[0xee, 1, 0, 0, 0, 0, 0, 0, 0, 2, 0, 0, 0, 0, 0, 0, 0x80],
+        rnglists: &[],
+    };
+    let bases = Bases {
+        str_offsets: Some(1),
+        addr: Some(1),
+        rnglists: None,
+    };
+    let none = Bases {
+        str_offsets: None,
+        addr: None,
+        rnglists: None,
+    };
+    let texts: &[(Value<'_>, Option<&[u8]>)] = &[
+        (Value::Inline(b"x"), Some(b"x")),
+        (Value::Str(0), Some(b"ab")),
+        (Value::Str(1), Some(b"b")),
+        (Value::Str(2), Some(b"")),
+        (Value::Str(5), None),
+        (Value::Str(6), None),
+        (Value::Str(u64::MAX), None),
+        (Value::LineStr(0), Some(b"")),
+        (Value::LineStr(1), Some(b"e")),
+        (Value::StrIndex(0), Some(b"c")),
+        (Value::StrIndex(1), Some(b"ab")),
+        (Value::StrIndex(2), None),
+        (Value::StrIndex(3), None),
+        (Value::StrIndex(1 << 62), None),
+        (Value::StrIndex(u64::MAX), None),
+        (Value::Unsigned(0), None),
+        (Value::Unused(0), None),
+    ];
+    for (value, text) in texts {
+        assert_eq!(rt; tables.text(value, &bases), *text);
+    }
+    assert_eq!(rt; tables.text(&Value::StrIndex(0), &none), None);
+    let addresses: &[(Value<'_>, Option<u64>)] = &[
+        (Value::Address(7), Some(7)),
+        (Value::AddressIndex(0), Some(1)),
+        (Value::AddressIndex(1), Some(0x8000_0000_0000_0002)),
+        (Value::AddressIndex(2), None),
+        (Value::AddressIndex(1 << 61), None),
+        (Value::Unsigned(7), None),
+    ];
+    for (value, address) in addresses {
+        assert_eq!(rt; tables.address(value, &bases), *address);
+    }
+    assert_eq!(rt; tables.address(&Value::AddressIndex(0), &none), None);
+}
