@@ -1,8 +1,10 @@
 //! The units of .debug_info.
 #![tactic(auto)]
 
+mod entry;
 mod unit;
 mod units;
 
+pub use entry::{Attribute, Attributes, Entry};
 pub use unit::{Kind, Unit};
 pub use units::Units;

@@ -1,0 +1,85 @@
+//! Entries of units, by sections 7.5.2 to 7.5.6 of DWARF 5.
+
+ghost use Rattle.std.specs.Prelude.{◌≡◌, ℕ, IfOk, IfSome, map, option_map};
+ghost use Rattle.dw_model.specs.declared.dwarf.TheConstants.{OFFSET_SIZE_32};
+ghost use Rattle.dw_model.specs.Entry.{attributes_at, entry_at};
+ghost use Rattle.dw_model.specs.Entry as model;
+ghost use Rattle.dw_model.specs.Answers.{ReadsUnlessMemory};
+ghost use Rattle.dw_forms.specs.Fault.{form_fault};
+ghost use Rattle.dw_forms.specs.Declaration.{spec_shown};
+ghost use Rattle.dw_forms.specs.Value.{value_shown};
+ghost use Rattle.dw_units.specs.Entry.{attribute_shown, entry_shown};
+
+use dw_bytes::Cursor;
+use dw_forms::{Abbrevs, FormFault, Spec, Value, read_value};
+use smallvec::SmallVec;
+use std::alloc::Global;
+
+/// An attribute: its name, a DW_AT code, and its value.
+#[derive(Clone, Copy, Debug, Default, PartialEq, Eq)]
+pub struct Attribute<'a> {
+    pub name: u64,
+    pub value: Value<'a>,
+}
+
+/// The attributes of an entry, in order. Most entries have no more than are kept in place.
+pub type Attributes<'a> = SmallVec<Attribute<'a>, 12>;
+
+/// An entry. Offsets count from the first byte of .debug_info.
+#[derive(Drop)]
+pub struct Entry<'a> {
+    pub offset: u64,
+    /// The offset just past it.
+    pub next: u64,
+    /// A DW_TAG code.
+    pub tag: u64,
+    /// A list of children follows it.
+    pub children: bool,
+    pub attrs: Attributes<'a>,
+}
+
+/// The values that a declaration asks for.
+fn attributes_of<'a>(
+    alloc: Global,
+    cursor: &mut Cursor<'a>,
+    specs: &[Spec],
+) -> Result<Attributes<'a>, FormFault>
+    ensures { ReadsUnlessMemory (λ attributes. map attribute_shown attributes.items) form_fault result (attributes_at OFFSET_SIZE_32 (map spec_shown specs.now) cursor.old) cursor.new }
+{
+    let mut attributes = SmallVec::new(alloc);
+    for spec in specs {
+        let value = read_value(cursor, spec.form, spec.implicit)?;
+        attributes.push(Attribute {
+            name: spec.name,
+            value,
+        })?;
+    }
+    Ok(attributes)
+}
+
+/// The entry at the cursor, which goes just past it; `None` for a null entry, which ends a list of
+/// children. After a refusal the cursor may stand anywhere.
+#[tactic(auto, unfolding(dw_model::specs::Entry::entry_at))]
+pub(crate) fn entry_of<'a>(
+    alloc: Global,
+    cursor: &mut Cursor<'a>,
+    abbrevs: &Abbrevs,
+) -> Result<Option<Entry<'a>>, FormFault>
+    ensures entry { ReadsUnlessMemory (option_map entry_shown) form_fault result (entry_at OFFSET_SIZE_32 abbrevs.now cursor.old) cursor.new }
+    ensures next { IfOk result (λ found. IfSome found (λ entry. entry.next ≡ cursor.new.at)) }
+{
+    let offset = cursor.at() as u64;
+    let code = cursor.uleb()?;
+    if code == 0 {
+        return Ok(None);
+    }
+    let declaration = abbrevs.get(code).ok_or(FormFault::Code)?;
+    let attrs = attributes_of(alloc, cursor, declaration.specs.as_slice())?;
+    Ok(Some(Entry {
+        offset,
+        next: cursor.at() as u64,
+        tag: declaration.tag,
+        children: declaration.children,
+        attrs,
+    }))
+}
