@@ -44,6 +44,13 @@ pub enum Value<'a> {
     Unused(u64),
 }
 
+impl Default for Value<'_> {
+    /// A value that leads nowhere, as lists that keep values in place need one.
+    fn default() -> Self {
+        Value::Unused(0)
+    }
+}
+
 /// The value that a number of this class is.
 fn value_of<'a>(class: Class, n: u64) -> Value<'a>
     ensures { value_shown result ≡ made class n }

@@ -1,6 +1,6 @@
 //! Entries of units, by sections 7.5.2 to 7.5.6 of DWARF 5.
 
-ghost use Rattle.std.specs.Prelude.{◌≡◌, ℕ, IfOk, IfSome, map, option_map};
+ghost use Rattle.std.specs.Prelude.{◌≡◌, ◌==◌, ℕ, IfOk, IfSome, find, map, option_map};
 ghost use Rattle.dw_model.specs.declared.dwarf.TheConstants.{OFFSET_SIZE_32};
 ghost use Rattle.dw_model.specs.Entry.{attributes_at, entry_at};
 ghost use Rattle.dw_model.specs.Entry as model;
@@ -10,6 +10,7 @@ ghost use Rattle.dw_forms.specs.Declaration.{spec_shown};
 ghost use Rattle.dw_forms.specs.Value.{value_shown};
 ghost use Rattle.dw_units.specs.Entry.{attribute_shown, entry_shown};
 
+use crate::class::counts;
 use dw_bytes::Cursor;
 use dw_forms::{Abbrevs, FormFault, Spec, Value, read_value};
 use smallvec::SmallVec;
@@ -82,4 +83,26 @@ pub(crate) fn entry_of<'a>(
         children: declaration.children,
         attrs,
     }))
+}
+
+impl<'a> Entry<'a> {
+    /// The value of the first attribute of a name, where it is of a kind that counts for the name;
+    /// else the attribute is absent.
+    #[tactic(auto, unfolding(dw_model::specs::Entry::attribute))]
+    pub fn attr(&self, name: u64) -> Option<&Value<'a>>
+        ensures { option_map (λ value. value_shown value.now) result ≡ model.attribute name (entry_shown self.now) }
+    {
+        let found = first_of(self.attrs.as_slice(), name)?;
+        if !counts(name, &found.value) {
+            return None;
+        }
+        Some(&found.value)
+    }
+}
+
+/// The first attribute of a name.
+fn first_of<'b, 'a>(attributes: &'b [Attribute<'a>], name: u64) -> Option<&'b Attribute<'a>>
+    ensures { option_map (λ found. found.now) result ≡ find (λ found. found.name == name) attributes.now }
+{
+    attributes.iter().find(|attribute| attribute.name == name)
 }

@@ -1,6 +1,7 @@
 //! The units of .debug_info.
 #![tactic(auto)]
 
+mod class;
 mod entry;
 mod unit;
 mod units;
