@@ -5,7 +5,7 @@ use Rattle.std.specs.Option.{option_map_or}
 use Rattle.std.specs.Map.{lookup}
 use Rattle.dw_model.specs.Options.{◌>>=◌, only_if}
 use Rattle.dw_model.specs.Form.{Value}
-use Rattle.dw_model.specs.Entry.{Attribute, classes, attribute}
+use Rattle.dw_model.specs.Entry.{classes, attribute}
 use Rattle.dw_forms.specs.Value.{value_shown}
 use Rattle.dw_units.specs.declared.entry.Attribute.{Attribute as CodeAttribute}
 use Rattle.dw_units.specs.declared.entry.Entry.{Entry}

@@ -9,3 +9,6 @@ mod units;
 pub use entry::{Attribute, Attributes, Entry};
 pub use unit::{Kind, Unit};
 pub use units::Units;
+
+#[cfg(test)]
+mod tests;

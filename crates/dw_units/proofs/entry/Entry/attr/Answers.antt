@@ -1,4 +1,4 @@
-use Rattle.std.proofs.Common.{◌≡◌, ◌∙◌, Some, None, find, sym, ap}
+use Rattle.std.proofs.Common.{◌∙◌, find, sym, ap}
 use Rattle.std.specs.Prelude.{List, ◌==◌}
 use Rattle.dw_units.specs.declared.entry.Attribute.{Attribute}
 use Rattle.dw_units.proofs.AttrLemmas.{absent, not_counted, is_given}
