@@ -1,3 +1,6 @@
 pub mod Entry
+pub mod Sections
+pub mod Shared
+pub mod SharedInside
 pub mod Unit
 pub mod Units

@@ -8,9 +8,11 @@ ghost use Rattle.dw_model.specs.Answers.{ReadsUnlessMemory};
 ghost use Rattle.dw_forms.specs.Fault.{form_fault};
 ghost use Rattle.dw_forms.specs.Declaration.{spec_shown};
 ghost use Rattle.dw_forms.specs.Value.{value_shown};
-ghost use Rattle.dw_units.specs.Entry.{attribute_shown, entry_shown};
+ghost use Rattle.dw_units.specs.Entry.{attribute_shown, entry_shown, entry_by, FindsEntry};
+ghost use Rattle.dw_units.specs.Unit.{unit_shown};
 
 use crate::class::counts;
+use crate::unit::Unit;
 use dw_bytes::Cursor;
 use dw_forms::{Abbrevs, FormFault, Spec, Value, read_value};
 use smallvec::SmallVec;
@@ -105,4 +107,26 @@ fn first_of<'b, 'a>(attributes: &'b [Attribute<'a>], name: u64) -> Option<&'b At
     ensures { option_map (λ found. found.now) result ≡ find (λ found. found.name == name) attributes.now }
 {
     attributes.iter().find(|attribute| attribute.name == name)
+}
+
+/// The entry at an offset of .debug_info that lies between a unit's first entry and its end; `None`
+/// for a null entry. Nothing past the unit's end is read.
+pub(crate) fn entry_in<'a>(
+    alloc: Global,
+    info: &'a [u8],
+    unit: &Unit,
+    abbrevs: &Abbrevs,
+    offset: u64,
+) -> Result<Option<Entry<'a>>, FormFault>
+    ensures { FindsEntry result (entry_by abbrevs.now info.now (unit_shown unit.now) offset) }
+{
+    if offset < unit.first_entry || offset >= unit.end {
+        return Err(FormFault::End);
+    }
+    let end = info.len().min(unit.end as usize);
+    let mut cursor = Cursor::new(info.split_at(end).0);
+    let Some(_) = cursor.take(offset as usize) else {
+        return Err(FormFault::End);
+    };
+    entry_of(alloc, &mut cursor, abbrevs)
 }

@@ -3,10 +3,13 @@
 
 mod class;
 mod entry;
+mod sections;
+mod shared;
 mod unit;
 mod units;
 
 pub use entry::{Attribute, Attributes, Entry};
+pub use sections::Sections;
 pub use unit::{Kind, Unit};
 pub use units::Units;
 

@@ -1,0 +1,13 @@
+pub mod LaneLemmas
+pub mod ReadLemmas
+pub mod SenderLemmas
+pub mod StateLemmas
+pub mod StepLemmas
+pub mod CountLemmas
+pub mod EndLemmas
+pub mod CoreLemmas
+pub mod CallLemmas
+pub mod HandLemmas
+pub mod RunLemmas
+pub mod RefusalLemmas
+pub mod CallerLemmas

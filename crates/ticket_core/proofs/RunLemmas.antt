@@ -1,0 +1,100 @@
+-- What holds after every list of events.
+use Rattle.std.proofs.Common.{◌≡◌, ℕ, ◌+◌, ◌≤◌, inl, inr, List, [], ◌∷◌, length, refl, ◌∙◌, ap, arith, if◌then◌else◌}
+use Rattle.std.proofs.lemmas.Bool.{cases_lt}
+use Rattle.std.proofs.lemmas.List.{get_or_past}
+use Rattle.ticket_core.specs.declared.shape.Shape.{Shape}
+use Rattle.ticket_core.specs.State.{Meaning, Unasked, Sender, State, sender_at, outstanding, opening}
+use Rattle.ticket_core.specs.Events.{Event, Ask, Take, Finish, GiveBack, Collect, Close, after}
+use Rattle.ticket_core.specs.Runs.{Run, Reaches, IsRight, times_finished, once_finished, finishes, HandsAgree, PlacesAgree, HasEnded}
+use Rattle.ticket_core.specs.Sound.{IsSoundSender, IsSound}
+use Rattle.ticket_core.proofs.StateLemmas.{place_at}
+use Rattle.ticket_core.proofs.StepLemmas.{step-sound, opening-sound, opening-place}
+use Rattle.ticket_core.proofs.CountLemmas.{step-counted}
+use Rattle.ticket_core.proofs.EndLemmas.{step-ended}
+
+module _ (meaning : Meaning) where
+  -- no event changes the shape or the key
+  shape-kept : (event : Event) (state : State) → (after meaning event state).shape ≡ state.shape
+  shape-kept (Ask s a) state = refl
+  shape-kept (Take w s n) state = refl
+  shape-kept (Finish w) state = refl
+  shape-kept (GiveBack w) state = refl
+  shape-kept (Collect s) state = refl
+  shape-kept (Close s) state = refl
+
+  key-kept : (event : Event) (state : State) → (after meaning event state).key ≡ state.key
+  key-kept (Ask s a) state = refl
+  key-kept (Take w s n) state = refl
+  key-kept (Finish w) state = refl
+  key-kept (GiveBack w) state = refl
+  key-kept (Collect s) state = refl
+  key-kept (Close s) state = refl
+
+  pub run-shape : (events : List Event) (old new : State) → Run meaning old events new → new.shape ≡ old.shape
+  run-shape [] old new r = ap (λ x. x.shape) r
+  run-shape (event ∷ events) old new r = run-shape events (after meaning event old) new r.1 ∙ shape-kept event old
+
+  pub run-key : (events : List Event) (old new : State) → Run meaning old events new → new.key ≡ old.key
+  run-key [] old new r = ap (λ x. x.key) r
+  run-key (event ∷ events) old new r = run-key events (after meaning event old) new r.1 ∙ key-kept event old
+
+  pub run-sound : (events : List Event) (old new : State) → IsSound meaning old → Run meaning old events new → IsSound meaning new
+  run-sound [] old new sound r = rw r sound
+  run-sound (event ∷ events) old new sound r = run-sound events (after meaning event old) new (step-sound meaning event old sound r.0) r.1
+
+  pub run-counted : (events : List Event) (old new : State) (s n : ℕ) → IsSound meaning old → Run meaning old events new
+      → times_finished meaning old events s n + once_finished (place_at old s n) ≡ once_finished (place_at new s n)
+  run-counted [] old new s n sound r = rw r (omega arith)
+  run-counted (event ∷ events) old new s n sound r =
+      let later : times_finished meaning (after meaning event old) events s n + once_finished (place_at (after meaning event old) s n) ≡ once_finished (place_at new s n) =
+      run-counted events (after meaning event old) new s n (step-sound meaning event old sound r.0) r.1 in
+      let now : (if finishes event old s n then 1 else 0) + once_finished (place_at old s n) ≡ once_finished (place_at (after meaning event old) s n) =
+      step-counted meaning event old s n sound r.0 in
+      omega arith
+
+  pub run-ended : (events : List Event) (old new : State) (s : ℕ) → IsSound meaning old → HasEnded (sender_at old s) → Run meaning old events new
+      → sender_at new s ≡ sender_at old s
+  run-ended [] old new s sound ended r = ap (λ state. sender_at state s) r
+  run-ended (event ∷ events) old new s sound ended r =
+      let kept : sender_at (after meaning event old) s ≡ sender_at old s = step-ended meaning event old s sound r.0 ended in
+      let still : HasEnded (sender_at (after meaning event old) s) = rw kept ended in
+      run-ended events (after meaning event old) new s (step-sound meaning event old sound r.0) still r.1 ∙ kept
+
+  -- ---- from the opening state
+
+  pub reached-sound : (shape : Shape) (key : List ℕ) (events : List Event) (state : State) → Reaches meaning shape key events state → IsSound meaning state
+  reached-sound shape key events state r = run-sound events (opening shape key) state (opening-sound meaning shape key) r
+
+  pub reached-right : (shape : Shape) (key : List ℕ) (events : List Event) (state : State) → Reaches meaning shape key events state
+      → (s : ℕ) → IsRight meaning key (sender_at state s)
+  reached-right shape key events state r s =
+      let same : state.key ≡ key = run-key events (opening shape key) state r in
+      let sound : IsSoundSender meaning state.key (sender_at state s) = (reached-sound shape key events state r).each s in
+      let right : IsRight meaning state.key (sender_at state s) = (sound.within, sound.right) in
+      rw (← same) right
+
+  pub reached-counted : (shape : Shape) (key : List ℕ) (events : List Event) (state : State) → Reaches meaning shape key events state
+      → (s n : ℕ) → times_finished meaning (opening shape key) events s n ≡ once_finished (place_at state s n)
+  reached-counted shape key events state r s n =
+      let none : once_finished (place_at (opening shape key) s n) ≡ 0 = rw (opening-place meaning shape key s n) refl in
+      omega (arith, run-counted events (opening shape key) state s n (opening-sound meaning shape key) r, none)
+
+  pub hands-agree : (state : State) → IsSound meaning state → HandsAgree state
+  hands-agree state sound w s n = (sound.held w s n, sound.in_hand w s n)
+
+  pub places-agree : (key : List ℕ) (sender : Sender) → IsSoundSender meaning key sender → PlacesAgree sender
+  places-agree key sender sound n = (
+    (sound.collected_only n, sound.collected n),
+    (
+      (λ e. elim (cases_lt n (length sender.asked)) [ inl h ↦ absurd (sound.has_place n h e) | inr h ↦ h ]),
+      λ h. get_or_past sender.places n Unasked (omega (arith, h, sound.placed)),
+    ),
+  )
+
+  pub reached-limits : (shape : Shape) (key : List ℕ) (events : List Event) (state : State) → Reaches meaning shape key events state
+      → (s : ℕ) → (length (sender_at state s).asked ≤ shape.most) × (outstanding (sender_at state s) ≤ shape.window)
+  reached-limits shape key events state r s =
+      let same : state.shape ≡ shape = run-shape events (opening shape key) state r in
+      let sound : IsSound meaning state = reached-sound shape key events state r in
+      let window : length (sender_at state s).asked ≤ length (sender_at state s).received + state.shape.window = sound.window s in
+      (rw (← same) (sound.most s), rw (← same) (omega (arith, window)))

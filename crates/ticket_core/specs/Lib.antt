@@ -1,0 +1,10 @@
+pub mod Shape
+pub mod State
+pub mod Events
+pub mod Refusals
+pub mod Runs
+pub mod Sound
+pub mod Faults
+pub mod NewFaults
+pub mod Codes
+pub mod Shown

@@ -1,0 +1,38 @@
+//! Who answers queries.
+
+ghost use Rattle.std.specs.Prelude.{◌≡◌, ◌+◌, ℕ, List, IfOk, is_ok, if◌then◌else◌};
+ghost use Rattle.ticket_core.specs.State.{Address, Shown};
+
+use std::alloc::AllocError;
+
+/// Want of memory.
+pub type NoMemory = AllocError;
+
+/// Answers queries: an address has one meaning under a key, whoever answers it and whenever.
+pub trait Solver {
+    /// What a query is answered with.
+    type Answer: Drop + Send;
+
+    /// What an answer shows: its numbers, and its texts by their bytes. Answers are compared by
+    /// this alone.
+    ghost shown: { Self.Answer → Shown };
+
+    /// What an address means under a key. It depends on these two alone.
+    ghost meaning: { List ℕ → Address → Shown };
+
+    /// The key that a solver answers by.
+    ghost key: { Self → List ℕ };
+
+    /// How often it answered that memory was wanting.
+    ghost refused: { Self → ℕ };
+
+    /// The key: for a file's meaning, its bytes.
+    fn key(&self) -> &[u8]
+        ensures { result.now ≡ key self.now };
+
+    /// Answers the query. The error says that a growth of memory was refused.
+    fn solve(&mut self, a: u64) -> Result<Self::Answer, NoMemory>
+        ensures right { IfOk result (λ answer. shown answer ≡ meaning (key self.old) a) }
+        ensures key_stays { key self.new ≡ key self.old }
+        ensures counted { refused self.new ≡ (if is_ok result then refused self.old else refused self.old + 1) };
+}
