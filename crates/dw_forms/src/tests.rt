@@ -291,3 +291,30 @@ fn texts_and_addresses(rt: HostRuntime) {
     }
     assert_eq!(rt; tables.address(&Value::AddressIndex(0), &none), None);
 }
+
+/// A table whose growths are refused is want of memory, and the next reading of it, with memory,
+/// gives it whole: its codes are in no order, and one has more pairs than are kept in place. So this
+/// test passes under `rt try --test --fail-alloc N` for each N.
+#[test]
+fn each_growth_refused(rt: HostRuntime) {
+    let alloc = rt.alloc();
+    let many: &[u8] = &[
+        9, 0x34, 0, 3, 8, 4, 8, 5, 8, 6, 8, 7, 8, 8, 8, 9, 8, 10, 8, 11, 8, 12, 8, 0, 0, 4, 0x35,
+        1, 0, 0, 0,
+    ];
+    let table = match Abbrevs::read(alloc, many, 0) {
+        Err(FormFault::Memory) => Abbrevs::read(alloc, many, 0),
+        read => read,
+    };
+    let Ok(table) = table else {
+        assert!(rt; false, "not read");
+        return;
+    };
+    let Some(first) = table.get(9) else {
+        assert!(rt; false, "not found");
+        return;
+    };
+    assert_eq!(rt; first.specs.len(), 10);
+    assert_eq!(rt; first.specs.as_slice()[9].name, 12);
+    assert_eq!(rt; table.get(4).map(|found| found.tag), Some(0x35));
+}

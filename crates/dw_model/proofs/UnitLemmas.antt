@@ -2,13 +2,14 @@
 use Rattle.std.proofs.Common.{◌≡◌, ℕ, ◌<◌, ◌≤◌, Bool, true, false, cond, List, [], length, Option, Some, None, Result, Ok, Err, refl, ap, ◌∙◌, arith}
 use Rattle.std.specs.Prelude.{ok_or, filter_map, ◌==◌}
 use Rattle.std.specs.List.{cons_option}
+use Rattle.std.specs.Option.{option_map_or}
 use Rattle.std.proofs.lemmas.Bool.{eqb-true}
 use Rattle.std.proofs.lemmas.List.{nil_from_length}
 use Rattle.dw_model.specs.Results.{◌>>=◌}
 use Rattle.dw_model.specs.Reading.{Place, number_at, bytes_at, onto, items}
 use Rattle.dw_model.specs.InitialLength.{InitialLength, of_length, wide, reserved, initial_length_of, initial_length}
 use Rattle.dw_model.specs.Faults.{Refusal, unit_header}
-use Rattle.dw_model.specs.Unit.{DwarfUnit, Test, unit_of, unit_behind, piece_at, next_piece, cut_from}
+use Rattle.dw_model.specs.Unit.{DwarfUnit, Test, untested, unit_of, unit_behind, piece_at, next_piece, cut_from}
 use Rattle.dw_model.proofs.StepLemmas.{bind_ok, bind_some, ok_or-ok, ok_is}
 use Rattle.dw_model.proofs.ReadingLemmas.{number_at-took, bytes_at-took, took-left}
 use Rattle.dw_model.proofs.ItemsLemmas.{Advances, items-turn}
@@ -105,3 +106,35 @@ cut-fault test p refusal more e = rw (items-turn (next_piece test) (λ q. q.left
 pub cut-end : (test : Test) (p : Place) → (length p.left == 0) ≡ true → cut_from test p ≡ Ok []
 unfolding cut_from next_piece
 cut-end test p ended = rw (items-turn (next_piece test) (λ q. q.left) (pieces_advance test) p, ended) refl
+
+-- ---- the test of a unit comes behind its header
+
+-- the piece, where its unit passes the test
+abbrev pub tested : Test → Piece → Result Piece Refusal
+tested test x = option_map_or (λ unit. test unit >>= λ _. Ok x) x.0 (Ok x)
+
+-- a step and then another, whichever way they are grouped
+grouped : {A : Type 0} (read : Result A Refusal) (one two : A → Result Piece Refusal) (test : Test) → ((x : A) → one x ≡ (two x >>= tested test)) → (read >>= one) ≡ ((read >>= two) >>= tested test)
+grouped (Ok x) one two test same = same x
+grouped (Err f) one two test same = refl
+
+unit-tested : (test : Test) (padding : Bool) (unit : Result DwarfUnit Refusal) (end : Place) → cond {A = Result Piece Refusal} padding (Ok (None, end)) (unit >>= λ u. test u >>= λ _. Ok (Some u, end))
+    ≡ (cond {A = Result Piece Refusal} padding (Ok (None, end)) (unit >>= λ u. untested u >>= λ _. Ok (Some u, end)) >>= tested test)
+unit-tested test true unit end = refl
+unit-tested test false (Ok u) end = refl
+unit-tested test false (Err f) end = refl
+
+behind-tested : (test : Test) (offset : ℕ) (n : InitialLength) (p : Place) → unit_behind test offset n p ≡ (unit_behind untested offset n p >>= tested test)
+unfolding unit_behind
+behind-tested test offset reserved p = refl
+behind-tested test offset wide p = refl
+behind-tested test offset (of_length n size) p =
+    grouped (ok_or (bytes_at n p) (unit_header offset)) (λ bytes. cond {A = Result Piece Refusal} (n == 0) (Ok (None, bytes.1)) (unit_of (record { offset = offset; base = p.at; end = bytes.1.at }) size bytes.0 >>= λ u. test u >>= λ _. Ok (Some u, bytes.1)))
+    (λ bytes. cond {A = Result Piece Refusal} (n == 0) (Ok (None, bytes.1)) (unit_of (record { offset = offset; base = p.at; end = bytes.1.at }) size bytes.0 >>= λ u. untested u >>= λ _. Ok (Some u, bytes.1))) test
+    (λ bytes. unit-tested test (n == 0) (unit_of (record { offset = offset; base = p.at; end = bytes.1.at }) size bytes.0) bytes.1)
+
+pub piece_at-tested : (test : Test) (p : Place) → piece_at test p ≡ (piece_at untested p >>= tested test)
+unfolding piece_at
+piece_at-tested test p =
+    grouped (ok_or (initial_length p) (unit_header p.at)) (λ unit_length. unit_behind test p.at unit_length.0 unit_length.1) (λ unit_length. unit_behind untested p.at unit_length.0 unit_length.1) test
+    (λ unit_length. behind-tested test p.at unit_length.0 unit_length.1)

@@ -1,6 +1,7 @@
 //! The units of .debug_info.
 #![tactic(auto)]
 
+mod bases;
 mod class;
 mod entry;
 mod sections;
