@@ -3,7 +3,7 @@
 ghost use Rattle.std.specs.Prelude.{◌≡◌, ◌≢◌, ◌++◌, ◌<◌, None, Err, OnOk, OnErr, IfOk, IfErr, IsErrOf, string_bytes};
 ghost use Rattle.std.specs.Io.KnownBytes.{append_known};
 ghost use Rattle.dw_model.specs.Unit as model;
-ghost use Rattle.dw_model.specs.Refusal.{headers_refusal};
+ghost use Rattle.dw_model.specs.Refusal.{listing_refusal};
 ghost use Rattle.dw_model.specs.Output.{unit_line, unit_lines, listing};
 ghost use Rattle.dw_units.specs.Unit.{unit_shown};
 ghost use Rattle.a2l.specs.Ends.{WritesBeginning};
@@ -17,7 +17,7 @@ use dw_units::{Unit, Units};
 use std::alloc::{AllocError, Global};
 
 /// Adds the line of a unit to a text.
-fn push_line(text: &mut String, unit: &Unit) -> Result<(), AllocError>
+fn push_line(text: &mut String, unit: &Unit<'_>) -> Result<(), AllocError>
     ensures { OnOk result (string_bytes text.new ≡ string_bytes text.old ++ unit_line (unit_shown unit.now)) }
 {
     let offset = unit.offset;
@@ -28,7 +28,7 @@ fn push_line(text: &mut String, unit: &Unit) -> Result<(), AllocError>
 
 /// The lines of `--units`.
 fn listing(alloc: Global, units: &Units<'_>) -> Result<String, AllocError>
-    ensures { IfOk result (λ text. string_bytes text ≡ unit_lines (model.units units.now)) }
+    ensures { IfOk result (λ text. string_bytes text ≡ unit_lines (model.units units.now.info)) }
 {
     let mut text = String::new(alloc);
     for i in 0..units.len() {
@@ -41,8 +41,8 @@ fn listing(alloc: Global, units: &Units<'_>) -> Result<String, AllocError>
 ///
 /// After an error a beginning of them was written.
 pub fn list_units<W: Sink>(alloc: Global, writer: &mut W, units: &Units<'_>) -> Result<(), RunFault>
-    ensures written { OnOk result (W.told writer.new ≡ append_known (W.told writer.old) (unit_lines (model.units units.now))) }
-    ensures beginning { OnErr result (WritesBeginning (W.told writer.old) (W.told writer.new) (unit_lines (model.units units.now))) }
+    ensures written { OnOk result (W.told writer.new ≡ append_known (W.told writer.old) (unit_lines (model.units units.now.info))) }
+    ensures beginning { OnErr result (WritesBeginning (W.told writer.old) (W.told writer.new) (unit_lines (model.units units.now.info))) }
     ensures write { IsErrOf result RunFault.Write → W.failures writer.old < W.failures writer.new }
     ensures memory { IsErrOf result RunFault.Memory → writer.new ≡ writer.old }
     ensures read { result ≢ Err RunFault.Read }
@@ -56,10 +56,10 @@ pub fn list_units<W: Sink>(alloc: Global, writer: &mut W, units: &Units<'_>) -> 
 
 /// Lists the units of a file.
 pub fn list_file<W: Sink>(alloc: Global, writer: &mut W, file: &[u8]) -> Result<(), Fault>
-    ensures listed { OnOk result (headers_refusal file.now ≡ None) }
+    ensures listed { OnOk result (listing_refusal file.now ≡ None) }
     ensures written { OnOk result (W.told writer.new ≡ append_known (W.told writer.old) (listing file.now)) }
     ensures beginning { OnErr result (WritesBeginning (W.told writer.old) (W.told writer.new) (listing file.now)) }
-    ensures fault { IfErr result (λ fault. ListFails fault (headers_refusal file.now) (W.failures writer.old) (W.failures writer.new)) }
+    ensures fault { IfErr result (λ fault. ListFails fault (listing_refusal file.now) (W.failures writer.old) (W.failures writer.new)) }
     ensures refused { IfErr result (λ fault. IsRefused fault → writer.new ≡ writer.old) }
 {
     let elf = Elf::open(file)?;

@@ -1,5 +1,6 @@
 //! Whole runs of the program over ends in memory.
 
+mod entries;
 mod samples;
 
 ghost use Rattle.std.specs.Prelude.{◌≡◌, ◌<◌, Some, None, option_copied};
@@ -278,7 +279,7 @@ fn refusals(rt: HostRuntime) -> Result<(), Fail> {
         "",
         "a2l: file refused: 4 SectionTable\n",
     );
-    let table: [(usize, &[u8], &str); 10] = [
+    let table: [(usize, &[u8], &str); 14] = [
         (0, &[0], "1 NotElf"),
         (4, &[1], "2 NotElf64Little"),
         (5, &[2], "2 NotElf64Little"),
@@ -289,6 +290,12 @@ fn refusals(rt: HostRuntime) -> Result<(), Fail> {
         (71, &[4], "9 AddressSize 0x0"),
         (567, &[8], "6 Compressed .debug_line"),
         (344, b".zdebug_line\0", "6 Compressed .debug_line"),
+        // The code that the first unit's first entry wants has no declaration; the second unit's
+        // first entry is a null one, has no declaration, or wants more bytes than the unit has.
+        (174, &[8], "10 Root 0x0"),
+        (167, &[0], "10 Root 0x5b"),
+        (167, &[9], "10 Root 0x5b"),
+        (167, &[2], "10 Root 0x5b"),
     ];
     for (at, new, fault) in table {
         let file = poked(alloc, INLINED, at, new)?;
@@ -300,13 +307,13 @@ fn refusals(rt: HostRuntime) -> Result<(), Fail> {
 
 #[test]
 fn section_past_the_end(rt: HostRuntime) -> Result<(), Fail> {
-    // The size of .debug_abbrev stands at 366 + 2 * 64 + 32.
-    let file = poked(rt.alloc(), INLINED, 366 + 2 * 64 + 33, &[4])?;
-    let line = "a2l: file refused: 5 SectionRange .debug_abbrev\n";
+    // The size of .debug_line stands at 366 + 3 * 64 + 32.
+    let file = poked(rt.alloc(), INLINED, 366 + 3 * 64 + 33, &[4])?;
+    let line = "a2l: file refused: 5 SectionRange .debug_line\n";
     expect(&rt, &run_on(rt.alloc(), &file, &LIST), 2, "", line);
     // A section of type SHT_NOBITS takes no bytes of the file.
     let mut file = file;
-    *file.get_mut(366 + 2 * 64 + 4).ok_or("the section's type")? = 8;
+    *file.get_mut(366 + 3 * 64 + 4).ok_or("the section's type")? = 8;
     expect(
         &rt,
         &run_on(rt.alloc(), &file, &LIST),
@@ -320,6 +327,20 @@ fn section_past_the_end(rt: HostRuntime) -> Result<(), Fail> {
 #[test]
 fn without_lines(rt: HostRuntime) -> Result<(), Fail> {
     let file = poked(rt.alloc(), INLINED, 354, b"x")?;
+    expect(
+        &rt,
+        &run_on(rt.alloc(), &file, &LIST),
+        0,
+        INLINED_LISTING,
+        "",
+    );
+    Ok(())
+}
+
+#[test]
+fn root_without_its_base(rt: HostRuntime) -> Result<(), Fail> {
+    // The first entry's address is one by index, and no base is named: a listing reads no address.
+    let file = poked(rt.alloc(), INLINED, 180, &[0x1b])?;
     expect(
         &rt,
         &run_on(rt.alloc(), &file, &LIST),

@@ -11,9 +11,9 @@ use Rattle.dw_model.specs.Reading.{Place, Between, Spans, number_at, bytes_at}
 use Rattle.dw_model.specs.Faults.{Bad, bad}
 use Rattle.dw_model.specs.Leb.{IsUleb, uleb_at, sleb_at}
 use Rattle.dw_model.specs.LineHeader.{LineHeader}
-use Rattle.dw_model.specs.Instruction.{Instruction, special, no_effect, Operands, none, unsigned, signed, two_bytes, standard_opcodes, as_instruction, operands_at, unknown_at, extended, extended_at, standard_at, opcode_at, next_instruction, AreOperands, AreNumbers, IsExtended, IsBehind, is_special, is_extended, is_standard, is_unknown, IsInstruction}
+use Rattle.dw_model.specs.Instruction.{Instruction, special, no_effect, Operands, none, unsigned, signed, two_bytes, standard_opcodes, operands_at, unknown_at, extended, extended_at, standard_at, opcode_at, next_instruction, AreOperands, AreNumbers, IsExtended, IsBehind, is_special, is_extended, is_standard, is_unknown, IsInstruction}
 use Rattle.dw_model.proofs.StepLemmas.{bind_ok, ok_or-ok, ok_is}
-use Rattle.dw_model.proofs.ReadingLemmas.{read_is, between-none, empty-between, between-length}
+use Rattle.dw_model.proofs.ReadingLemmas.{made_of, read_is, between-none, empty-between, between-length}
 use Rattle.dw_model.proofs.NumberLemmas.{number_at-ok, number_at-spans, bytes_at-ok, bytes_at-between}
 use Rattle.dw_model.proofs.LebReading.{uleb-ok, uleb-spans, sleb-ok, sleb-spans}
 use Rattle.dw_model.proofs.SpellingLemmas.{between, parted, joined}
@@ -22,13 +22,6 @@ use Rattle.dw_model.proofs.SpellingLemmas.{between, parted, joined}
 pub or_fault-ok : {A E F : Type 0} (f : F) (r : Result A E) (x : A) → or_fault f r ≡ Ok x → r ≡ Ok x
 or_fault-ok f (Ok y) x e = let same : y ≡ x = cc in ap Ok same
 or_fault-ok f (Err d) x e = absurd cc
-
-made_of : {A : Type 0} (make : A → Instruction) (read : Result (A × Place) Bad) (i : Instruction) (q : Place) → as_instruction make read ≡ Ok (i, q) → (x : A) × (read ≡ Ok (x, q)) × (i ≡ make x)
-made_of make (Ok x) i q e =
-    let same = ok_is (make x.0, x.1) (i, q) e in
-    let place : x.1 ≡ q = ap (λ (y : Instruction × Place). y.1) same in
-    (x.0, ap (λ (place : Place). Ok (x.0, place)) place, sym (ap (λ (y : Instruction × Place). y.0) same))
-made_of make (Err f) i q e = absurd cc
 
 -- ---- operands
 

@@ -4,8 +4,9 @@ use Rattle.std.specs.Prelude.{nat_le, slice_index}
 use Rattle.std.proofs.lemmas.Bool.{leb-true, le-leb}
 use Rattle.std.proofs.lemmas.List.{get_or_append_left, length-take-le, take-append-drop}
 use Rattle.byteorder.specs.Endian.{little_from, little_number}
+use Rattle.std.proofs.lemmas.Option.{cond_some}
 use Rattle.dw_model.specs.Reading.{Place, past, Between, Spans, number_at, bytes_at}
-use Rattle.dw_model.proofs.ReadingLemmas.{if_some, past-between, take-between, between-past, some_is}
+use Rattle.dw_model.proofs.ReadingLemmas.{past-between, take-between, between-past, some_is}
 
 little_from-append : (n i : ℕ) (xs ys : List ℕ) → i + n ≤ length xs → little_from i n (xs ++ ys) ≡ little_from i n xs
 little_from-append zero i xs ys h = refl
@@ -30,7 +31,7 @@ number_at-ok n p q piece e b =
 
 pub number_at-spans : (n : ℕ) (p : Place) (x : ℕ × Place) → number_at n p ≡ Some x → Spans (λ piece. (length piece ≡ n) × (x.0 ≡ little_number n piece)) p x.1
 number_at-spans n p x e =
-    let h = if_some (nat_le n (length p.left)) (little_number n p.left, past n p) x e in
+    let h = cond_some (nat_le n (length p.left)) (little_number n p.left, past n p) x e in
     let within : n ≤ length p.left = leb-true n (length p.left) h.0 in
     let size : length (take n p.left) ≡ n = length-take-le n p.left within in
     let whole : take n p.left ++ drop n p.left ≡ p.left = take-append-drop n p.left in
@@ -43,6 +44,6 @@ bytes_at-ok n p q piece e b =
 
 pub bytes_at-between : (n : ℕ) (p : Place) (x : List ℕ × Place) → bytes_at n p ≡ Some x → (length x.0 ≡ n) × Between p x.0 x.1
 bytes_at-between n p x e =
-    let h = if_some (nat_le n (length p.left)) (take n p.left, past n p) x e in
+    let h = cond_some (nat_le n (length p.left)) (take n p.left, past n p) x e in
     let within : n ≤ length p.left = leb-true n (length p.left) h.0 in
     rw (← h.1) (length-take-le n p.left within, between-past p n within)

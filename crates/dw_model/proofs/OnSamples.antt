@@ -12,7 +12,7 @@ use Rattle.dw_model.specs.Section.{table_of, section_in, section, lies_in, is_co
 use Rattle.dw_model.specs.Unit.{kept_unit, unit_of, unit_behind, piece_at, next_piece, cut_from}
 use Rattle.dw_model.specs.Root.{entry, root}
 use Rattle.dw_model.specs.Ranges.{next_range_entry, entry_ranges, list_offset, list_ranges, pc_ranges, ranges_of}
-use Rattle.dw_model.specs.Refusal.{refusal, listing_refusal}
+use Rattle.dw_model.specs.Refusal.{refusal}
 use Rattle.dw_model.specs.LineHeader.{formats_at, contents_at, entries_at, entry_list, fields_at, table_behind, line_header}
 use Rattle.dw_model.specs.Instruction.{unknown_at, extended, extended_at, opcode_at, next_instruction, instructions}
 use Rattle.dw_model.specs.Matrix.{rows_from, sequences_from, row_in, row_of}
@@ -24,5 +24,5 @@ use Rattle.dw_model.specs.Answer as answers
 use Rattle.dw_model.proofs.Samples.{hex, elf, smallest, line_table, inlined_abbrev, inlined_info, inlined_line, three_sections, inlined, mixed_versions, with_info, bare_unit, with_bare_unit, wide_unit, narrow_unit, overlapping, deep, far_name, line_table_of, path_table}
 
 unfoldable pub on_samples : ℕ
-unfolding digits items_up_to uleb_at sleb_at spelled_at next_form value_at next_specification declaration_behind next_declaration abbreviations attributes_at entry_at attribute text address file_header section_header_at section_headers contents names_at table_at name_of has_name header_named table_of section_in section lies_in is_compressed accepted_table kept_unit unit_of unit_behind piece_at next_piece cut_from entry root next_range_entry entry_ranges list_offset list_ranges pc_ranges ranges_of refusal listing_refusal formats_at contents_at entries_at entry_list fields_at table_behind line_header unknown_at extended extended_at opcode_at next_instruction instructions rows_from sequences_from row_in row_of joined path next_node nodes_from tree enclosing find_node inlined_in next_inwards chain_in entry_of referred name_within lines_at lines frames_from frames answer_in location_in answers.unit_of hex elf smallest line_table inlined_abbrev inlined_info inlined_line three_sections inlined mixed_versions with_info bare_unit with_bare_unit wide_unit narrow_unit overlapping deep far_name line_table_of path_table
+unfolding digits items_up_to uleb_at sleb_at spelled_at next_form value_at next_specification declaration_behind next_declaration abbreviations attributes_at entry_at attribute text address file_header section_header_at section_headers contents names_at table_at name_of has_name header_named table_of section_in section lies_in is_compressed accepted_table kept_unit unit_of unit_behind piece_at next_piece cut_from entry root next_range_entry entry_ranges list_offset list_ranges pc_ranges ranges_of refusal formats_at contents_at entries_at entry_list fields_at table_behind line_header unknown_at extended extended_at opcode_at next_instruction instructions rows_from sequences_from row_in row_of joined path next_node nodes_from tree enclosing find_node inlined_in next_inwards chain_in entry_of referred name_within lines_at lines frames_from frames answer_in location_in answers.unit_of hex elf smallest line_table inlined_abbrev inlined_info inlined_line three_sections inlined mixed_versions with_info bare_unit with_bare_unit wide_unit narrow_unit overlapping deep far_name line_table_of path_table
 on_samples = 0

@@ -1,15 +1,12 @@
 -- What was read took its bytes from those that were left.
-use Rattle.std.proofs.Common.{◌≡◌, ◌∙◌, [], ℕ, ◌+◌, ◌≤◌, Bool, true, false, cond, List, length, take, drop, ◌++◌, Option, Result, Ok, Some, None, refl, sym, ap, arith, length-drop, length-append}
+use Rattle.std.proofs.Common.{◌≡◌, ◌∙◌, [], ℕ, ◌+◌, ◌≤◌, List, length, take, drop, ◌++◌, Option, Result, Ok, Err, Some, refl, sym, ap, arith, length-drop, length-append}
 use Rattle.std.specs.Prelude.{nat_le}
 use Rattle.std.proofs.lemmas.Bool.{leb-true}
+use Rattle.std.proofs.lemmas.Option.{cond_some}
 use Rattle.std.proofs.lemmas.List.{take_at, drop_at, take-append-drop, length-take-le}
 use Rattle.byteorder.specs.Endian.{little_number}
-use Rattle.dw_model.specs.Reading.{Place, past, Between, number_at, bytes_at}
-
--- a test that was passed on the way to a value
-pub if_some : {A : Type 0} (b : Bool) (x y : A) → cond b (Some x) None ≡ Some y → (b ≡ true) × (x ≡ y)
-if_some true x y e = (refl, cc)
-if_some false x y e = absurd cc
+use Rattle.dw_model.proofs.StepLemmas.{ok_is}
+use Rattle.dw_model.specs.Reading.{Place, made, past, Between, number_at, bytes_at}
 
 pub record Took (n : ℕ) (old new : Place) : Type 0 where
   pub enough : n ≤ length old.left
@@ -17,12 +14,12 @@ pub record Took (n : ℕ) (old new : Place) : Type 0 where
 
 pub number_at-took : (n : ℕ) (p : Place) (x : ℕ × Place) → number_at n p ≡ Some x → Took n p x.1
 number_at-took n p x e =
-    let h = if_some (nat_le n (length p.left)) (little_number n p.left, past n p) x e in
+    let h = cond_some (nat_le n (length p.left)) (little_number n p.left, past n p) x e in
     record { enough = leb-true n (length p.left) h.0; new_is = ap (λ (y : ℕ × Place). y.1) h.1 }
 
 pub bytes_at-took : (n : ℕ) (p : Place) (x : List ℕ × Place) → bytes_at n p ≡ Some x → Took n p x.1
 bytes_at-took n p x e =
-    let h = if_some (nat_le n (length p.left)) (take n p.left, past n p) x e in
+    let h = cond_some (nat_le n (length p.left)) (take n p.left, past n p) x e in
     record { enough = leb-true n (length p.left) h.0; new_is = ap (λ (y : List ℕ × Place). y.1) h.1 }
 
 -- as many bytes fewer are left
@@ -31,6 +28,19 @@ took-left n old new took =
     let e : length new.left ≡ length (drop n old.left) = ap (λ (p : Place). length p.left) (sym took.new_is) in
     let enough = took.enough in
     omega (arith, e, length-drop n old.left)
+
+-- ---- what is made of a value that was read
+
+pub made_of : {A B E : Type 0} (make : A → B) (read : Result (A × Place) E) (y : B) (q : Place) → made make read ≡ Ok (y, q) → (x : A) × (read ≡ Ok (x, q)) × (y ≡ make x)
+made_of {B = B} make (Ok x) y q e =
+    let same = ok_is (make x.0, x.1) (y, q) e in
+    let place : x.1 ≡ q = ap (λ (z : B × Place). z.1) same in
+    (x.0, ap (λ (place : Place). Ok (x.0, place)) place, sym (ap (λ (z : B × Place). z.0) same))
+made_of make (Err f) y q e = absurd cc
+
+pub fault_of : {A B E : Type 0} (make : A → B) (read : Result (A × Place) E) (f : E) → made make read ≡ Err f → read ≡ Err f
+fault_of make (Ok x) f e = absurd cc
+fault_of make (Err g) f e = cc
 
 -- ---- pieces between places
 

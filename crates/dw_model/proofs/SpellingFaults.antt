@@ -1,13 +1,13 @@
 -- Why a value in its spelling isn't read.
 use Rattle.std.proofs.Common.{◌≡◌, inl, inr, ℕ, ℤ, List, Option, Some, None, Err, refl, ap, ◌∙◌}
 use Rattle.std.specs.Prelude.{ok_or}
-use Rattle.dw_model.specs.Reading.{Place, number_at, bytes_at, text_at}
+use Rattle.dw_model.specs.Reading.{Place, made, number_at, bytes_at, text_at}
 use Rattle.dw_model.specs.Faults.{Fault, ends_early, unknown_form, too_wide}
 use Rattle.dw_model.specs.Leb.{uleb_at, sleb_at}
-use Rattle.dw_model.specs.Form.{Value, Spelling, fixed, offset, uleb, sleb, block, counted, uleb_counted, implicit, present, bytes, as_value, spelled_at, BeginsWide}
+use Rattle.dw_model.specs.Form.{Value, Spelling, fixed, offset, uleb, sleb, block, counted, uleb_counted, implicit, present, bytes, spelled_at, BeginsWide}
 use Rattle.dw_model.specs.Form as form
 use Rattle.dw_model.proofs.StepLemmas.{bind_err, ok_or-err}
-use Rattle.dw_model.proofs.SpellingLemmas.{fault_of}
+use Rattle.dw_model.proofs.ReadingLemmas.{fault_of}
 use Rattle.dw_model.proofs.LebReading.{uleb-wide, uleb-wide-only, uleb-faults, sleb-wide, sleb-wide-only, sleb-faults}
 
 -- the fault, and what each but the first says
@@ -16,7 +16,7 @@ pub data Why (s : Spelling) (constant : Option ℤ) (left : List ℕ) (f : Fault
   nothing_declared : f ≡ unknown_form → s ≡ implicit → constant ≡ None → Why s constant left f
   unfit : f ≡ too_wide → BeginsWide s left → Why s constant left f
 
-short : {A : Type 0} (make : A → Value) (o : Option (A × Place)) (s : Spelling) (constant : Option ℤ) (left : List ℕ) (f : Fault) → as_value make (ok_or o ends_early) ≡ Err f → Why s constant left f
+short : {A : Type 0} (make : A → Value) (o : Option (A × Place)) (s : Spelling) (constant : Option ℤ) (left : List ℕ) (f : Fault) → made make (ok_or o ends_early) ≡ Err f → Why s constant left f
 short make o s constant left f e = too_short (ok_or-err o ends_early f (fault_of make (ok_or o ends_early) f e))
 
 why_uleb : (s : Spelling) (constant : Option ℤ) (p : Place) (f : Fault) → (uleb_at p ≡ Err too_wide → BeginsWide s p.left) → uleb_at p ≡ Err f → Why s constant p.left f
@@ -35,12 +35,12 @@ spelled-why size (uleb make) constant p f e = why_uleb (uleb make) constant p f 
 spelled-why size sleb constant p f e = why_sleb sleb constant p f (sleb-wide-only p) (fault_of form.signed (sleb_at p) f e)
 spelled-why size (block n) constant p f e = short bytes (bytes_at n p) (block n) constant p.left f e
 spelled-why size (counted n) constant p f e =
-    elim (bind_err (ok_or (number_at n p) ends_early) (λ len. as_value bytes (ok_or (bytes_at len.0 len.1) ends_early)) f e) [
+    elim (bind_err (ok_or (number_at n p) ends_early) (λ len. made bytes (ok_or (bytes_at len.0 len.1) ends_early)) f e) [
       | inl g ↦ too_short (ok_or-err (number_at n p) ends_early f g)
       | inr g ↦ short bytes (bytes_at g.0.0 g.0.1) (counted n) constant p.left f g.2
     ]
 spelled-why size uleb_counted constant p f e =
-    elim (bind_err (uleb_at p) (λ len. as_value bytes (ok_or (bytes_at len.0 len.1) ends_early)) f e) [
+    elim (bind_err (uleb_at p) (λ len. made bytes (ok_or (bytes_at len.0 len.1) ends_early)) f e) [
       | inl g ↦ why_uleb uleb_counted constant p f (uleb-wide-only p) g
       | inr g ↦ short bytes (bytes_at g.0.0 g.0.1) uleb_counted constant p.left f g.2
     ]

@@ -5,7 +5,7 @@ use Rattle.std.specs.Map.{lookup}
 use Rattle.byteorder.specs.Endian.{little_number}
 use Rattle.dw_model.specs.declared.dwarf.TheConstants as constants
 use Rattle.dw_model.specs.Results.{◌>>=◌}
-use Rattle.dw_model.specs.Reading.{Place, number_at, bytes_at, text_at, items}
+use Rattle.dw_model.specs.Reading.{Place, made, number_at, bytes_at, text_at, items}
 use Rattle.dw_model.specs.Leb.{IsUleb, IsSleb, fits_i64, BeginsTooWide, BeginsTooWideSigned, uleb_at, sleb_at}
 use Rattle.dw_model.specs.Faults.{Fault, ends_early, unknown_form}
 
@@ -92,24 +92,20 @@ forms =
     ∷ (constants.DW_FORM_GNU_strp_alt, offset unused)
     ∷ []
 
--- a value made of what was read
-abbrev pub as_value : {A : Type 0} → (A → Value) → Result (A × Place) Fault → Result (Value × Place) Fault
-as_value make read = read >>= λ found. Ok (make found.0, found.1)
-
 -- A value in its spelling. `size` is that of an offset; `constant` is the number that stands in the declaration, where one does.
 unfoldable pub spelled_at : (size : ℕ) → Spelling → (constant : Option ℤ) → Place → Result (Value × Place) Fault
-spelled_at size (fixed n make) constant p = as_value make (ok_or (number_at n p) ends_early)
-spelled_at size (offset make) constant p = as_value make (ok_or (number_at size p) ends_early)
-spelled_at size (uleb make) constant p = as_value make (uleb_at p)
-spelled_at size sleb constant p = as_value signed (sleb_at p)
-spelled_at size (block n) constant p = as_value bytes (ok_or (bytes_at n p) ends_early)
+spelled_at size (fixed n make) constant p = made make (ok_or (number_at n p) ends_early)
+spelled_at size (offset make) constant p = made make (ok_or (number_at size p) ends_early)
+spelled_at size (uleb make) constant p = made make (uleb_at p)
+spelled_at size sleb constant p = made signed (sleb_at p)
+spelled_at size (block n) constant p = made bytes (ok_or (bytes_at n p) ends_early)
 spelled_at size (counted n) constant p = do
   len ← ok_or (number_at n p) ends_early
-  as_value bytes (ok_or (bytes_at len.0 len.1) ends_early)
+  made bytes (ok_or (bytes_at len.0 len.1) ends_early)
 spelled_at size uleb_counted constant p = do
   len ← uleb_at p
-  as_value bytes (ok_or (bytes_at len.0 len.1) ends_early)
-spelled_at size text constant p = as_value inline (ok_or (text_at p) ends_early)
+  made bytes (ok_or (bytes_at len.0 len.1) ends_early)
+spelled_at size text constant p = made inline (ok_or (text_at p) ends_early)
 spelled_at size implicit None p = Err unknown_form
 spelled_at size implicit (Some z) p = Ok (signed z, p)
 spelled_at size present constant p = Ok (flag true, p)

@@ -4,7 +4,7 @@ use Rattle.std.specs.Map.{lookup}
 use Rattle.byteorder.specs.Endian.{little_number}
 use Rattle.dw_model.specs.declared.dwarf.TheConstants as constants
 use Rattle.dw_model.specs.Results.{◌>>=◌, or_fault}
-use Rattle.dw_model.specs.Reading.{Place, start, number_at, bytes_at, items}
+use Rattle.dw_model.specs.Reading.{Place, start, made, number_at, bytes_at, items}
 use Rattle.dw_model.specs.Leb.{IsUleb, IsSleb, fits_i64, uleb_at, sleb_at}
 use Rattle.dw_model.specs.LineHeader.{LineHeader}
 use Rattle.dw_model.specs.Faults.{Bad, bad}
@@ -50,15 +50,11 @@ standard_opcodes =
     ∷ (constants.DW_LNS_set_isa, unsigned ignored)
     ∷ []
 
--- an instruction made of what was read
-abbrev pub as_instruction : {A : Type 0} → (A → Instruction) → Result (A × Place) Bad → Result (Instruction × Place) Bad
-as_instruction make read = read >>= λ found. Ok (make found.0, found.1)
-
 abbrev pub operands_at : Operands → Place → Result (Instruction × Place) Bad
 operands_at (none instruction) p = Ok (instruction, p)
-operands_at (unsigned make) p = as_instruction make (or_fault bad (uleb_at p))
-operands_at (signed make) p = as_instruction make (or_fault bad (sleb_at p))
-operands_at (two_bytes make) p = as_instruction make (ok_or (number_at 2 p) bad)
+operands_at (unsigned make) p = made make (or_fault bad (uleb_at p))
+operands_at (signed make) p = made make (or_fault bad (sleb_at p))
+operands_at (two_bytes make) p = made make (ok_or (number_at 2 p) bad)
 
 -- an opcode that the standard doesn't name has as many LEB128 operands as the header says
 unfoldable pub unknown_at : ℕ → Place → Result (Instruction × Place) Bad

@@ -5,7 +5,7 @@ use Rattle.std.specs.Option.{option_map_or}
 use Rattle.std.specs.Map.{lookup}
 use Rattle.dw_model.specs.declared.dwarf.TheConstants as constants
 use Rattle.dw_model.specs.Results.{◌>>=◌, or_fault}
-use Rattle.dw_model.specs.Reading.{Place, number_at, items}
+use Rattle.dw_model.specs.Reading.{Place, made, number_at, items}
 use Rattle.dw_model.specs.Leb.{uleb_at}
 use Rattle.dw_model.specs.Form.{Value}
 use Rattle.dw_model.specs.Form as values
@@ -50,9 +50,7 @@ abbrev pub eight_bytes : Operand
 eight_bytes p = ok_or (number_at 8 p) bad
 
 abbrev pub one : Operand → (ℕ → RangeEntry) → Place → Result (RangeEntry × Place) Bad
-one first make p = do
-  x ← first p
-  Ok (make x.0, x.1)
+one first make p = made make (first p)
 
 abbrev pub two : Operand → Operand → (ℕ → ℕ → RangeEntry) → Place → Result (RangeEntry × Place) Bad
 two first second make p = do

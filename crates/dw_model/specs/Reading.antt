@@ -43,6 +43,10 @@ bytes_at n p = if nat_le n (length p.left) then Some (take n p.left, past n p) e
 abbrev pub text_at : Place → Option (List ℕ × Place)
 text_at p = options.◌>>=◌ (position (λ b. b == 0) p.left) (λ n. Some (take n p.left, past (n + 1) p))
 
+-- what is made of a value that was read
+abbrev pub made : {A B E : Type 0} → (A → B) → Result (A × Place) E → Result (B × Place) E
+made make read = read >>= λ found. Ok (make found.0, found.1)
+
 -- an item before the others
 abbrev pub onto : {S A E : Type 0} → A → Result (List A × S) E → Result (List A × S) E
 onto item read = read >>= λ others. Ok (item ∷ others.0, others.1)

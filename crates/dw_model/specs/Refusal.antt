@@ -1,8 +1,8 @@
 -- Why a file is refused.
-use Rattle.std.specs.Prelude.{ℕ, ◌&&◌, List, [], Option, Result, Ok, option_map, find, is_err, codes}
+use Rattle.std.specs.Prelude.{ℕ, ◌&&◌, List, [], Option, Result, Ok, option_map, find, is_err}
 use Rattle.std.specs.Option.{option_or, option_map_or}
-use Rattle.dw_model.specs.Section.{Sections, sections, elf_refusal, section}
-use Rattle.dw_model.specs.Unit.{DwarfUnit, units, header_refusal}
+use Rattle.dw_model.specs.Section.{Sections, sections, elf_refusal}
+use Rattle.dw_model.specs.Unit.{DwarfUnit, units}
 use Rattle.dw_model.specs.Root.{root, bases, answers, unit_refusal}
 use Rattle.dw_model.specs.Ranges.{Range, ranges_of}
 use Rattle.dw_model.specs.Faults.{Refusal, root_ranges, Bad}
@@ -24,9 +24,5 @@ refusal file =
     option_or (elf_refusal file) (option_or (unit_refusal (sections file)) (ranges_refusal (sections file)))
 
 -- The same for a listing of units, which reads no ranges.
-unfoldable pub listing_refusal : List ℕ → Option Refusal
+abbrev pub listing_refusal : List ℕ → Option Refusal
 listing_refusal file = option_or (elf_refusal file) (unit_refusal (sections file))
-
--- The same as far as the headers of units.
-abbrev pub headers_refusal : List ℕ → Option Refusal
-headers_refusal file = option_or (elf_refusal file) (header_refusal (section file (codes ".debug_info")))

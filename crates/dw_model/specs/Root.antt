@@ -1,6 +1,5 @@
 -- What a unit's first entry says of it (DWARF 5, sections 3.1 and 7.5).
-use Rattle.std.specs.Prelude.{ℕ, Bool, true, false, ◌||◌, ◌&&◌, not, take, drop, Option, None, Result, Err, option_and_then, is_none, nat_lt, nat_le, if◌then◌else◌}
-use Rattle.std.specs.Option.{option_map_or}
+use Rattle.std.specs.Prelude.{ℕ, Bool, true, false, ◌||◌, ◌&&◌, not, take, drop, Option, Result, Err, option_and_then, is_none, nat_lt, nat_le, if◌then◌else◌}
 use Rattle.std.specs.Result.{result_ok, result_err}
 use Rattle.dw_model.specs.Results.{◌>>=◌, refuse_if}
 use Rattle.dw_model.specs.Reading.{Place, start}
@@ -29,9 +28,7 @@ root sections unit = option_and_then (λ found. found.0) (result_ok (entry secti
 
 -- where the unit's entries begin in the sections that units share
 abbrev pub bases : Sections → DwarfUnit → Bases
-bases sections unit =
-    option_map_or (bases_in unit.offset_size) (root sections unit)
-    (record { str_offsets = None; addr = None; rnglists = None; offset_size = unit.offset_size })
+bases sections unit = bases_in unit.offset_size (root sections unit)
 
 -- the kinds of units that answer addresses (own)
 abbrev pub answers : Kind → Bool

@@ -22,12 +22,16 @@ pub record Bases : Type 0 where
   pub rnglists : Option ℕ
   pub offset_size : ℕ
 
--- the bases that a unit's first entry names
-abbrev pub bases_in : ℕ → Entry → Bases
+-- the offset that an attribute of a unit's first entry is
+abbrev pub base_in : Option Entry → ℕ → Option ℕ
+base_in root name = option_and_then as_section_offset (option_and_then (attribute name) root)
+
+-- the bases that a unit's first entry names; without that entry there is none
+abbrev pub bases_in : ℕ → Option Entry → Bases
 bases_in size root = record {
-  str_offsets = option_and_then as_section_offset (attribute DW_AT_str_offsets_base root);
-  addr = option_and_then as_section_offset (attribute DW_AT_addr_base root);
-  rnglists = option_and_then as_section_offset (attribute DW_AT_rnglists_base root);
+  str_offsets = base_in root DW_AT_str_offsets_base;
+  addr = base_in root DW_AT_addr_base;
+  rnglists = base_in root DW_AT_rnglists_base;
   offset_size = size;
 }
 

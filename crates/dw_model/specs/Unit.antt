@@ -2,7 +2,7 @@
 use Rattle.std.specs.Prelude.{◌≡◌, ◌<◌, ◌≤◌, ◌++◌, ◌∷◌, ℕ, ◌+◌, Bool, true, false, not, List, [], filter_map, length, Option, Some, None, Result, Ok, Err, ok_or, ◌==◌, if◌then◌else◌}
 use Rattle.std.specs.List.{cons_option}
 use Rattle.byteorder.specs.Endian.{little_number}
-use Rattle.std.specs.Result.{result_unwrap_or, result_err}
+use Rattle.std.specs.Result.{result_unwrap_or}
 use Rattle.dw_model.specs.declared.dwarf.TheConstants.{DWARF_VERSION, ADDRESS_SIZE, DW_UT_COMPILE, DW_UT_PARTIAL, DW_UT_SKELETON, DWO_ID_SIZE, DW_LENGTH_RESERVED, OFFSET_SIZE_32}
 use Rattle.dw_model.specs.Results.{◌>>=◌, refuse_if}
 use Rattle.dw_model.specs.Reading.{Place, start, number_at, bytes_at, items}
@@ -122,10 +122,6 @@ cut info = cut_from untested (start info)
 -- the units of a .debug_info that is accepted
 abbrev pub units : List ℕ → List DwarfUnit
 units info = result_unwrap_or (cut info) []
-
--- the first condition that a unit's header fails, unit by unit
-abbrev pub header_refusal : List ℕ → Option Refusal
-header_refusal info = result_err (cut info)
 
 -- ---- whole pieces
 

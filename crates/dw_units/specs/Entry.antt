@@ -1,9 +1,7 @@
 -- Entries as the definitions have them.
-use Rattle.std.specs.Prelude.{◌≡◌, ◌||◌, ℕ, List, take, drop, map, nat_lt, nat_le, Option, option_map, IfSome, MatchOption, Result, Ok, Err, if◌then◌else◌}
+use Rattle.std.specs.Prelude.{◌≡◌, map, Option, option_map, IfSome, MatchOption, Result, Ok, Err}
 use Rattle.dw_model.specs.Reading.{Place}
-use Rattle.dw_model.specs.Faults.{Fault, ends_early}
-use Rattle.dw_model.specs.Unit.{DwarfUnit}
-use Rattle.dw_model.specs.Abbrev as model_abbrev
+use Rattle.dw_model.specs.Faults.{Fault}
 use Rattle.dw_model.specs.Entry as model
 use Rattle.dw_forms.specs.Value.{value_shown}
 use Rattle.dw_forms.specs.declared.fault.FormFault.{FormFault}
@@ -21,12 +19,6 @@ entry_shown entry = record {
   children = entry.children;
   attributes = map attribute_shown entry.attrs.items;
 }
-
--- the entry at an offset of a unit whose declarations are these
-abbrev pub entry_by : List model_abbrev.Declaration → List ℕ → DwarfUnit → ℕ → Result (Option model.Entry × Place) Fault
-entry_by declarations info unit offset =
-    if nat_lt offset unit.first_entry || nat_le unit.end offset then Err ends_early
-    else model.entry_at unit.offset_size declarations (record { at = offset; left = drop offset (take unit.end info) })
 
 -- The entry is found as the definition has it, with the offset just past it; want of memory may be told in place of it.
 abbrev pub FindsEntry : Result (Option Entry) FormFault → Result (Option model.Entry × Place) Fault → Type 0

@@ -1,4 +1,6 @@
 pub mod Entry
+pub mod Header
+pub mod Null
 pub mod Sections
 pub mod Shared
 pub mod SharedInside

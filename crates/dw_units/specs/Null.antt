@@ -1,13 +1,13 @@
--- What the units that were read are seen as.
-use Rattle.std.specs.Prelude.{◌≡◌, ℕ, List, Ok, map}
-use Rattle.dw_model.specs.Unit.{cut}
-use Rattle.dw_units.specs.declared.units.Units.TheInside.{Inside}
-use Rattle.dw_units.specs.Unit.{unit_shown}
+-- What is told of the entries of a unit.
+use Rattle.std.specs.Prelude.{◌≡◌, ℕ, Option, None, Result, Ok}
+use Rattle.dw_model.specs.Reading.{Place}
+use Rattle.dw_model.specs.Entry.{Entry}
+use Rattle.dw_model.specs.Faults.{Fault}
 
--- the bytes of .debug_info
-abbrev pub info_of : Inside → List ℕ
-info_of units = units.info.now
+-- a null entry was found, and the place just past it
+abbrev pub IsNull : Result (Option Entry × Place) Fault → Type 0
+IsNull found = (past : Place) × (found ≡ Ok (None, past))
 
--- the units are the cut of those bytes
-abbrev pub IsCut : Inside → Type 0
-IsCut units = cut units.info.now ≡ Ok (map unit_shown units.units.items)
+-- the number is the offset just past the null entry
+abbrev pub IsPastNull : ℕ → Result (Option Entry × Place) Fault → Type 0
+IsPastNull n found = (past : Place) × (found ≡ Ok (None, past)) × (n ≡ past.at)

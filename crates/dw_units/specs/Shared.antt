@@ -11,3 +11,7 @@ pub record Read : Type 0 where
 abbrev pub HasTable : Read → (offset place : ℕ) → Type 0
 HasTable read offset place =
     (table : List Declaration) × (slice_get read.tables place ≡ Some table) × (abbreviations read.section offset ≡ Ok table)
+
+-- each table that was read before has its place still
+abbrev pub IsKept : Read → Read → Type 0
+IsKept old new = (place : ℕ) (table : List Declaration) → slice_get old.tables place ≡ Some table → slice_get new.tables place ≡ Some table

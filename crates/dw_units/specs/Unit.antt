@@ -1,18 +1,16 @@
--- What a unit and its kind stand for.
+-- What a unit stands for.
+use Rattle.std.specs.Prelude.{◌≡◌, option_map, MatchOption}
 use Rattle.dw_model.specs.declared.dwarf.TheConstants.{OFFSET_SIZE_32}
-use Rattle.dw_model.specs.Unit as model
-use Rattle.dw_units.specs.declared.unit.Kind.{Kind}
-use Rattle.dw_units.specs.declared.unit.Kind.TheVariants.{Compile, Partial, Skeleton, Skipped}
+use Rattle.dw_model.specs.Unit.{DwarfUnit}
+use Rattle.dw_model.specs.Section.{Sections}
+use Rattle.dw_model.specs.Root as model
+use Rattle.dw_forms.specs.Tables.{bases_shown}
 use Rattle.dw_units.specs.declared.unit.Unit.{Unit}
-use Rattle.dw_units.specs.declared.unit.Extent.{Extent}
+use Rattle.dw_units.specs.Header.{kind_shown}
+use Rattle.dw_units.specs.Entry.{entry_shown}
+use Rattle.dw_units.specs.Shared.{Read, HasTable}
 
-abbrev pub kind_shown : Kind → model.Kind
-kind_shown Compile = model.compile
-kind_shown Partial = model.partial
-kind_shown Skeleton = model.skeleton
-kind_shown Skipped = model.skipped
-
-abbrev pub unit_shown : Unit → model.DwarfUnit
+abbrev pub unit_shown : Unit → DwarfUnit
 unit_shown unit = record {
   offset = unit.offset;
   end = unit.end;
@@ -23,5 +21,8 @@ unit_shown unit = record {
   first_entry = unit.first_entry;
 }
 
-abbrev pub extent_shown : Extent → model.Extent
-extent_shown extent = record { offset = extent.offset; base = extent.base; end = extent.end }
+-- The unit's first entry and its bases are those of the definitions, and its declarations were read where it has entries.
+pub record IsOpened (sections : Sections) (read : Read) (unit : Unit) : Type 0 where
+  pub root : option_map entry_shown unit.root ≡ model.root sections (unit_shown unit)
+  pub bases : bases_shown unit.bases ≡ model.bases sections (unit_shown unit)
+  pub table : MatchOption unit.table (unit.first_entry ≡ unit.end) (λ place. HasTable read unit.debug_abbrev_offset place)

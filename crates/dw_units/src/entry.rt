@@ -1,18 +1,23 @@
 //! Entries of units, by sections 7.5.2 to 7.5.6 of DWARF 5.
 
-ghost use Rattle.std.specs.Prelude.{◌≡◌, ◌==◌, ℕ, IfOk, IfSome, find, map, option_map};
+ghost use Rattle.std.specs.Prelude.{◌≡◌, ◌==◌, ℕ, Ok, IfOk, IfSome, find, map, option_map, take};
 ghost use Rattle.dw_model.specs.declared.dwarf.TheConstants.{OFFSET_SIZE_32};
 ghost use Rattle.dw_model.specs.Entry.{attributes_at, entry_at};
 ghost use Rattle.dw_model.specs.Entry as model;
+ghost use Rattle.dw_model.specs.Abbrev.{abbreviations};
+ghost use Rattle.dw_model.specs.Root.{entry};
 ghost use Rattle.dw_model.specs.Answers.{ReadsUnlessMemory};
 ghost use Rattle.dw_forms.specs.Fault.{form_fault};
 ghost use Rattle.dw_forms.specs.Declaration.{spec_shown};
 ghost use Rattle.dw_forms.specs.Value.{value_shown};
-ghost use Rattle.dw_units.specs.Entry.{attribute_shown, entry_shown, entry_by, FindsEntry};
-ghost use Rattle.dw_units.specs.Unit.{unit_shown};
+ghost use Rattle.dw_units.specs.Entry.{attribute_shown, entry_shown, FindsEntry};
+ghost use Rattle.dw_units.specs.Header.{header_shown};
+ghost use Rattle.dw_units.specs.Sections.{sections_shown};
+ghost use Rattle.dw_units.specs.Null.{IsNull, IsPastNull};
 
 use crate::class::counts;
-use crate::unit::Unit;
+use crate::header::Header;
+use crate::sections::Sections;
 use dw_bytes::Cursor;
 use dw_forms::{Abbrevs, FormFault, Spec, Value, read_value};
 use smallvec::SmallVec;
@@ -109,24 +114,47 @@ fn first_of<'b, 'a>(attributes: &'b [Attribute<'a>], name: u64) -> Option<&'b At
     attributes.iter().find(|attribute| attribute.name == name)
 }
 
+/// The bytes of .debug_info up to the end of a unit.
+fn up_to_end<'a>(info: &'a [u8], unit: &Header) -> &'a [u8]
+    ensures { result.now ≡ take unit.now.end info.now }
+{
+    info.split_at(info.len().min(unit.end as usize)).0
+}
+
 /// The entry at an offset of .debug_info that lies between a unit's first entry and its end; `None`
 /// for a null entry. Nothing past the unit's end is read.
+#[tactic(auto, unfolding(dw_model::specs::Root::entry))]
 pub(crate) fn entry_in<'a>(
     alloc: Global,
-    info: &'a [u8],
-    unit: &Unit,
+    sections: &Sections<'a>,
+    unit: &Header,
     abbrevs: &Abbrevs,
     offset: u64,
 ) -> Result<Option<Entry<'a>>, FormFault>
-    ensures { FindsEntry result (entry_by abbrevs.now info.now (unit_shown unit.now) offset) }
+    requires { abbreviations sections.now.abbrevs.now unit.now.debug_abbrev_offset ≡ Ok abbrevs.now }
+    ensures { FindsEntry result (entry (sections_shown sections.now) (header_shown unit.now) offset) }
 {
     if offset < unit.first_entry || offset >= unit.end {
         return Err(FormFault::End);
     }
-    let end = info.len().min(unit.end as usize);
-    let mut cursor = Cursor::new(info.split_at(end).0);
+    let mut cursor = Cursor::new(up_to_end(sections.info, unit));
     let Some(_) = cursor.take(offset as usize) else {
         return Err(FormFault::End);
     };
     entry_of(alloc, &mut cursor, abbrevs)
+}
+
+/// The offset just past a null entry, whose code may be padded.
+pub(crate) fn end_of_null(sections: &Sections<'_>, unit: &Header, offset: u64) -> u64
+    requires { IsNull (entry (sections_shown sections.now) (header_shown unit.now) offset) }
+    ensures { IsPastNull result (entry (sections_shown sections.now) (header_shown unit.now) offset) }
+{
+    let mut cursor = Cursor::new(up_to_end(sections.info, unit));
+    let Some(_) = cursor.take(offset as usize) else {
+        return offset;
+    };
+    let Ok(_) = cursor.uleb() else {
+        return offset;
+    };
+    cursor.at() as u64
 }

@@ -1,11 +1,11 @@
-//! One unit of .debug_info: its header, by section 7.5.1 of DWARF 5.
+//! The header of a unit of .debug_info, by section 7.5.1 of DWARF 5.
 
-ghost use Rattle.std.specs.Prelude.{◌≡◌, ◌+◌, ◌<◌, ◌^◌, length, option_map};
+ghost use Rattle.std.specs.Prelude.{◌≡◌, ◌+◌, ◌<◌, ◌^◌, IfOk, IfSome, length, option_map};
 ghost use Rattle.dw_model.specs.declared.dwarf.TheConstants.{OFFSET_SIZE_32};
 ghost use Rattle.dw_model.specs.Unit as model;
 ghost use Rattle.dw_model.specs.Answers.{Gives};
 ghost use Rattle.dw_elf.specs.OpenFault.{refusal_of};
-ghost use Rattle.dw_units.specs.Unit.{kind_shown, unit_shown, extent_shown};
+ghost use Rattle.dw_units.specs.Header.{kind_shown, header_shown, extent_shown, IsWhole};
 
 use dw_bytes::Cursor;
 use dw_elf::OpenFault;
@@ -26,10 +26,10 @@ pub enum Kind {
     Skipped,
 }
 
-/// A unit of .debug_info. Offsets count from the first byte of the section.
+/// What the header of a unit says. Offsets count from the first byte of .debug_info.
 #[derive(Clone, Copy, Debug, PartialEq, Eq)]
-pub struct Unit {
-    /// The offset of its first byte.
+pub(crate) struct Header {
+    /// The offset of the unit's first byte.
     pub offset: u64,
     /// The offset just past its last byte.
     pub end: u64,
@@ -44,7 +44,7 @@ pub struct Unit {
 
 /// Where the bytes behind a unit's length stand.
 #[derive(Clone, Copy)]
-pub struct Extent {
+pub(crate) struct Extent {
     pub offset: u64,
     pub base: u64,
     pub end: u64,
@@ -84,7 +84,7 @@ impl Kind {
 impl fmt::Display for Kind {
     ghost use Rattle.std.specs.Prelude.{Some};
     ghost use Rattle.dw_model.specs.Output.{kind_name};
-    ghost use Rattle.dw_units.specs.Unit.{kind_shown};
+    ghost use Rattle.dw_units.specs.Header.{kind_shown};
 
     ghost output = { λ kind. Some (kind_name (kind_shown kind)) };
 
@@ -99,10 +99,11 @@ impl fmt::Display for Kind {
     }
 }
 
-fn skipped_unit(extent: Extent, version: u16) -> Unit
-    ensures { unit_shown result ≡ model.skipped_unit (extent_shown extent) OFFSET_SIZE_32 version }
+fn skipped_unit(extent: Extent, version: u16) -> Header
+    ensures header { header_shown result ≡ model.skipped_unit (extent_shown extent) OFFSET_SIZE_32 version }
+    ensures whole { IsWhole result }
 {
-    Unit {
+    Header {
         offset: extent.offset,
         end: extent.end,
         version,
@@ -114,9 +115,10 @@ fn skipped_unit(extent: Extent, version: u16) -> Unit
 
 /// The header of a unit that isn't skipped, behind its type.
 #[tactic(auto, unfolding(dw_model::specs::Unit::kept_unit))]
-fn kept_unit(extent: Extent, kind: Kind, cursor: &mut Cursor<'_>) -> Result<Unit, OpenFault>
+fn kept_unit(extent: Extent, kind: Kind, cursor: &mut Cursor<'_>) -> Result<Header, OpenFault>
     requires { extent.base + (cursor.old.at + length cursor.old.left) < 2 ^ 64 }
-    ensures { Gives unit_shown refusal_of result (model.kept_unit (extent_shown extent) OFFSET_SIZE_32 (kind_shown kind) cursor.old) }
+    ensures header { Gives header_shown refusal_of result (model.kept_unit (extent_shown extent) OFFSET_SIZE_32 (kind_shown kind) cursor.old) }
+    ensures kind { IfOk result (λ header. header.kind ≡ kind) }
 {
     let fault = OpenFault::UnitHeader(extent.offset);
     let address_size = cursor.u8().ok_or(fault)?;
@@ -125,7 +127,7 @@ fn kept_unit(extent: Extent, kind: Kind, cursor: &mut Cursor<'_>) -> Result<Unit
     if address_size != ADDRESS_SIZE {
         return Err(OpenFault::AddressSize(extent.offset));
     }
-    Ok(Unit {
+    Ok(Header {
         offset: extent.offset,
         end: extent.end,
         version: DWARF_VERSION,
@@ -137,9 +139,10 @@ fn kept_unit(extent: Extent, kind: Kind, cursor: &mut Cursor<'_>) -> Result<Unit
 
 /// The unit whose bytes behind its length are these.
 #[tactic(auto, unfolding(dw_model::specs::Unit::unit_of))]
-fn unit_of(extent: Extent, bytes: &[u8]) -> Result<Unit, OpenFault>
+fn unit_of(extent: Extent, bytes: &[u8]) -> Result<Header, OpenFault>
     requires { extent.base + length bytes.now < 2 ^ 64 }
-    ensures { Gives unit_shown refusal_of result (model.unit_of (extent_shown extent) OFFSET_SIZE_32 bytes.now) }
+    ensures header { Gives header_shown refusal_of result (model.unit_of (extent_shown extent) OFFSET_SIZE_32 bytes.now) }
+    ensures whole { IfOk result IsWhole }
 {
     let fault = OpenFault::UnitHeader(extent.offset);
     let mut cursor = Cursor::new(bytes);
@@ -154,11 +157,12 @@ fn unit_of(extent: Extent, bytes: &[u8]) -> Result<Unit, OpenFault>
     kept_unit(extent, kind, &mut cursor)
 }
 
-/// The piece of .debug_info at the cursor, which goes just past it: a unit, or padding, which is
-/// none.
+/// The piece of .debug_info at the cursor, which goes just past it: the header of a unit, or
+/// padding, which is none.
 #[tactic(auto, unfolding(dw_model::specs::Unit::piece_at, dw_model::specs::Unit::unit_behind))]
-pub fn piece(cursor: &mut Cursor<'_>) -> Result<Option<Unit>, OpenFault>
-    ensures { Gives (λ unit. (option_map unit_shown unit, cursor.new)) refusal_of result (model.piece_at model.untested cursor.old) }
+pub(crate) fn piece(cursor: &mut Cursor<'_>) -> Result<Option<Header>, OpenFault>
+    ensures header { Gives (λ header. (option_map header_shown header, cursor.new)) refusal_of result (model.piece_at model.untested cursor.old) }
+    ensures whole { IfOk result (λ found. IfSome found IsWhole) }
 {
     let offset = cursor.at() as u64;
     let fault = OpenFault::UnitHeader(offset);
@@ -175,6 +179,6 @@ pub fn piece(cursor: &mut Cursor<'_>) -> Result<Option<Unit>, OpenFault>
         return Ok(None);
     }
     let end = cursor.at() as u64;
-    let unit = unit_of(Extent { offset, base, end }, bytes)?;
-    Ok(Some(unit))
+    let header = unit_of(Extent { offset, base, end }, bytes)?;
+    Ok(Some(header))
 }

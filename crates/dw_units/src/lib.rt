@@ -4,14 +4,16 @@
 mod bases;
 mod class;
 mod entry;
+mod header;
 mod sections;
 mod shared;
 mod unit;
 mod units;
 
 pub use entry::{Attribute, Attributes, Entry};
+pub use header::Kind;
 pub use sections::Sections;
-pub use unit::{Kind, Unit};
+pub use unit::Unit;
 pub use units::Units;
 
 #[cfg(test)]

@@ -1,9 +1,9 @@
 //! The abbreviations of units: each table is read once, whichever units share it.
 
-ghost use Rattle.std.specs.Prelude.{◌≡◌, ◌<◌, ℕ, List, Some, Err, IfOk, IfErr, MatchOption, length, slice_get};
-ghost use Rattle.dw_model.specs.Abbrev.{Declaration, abbreviations};
+ghost use Rattle.std.specs.Prelude.{◌≡◌, ◌<◌, Some, Err, IfOk, IfErr, MatchOption, length, slice_get};
+ghost use Rattle.dw_model.specs.Abbrev.{abbreviations};
 ghost use Rattle.dw_forms.specs.Fault.{form_fault};
-ghost use Rattle.dw_units.specs.Shared.{HasTable};
+ghost use Rattle.dw_units.specs.Shared.{HasTable, IsKept};
 
 use dw_forms::{Abbrevs, FormFault};
 use std::alloc::Global;
@@ -46,7 +46,7 @@ impl<'a> Shared<'a> {
     /// read before keep their places.
     pub(crate) fn place(&mut self, alloc: Global, offset: u64) -> Result<usize, FormFault>
         ensures section { self.new.section ≡ self.old.section }
-        ensures kept { (k : ℕ) (table : List Declaration) → slice_get self.old.tables k ≡ Some table → slice_get self.new.tables k ≡ Some table }
+        ensures kept { IsKept self.old self.new }
         ensures found { IfOk result (λ k. HasTable self.new offset k) }
         ensures fault { IfErr result (λ fault. MatchOption (form_fault fault) (Unit {0}) (λ told. abbreviations self.old.section offset ≡ Err told)) }
     {

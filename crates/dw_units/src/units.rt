@@ -1,81 +1,133 @@
 //! The units of a file, in order of offset.
 
-ghost use Rattle.std.specs.Prelude.{◌≡◌, ◌++◌, ◌<◌, Some, None, OnOk, IfOk, IfErr, length, slice_get, codes, option_to_list};
-ghost use Rattle.dw_model.specs.Section.{section};
-ghost use Rattle.dw_model.specs.Unit.{units, header_refusal};
+ghost use Rattle.std.specs.Prelude.{◌≡◌, ◌<◌, None, OnOk, IfOk, IfErr, IfSome, Some, length, option_map, slice_get};
+ghost use Rattle.dw_model.specs.Section as model_sections;
+ghost use Rattle.dw_model.specs.Unit.{units};
+ghost use Rattle.dw_model.specs.Root as model;
 ghost use Rattle.dw_elf.specs.OpenFault.{RefusesUnlessMemory};
+ghost use Rattle.dw_forms.specs.Tables.{bases_shown, tables_shown};
+ghost use Rattle.dw_units.specs.Entry.{entry_shown, FindsEntry};
 ghost use Rattle.dw_units.specs.Unit.{unit_shown};
+ghost use Rattle.dw_units.specs.Null.{IsNull, IsPastNull};
 
-use crate::unit::{Unit, piece};
+use crate::entry::{Entry, end_of_null, entry_in};
+use crate::header::piece;
+use crate::sections::Sections;
+use crate::shared::Shared;
+use crate::unit::{Unit, open_unit};
 use dw_bytes::Cursor;
-use dw_elf::{Elf, Name, OpenFault};
-use std::alloc::{AllocError, Global};
+use dw_elf::{Elf, OpenFault};
+use dw_forms::{FormFault, Tables};
+use std::alloc::Global;
 use std::marker::Model;
 
-/// The units of a file, in order of offset. Contracts see them as the bytes of .debug_info.
+/// The units of a file, in order of offset. Contracts see them as the sections of the file.
 #[derive(Drop)]
 pub struct Units<'a> {
-    info: &'a [u8],
-    units: Vec<Unit>,
+    sections: Sections<'a>,
+    units: Vec<Unit<'a>>,
+    shared: Shared<'a>,
 }
 
 impl<'a> Model for Units<'a> {
-    ghost use Rattle.std.specs.Prelude.{List, ℕ};
-    ghost use Rattle.std.specs.Coded.{coded_list, coded_ℕ};
+    ghost use Rattle.dw_model.specs.Section as model;
+    ghost use Rattle.dw_units.specs.Units.{sections_in, AreUnits};
 
-    ghost Value = { List ℕ };
+    ghost Value = { model.Sections };
 
-    ghost coded = { coded_list coded_ℕ };
+    ghost view = { sections_in };
 
-    ghost use Rattle.dw_units.specs.Units.{info_of, IsCut};
-
-    ghost view = { info_of };
-
-    ghost invariant = { IsCut };
-}
-
-fn push_some(units: &mut Vec<Unit>, unit: Option<Unit>) -> Result<(), AllocError>
-    ensures { OnOk result (units.new.items ≡ units.old.items ++ option_to_list unit) }
-{
-    if let Some(unit) = unit {
-        units.push(unit)?;
-    }
-    Ok(())
+    ghost invariant = { AreUnits };
 }
 
 impl<'a> Units<'a> {
-    /// Cuts .debug_info into units. Padding is none of them.
+    /// Cuts .debug_info into units, and reads the first entry of each that isn't skipped. Padding is
+    /// no unit.
     ///
     /// The error is the first condition that fails, unit by unit, or `Memory` where a growth was
     /// refused.
     pub fn read(alloc: Global, elf: &Elf<'a>) -> Result<Self, OpenFault>
-        ensures info { IfOk result (λ units. units ≡ section elf.now (codes ".debug_info")) }
-        ensures accepted { OnOk result (header_refusal (section elf.now (codes ".debug_info")) ≡ None) }
-        ensures refused { IfErr result
-            (λ fault. RefusesUnlessMemory fault (header_refusal (section elf.now (codes ".debug_info")))) }
+        ensures sections { IfOk result (λ units. units ≡ model_sections.sections elf.now) }
+        ensures accepted { OnOk result (model.unit_refusal (model_sections.sections elf.now) ≡ None) }
+        ensures refused { IfErr result (λ fault. RefusesUnlessMemory fault (model.unit_refusal (model_sections.sections elf.now))) }
     {
-        let info = elf.section(Name::DebugInfo);
+        let sections = Sections::of(elf);
+        let mut shared = Shared::new(alloc, sections.abbrevs);
         let mut units = Vec::new(alloc);
-        let mut cursor = Cursor::new(info);
+        let mut cursor = Cursor::new(sections.info);
         while cursor.left() > 0 {
-            let unit = piece(&mut cursor)?;
-            push_some(&mut units, unit)?;
+            let Some(header) = piece(&mut cursor)? else {
+                continue;
+            };
+            let unit = open_unit(alloc, &sections, &mut shared, header)?;
+            units.push(unit)?;
         }
-        Ok(Units { info, units })
+        Ok(Units {
+            sections,
+            units,
+            shared,
+        })
     }
 
     /// How many units there are.
     pub fn len(&self) -> usize
-        ensures { result ≡ length (units self.now) }
+        ensures { result ≡ length (units self.now.info) }
     {
         self.units.len()
     }
 
     /// The unit at a place, in order of offset.
-    pub fn unit(&self, i: usize) -> &Unit
-        requires { i < length (units self.now) }
-        ensures { slice_get (units self.now) i ≡ Some (unit_shown result.now) }
+    pub fn unit(&self, i: usize) -> &Unit<'a>
+        requires { i < length (units self.now.info) }
+        ensures header { slice_get (units self.now.info) i ≡ Some (unit_shown result.now) }
+        ensures root { option_map entry_shown result.now.root ≡ model.root self.now (unit_shown result.now) }
+        ensures bases { bases_shown result.now.bases ≡ model.bases self.now (unit_shown result.now) }
     {
         &self.units[i]
+    }
+
+    /// The sections to which values lead.
+    pub fn tables(&self) -> &Tables<'a>
+        ensures { tables_shown result.now ≡ self.now.tables }
+    {
+        &self.sections.tables
+    }
+
+    /// The entry at an offset of .debug_info, in the unit at a place; `None` for a null entry, which
+    /// ends a list of children.
+    ///
+    /// The error is `End` where the offset doesn't lie between the unit's first entry and its end,
+    /// and where the entry runs past that; `Code` where the unit has no declaration of the entry's
+    /// code; else the fault of its first value that can't be read; or `Memory`.
+    pub fn entry(
+        &self,
+        alloc: Global,
+        i: usize,
+        offset: u64,
+    ) -> Result<Option<Entry<'a>>, FormFault>
+        requires { i < length (units self.now.info) }
+        ensures { IfSome (slice_get (units self.now.info) i) (λ unit. FindsEntry result (model.entry self.now unit offset)) }
+    {
+        let unit = &self.units[i];
+        let Some(table) = unit.table else {
+            return Err(FormFault::End);
+        };
+        entry_in(
+            alloc,
+            &self.sections,
+            &unit.header(),
+            self.shared.get(table),
+            offset,
+        )
+    }
+
+    /// The offset just past a null entry, in the unit at a place. Its code may be padded, so it may
+    /// take more than one byte.
+    pub fn past_null(&self, i: usize, offset: u64) -> u64
+        requires unit { i < length (units self.now.info) }
+        requires null { IfSome (slice_get (units self.now.info) i) (λ unit. IsNull (model.entry self.now unit offset)) }
+        ensures { IfSome (slice_get (units self.now.info) i) (λ unit. IsPastNull result (model.entry self.now unit offset)) }
+    {
+        end_of_null(&self.sections, &self.units[i].header(), offset)
     }
 }

@@ -1,7 +1,7 @@
 -- What is refused, and what is listed.
 use Rattle.std.specs.Prelude.{◌≡◌, [], length, take, Some, None, codes, refl}
 use Rattle.dw_model.specs.Faults.{not_elf, not_elf64_little, relocatable, section_table, section_range, compressed, unit_header, wide_format, address_size, root, root_ranges}
-use Rattle.dw_model.specs.Refusal.{refusal, listing_refusal, headers_refusal}
+use Rattle.dw_model.specs.Refusal.{refusal, listing_refusal}
 use Rattle.dw_model.specs.Output.{listing}
 use Rattle.dw_model.proofs.Samples.{hex, poke, smallest, inlined, mixed_versions}
 use Rattle.dw_model.proofs.OnSamples.{on_samples}
@@ -94,9 +94,9 @@ root_undeclared : refusal (poke inlined 174 (hex (codes "08"))) ≡ Some (root 0
 unfolding on_samples
 root_undeclared = refl
 
-root_undeclared_headers : headers_refusal (poke inlined 174 (hex (codes "08"))) ≡ None
+root_undeclared_listed : listing_refusal (poke inlined 174 (hex (codes "08"))) ≡ Some (root 0)
 unfolding on_samples
-root_undeclared_headers = refl
+root_undeclared_listed = refl
 
 root_without_base : refusal (poke inlined 180 (hex (codes "1b"))) ≡ Some (root_ranges 0)
 unfolding on_samples

@@ -5,4 +5,4 @@ use Rattle.dw_model.specs.Output.{unit_lines}
 use Rattle.a2l.proofs.listing.listing.Given as goal
 
 abbrev pub invariant-loop-i : goal.invariant-loop-i
-invariant-loop-i l = string_bytes l.text ≡ unit_lines (take l.i (units l.units))
+invariant-loop-i l = string_bytes l.text ≡ unit_lines (take l.i (units l.units.info))

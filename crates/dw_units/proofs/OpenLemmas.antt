@@ -1,0 +1,95 @@
+-- What a unit's first entry has to be.
+use Rattle.std.proofs.Common.{◌≡◌, ◌∙◌, ℕ, Bool, true, false, cond, List, Option, Some, None, Result, Ok, Err, refl, sym, ap, subst}
+use Rattle.std.specs.Prelude.{MatchOption, option_and_then, option_map, is_none, nat_lt, nat_le, ◌||◌, ◌&&◌, not}
+use Rattle.std.specs.Result.{result_ok}
+use Rattle.dw_model.specs.Results.{◌>>=◌, refuse_if}
+use Rattle.dw_model.specs.Reading.{Place}
+use Rattle.dw_model.specs.Faults.{Fault, Refusal, ends_early}
+use Rattle.dw_model.specs.Faults as faults
+use Rattle.dw_model.specs.Abbrev.{Declaration, abbreviations}
+use Rattle.dw_model.specs.Entry.{Entry, entry_at}
+use Rattle.dw_model.specs.Unit.{DwarfUnit, is_skipped}
+use Rattle.dw_model.specs.Section.{Sections}
+use Rattle.dw_model.specs.Root.{place_in, entry, root, has_root}
+use Rattle.dw_model.specs.declared.dwarf.TheConstants.{OFFSET_SIZE_32}
+use Rattle.dw_model.specs.Text.{bases_in}
+use Rattle.dw_forms.specs.Tables.{bases_shown}
+use Rattle.dw_units.specs.declared.header.Header.{Header}
+use Rattle.dw_units.specs.declared.unit.Unit.{Unit as CodeUnit}
+use Rattle.dw_units.specs.declared.entry.Entry.{Entry as CodeEntry}
+use Rattle.dw_units.specs.Header.{header_shown}
+use Rattle.dw_units.specs.Entry.{entry_shown}
+use Rattle.dw_units.specs.Shared.{Read, HasTable}
+use Rattle.dw_units.specs.Unit.{unit_shown, IsOpened}
+use Rattle.dw_units.proofs.PlaceLemmas.{outside-all}
+
+-- a unit without entries before its end has no root
+pub root-end : (s : Sections) (unit : DwarfUnit) → unit.first_entry ≡ unit.end → root s unit ≡ None
+unfolding root
+root-end s unit e =
+    rw (outside-all s unit unit.first_entry e) refl
+
+pub root-fault : (s : Sections) (unit : DwarfUnit) (fault : Fault) → entry s unit unit.first_entry ≡ Err fault → root s unit ≡ None
+unfolding root
+root-fault s unit fault e = rw e refl
+
+pub root-found : (s : Sections) (unit : DwarfUnit) (found : Option Entry) (past : Place) → entry s unit unit.first_entry ≡ Ok (found, past) → root s unit ≡ found
+unfolding root
+root-found s unit found past e = rw e refl
+
+by_declarations : (out : Bool) (read : Result (List Declaration) Fault) (fault : Fault) (then : List Declaration → Result (Option Entry × Place) Fault) → read ≡ Err fault → option_and_then (λ (found : Option Entry × Place). found.0) (result_ok (cond {A = Result (Option Entry × Place) Fault} out (Err ends_early) (read >>= then))) ≡ None
+by_declarations true read fault then e = refl
+by_declarations false read fault then e = rw e refl
+
+-- a unit whose declarations can't be read has no root
+pub root-undeclared : (s : Sections) (unit : DwarfUnit) (fault : Fault) → abbreviations s.abbrevs unit.debug_abbrev_offset ≡ Err fault → root s unit ≡ None
+unfolding root entry
+root-undeclared s unit fault e =
+    by_declarations (nat_lt unit.first_entry unit.first_entry || nat_le unit.end unit.first_entry) (abbreviations s.abbrevs unit.debug_abbrev_offset) fault (λ declarations. entry_at unit.offset_size declarations (place_in s unit unit.first_entry)) e
+
+-- ---- the test of a unit
+
+pub skipped-passes : (s : Sections) (unit : DwarfUnit) → is_skipped unit.kind ≡ true → has_root s unit ≡ Ok tt
+skipped-passes s unit e = rw e refl
+
+pub rooted-passes : (s : Sections) (unit : DwarfUnit) (found : Entry) → root s unit ≡ Some found → has_root s unit ≡ Ok tt
+rooted-passes s unit found e = passes (not (is_skipped unit.kind)) (root s unit) found e
+  where
+    passes : (kept : Bool) (root : Option Entry) (found : Entry) → root ≡ Some found → refuse_if (kept && is_none root) (faults.root unit.offset) ≡ Ok tt
+    passes true root found e = rw e refl
+    passes false root found e = refl
+
+pub rootless-fails : (s : Sections) (unit : DwarfUnit) → is_skipped unit.kind ≡ false → root s unit ≡ None → has_root s unit ≡ Err (faults.root unit.offset)
+rootless-fails s unit kept e = rw (kept, e) refl
+
+-- ---- what an error tells
+
+abbrev told_as : Option Fault → ℕ → Option Refusal
+told_as told offset = option_map (λ (fault : Fault). faults.root offset) told
+
+-- the entry, or the declarations, couldn't be read
+pub fails-as : (s : Sections) (unit : DwarfUnit) (told : Option Fault) (refusal : Option Refusal) → refusal ≡ told_as told unit.offset → is_skipped unit.kind ≡ false → MatchOption told (Unit {0}) (λ fault. root s unit ≡ None) → MatchOption refusal (Unit {0}) (λ told. has_root s unit ≡ Err told)
+fails-as s unit None refusal is kept none = rw is tt
+fails-as s unit (Some fault) refusal is kept none = rw is (rootless-fails s unit kept none)
+
+pub entry-told : (s : Sections) (unit : DwarfUnit) (told : Option Fault) → MatchOption told (Unit {0}) (λ fault. entry s unit unit.first_entry ≡ Err fault) → MatchOption told (Unit {0}) (λ fault. root s unit ≡ None)
+entry-told s unit None e = tt
+entry-told s unit (Some fault) e = root-fault s unit fault e
+
+pub declarations-told : (s : Sections) (unit : DwarfUnit) (section : List ℕ) (told : Option Fault) → section ≡ s.abbrevs → MatchOption told (Unit {0}) (λ fault. abbreviations section unit.debug_abbrev_offset ≡ Err fault) → MatchOption told (Unit {0}) (λ fault. root s unit ≡ None)
+declarations-told s unit section None same e = tt
+declarations-told s unit section (Some fault) same e = root-undeclared s unit fault (rw (sym same) e)
+
+-- ---- a unit that is opened
+
+table-of : (read : Read) (unit : CodeUnit) (header : Header) (table : Option ℕ) → unit_shown unit ≡ header_shown header → MatchOption table (header.first_entry ≡ header.end) (λ place. HasTable read header.debug_abbrev_offset place) → MatchOption table (unit.first_entry ≡ unit.end) (λ place. HasTable read unit.debug_abbrev_offset place)
+table-of read unit header None same e = ap (λ (u : DwarfUnit). u.first_entry) same ∙ e ∙ sym (ap (λ (u : DwarfUnit). u.end) same)
+table-of read unit header (Some place) same h = subst (λ offset. HasTable read offset place) (sym (ap (λ (u : DwarfUnit). u.debug_abbrev_offset) same)) h
+
+pub opened : (s : Sections) (read : Read) (header : Header) (unit : CodeUnit) (found : Option CodeEntry) (table : Option ℕ) → unit_shown unit ≡ header_shown header → bases_shown unit.bases ≡ bases_in OFFSET_SIZE_32 (option_map entry_shown found) → unit.root ≡ found → unit.table ≡ table
+    → root s (header_shown header) ≡ option_map entry_shown found → MatchOption table (header.first_entry ≡ header.end) (λ place. HasTable read header.debug_abbrev_offset place) → IsOpened s read unit
+opened s read header unit found table same bases first placed is h = record {
+  root = ap (option_map entry_shown) first ∙ sym is ∙ ap (root s) (sym same);
+  bases = bases ∙ ap (bases_in OFFSET_SIZE_32) (sym is ∙ ap (root s) (sym same));
+  table = rw placed (table-of read unit header table same h);
+}

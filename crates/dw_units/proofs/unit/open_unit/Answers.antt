@@ -1,0 +1,45 @@
+use Rattle.std.proofs.Common.{◌∙◌, Some, None, sym, ap}
+use Rattle.std.specs.Prelude.{option_map}
+use Rattle.std.proofs.lemmas.Option.{slice_get_within}
+use Rattle.dw_forms.specs.Fault.{form_fault}
+use Rattle.dw_elf.specs.OpenFault.{refusal_of}
+use Rattle.dw_units.specs.Header.{header_shown}
+use Rattle.dw_units.specs.Entry.{entry_shown}
+use Rattle.dw_units.specs.Sections.{sections_shown}
+use Rattle.dw_units.proofs.OpenLemmas.{root-end, root-found, rooted-passes, rootless-fails, fails-as, entry-told, declarations-told, opened}
+use Rattle.dw_units.proofs.unit.open_unit.Goals as goal
+
+pub returns-then-is_skipped-clause-opened : goal.returns-then-is_skipped-clause-opened
+returns-then-is_skipped-clause-opened c =
+    let end = c.requires.whole (sym c.if-is_skipped.ensures) in
+    opened (sections_shown c.args.sections.now) c.args.shared.now c.args.header c.new.result None None c.new.ensures.header c.new.ensures.bases c.new.ensures.root c.new.ensures.table (root-end (sections_shown c.args.sections.now) (header_shown c.args.header) end) end
+
+pub returns-in-Err-clause-root : goal.returns-in-Err-clause-root
+returns-in-Err-clause-root c =
+    let none = declarations-told (sections_shown c.args.sections.now) (header_shown c.args.header) c.args.shared.now.section (form_fault c.in-Err.fault) c.requires.section c.in-Err.ensures.fault in
+    fails-as (sections_shown c.args.sections.now) (header_shown c.args.header) (form_fault c.in-Err.fault) (refusal_of c.root_fault.result) c.root_fault.ensures (sym c.if-is_skipped.ensures) none
+
+pub get-abbrevs-requires : goal.get-abbrevs-requires
+get-abbrevs-requires c =
+    let table = c.in-Ok.ensures.found in
+    slice_get_within c.place.new.self.tables c.in-Ok.table table.0 table.1
+
+pub returns-in-Err-entry_in-clause-root : goal.returns-in-Err-entry_in-clause-root
+returns-in-Err-entry_in-clause-root c =
+    let none = entry-told (sections_shown c.args.sections.now) (header_shown c.args.header) (form_fault c.in-Err-entry_in.fault) c.in-Err-entry_in.ensures in
+    fails-as (sections_shown c.args.sections.now) (header_shown c.args.header) (form_fault c.in-Err-entry_in.fault) (refusal_of c.root_fault-in-Err-entry_in.result) c.root_fault-in-Err-entry_in.ensures (sym c.if-is_skipped.ensures) none
+
+pub returns-in_default-clause-root : goal.returns-in_default-clause-root
+returns-in_default-clause-root c =
+    let found = root-found (sections_shown c.args.sections.now) (header_shown c.args.header) (option_map entry_shown c.in-Ok-entry_in.found) c.in-Ok-entry_in.ensures.0 c.in-Ok-entry_in.ensures.1 in
+    rootless-fails (sections_shown c.args.sections.now) (header_shown c.args.header) (sym c.if-is_skipped.ensures) (found ∙ ap (option_map entry_shown) c.in_default.is)
+
+pub returns-clause-opened : goal.returns-clause-opened
+returns-clause-opened c =
+    let found = root-found (sections_shown c.args.sections.now) (header_shown c.args.header) (option_map entry_shown c.in-Ok-entry_in.found) c.in-Ok-entry_in.ensures.0 c.in-Ok-entry_in.ensures.1 in
+    opened (sections_shown c.args.sections.now) c.place.new.self c.args.header c.new-2.result (Some c.in-Some.root) (Some c.in-Ok.table) c.new-2.ensures.header c.new-2.ensures.bases c.new-2.ensures.root c.new-2.ensures.table (found ∙ ap (option_map entry_shown) c.in-Some.is) c.in-Ok.ensures.found
+
+pub returns-clause-root : goal.returns-clause-root
+returns-clause-root c =
+    let found = root-found (sections_shown c.args.sections.now) (header_shown c.args.header) (option_map entry_shown c.in-Ok-entry_in.found) c.in-Ok-entry_in.ensures.0 c.in-Ok-entry_in.ensures.1 in
+    rooted-passes (sections_shown c.args.sections.now) (header_shown c.args.header) (entry_shown c.in-Some.root) (found ∙ ap (option_map entry_shown) c.in-Some.is)
