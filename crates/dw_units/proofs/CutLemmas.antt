@@ -16,7 +16,7 @@ use Rattle.dw_model.specs.Root.{has_root, unit_refusal}
 use Rattle.dw_model.proofs.UnitLemmas.{with_piece, cut-piece, cut-fault, cut-end, tested, piece_at-tested}
 use Rattle.dw_units.specs.declared.unit.Unit.{Unit as CodeUnit}
 use Rattle.dw_units.specs.Shared.{Read, HasTable, IsKept}
-use Rattle.dw_units.specs.Unit.{unit_shown, IsOpened}
+use Rattle.dw_units.specs.Unit.{unit_shown, HasEntries, IsOpened}
 
 more-eqb : (n : ℕ) → 0 < n → (n == 0) ≡ false
 more-eqb n lt = ne_eqb n 0 (λ e. omega arith)
@@ -62,15 +62,15 @@ same-tables old new offset place same kept h =
     let there : abbreviations new.section offset ≡ Ok h.0 = ap (λ (section : List ℕ). abbreviations section offset) same ∙ h.2 in
     (h.0, kept place h.0 h.1, there)
 
-matched : (old new : Read) (offset : ℕ) (place : Option ℕ) (P : Type 0) → new.section ≡ old.section → IsKept old new → MatchOption place P (λ place. HasTable old offset place) → MatchOption place P (λ place. HasTable new offset place)
-matched old new offset None P same kept h = h
-matched old new offset (Some place) P same kept h = same-tables old new offset place same kept h
+still-placed : (s : Sections) (old new : Read) (unit : DwarfUnit) (place : Option ℕ) → new.section ≡ old.section → IsKept old new → HasEntries s old unit place → HasEntries s new unit place
+still-placed s old new unit None same kept h = h
+still-placed s old new unit (Some place) same kept h = (same-tables old new unit.debug_abbrev_offset place same kept h.0, h.1)
 
 still-opened : (s : Sections) (old new : Read) (unit : CodeUnit) → new.section ≡ old.section → IsKept old new → IsOpened s old unit → IsOpened s new unit
 still-opened s old new unit same kept h = record {
   root = h.root;
   bases = h.bases;
-  table = matched old new unit.debug_abbrev_offset unit.table (unit.first_entry ≡ unit.end) same kept h.table;
+  table = still-placed s old new (unit_shown unit) unit.table same kept h.table;
 }
 
 all-opened : (s : Sections) (old new : Read) (units : List CodeUnit) (unit : CodeUnit) → new.section ≡ old.section → IsKept old new → AllByRecursion (IsOpened s old) units → IsOpened s new unit → AllByRecursion (IsOpened s new) (units ++ unit ∷ [])

@@ -19,8 +19,8 @@ use Rattle.dw_units.specs.declared.unit.Unit.{Unit as CodeUnit}
 use Rattle.dw_units.specs.declared.entry.Entry.{Entry as CodeEntry}
 use Rattle.dw_units.specs.Header.{header_shown}
 use Rattle.dw_units.specs.Entry.{entry_shown}
-use Rattle.dw_units.specs.Shared.{Read, HasTable}
-use Rattle.dw_units.specs.Unit.{unit_shown, IsOpened}
+use Rattle.dw_units.specs.Shared.{Read}
+use Rattle.dw_units.specs.Unit.{unit_shown, HasEntries, IsOpened}
 use Rattle.dw_units.proofs.PlaceLemmas.{outside-all}
 
 -- a unit without entries before its end has no root
@@ -82,14 +82,10 @@ declarations-told s unit section (Some fault) same e = root-undeclared s unit fa
 
 -- ---- a unit that is opened
 
-table-of : (read : Read) (unit : CodeUnit) (header : Header) (table : Option ℕ) → unit_shown unit ≡ header_shown header → MatchOption table (header.first_entry ≡ header.end) (λ place. HasTable read header.debug_abbrev_offset place) → MatchOption table (unit.first_entry ≡ unit.end) (λ place. HasTable read unit.debug_abbrev_offset place)
-table-of read unit header None same e = ap (λ (u : DwarfUnit). u.first_entry) same ∙ e ∙ sym (ap (λ (u : DwarfUnit). u.end) same)
-table-of read unit header (Some place) same h = subst (λ offset. HasTable read offset place) (sym (ap (λ (u : DwarfUnit). u.debug_abbrev_offset) same)) h
-
 pub opened : (s : Sections) (read : Read) (header : Header) (unit : CodeUnit) (found : Option CodeEntry) (table : Option ℕ) → unit_shown unit ≡ header_shown header → bases_shown unit.bases ≡ bases_in OFFSET_SIZE_32 (option_map entry_shown found) → unit.root ≡ found → unit.table ≡ table
-    → root s (header_shown header) ≡ option_map entry_shown found → MatchOption table (header.first_entry ≡ header.end) (λ place. HasTable read header.debug_abbrev_offset place) → IsOpened s read unit
+    → root s (header_shown header) ≡ option_map entry_shown found → HasEntries s read (header_shown header) table → IsOpened s read unit
 opened s read header unit found table same bases first placed is h = record {
   root = ap (option_map entry_shown) first ∙ sym is ∙ ap (root s) (sym same);
   bases = bases ∙ ap (bases_in OFFSET_SIZE_32) (sym is ∙ ap (root s) (sym same));
-  table = rw placed (table-of read unit header table same h);
+  table = rw placed (subst (λ u. HasEntries s read u table) (sym same) h);
 }

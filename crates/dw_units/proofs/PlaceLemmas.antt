@@ -9,7 +9,7 @@ use Rattle.dw_model.specs.Reading.{Place, past, start, bytes_at}
 use Rattle.dw_model.specs.Faults.{Fault, ends_early, undeclared}
 use Rattle.dw_model.specs.Leb.{uleb_at}
 use Rattle.dw_model.specs.Abbrev.{Declaration, abbreviations, declared}
-use Rattle.dw_model.specs.Entry.{Entry, attributes_at, entry_at}
+use Rattle.dw_model.specs.Entry.{Attribute, Entry, attributes_at, entry_at}
 use Rattle.dw_model.specs.Unit.{DwarfUnit}
 use Rattle.dw_model.specs.Section.{Sections}
 use Rattle.dw_model.specs.Root.{place_in, entry}
@@ -80,12 +80,18 @@ null-code s unit offset q e =
           null_is unit.offset_size d.0 (place_in s unit offset) q d.2
     ]
 
--- its code stands there
-pub null-within : (s : Sections) (unit : DwarfUnit) (offset : ℕ) (q : Place) → entry s unit offset ≡ Ok (None, q) → offset < length (take unit.end s.info)
-null-within s unit offset q e =
-    let code = null-code s unit offset q e in
-    let some = some_bytes offset (drop offset (take unit.end s.info)) (code.0, q) code.1 in
-    omega (arith, some, length-drop offset (take unit.end s.info))
+-- where there is an entry, its code stands there
+pub entry-within : (s : Sections) (unit : DwarfUnit) (offset : ℕ) (x : Option Entry × Place) → entry s unit offset ≡ Ok x → offset < length (take unit.end s.info)
+unfolding entry entry_at
+entry-within s unit offset x e =
+    elim (either (nat_lt offset unit.first_entry || nat_le unit.end offset) (Err ends_early) (abbreviations s.abbrevs unit.debug_abbrev_offset >>= λ declarations. entry_at unit.offset_size declarations (place_in s unit offset)) (Ok x) e) [
+      | inl out ↦ absurd cc
+      | inr read ↦
+          let d = bind_ok (abbreviations s.abbrevs unit.debug_abbrev_offset) (λ declarations. entry_at unit.offset_size declarations (place_in s unit offset)) x read in
+          let code = bind_ok (uleb_at (place_in s unit offset)) (λ code. cond {A = Result (Option Entry × Place) Fault} (code.0 == 0) (Ok (None, code.1)) (ok_or (declared d.0 code.0) undeclared >>= λ declaration. attributes_at unit.offset_size declaration.specifications code.1 >>= λ attributes. Ok (Some (record { offset = offset; tag = declaration.tag; children = declaration.children; attributes = attributes.0 }), attributes.1))) x d.2 in
+          let some = some_bytes offset (drop offset (take unit.end s.info)) code.0 code.1 in
+          omega (arith, some, length-drop offset (take unit.end s.info))
+    ]
 
 from_start : (n : ℕ) (bytes : List ℕ) → ◌≡◌ {A = Place} (past n (start bytes)) (record { at = n; left = drop n bytes })
 from_start n bytes = let e : 0 + n ≡ n = omega arith in rw e refl
@@ -107,3 +113,10 @@ null-read s unit offset p r None here fault e = fault
 null-read s unit offset p r (Some f) here fault e =
     let null = null-code s unit offset r e in
     ok-err (null.0, r) f (sym null.1 ∙ ap (λ (p : Place). uleb_at p) (sym here) ∙ fault)
+
+-- ---- an entry, of which only some parts were kept
+
+pub read-entry : (size : ℕ) (declarations : List Declaration) (p q r : Place) (code : ℕ) (declaration : Declaration) (attributes : List Attribute) → uleb_at p ≡ Ok (code, q) → (code == 0) ≡ false → declared declarations code ≡ Some declaration
+    → attributes_at size declaration.specifications q ≡ Ok (attributes, r) → entry_at size declarations p ≡ Ok (Some (record { offset = p.at; tag = declaration.tag; children = declaration.children; attributes = attributes }), r)
+unfolding entry_at
+read-entry size declarations p q r code declaration attributes e some found read = rw (e, some, found, read) refl

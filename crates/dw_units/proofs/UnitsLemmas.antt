@@ -1,6 +1,6 @@
 -- The unit at a place of those that were read.
 use Rattle.std.proofs.Common.{◌≡◌, ◌∙◌, ℕ, zero, suc, ◌<◌, List, [], ◌∷◌, length, map, Option, Some, None, Result, Ok, Err, refl, sym, ap, subst, arith}
-use Rattle.std.specs.Prelude.{IfSome, MatchOption, option_map, slice_get, slice_index_or}
+use Rattle.std.specs.Prelude.{IfSome, option_map, slice_get, slice_index_or}
 use Rattle.std.specs.List.{AllByRecursion}
 use Rattle.std.specs.Result.{result_unwrap_or}
 use Rattle.std.proofs.lemmas.Option.{same_Some, slice_get_read, slice_get-map}
@@ -12,7 +12,7 @@ use Rattle.dw_model.specs.Unit as model
 use Rattle.dw_model.specs.Root.{entry}
 use Rattle.dw_units.specs.declared.unit.Unit.{Unit as CodeUnit}
 use Rattle.dw_units.specs.Shared.{Read, HasTable}
-use Rattle.dw_units.specs.Unit.{unit_shown, IsOpened}
+use Rattle.dw_units.specs.Unit.{unit_shown, HasEntries, IsOpened}
 use Rattle.dw_units.proofs.PlaceLemmas.{outside-all}
 
 opened-at : (s : Sections) (read : Read) (units : List CodeUnit) (i : ℕ) (unit : CodeUnit) → AllByRecursion (IsOpened s read) units → slice_get units i ≡ Some unit → IsOpened s read unit
@@ -39,8 +39,10 @@ of-unit P found unit e h = rw e h
 
 pub no-entry : (s : Sections) (read : Read) (unit : CodeUnit) (offset : ℕ) → IsOpened s read unit → unit.table ≡ None → entry s (unit_shown unit) offset ≡ Err ends_early
 no-entry s read unit offset opened none =
-    outside-all s (unit_shown unit) offset (subst (λ (table : Option ℕ). MatchOption table (unit.first_entry ≡ unit.end) (λ place. HasTable read unit.debug_abbrev_offset place)) none opened.table)
+    let skipped = subst (HasEntries s read (unit_shown unit)) none opened.table in
+    outside-all s (unit_shown unit) offset skipped.1
 
 pub its-table : (s : Sections) (read : Read) (unit : CodeUnit) (table : ℕ) → IsOpened s read unit → unit.table ≡ Some table → HasTable read unit.debug_abbrev_offset table
 its-table s read unit table opened is =
-    subst (λ (table : Option ℕ). MatchOption table (unit.first_entry ≡ unit.end) (λ place. HasTable read unit.debug_abbrev_offset place)) is opened.table
+    let placed = subst (HasEntries s read (unit_shown unit)) is opened.table in
+    placed.0

@@ -1,3 +1,4 @@
+pub mod Entries
 pub mod Entry
 pub mod Header
 pub mod Null

@@ -1,7 +1,7 @@
 -- What a unit stands for.
-use Rattle.std.specs.Prelude.{◌≡◌, option_map, MatchOption}
+use Rattle.std.specs.Prelude.{◌≡◌, ◌≤◌, ℕ, true, length, take, Option, Some, None, option_map}
 use Rattle.dw_model.specs.declared.dwarf.TheConstants.{OFFSET_SIZE_32}
-use Rattle.dw_model.specs.Unit.{DwarfUnit}
+use Rattle.dw_model.specs.Unit.{DwarfUnit, is_skipped}
 use Rattle.dw_model.specs.Section.{Sections}
 use Rattle.dw_model.specs.Root as model
 use Rattle.dw_forms.specs.Tables.{bases_shown}
@@ -21,8 +21,14 @@ unit_shown unit = record {
   first_entry = unit.first_entry;
 }
 
+-- a unit that isn't skipped has the table of its declarations at this place, and its first entry in the section
+abbrev pub HasEntries : Sections → Read → DwarfUnit → Option ℕ → Type 0
+HasEntries sections read unit None = (is_skipped unit.kind ≡ true) × (unit.first_entry ≡ unit.end)
+HasEntries sections read unit (Some place) =
+    HasTable read unit.debug_abbrev_offset place × (unit.first_entry ≤ length (take unit.end sections.info))
+
 -- The unit's first entry and its bases are those of the definitions, and its declarations were read where it has entries.
 pub record IsOpened (sections : Sections) (read : Read) (unit : Unit) : Type 0 where
   pub root : option_map entry_shown unit.root ≡ model.root sections (unit_shown unit)
   pub bases : bases_shown unit.bases ≡ model.bases sections (unit_shown unit)
-  pub table : MatchOption unit.table (unit.first_entry ≡ unit.end) (λ place. HasTable read unit.debug_abbrev_offset place)
+  pub table : HasEntries sections read (unit_shown unit) unit.table

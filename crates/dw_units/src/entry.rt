@@ -1,11 +1,11 @@
 //! Entries of units, by sections 7.5.2 to 7.5.6 of DWARF 5.
 
-ghost use Rattle.std.specs.Prelude.{◌≡◌, ◌==◌, ℕ, Ok, IfOk, IfSome, find, map, option_map, take};
+ghost use Rattle.std.specs.Prelude.{◌≡◌, ◌==◌, ◌<◌, ℕ, Ok, IfOk, IfSome, find, length, map, option_map, take, MatchOption};
 ghost use Rattle.dw_model.specs.declared.dwarf.TheConstants.{OFFSET_SIZE_32};
 ghost use Rattle.dw_model.specs.Entry.{attributes_at, entry_at};
 ghost use Rattle.dw_model.specs.Entry as model;
 ghost use Rattle.dw_model.specs.Abbrev.{abbreviations};
-ghost use Rattle.dw_model.specs.Root.{entry};
+ghost use Rattle.dw_model.specs.Root.{place_in, entry};
 ghost use Rattle.dw_model.specs.Answers.{ReadsUnlessMemory};
 ghost use Rattle.dw_forms.specs.Fault.{form_fault};
 ghost use Rattle.dw_forms.specs.Declaration.{spec_shown};
@@ -47,7 +47,7 @@ pub struct Entry<'a> {
 }
 
 /// The values that a declaration asks for.
-fn attributes_of<'a>(
+pub(crate) fn attributes_of<'a>(
     alloc: Global,
     cursor: &mut Cursor<'a>,
     specs: &[Spec],
@@ -121,6 +121,19 @@ fn up_to_end<'a>(info: &'a [u8], unit: &Header) -> &'a [u8]
     info.split_at(info.len().min(unit.end as usize)).0
 }
 
+/// The place at an offset of a unit; `None` where the offset lies behind all bytes.
+pub(crate) fn cursor_at<'a>(
+    sections: &Sections<'a>,
+    unit: &Header,
+    offset: u64,
+) -> Option<Cursor<'a>>
+    ensures { MatchOption result (length (take unit.now.end sections.now.info.now) < offset) (λ cursor. cursor ≡ place_in (sections_shown sections.now) (header_shown unit.now) offset) }
+{
+    let mut cursor = Cursor::new(up_to_end(sections.info, unit));
+    cursor.take(offset as usize)?;
+    Some(cursor)
+}
+
 /// The entry at an offset of .debug_info that lies between a unit's first entry and its end; `None`
 /// for a null entry. Nothing past the unit's end is read.
 #[tactic(auto, unfolding(dw_model::specs::Root::entry))]
@@ -137,8 +150,7 @@ pub(crate) fn entry_in<'a>(
     if offset < unit.first_entry || offset >= unit.end {
         return Err(FormFault::End);
     }
-    let mut cursor = Cursor::new(up_to_end(sections.info, unit));
-    let Some(_) = cursor.take(offset as usize) else {
+    let Some(mut cursor) = cursor_at(sections, unit, offset) else {
         return Err(FormFault::End);
     };
     entry_of(alloc, &mut cursor, abbrevs)
@@ -149,8 +161,7 @@ pub(crate) fn end_of_null(sections: &Sections<'_>, unit: &Header, offset: u64) -
     requires { IsNull (entry (sections_shown sections.now) (header_shown unit.now) offset) }
     ensures { IsPastNull result (entry (sections_shown sections.now) (header_shown unit.now) offset) }
 {
-    let mut cursor = Cursor::new(up_to_end(sections.info, unit));
-    let Some(_) = cursor.take(offset as usize) else {
+    let Some(mut cursor) = cursor_at(sections, unit, offset) else {
         return offset;
     };
     let Ok(_) = cursor.uleb() else {

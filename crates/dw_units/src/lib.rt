@@ -3,6 +3,7 @@
 
 mod bases;
 mod class;
+mod entries;
 mod entry;
 mod header;
 mod sections;
@@ -10,6 +11,7 @@ mod shared;
 mod unit;
 mod units;
 
+pub use entries::{Entries, Next};
 pub use entry::{Attribute, Attributes, Entry};
 pub use header::Kind;
 pub use sections::Sections;

@@ -7,10 +7,12 @@ ghost use Rattle.dw_model.specs.Root as model;
 ghost use Rattle.dw_elf.specs.OpenFault.{RefusesUnlessMemory};
 ghost use Rattle.dw_forms.specs.Tables.{bases_shown, tables_shown};
 ghost use Rattle.dw_units.specs.Entry.{entry_shown, FindsEntry};
+ghost use Rattle.dw_units.specs.Entries.{WalksFrom};
 ghost use Rattle.dw_units.specs.Unit.{unit_shown};
 ghost use Rattle.dw_units.specs.Null.{IsNull, IsPastNull};
 
-use crate::entry::{Entry, end_of_null, entry_in};
+use crate::entries::Entries;
+use crate::entry::{Entry, cursor_at, end_of_null, entry_in};
 use crate::header::piece;
 use crate::sections::Sections;
 use crate::shared::Shared;
@@ -119,6 +121,18 @@ impl<'a> Units<'a> {
             self.shared.get(table),
             offset,
         )
+    }
+
+    /// A walk over the entries of the unit at a place, from its first one on; `None` for a skipped
+    /// unit.
+    pub fn entries(&self, i: usize) -> Option<Entries<'_, 'a>>
+        requires { i < length (units self.now.info) }
+        ensures { IfSome (slice_get (units self.now.info) i) (λ unit. WalksFrom self.now unit (option_map (λ entries. entries) result)) }
+    {
+        let unit = &self.units[i];
+        let table = unit.table?;
+        let cursor = cursor_at(&self.sections, &unit.header(), unit.first_entry)?;
+        Some(Entries::new(self.shared.get(table), cursor))
     }
 
     /// The offset just past a null entry, in the unit at a place. Its code may be padded, so it may

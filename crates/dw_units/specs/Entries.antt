@@ -1,0 +1,43 @@
+-- What is told of the entries of a unit, one after the other.
+use Rattle.std.specs.Prelude.{◌≡◌, true, false, List, Option, Some, None, Result, Ok, Err, MatchOption}
+use Rattle.dw_model.specs.Reading.{Place}
+use Rattle.dw_model.specs.Faults.{Fault}
+use Rattle.dw_model.specs.Abbrev.{Declaration, abbreviations}
+use Rattle.dw_model.specs.Section.{Sections}
+use Rattle.dw_model.specs.Unit.{DwarfUnit, is_skipped}
+use Rattle.dw_model.specs.Root.{place_in}
+use Rattle.dw_model.specs.Entry.{Entry}
+use Rattle.dw_model.specs.Tree.{is_function}
+use Rattle.dw_forms.specs.declared.fault.FormFault.{FormFault}
+use Rattle.dw_forms.specs.Fault.{form_fault}
+use Rattle.dw_units.specs.declared.entries.Next.{Next}
+use Rattle.dw_units.specs.declared.entries.Next.TheVariants.{Null, Function, Passed}
+use Rattle.dw_units.specs.Entry.{entry_shown}
+
+-- the declarations of a unit, and the place of its next entry
+pub record Walk : Type 0 where
+  pub declarations : List Declaration
+  pub place : Place
+
+-- the walk over a unit's entries begins at its first one; a skipped unit has none
+abbrev pub WalksFrom : Sections → DwarfUnit → Option Walk → Type 0
+WalksFrom sections unit None = is_skipped unit.kind ≡ true
+WalksFrom sections unit (Some walk) =
+    (abbreviations sections.abbrevs unit.debug_abbrev_offset ≡ Ok walk.declarations)
+    × (walk.place ≡ place_in sections unit unit.first_entry)
+
+-- it is a null entry, or a function, or an entry that is none, of which only the children are told
+abbrev pub IsNext : Next → Option Entry → Type 0
+IsNext Null found = found ≡ None
+IsNext (Function entry) found = (found ≡ Some (entry_shown entry)) × (is_function (entry_shown entry) ≡ true)
+IsNext (Passed children) found = (entry : Entry) × (found ≡ Some entry) × (is_function entry ≡ false) × (children ≡ entry.children)
+
+-- The next entry is read as the definition has it; want of memory may be told in place of it.
+abbrev pub ReadsNext : Result Next FormFault → Result (Option Entry × Place) Fault → Place → Type 0
+ReadsNext (Ok next) given new = (found : Option Entry) × (given ≡ Ok (found, new)) × IsNext next found
+ReadsNext (Err fault) given new = MatchOption (form_fault fault) (Unit {0}) (λ told. given ≡ Err told)
+
+-- values were passed over: the definition reads them
+abbrev pub Passes : {A : Type 0} → Result (Unit {0}) FormFault → Result (A × Place) Fault → Place → Type 0
+Passes {A} (Ok done) given new = (found : A) × (given ≡ Ok (found, new))
+Passes (Err fault) given new = MatchOption (form_fault fault) (Unit {0}) (λ told. given ≡ Err told)

@@ -1,0 +1,118 @@
+//! The entries of a unit, one after the other.
+
+ghost use Rattle.std.specs.Prelude.{◌≡◌, ◌==◌, ◌||◌, IfOk, length, map};
+ghost use Rattle.dw_model.specs.declared.dwarf.TheConstants.{OFFSET_SIZE_32};
+ghost use Rattle.dw_model.specs.Entry.{attributes_at, entry_at};
+ghost use Rattle.dw_forms.specs.Declaration.{spec_shown};
+ghost use Rattle.dw_units.specs.Entries.{ReadsNext, Passes};
+
+use crate::entry::{Entry, attributes_of};
+use dw_bytes::Cursor;
+use dw_forms::{Abbrevs, FormFault, Spec, read_value};
+use dw_model::dwarf::{DW_TAG_inlined_subroutine, DW_TAG_subprogram};
+use std::alloc::Global;
+use std::marker::Model;
+
+/// The next entry of a unit.
+#[derive(Drop)]
+pub enum Next<'a> {
+    /// A null entry, which ends a list of children.
+    Null,
+    /// A subprogram or an inlined subroutine.
+    Function(Entry<'a>),
+    /// Any other entry: its attributes were passed over.
+    Passed {
+        /// A list of children follows it.
+        children: bool,
+    },
+}
+
+/// A walk over the entries of a unit. Contracts see the unit's declarations and the place of the
+/// next entry, whose offset counts from the first byte of .debug_info.
+#[derive(Drop)]
+pub struct Entries<'b, 'a> {
+    abbrevs: &'b Abbrevs,
+    cursor: Cursor<'a>,
+}
+
+impl<'b, 'a> Model for Entries<'b, 'a> {
+    ghost use Rattle.dw_units.specs.Entries.{Walk};
+
+    ghost Value = { Walk };
+
+    ghost view = { λ entries. record { declarations = entries.abbrevs.now; place = entries.cursor } };
+
+    ghost invariant = { λ entries. Unit {0} };
+}
+
+/// Only functions have addresses and names that are asked for.
+fn is_function(tag: u64) -> bool
+    ensures { result ≡ (tag == DW_TAG_subprogram || tag == DW_TAG_inlined_subroutine) }
+{
+    tag == DW_TAG_subprogram || tag == DW_TAG_inlined_subroutine
+}
+
+/// Passes over the values that a declaration asks for.
+fn pass_attributes(cursor: &mut Cursor<'_>, specs: &[Spec]) -> Result<(), FormFault>
+    ensures { Passes result (attributes_at OFFSET_SIZE_32 (map spec_shown specs.now) cursor.old) cursor.new }
+{
+    for spec in specs {
+        read_value(cursor, spec.form, spec.implicit)?;
+    }
+    Ok(())
+}
+
+/// The entry at the cursor, which goes just past it. After a refusal the cursor may stand anywhere.
+#[tactic(auto, unfolding(dw_model::specs::Entry::entry_at))]
+fn next_of<'a>(
+    alloc: Global,
+    cursor: &mut Cursor<'a>,
+    abbrevs: &Abbrevs,
+) -> Result<Next<'a>, FormFault>
+    ensures { ReadsNext result (entry_at OFFSET_SIZE_32 abbrevs.now cursor.old) cursor.new }
+{
+    let offset = cursor.at() as u64;
+    let code = cursor.uleb()?;
+    if code == 0 {
+        return Ok(Next::Null);
+    }
+    let declaration = abbrevs.get(code).ok_or(FormFault::Code)?;
+    let children = declaration.children;
+    if !is_function(declaration.tag) {
+        pass_attributes(cursor, declaration.specs.as_slice())?;
+        return Ok(Next::Passed { children });
+    }
+    let attrs = attributes_of(alloc, cursor, declaration.specs.as_slice())?;
+    Ok(Next::Function(Entry {
+        offset,
+        next: cursor.at() as u64,
+        tag: declaration.tag,
+        children,
+        attrs,
+    }))
+}
+
+impl<'b, 'a> Entries<'b, 'a> {
+    /// A walk that begins at a cursor.
+    pub(crate) fn new(abbrevs: &'b Abbrevs, cursor: Cursor<'a>) -> Self
+        ensures declarations { result.declarations ≡ abbrevs.now }
+        ensures place { result.place ≡ cursor.entry }
+    {
+        Entries { abbrevs, cursor }
+    }
+
+    /// No byte of the unit is left.
+    pub fn is_done(&self) -> bool
+        ensures { result ≡ (length self.now.place.left == 0) }
+    {
+        self.cursor.left() == 0
+    }
+
+    /// The next entry. The error is its first fault, or `Memory`; then the walk may stand anywhere.
+    pub fn next_function(&mut self, alloc: Global) -> Result<Next<'a>, FormFault>
+        ensures declarations { self.new.declarations ≡ self.old.declarations }
+        ensures next { ReadsNext result (entry_at OFFSET_SIZE_32 self.old.declarations self.old.place) self.new.place }
+    {
+        next_of(alloc, &mut self.cursor, self.abbrevs)
+    }
+}
