@@ -1,5 +1,6 @@
 pub mod CutLemmas
 pub mod EntryLemmas
+pub mod HoldingLemmas
 pub mod OpenLemmas
 pub mod UnitsLemmas
 pub mod HeaderLemmas

@@ -1,8 +1,10 @@
 //! The units of a file, in order of offset.
 
-ghost use Rattle.std.specs.Prelude.{◌≡◌, ◌<◌, None, OnOk, IfOk, IfErr, IfSome, Some, length, option_map, slice_get};
+ghost use Rattle.std.specs.Prelude.{◌≡◌, ◌≤◌, ◌<◌, true, false, nat_le, option_and_then, None, OnOk, IfOk, IfErr, IfSome, Some, length, option_map, slice_get};
+ghost use Rattle.std.specs.List.Sorted.{IsNonDecreasingBy, IsPartitionPoint};
 ghost use Rattle.dw_model.specs.Section as model_sections;
 ghost use Rattle.dw_model.specs.Unit.{units};
+ghost use Rattle.dw_model.specs.Name.{holding};
 ghost use Rattle.dw_model.specs.Root as model;
 ghost use Rattle.dw_elf.specs.OpenFault.{RefusesUnlessMemory};
 ghost use Rattle.dw_forms.specs.Tables.{bases_shown, tables_shown};
@@ -40,6 +42,14 @@ impl<'a> Model for Units<'a> {
     ghost view = { sections_in };
 
     ghost invariant = { AreUnits };
+}
+
+/// How many units begin at an offset or before it.
+fn begun(units: &[Unit<'_>], offset: u64) -> usize
+    ensures within { result ≤ length units.now }
+    ensures begun { IsNonDecreasingBy (λ unit. unit.offset) units.now → IsPartitionPoint (λ unit. nat_le unit.offset offset ≡ true) (λ unit. nat_le unit.offset offset ≡ false) units.now result }
+{
+    units.partition_point(|unit| unit.offset <= offset)
 }
 
 impl<'a> Units<'a> {
@@ -86,6 +96,23 @@ impl<'a> Units<'a> {
         ensures bases { bases_shown result.now.bases ≡ model.bases self.now (unit_shown result.now) }
     {
         &self.units[i]
+    }
+
+    /// The place of the unit in whose bytes an offset of .debug_info lies. Units stand in order, so it
+    /// is searched by halves.
+    pub fn holding(&self, offset: u64) -> Option<usize>
+        ensures holding { option_and_then (slice_get (units self.now.info)) result ≡ holding (units self.now.info) offset }
+        ensures within { IfSome result (λ i. i < length (units self.now.info)) }
+    {
+        let begun = begun(&self.units, offset);
+        if begun == 0 {
+            return None;
+        }
+        let last = begun - 1;
+        if offset >= self.units[last].end {
+            return None;
+        }
+        Some(last)
     }
 
     /// The sections to which values lead.

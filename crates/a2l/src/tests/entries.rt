@@ -8,7 +8,7 @@ use dw_model::dwarf::{
     DW_AT_abstract_origin, DW_AT_call_column, DW_AT_call_file, DW_AT_call_line, DW_AT_high_pc,
     DW_AT_low_pc, DW_AT_name, DW_TAG_inlined_subroutine, DW_TAG_partial_unit,
 };
-use dw_units::Units;
+use dw_units::{Next, Units};
 use std::test::Fail;
 
 #[test]
@@ -94,5 +94,59 @@ fn past_null_entries(rt: HostRuntime) -> Result<(), Fail> {
         };
         assert_eq!(rt; units.past_null(0, 0x57), past);
     }
+    Ok(())
+}
+
+#[test]
+fn unit_of_an_offset(rt: HostRuntime) -> Result<(), Fail> {
+    let file = poked(rt.alloc(), INLINED, 0, &[])?;
+    let elf = Elf::open(&file).ok().ok_or("an ELF file")?;
+    let units = Units::read(rt.alloc(), &elf).ok().ok_or("units")?;
+    let rows = [
+        (0, Some(0)),
+        (0x5a, Some(0)),
+        (0x5b, Some(1)),
+        (0x6d, Some(1)),
+        (0x6e, None),
+        (u64::MAX, None),
+    ];
+    for (offset, unit) in rows {
+        assert_eq!(rt; units.holding(offset), unit, "unit of {offset:#x}");
+    }
+    Ok(())
+}
+
+#[test]
+fn walk_of_a_unit(rt: HostRuntime) -> Result<(), Fail> {
+    let file = poked(rt.alloc(), INLINED, 0, &[])?;
+    let elf = Elf::open(&file).ok().ok_or("an ELF file")?;
+    let units = Units::read(rt.alloc(), &elf).ok().ok_or("units")?;
+    if units.len() != 2 {
+        return Err(Fail::from("two units"));
+    }
+    let mut entries = units.entries(0).ok_or("entries of the first unit")?;
+    // The unit's first entry and the lexical block are no functions.
+    let rows = [None, Some(0x1d), Some(0x23), None, Some(0x36), Some(0x47)];
+    for row in rows {
+        assert!(rt; !entries.is_done());
+        let next = entries.next_function(rt.alloc()).ok().ok_or("an entry")?;
+        let offset = match next {
+            Next::Function(entry) => Some(entry.offset),
+            Next::Passed { children } => {
+                assert!(rt; children);
+                None
+            }
+            Next::Null => return Err(Fail::from("no null entry")),
+        };
+        assert_eq!(rt; offset, row);
+    }
+    for _ in 0..4 {
+        let next = entries
+            .next_function(rt.alloc())
+            .ok()
+            .ok_or("a null entry")?;
+        assert!(rt; matches!(next, Next::Null));
+    }
+    assert!(rt; entries.is_done());
     Ok(())
 }
