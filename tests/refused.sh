@@ -1,14 +1,16 @@
 #!/usr/bin/env bash
 # Refuses the Nth growth of memory, for each N from 1 to 30, in the tests of the crates that keep what they
 # read: the test `each_growth_refused` of each has to pass. Other tests may fail then, since they want memory.
+# It takes the crates as words, and tries all of them without.
 set -euo pipefail
 here=$(cd "$(dirname "$0")/.." && pwd)
-for crate in dw_forms ticket_core; do
+log=$(mktemp)
+trap 'rm -f "$log"' EXIT
+for crate in ${@:-dw_forms dw_units ticket_core}; do
     cd "$here/crates/$crate"
     for n in $(seq 1 30); do
-        rt try --test --fail-alloc "$n" > /tmp/refused.$$ 2>&1 || true
-        grep -q '^test tests::each_growth_refused ... ok$' /tmp/refused.$$ || { cat /tmp/refused.$$; exit 1; }
+        rt try --test --fail-alloc "$n" > "$log" 2>&1 || true
+        grep -q '^test tests::each_growth_refused ... ok$' "$log" || { cat "$log"; exit 1; }
     done
     echo "$crate: 30 growths refused in turn"
 done
-rm -f /tmp/refused.$$

@@ -77,3 +77,33 @@ fn first_of_two_attributes_decides(rt: HostRuntime) {
         )
     );
 }
+
+/// An entry of 13 attributes, which are more than are kept in place.
+const MANY: &[u8] = &[
+    1, 0x34, 0, 3, 0x0b, 4, 0x0b, 5, 0x0b, 6, 0x0b, 7, 0x0b, 8, 0x0b, 9, 0x0b, 10, 0x0b, 11, 0x0b,
+    12, 0x0b, 13, 0x0b, 14, 0x0b, 15, 0x0b, 0, 0, 0,
+];
+
+#[test]
+fn each_growth_refused(rt: HostRuntime) {
+    let alloc = rt.alloc();
+    let abbrevs = match Abbrevs::read(alloc, MANY, 0) {
+        Err(FormFault::Memory) => Abbrevs::read(alloc, MANY, 0),
+        read => read,
+    };
+    let Ok(abbrevs) = abbrevs else {
+        assert!(rt; false, "no declarations");
+        return;
+    };
+    let bytes: &[u8] = &[1, 0, 1, 2, 3, 4, 5, 6, 7, 8, 9, 10, 11, 12];
+    let found = match entry_of(alloc, &mut Cursor::new(bytes), &abbrevs) {
+        Err(FormFault::Memory) => entry_of(alloc, &mut Cursor::new(bytes), &abbrevs),
+        found => found,
+    };
+    let Ok(Some(entry)) = found else {
+        assert!(rt; false, "no entry");
+        return;
+    };
+    assert_eq!(rt; entry.attrs.len(), 13);
+    assert_eq!(rt; entry.attrs.as_slice()[12].value, Value::Unsigned(12));
+}
