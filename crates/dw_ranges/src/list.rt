@@ -1,0 +1,113 @@
+//! The ranges of a range list, by sections 2.17.3 and 7.25 of DWARF 5.
+
+ghost use Rattle.std.specs.Prelude.{◌≡◌, ◌++◌, ◌+◌, ◌*◌, OnOk, map, option_map, option_to_list};
+ghost use Rattle.dw_model.specs.declared.dwarf.TheConstants.{OFFSET_SIZE_32};
+ghost use Rattle.dw_model.specs.Text.{number_in};
+ghost use Rattle.dw_model.specs.Ranges.{list_offset, list_ranges};
+ghost use Rattle.dw_model.specs.Answers.{Gives, GivesUnlessMemory};
+ghost use Rattle.dw_forms.specs.Tables.{tables_shown, bases_shown};
+ghost use Rattle.dw_forms.specs.Value.{value_shown};
+ghost use Rattle.dw_ranges.specs.Fault.{range_fault};
+ghost use Rattle.dw_ranges.specs.Range.{range_shown};
+ghost use Rattle.dw_ranges.specs.Step.{all_kept, list_place, ranges_from};
+ghost use Rattle.dw_ranges.specs.OutcomeShown.{base_shown};
+
+use crate::fault::RangeFault;
+use crate::range::Range;
+use crate::range_entry::next_range_entry;
+use crate::step::step;
+use dw_bytes::Cursor;
+use dw_forms::{Bases, Tables, Value};
+use dw_model::dwarf::OFFSET_SIZE_32;
+use std::alloc::{AllocError, Global};
+
+/// The offset that stands at an index behind the unit's base in .debug_rnglists.
+fn offset_at(section: &[u8], base: u64, index: u64) -> Option<u32>
+    ensures { result ≡ number_in section.now (base + OFFSET_SIZE_32 * index) OFFSET_SIZE_32 }
+{
+    let passed = index.checked_mul(OFFSET_SIZE_32 as u64)?;
+    let offset = base.checked_add(passed)?;
+    if offset > section.len() as u64 {
+        return None;
+    }
+    Cursor::new(section.split_at(offset as usize).1).u32()
+}
+
+/// Where the list begins that a value names, an offset of .debug_rnglists.
+#[tactic(auto, unfolding(dw_model::specs::Ranges::list_offset))]
+fn list_offset<'a>(tables: &Tables<'a>, bases: &Bases, value: &Value<'a>) -> Result<u64, RangeFault>
+    ensures { Gives (λ x. x) range_fault result (list_offset (tables_shown tables.now) (bases_shown bases.now) (value_shown value.now)) }
+{
+    match *value {
+        Value::SectionOffset(offset) => Ok(offset),
+        Value::RangeIndex(index) => {
+            let base = bases.rnglists.ok_or(RangeFault::Bad)?;
+            let offset = offset_at(tables.rnglists, base, index).ok_or(RangeFault::Bad)?;
+            base.checked_add(offset as u64).ok_or(RangeFault::Bad)
+        }
+        _ => Err(RangeFault::Bad),
+    }
+}
+
+/// The place where the list begins that a value names.
+fn list_place<'a>(
+    tables: &Tables<'a>,
+    bases: &Bases,
+    value: &Value<'a>,
+) -> Result<Cursor<'a>, RangeFault>
+    ensures { Gives (λ cursor. cursor) range_fault result (list_place (tables_shown tables.now) (bases_shown bases.now) (value_shown value.now)) }
+{
+    let offset = list_offset(tables, bases, value)?;
+    if offset > tables.rnglists.len() as u64 {
+        return Err(RangeFault::Bad);
+    }
+    let mut cursor = Cursor::new(tables.rnglists);
+    cursor.take(offset as usize).ok_or(RangeFault::Bad)?;
+    Ok(cursor)
+}
+
+/// Adds a range where there is one.
+fn push_some(ranges: &mut Vec<Range>, range: Option<Range>) -> Result<(), AllocError>
+    ensures { OnOk result (ranges.new.items ≡ ranges.old.items ++ option_to_list range) }
+{
+    if let Some(range) = range {
+        ranges.push(range)?;
+    }
+    Ok(())
+}
+
+/// The ranges of the list at the cursor that count, where the base before any entry is this one.
+fn ranges_at(
+    alloc: Global,
+    tables: &Tables<'_>,
+    bases: &Bases,
+    first: Option<u64>,
+    cursor: &mut Cursor<'_>,
+) -> Result<Vec<Range>, RangeFault>
+    ensures { GivesUnlessMemory (λ ranges. map range_shown ranges.items) range_fault result (ranges_from (tables_shown tables.now) (bases_shown bases.now) (base_shown first) cursor.old) }
+{
+    let mut ranges = Vec::new(alloc);
+    let mut base = first;
+    loop {
+        let Some(entry) = next_range_entry(cursor)? else {
+            return Ok(ranges);
+        };
+        let outcome = step(tables, bases, base, entry)?;
+        push_some(&mut ranges, outcome.range)?;
+        base = outcome.base;
+    }
+}
+
+/// The ranges of the list that a value names, those that count.
+pub(crate) fn list_ranges<'a>(
+    alloc: Global,
+    tables: &Tables<'a>,
+    bases: &Bases,
+    first: Option<u64>,
+    value: &Value<'a>,
+) -> Result<Vec<Range>, RangeFault>
+    ensures { GivesUnlessMemory (λ ranges. map range_shown ranges.items) range_fault result (all_kept (list_ranges (tables_shown tables.now) (bases_shown bases.now) (base_shown first) (value_shown value.now))) }
+{
+    let mut cursor = list_place(tables, bases, value)?;
+    ranges_at(alloc, tables, bases, first, &mut cursor)
+}

@@ -1,0 +1,128 @@
+//! The ranges of an entry, by section 2.17 of DWARF 5.
+
+ghost use Rattle.std.specs.Prelude.{◌≡◌, IfOk, map, option_map, option_to_list};
+ghost use Rattle.dw_model.specs.Ranges.{first_base, pc_ranges};
+ghost use Rattle.dw_model.specs.Ranges as model;
+ghost use Rattle.dw_model.specs.Answers.{Gives, GivesUnlessMemory};
+ghost use Rattle.dw_forms.specs.Tables.{tables_shown, bases_shown};
+ghost use Rattle.dw_forms.specs.Value.{value_shown};
+ghost use Rattle.dw_units.specs.Entry.{entry_shown};
+ghost use Rattle.dw_ranges.specs.Fault.{range_fault};
+ghost use Rattle.dw_ranges.specs.Range.{range_shown};
+ghost use Rattle.dw_ranges.specs.Step.{all_kept, high_range};
+ghost use Rattle.dw_ranges.specs.OutcomeShown.{base_shown};
+
+use crate::fault::RangeFault;
+use crate::list::list_ranges;
+use crate::range::Range;
+use crate::step::{address_of, range_between, range_of_length};
+use dw_forms::{Bases, Tables, Value};
+use dw_model::dwarf::{DW_AT_high_pc, DW_AT_low_pc, DW_AT_ranges};
+use dw_units::{Entry, Unit};
+use std::alloc::{AllocError, Global};
+
+/// The range from an address to what DW_AT_high_pc says, where it counts: the end's address, or how
+/// many addresses there are, of which a negative number makes none.
+fn high_range<'a>(
+    tables: &Tables<'a>,
+    bases: &Bases,
+    begin: u64,
+    high: &Value<'a>,
+) -> Result<Option<Range>, RangeFault>
+    ensures { Gives (option_map range_shown) range_fault result (high_range (tables_shown tables.now) (bases_shown bases.now) begin (value_shown high.now)) }
+{
+    match *high {
+        Value::Unsigned(length) => Ok(range_of_length(begin, length)),
+        Value::Signed(length) => {
+            if length < 0 {
+                return Ok(None);
+            }
+            Ok(range_of_length(begin, length as u64))
+        }
+        _ => {
+            let end = address_of(tables, bases, high)?;
+            Ok(range_between(begin, end))
+        }
+    }
+}
+
+/// The range from DW_AT_low_pc to DW_AT_high_pc, where both are there and it counts.
+#[tactic(auto, unfolding(dw_model::specs::Ranges::pc_ranges))]
+fn pc_range<'a>(
+    tables: &Tables<'a>,
+    bases: &Bases,
+    entry: &Entry<'a>,
+) -> Result<Option<Range>, RangeFault>
+    ensures { Gives (λ found. option_to_list (option_map range_shown found)) range_fault result (all_kept (pc_ranges (tables_shown tables.now) (bases_shown bases.now) (entry_shown entry.now))) }
+{
+    let Some(low) = entry.attr(DW_AT_low_pc) else {
+        return Ok(None);
+    };
+    let Some(high) = entry.attr(DW_AT_high_pc) else {
+        return Ok(None);
+    };
+    let begin = address_of(tables, bases, low)?;
+    high_range(tables, bases, begin, high)
+}
+
+/// The base of a unit's lists before any entry sets one: the address of its first entry, else 0;
+/// `None` where that address can't be read.
+fn first_base<'a>(tables: &Tables<'a>, bases: &Bases, root: Option<&Entry<'a>>) -> Option<u64>
+    ensures { base_shown result ≡ first_base (tables_shown tables.now) (bases_shown bases.now) (option_map (λ first. entry_shown first.now) root.entry) }
+{
+    let Some(first) = root else {
+        return Some(0);
+    };
+    let Some(low) = first.attr(DW_AT_low_pc) else {
+        return Some(0);
+    };
+    tables.address(low, bases)
+}
+
+/// A list of one range, or of none.
+fn one_or_none(alloc: Global, range: Option<Range>) -> Result<Vec<Range>, AllocError>
+    ensures { IfOk result (λ ranges. ranges.items ≡ option_to_list range) }
+{
+    let mut ranges = Vec::new(alloc);
+    if let Some(range) = range {
+        ranges.push(range)?;
+    }
+    Ok(ranges)
+}
+
+/// The ranges of an entry of a unit that count, in order (sections 2.17 and 7.25): those of the list
+/// that DW_AT_ranges names, else the one from DW_AT_low_pc to DW_AT_high_pc, where both are there.
+/// Only ranges whose begin is below their end, and whose end is at most 2^64 - 1, count.
+///
+/// The error is `Bad` where an address that is used can't be read, or the list has an unknown entry,
+/// a number that doesn't fit 64 bits, or no end within .debug_rnglists; or `Memory`.
+pub fn ranges_of<'a>(
+    alloc: Global,
+    entry: &Entry<'a>,
+    unit: &Unit<'a>,
+    tables: &Tables<'a>,
+) -> Result<Vec<Range>, RangeFault>
+    ensures { GivesUnlessMemory (λ ranges. map range_shown ranges.items) range_fault result (model.ranges_of (tables_shown tables.now) (bases_shown unit.now.bases) (option_map entry_shown unit.now.root) (entry_shown entry.now)) }
+{
+    entry_ranges_of(alloc, entry, &unit.bases, unit.root.as_ref(), tables)
+}
+
+/// The ranges of an entry of a unit with these bases and this first entry.
+#[tactic(auto, unfolding(dw_model::specs::Ranges::ranges_of))]
+pub(crate) fn entry_ranges_of<'a>(
+    alloc: Global,
+    entry: &Entry<'a>,
+    bases: &Bases,
+    root: Option<&Entry<'a>>,
+    tables: &Tables<'a>,
+) -> Result<Vec<Range>, RangeFault>
+    ensures { GivesUnlessMemory (λ ranges. map range_shown ranges.items) range_fault result (model.ranges_of (tables_shown tables.now) (bases_shown bases.now) (option_map (λ first. entry_shown first.now) root.entry) (entry_shown entry.now)) }
+{
+    if let Some(list) = entry.attr(DW_AT_ranges) {
+        let base = first_base(tables, bases, root);
+        return list_ranges(alloc, tables, bases, base, list);
+    }
+    let range = pc_range(tables, bases, entry)?;
+    let ranges = one_or_none(alloc, range)?;
+    Ok(ranges)
+}

@@ -1,0 +1,194 @@
+//! The least owner of an address.
+
+use super::draws::Draws;
+use crate::index::Index;
+use crate::range::Range;
+use std::alloc::Global;
+use std::test::Fail;
+
+fn pair(begin: u64, end: u64, owner: usize) -> (Range, usize) {
+    (Range { begin, end }, owner)
+}
+
+/// The first address at which the index doesn't find what is asked for.
+fn differs(index: &Index, rows: &[(u64, Option<usize>)]) -> Option<u64> {
+    for (a, owner) in rows {
+        if index.find(*a) != *owner {
+            return Some(*a);
+        }
+    }
+    None
+}
+
+#[test]
+fn nested_ranges(rt: HostRuntime) -> Result<(), Fail> {
+    let outer_first = Index::build(
+        rt.alloc(),
+        &[pair(0x1000, 0x3000, 0), pair(0x2000, 0x2010, 1)],
+    )?;
+    let rows: &[(u64, Option<usize>)] = &[
+        (0x0fff, None),
+        (0x1000, Some(0)),
+        (0x2000, Some(0)),
+        (0x2fff, Some(0)),
+        (0x3000, None),
+    ];
+    assert_eq!(rt; differs(&outer_first, rows), None);
+    let inner_first = Index::build(
+        rt.alloc(),
+        &[pair(0x1000, 0x3000, 1), pair(0x2000, 0x2010, 0)],
+    )?;
+    let rows: &[(u64, Option<usize>)] = &[
+        (0x1fff, Some(1)),
+        (0x2000, Some(0)),
+        (0x200f, Some(0)),
+        (0x2010, Some(1)),
+    ];
+    assert_eq!(rt; differs(&inner_first, rows), None);
+    Ok(())
+}
+
+#[test]
+fn no_ranges(rt: HostRuntime) -> Result<(), Fail> {
+    let index = Index::build(rt.alloc(), &[])?;
+    let rows: &[(u64, Option<usize>)] = &[(0, None), (0x1000, None), (u64::MAX, None)];
+    assert_eq!(rt; differs(&index, rows), None);
+    let index = Index::build(
+        rt.alloc(),
+        &[pair(5, 5, 0), pair(9, 3, 1), pair(u64::MAX, 0, 2)],
+    )?;
+    let rows: &[(u64, Option<usize>)] = &[
+        (0, None),
+        (3, None),
+        (5, None),
+        (9, None),
+        (u64::MAX - 1, None),
+        (u64::MAX, None),
+    ];
+    assert_eq!(rt; differs(&index, rows), None);
+    Ok(())
+}
+
+#[test]
+fn ranges_at_the_ends(rt: HostRuntime) -> Result<(), Fail> {
+    let index = Index::build(
+        rt.alloc(),
+        &[
+            pair(0, 1, 7),
+            pair(0xffff_ffff_ffff_fff0, u64::MAX, usize::MAX),
+        ],
+    )?;
+    let rows: &[(u64, Option<usize>)] = &[
+        (0, Some(7)),
+        (1, None),
+        (0xffff_ffff_ffff_ffef, None),
+        (0xffff_ffff_ffff_fff0, Some(usize::MAX)),
+        (u64::MAX - 1, Some(usize::MAX)),
+        (u64::MAX, None),
+    ];
+    assert_eq!(rt; differs(&index, rows), None);
+    Ok(())
+}
+
+/// Equal ranges, ranges that touch, and owners that own several.
+#[test]
+fn ranges_side_by_side(rt: HostRuntime) -> Result<(), Fail> {
+    let index = Index::build(
+        rt.alloc(),
+        &[
+            pair(10, 20, 3),
+            pair(10, 20, 2),
+            pair(20, 30, 2),
+            pair(30, 40, 1),
+            pair(15, 35, 9),
+            pair(50, 60, 3),
+        ],
+    )?;
+    let rows: &[(u64, Option<usize>)] = &[
+        (9, None),
+        (10, Some(2)),
+        (19, Some(2)),
+        (20, Some(2)),
+        (29, Some(2)),
+        (30, Some(1)),
+        (39, Some(1)),
+        (40, None),
+        (50, Some(3)),
+        (60, None),
+    ];
+    assert_eq!(rt; differs(&index, rows), None);
+    Ok(())
+}
+
+/// The least owner of the ranges that hold an address, one after the other.
+fn scanned(pairs: &[(Range, usize)], a: u64) -> Option<usize> {
+    let mut least = None;
+    for (range, owner) in pairs {
+        if range.begin <= a && a < range.end {
+            least = match least {
+                Some(other) if other < *owner => Some(other),
+                _ => Some(*owner),
+            };
+        }
+    }
+    least
+}
+
+/// Ranges of all sizes, some of them empty, with owners that come several times.
+pub(super) fn drawn(alloc: Global, count: usize) -> Result<Vec<(Range, usize)>, Fail> {
+    let mut draws = Draws::new(2026);
+    let mut pairs = Vec::new(alloc);
+    for _ in 0..count {
+        let begin = draws.next() % 1_000_000;
+        let bits = draws.next() % 20;
+        let size = draws.next() & ((1 << bits) - 1);
+        let owner = draws.below(5_000);
+        pairs.push(pair(begin, begin + size, owner))?;
+    }
+    Ok(pairs)
+}
+
+#[test]
+fn agrees_with_a_scan(rt: HostRuntime) -> Result<(), Fail> {
+    let pairs = drawn(rt.alloc(), 10_000)?;
+    let index = Index::build(rt.alloc(), &pairs)?;
+    let mut draws = Draws::new(7);
+    for _ in 0..2_000 {
+        let a = draws.next() % 1_600_000;
+        assert_eq!(rt; index.find(a), scanned(&pairs, a), "at {a}");
+    }
+    for (range, _) in pairs.iter().take(1_000) {
+        assert_eq!(rt; index.find(range.begin), scanned(&pairs, range.begin));
+        assert_eq!(rt; index.find(range.end), scanned(&pairs, range.end));
+    }
+    Ok(())
+}
+
+/// Builds an index, once more where a growth was refused, and says whether it finds what it should.
+pub(super) fn is_found_in_spite_of_refusals(alloc: Global) -> bool {
+    let pairs = [
+        pair(1, 9, 2),
+        pair(3, 5, 1),
+        pair(8, 12, 0),
+        pair(20, 30, 2),
+    ];
+    let built = match Index::build(alloc, &pairs) {
+        Ok(index) => Ok(index),
+        Err(_) => Index::build(alloc, &pairs),
+    };
+    let Ok(index) = built else {
+        return false;
+    };
+    let rows: &[(u64, Option<usize>)] = &[
+        (0, None),
+        (1, Some(2)),
+        (3, Some(1)),
+        (5, Some(2)),
+        (8, Some(0)),
+        (11, Some(0)),
+        (12, None),
+        (29, Some(2)),
+        (30, None),
+    ];
+    differs(&index, rows).is_none()
+}
