@@ -7,7 +7,7 @@ use Rattle.dw_model.specs.LineHeader.{LineHeader}
 abbrev slash : ℕ
 slash = 47
 
-abbrev ends_in_slash : List ℕ → Bool
+abbrev pub ends_in_slash : List ℕ → Bool
 ends_in_slash [] = false
 ends_in_slash (b ∷ []) = b == slash
 ends_in_slash (b ∷ c ∷ bytes) = ends_in_slash (c ∷ bytes)

@@ -1,0 +1,9 @@
+pub mod CountLemmas
+pub mod EntryLemmas
+pub mod OperandLemmas
+pub mod RowLemmas
+pub mod KeptLemmas
+pub mod ProgramLemmas
+pub mod FoundLemmas
+pub mod PathLemmas
+pub mod LinesLemmas

@@ -1,0 +1,10 @@
+-- What an error says of a line table.
+use Rattle.std.specs.Prelude.{Option, Some, None}
+use Rattle.dw_model.specs.Faults as model
+use Rattle.dw_line.specs.declared.fault.LineFault.{LineFault}
+use Rattle.dw_line.specs.declared.fault.LineFault.TheVariants.{Bad, Memory}
+
+-- the fault that an error tells: want of memory tells none
+abbrev pub line_fault : LineFault → Option model.Bad
+line_fault Bad = Some model.bad
+line_fault Memory = None

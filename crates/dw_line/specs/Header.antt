@@ -1,0 +1,60 @@
+-- The header that was read, as the definitions have it.
+use Rattle.std.specs.Prelude.{ℕ, List, Option, map, option_map, option_and_then, Result, Ok, nat_eq}
+use Rattle.std.specs.Option.{option_or}
+use Rattle.std.specs.Map.{lookup}
+use Rattle.dw_model.specs.declared.dwarf.TheConstants.{DW_LNCT_path, DW_LNCT_directory_index}
+use Rattle.dw_model.specs.Results.{◌>>=◌}
+use Rattle.dw_model.specs.Reading.{Place}
+use Rattle.dw_model.specs.Faults.{Bad}
+use Rattle.dw_model.specs.Form.{Value}
+use Rattle.dw_model.specs.Text.{Tables, Bases, text}
+use Rattle.dw_model.specs.LineHeader as model
+use Rattle.dw_forms.specs.Value.{value_shown}
+use Rattle.dw_forms.specs.Tables.{tables_shown, bases_shown}
+use Rattle.dw_line.specs.declared.entries.Format.{Format}
+use Rattle.dw_line.specs.declared.entries.Contents.{Contents}
+use Rattle.dw_line.specs.declared.entries.LineEntry.{LineEntry}
+use Rattle.dw_line.specs.declared.header.Header.{Header}
+
+abbrev pub format_shown : Format → model.Format
+format_shown format = (format.content, format.form)
+
+-- the values of an entry that are used
+pub record Used : Type 0 where
+  pub path : Option Value
+  pub directory : Option Value
+
+abbrev pub contents_shown : Contents → Used
+contents_shown contents = record {
+  path = option_map value_shown contents.path;
+  directory = option_map value_shown contents.directory;
+}
+
+-- those that were found before, else the first of the contents
+abbrev pub used_of : Used → List (ℕ × Value) → Used
+used_of found contents = record {
+  path = option_or found.path (lookup (nat_eq DW_LNCT_path) contents);
+  directory = option_or found.directory (lookup (nat_eq DW_LNCT_directory_index) contents);
+}
+
+abbrev pub used_at : Used → Result (List (ℕ × Value) × Place) Bad → Result (Used × Place) Bad
+used_at found read = read >>= λ contents. Ok (used_of found contents.0, contents.1)
+
+-- an entry, whose path is the text to which its value leads
+abbrev pub entry_shown : Tables → Bases → LineEntry → model.LineEntry
+entry_shown tables bases entry = record {
+  path = option_and_then (text tables bases) (option_map value_shown entry.path);
+  directory = entry.directory;
+}
+
+abbrev pub header_shown : Header → model.LineHeader
+header_shown header = record {
+  minimum_instruction_length = header.minimum_instruction_length;
+  line_base = header.line_base;
+  line_range = header.line_range;
+  opcode_base = header.opcode_base;
+  standard_opcode_lengths = header.standard_opcode_lengths.now;
+  directories = map (entry_shown (tables_shown header.tables) (bases_shown header.bases)) header.directories.items;
+  files = map (entry_shown (tables_shown header.tables) (bases_shown header.bases)) header.files.items;
+  program = header.program.now;
+}

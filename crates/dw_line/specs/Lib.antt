@@ -1,0 +1,11 @@
+pub mod Fault
+pub mod Header
+pub mod Instruction
+pub mod Registers
+pub mod Rows
+pub mod RowsInside
+pub mod Program
+pub mod ProgramShown
+pub mod Path
+pub mod Lines
+pub mod LinesInside

@@ -1,0 +1,12 @@
+-- The parts of a path.
+use Rattle.std.specs.Prelude.{ℕ, List, Option, None, unwrap_or, option_map, nat_lt, if◌then◌else◌}
+use Rattle.dw_model.specs.LineHeader.{LineHeader}
+use Rattle.dw_model.specs.Path.{joined, directory_path}
+
+-- a part, where there is one, put behind a path
+abbrev pub joined_some : List ℕ → Option (List ℕ) → List ℕ
+joined_some path part = unwrap_or (option_map (joined path) part) path
+
+-- the path of a file's directory, which counts unless it is directory 0
+abbrev pub file_directory : LineHeader → ℕ → Option (List ℕ)
+file_directory header n = if nat_lt 0 n then directory_path header n else None

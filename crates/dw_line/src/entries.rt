@@ -1,0 +1,141 @@
+//! The lists of directories and of files, by section 6.2.4.1 of DWARF 5.
+
+ghost use Rattle.std.specs.Prelude.{◌≡◌, ◌∷◌, [], None, map, option_map};
+ghost use Rattle.std.specs.Option.{option_map_or};
+ghost use Rattle.dw_model.specs.declared.dwarf.TheConstants.{OFFSET_SIZE_32};
+ghost use Rattle.dw_model.specs.LineHeader.{formats_at, contents_at, entries_at, entry_list, as_directory};
+ghost use Rattle.dw_model.specs.Text as model;
+ghost use Rattle.dw_model.specs.Answers.{ReadsOn, ReadsUnlessMemory};
+ghost use Rattle.dw_forms.specs.Value.{value_shown};
+ghost use Rattle.dw_line.specs.Fault.{line_fault};
+ghost use Rattle.dw_line.specs.Header.{format_shown, contents_shown, used_of, used_at, entry_shown};
+
+use crate::fault::LineFault;
+use crate::numbers::{uleb, value};
+use dw_bytes::Cursor;
+use dw_forms::Value;
+use dw_model::dwarf::{DW_LNCT_directory_index, DW_LNCT_path};
+use smallvec::SmallVec;
+use std::alloc::Global;
+
+/// What stands in each entry of a list: a content type, a DW_LNCT code, in a form, a DW_FORM code.
+#[derive(Clone, Copy, Debug, Default, PartialEq, Eq)]
+pub(crate) struct Format {
+    pub(crate) content: u64,
+    pub(crate) form: u64,
+}
+
+/// The values of an entry that are used: the first of each of their content types.
+#[derive(Clone, Copy, Debug, Default)]
+pub(crate) struct Contents<'a> {
+    pub(crate) path: Option<Value<'a>>,
+    pub(crate) directory: Option<Value<'a>>,
+}
+
+/// A directory or a file. Its path is a value, whose text is looked up when it is asked for, so that
+/// reading a list takes no more time than the list is long.
+#[derive(Clone, Copy, Debug, Default)]
+pub(crate) struct LineEntry<'a> {
+    pub(crate) path: Option<Value<'a>>,
+    /// The number of its directory.
+    pub(crate) directory: u64,
+}
+
+/// So many formats.
+fn formats_of(
+    alloc: Global,
+    cursor: &mut Cursor<'_>,
+    count: u8,
+) -> Result<SmallVec<Format, 8>, LineFault>
+    ensures { ReadsUnlessMemory (λ formats. map format_shown formats.items) line_fault result (formats_at count cursor.old) cursor.new }
+{
+    let mut formats = SmallVec::new(alloc);
+    for _ in 0..count {
+        let content = uleb(cursor)?;
+        let form = uleb(cursor)?;
+        formats.push(Format { content, form })?;
+    }
+    Ok(formats)
+}
+
+impl<'a> Contents<'a> {
+    /// With one more value of the entry.
+    fn with(self, content: u64, value: Value<'a>) -> Self
+        ensures { contents_shown result ≡ used_of (contents_shown self.entry) ((content, value_shown value.entry) ∷ []) }
+    {
+        match content {
+            DW_LNCT_path => Contents {
+                path: self.path.or(Some(value)),
+                directory: self.directory,
+            },
+            DW_LNCT_directory_index => Contents {
+                path: self.path,
+                directory: self.directory.or(Some(value)),
+            },
+            _ => self,
+        }
+    }
+}
+
+/// The values that these formats ask for.
+fn contents_of<'a>(cursor: &mut Cursor<'a>, formats: &[Format]) -> Result<Contents<'a>, LineFault>
+    ensures { ReadsOn contents_shown line_fault result (used_at (record { path = None; directory = None }) (contents_at OFFSET_SIZE_32 (map format_shown formats.now) cursor.old)) cursor.new }
+{
+    let mut contents = Contents {
+        path: None,
+        directory: None,
+    };
+    for format in formats {
+        let value = value(cursor, format.form)?;
+        contents = contents.with(format.content, value);
+    }
+    Ok(contents)
+}
+
+/// The number of a directory that a value is; 0 where it is no unsigned number.
+fn directory_of(value: Option<Value<'_>>) -> u64
+    ensures { result ≡ option_map_or as_directory (option_map value_shown value.entry) 0 }
+{
+    match value {
+        Some(Value::Unsigned(number)) => number,
+        _ => 0,
+    }
+}
+
+/// The entries of a list of so many.
+fn entries_of<'a>(
+    alloc: Global,
+    cursor: &mut Cursor<'a>,
+    formats: &[Format],
+    count: u64,
+) -> Result<Vec<LineEntry<'a>>, LineFault>
+    ensures { (tables : model.Tables) (bases : model.Bases) → ReadsUnlessMemory (λ entries. map (entry_shown tables bases) entries.items) line_fault result (entries_at tables bases OFFSET_SIZE_32 (map format_shown formats.now) count cursor.old) cursor.new }
+{
+    let mut entries = Vec::new(alloc);
+    for _ in 0..count {
+        let contents = contents_of(cursor, formats)?;
+        entries.push(LineEntry {
+            path: contents.path,
+            directory: directory_of(contents.directory),
+        })?;
+    }
+    Ok(entries)
+}
+
+/// A list: how many formats, these, how many entries, and those. A number of entries above that of
+/// the bytes left is bad, so that entries of no bytes can't be without number.
+#[tactic(auto, unfolding(dw_model::specs::LineHeader::entry_list))]
+pub(crate) fn entry_list_of<'a>(
+    alloc: Global,
+    cursor: &mut Cursor<'a>,
+) -> Result<Vec<LineEntry<'a>>, LineFault>
+    ensures { (tables : model.Tables) (bases : model.Bases) → ReadsUnlessMemory (λ entries. map (entry_shown tables bases) entries.items) line_fault result (entry_list tables bases OFFSET_SIZE_32 cursor.old) cursor.new }
+{
+    let format_count = cursor.u8().ok_or(LineFault::Bad)?;
+    let formats = formats_of(alloc, cursor, format_count)?;
+    let count = uleb(cursor)?;
+    if count > cursor.left() as u64 {
+        return Err(LineFault::Bad);
+    }
+    entries_of(alloc, cursor, formats.as_slice(), count)
+}

@@ -1,0 +1,96 @@
+//! A line table: the row of an address, and the path of a file.
+
+ghost use Rattle.std.specs.Prelude.{◌≡◌, IfOk, option_map};
+ghost use Rattle.dw_model.specs.Answers.{GivesUnlessMemory};
+ghost use Rattle.dw_model.specs.Matrix.{row_of};
+ghost use Rattle.dw_model.specs.Path.{path};
+ghost use Rattle.dw_forms.specs.Tables.{tables_shown, bases_shown};
+ghost use Rattle.dw_line.specs.Fault.{line_fault};
+ghost use Rattle.dw_line.specs.Lines.{lines_of};
+ghost use Rattle.dw_line.specs.RowsInside.{row_told};
+
+use crate::fault::LineFault;
+use crate::header::{Header, header_at};
+use crate::path::{join, join_some};
+use crate::program::rows_of;
+use crate::rows::{Row, Rows};
+use dw_forms::{Bases, Tables};
+use std::alloc::{AllocError, Global};
+use std::marker::Model;
+
+/// A line table. Contracts see its header, the rows of its program's matrix, and the directory in
+/// which its unit was compiled.
+#[derive(Drop)]
+pub struct Lines<'a> {
+    header: Header<'a>,
+    rows: Rows,
+    comp_dir: Option<&'a [u8]>,
+}
+
+impl<'a> Model for Lines<'a> {
+    ghost use Rattle.dw_model.specs.Answer.{Lines as Table};
+    ghost use Rattle.dw_line.specs.LinesInside.{lines_in, AreRead};
+
+    ghost Value = { Table };
+
+    ghost view = { lines_in };
+
+    ghost invariant = { AreRead };
+}
+
+impl<'a> Lines<'a> {
+    /// Reads the table at an offset of .debug_line, of a unit with these bases that was compiled in
+    /// a directory, in time linear in the table's length (section 6.2).
+    ///
+    /// `Bad` where its header or its program can't be read: the table, the header or a list runs
+    /// past its end, the version isn't 5, addresses aren't of 8 bytes, an instruction has more than
+    /// one operation, line_range or opcode_base is 0, a form is unknown, an extended opcode has the
+    /// wrong length, or a number doesn't fit 64 bits. `Memory` comes only where a growth was refused.
+    pub fn read(
+        alloc: Global,
+        line_section: &'a [u8],
+        tables: &Tables<'a>,
+        bases: &Bases,
+        comp_dir: Option<&'a [u8]>,
+        offset: u64,
+    ) -> Result<Self, LineFault>
+        ensures { GivesUnlessMemory (λ lines. lines) line_fault result (lines_of (tables_shown tables.now) (bases_shown bases.now) line_section.now (option_map (λ directory. directory.now) comp_dir.entry) offset) }
+    {
+        let header = header_at(alloc, line_section, tables, bases, offset)?;
+        let rows = rows_of(alloc, &header)?;
+        Ok(Lines {
+            header,
+            rows,
+            comp_dir,
+        })
+    }
+
+    /// The row of an address: in the first used sequence, in program order, from whose first
+    /// address on and below whose end it lies, the last row whose address isn't above it. Takes no
+    /// memory.
+    pub fn row(&self, address: u64) -> Option<Row>
+        ensures { result ≡ option_map row_told (row_of self.now.rows address) }
+    {
+        self.rows.row(address)
+    }
+
+    /// The path of a file, numbered from 0 on: from directory 0, else from the directory in which
+    /// the unit was compiled, by the file's directory to its name (section 6.2.4). `None` where the
+    /// file isn't there or its name can't be read; an error where a growth was refused.
+    #[tactic(auto, unfolding(dw_model::specs::Path::path))]
+    pub fn path(&self, alloc: Global, n: u64) -> Result<Option<Vec<u8>>, AllocError>
+        ensures { IfOk result (λ found. option_map (λ path. path.items) found ≡ path self.now.header self.now.comp_dir n) }
+    {
+        let Some(file) = self.header.files.get(n as usize) else {
+            return Ok(None);
+        };
+        let Some(name) = self.header.text_of(file) else {
+            return Ok(None);
+        };
+        let mut path = Vec::new(alloc);
+        path.extend_from_slice(self.header.top(self.comp_dir))?;
+        join_some(&mut path, self.header.file_directory(file))?;
+        join(&mut path, name)?;
+        Ok(Some(path))
+    }
+}

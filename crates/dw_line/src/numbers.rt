@@ -1,0 +1,45 @@
+//! Numbers and values of a line table, each of whose faults makes the table bad.
+
+ghost use Rattle.std.specs.Prelude.{◌≡◌, None};
+ghost use Rattle.dw_model.specs.declared.dwarf.TheConstants.{OFFSET_SIZE_32};
+ghost use Rattle.dw_model.specs.Results.{or_fault};
+ghost use Rattle.dw_model.specs.Leb.{uleb_at, sleb_at};
+ghost use Rattle.dw_model.specs.Form.{value_at};
+ghost use Rattle.dw_model.specs.Faults.{bad};
+ghost use Rattle.dw_model.specs.Answers.{ReadsOn};
+ghost use Rattle.dw_forms.specs.Value.{value_shown};
+ghost use Rattle.dw_line.specs.Fault.{line_fault};
+
+use crate::fault::LineFault;
+use dw_bytes::Cursor;
+use dw_forms::{Value, read_value};
+
+/// An unsigned LEB128 number (section 7.6).
+pub(crate) fn uleb(cursor: &mut Cursor<'_>) -> Result<u64, LineFault>
+    ensures { ReadsOn (λ x. x) line_fault result (or_fault bad (uleb_at cursor.old)) cursor.new }
+{
+    match cursor.uleb() {
+        Ok(number) => Ok(number),
+        Err(_) => Err(LineFault::Bad),
+    }
+}
+
+/// A signed LEB128 number (section 7.6).
+pub(crate) fn sleb(cursor: &mut Cursor<'_>) -> Result<i64, LineFault>
+    ensures { ReadsOn (λ x. x) line_fault result (or_fault bad (sleb_at cursor.old)) cursor.new }
+{
+    match cursor.sleb() {
+        Ok(number) => Ok(number),
+        Err(_) => Err(LineFault::Bad),
+    }
+}
+
+/// The value of a form (section 7.5.6).
+pub(crate) fn value<'a>(cursor: &mut Cursor<'a>, form: u64) -> Result<Value<'a>, LineFault>
+    ensures { ReadsOn value_shown line_fault result (or_fault bad (value_at OFFSET_SIZE_32 form None cursor.old)) cursor.new }
+{
+    match read_value(cursor, form, None) {
+        Ok(value) => Ok(value),
+        Err(_) => Err(LineFault::Bad),
+    }
+}

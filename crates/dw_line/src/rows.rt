@@ -1,0 +1,153 @@
+//! The rows of the used sequences of a line program, in one list (section 6.2 of DWARF 5).
+
+ghost use Rattle.std.specs.Prelude.{◌≡◌, ◌≤◌, ◌<◌, ◌&&◌, true, map, option_map, find, nat_le, nat_lt, OnOk};
+ghost use Rattle.dw_model.specs.Matrix.{first_address, last_address, row_in};
+ghost use Rattle.dw_model.specs.Matrix as model;
+ghost use Rattle.dw_line.specs.Rows.{nothing, pushed, closed, row_among};
+ghost use Rattle.dw_line.specs.RowsInside.{row_shown, row_told};
+
+use crate::registers::Registers;
+use std::alloc::{AllocError, Global};
+use std::marker::Model;
+
+/// Where in the source an address comes from. `file` is a number of the table's list of files, from
+/// 0 on; line 0 is no line, and column 0 no column.
+#[derive(Clone, Copy, Debug, Default, PartialEq, Eq)]
+pub struct Row {
+    pub file: u64,
+    pub line: u64,
+    pub column: u64,
+}
+
+/// A used sequence: its first address and its end, and where its rows lie, the last of which is at
+/// its end.
+#[derive(Clone, Copy, Debug, Default)]
+pub(crate) struct Sequence {
+    pub(crate) begin: u64,
+    pub(crate) end: u64,
+    pub(crate) first_row: usize,
+    pub(crate) end_row: usize,
+}
+
+/// The rows of the used sequences, in program order. Contracts see them as those lists of rows, and
+/// the rows since the last end row.
+#[derive(Drop)]
+pub(crate) struct Rows {
+    rows: Vec<Registers>,
+    /// The place of the first row since the last end row.
+    first_pending: usize,
+    sequences: Vec<Sequence>,
+}
+
+impl Model for Rows {
+    ghost use Rattle.dw_line.specs.Rows.{Kept};
+    ghost use Rattle.dw_line.specs.RowsInside.{kept_in, AreKept};
+
+    ghost Value = { Kept };
+
+    ghost view = { kept_in };
+
+    ghost invariant = { AreKept };
+}
+
+/// The addresses never fall.
+fn never_falls(rows: &[Registers]) -> bool
+    ensures { result ≡ model.never_falls (map row_shown rows.now) }
+{
+    for i in 1..rows.len() {
+        if rows[i - 1].address > rows[i].address {
+            return false;
+        }
+    }
+    true
+}
+
+/// The addresses of a sequence never fall, and its first is below its end's.
+fn is_used(rows: &[Registers]) -> bool
+    ensures { result ≡ model.is_used (map row_shown rows.now) }
+{
+    if rows.is_empty() {
+        return false;
+    }
+    let first = rows[0];
+    let last = rows[rows.len() - 1];
+    never_falls(rows) && first.address < last.address
+}
+
+/// The first sequence that holds an address.
+fn sequence_at(sequences: &[Sequence], address: u64) -> Option<&Sequence>
+    ensures { option_map (λ found. found.now) result ≡ find (λ s. nat_le s.begin address && nat_lt address s.end) sequences.now }
+{
+    sequences.iter().find(|sequence| sequence.begin <= address && address < sequence.end)
+}
+
+/// The row at whose address or behind which an address of a used sequence lies, before the next
+/// row's. The search takes as many steps as the number of rows has binary digits.
+fn row_at(rows: &[Registers], address: u64) -> Option<Row>
+    requires used { model.is_used (map row_shown rows.now) ≡ true }
+    requires from { first_address (map row_shown rows.now) ≤ address }
+    requires below { address < last_address (map row_shown rows.now) }
+    ensures { result ≡ option_map row_told (row_in address (map row_shown rows.now)) }
+{
+    let next = rows.partition_point(
+        |row: &Registers| -> bool
+            ensures { result ≡ nat_le row.now.address address }
+        { row.address <= address },
+    );
+    let row = rows[next - 1];
+    Some(Row {
+        file: row.file,
+        line: row.line,
+        column: row.column,
+    })
+}
+
+impl Rows {
+    /// There are no rows yet.
+    pub(crate) fn new(alloc: Global) -> Self
+        ensures { result ≡ nothing }
+    {
+        Rows {
+            rows: Vec::new(alloc),
+            first_pending: 0,
+            sequences: Vec::new(alloc),
+        }
+    }
+
+    /// One more row, which is pending.
+    pub(crate) fn push(&mut self, row: Registers) -> Result<(), AllocError>
+        ensures { OnOk result (self.new ≡ pushed (row_shown row) self.old) }
+    {
+        self.rows.push(row)?;
+        Ok(())
+    }
+
+    /// The pending rows end: they are a sequence, which is kept where it is used.
+    pub(crate) fn close(&mut self) -> Result<(), AllocError>
+        ensures { OnOk result (self.new ≡ closed self.old) }
+    {
+        let pending = self.rows.split_at(self.first_pending).1;
+        if !is_used(pending) {
+            self.rows.truncate(self.first_pending);
+            return Ok(());
+        }
+        let sequence = Sequence {
+            begin: pending[0].address,
+            end: pending[pending.len() - 1].address,
+            first_row: self.first_pending,
+            end_row: self.rows.len(),
+        };
+        self.sequences.push(sequence)?;
+        self.first_pending = self.rows.len();
+        Ok(())
+    }
+
+    /// The row of an address.
+    pub(crate) fn row(&self, address: u64) -> Option<Row>
+        ensures { result ≡ option_map row_told (row_among self.now.used address) }
+    {
+        let sequence = sequence_at(self.sequences.as_slice(), address)?;
+        let before_end = self.rows.split_at(sequence.end_row).0;
+        row_at(before_end.split_at(sequence.first_row).1, address)
+    }
+}
