@@ -3,6 +3,7 @@
 ghost use Rattle.std.specs.Prelude.{◌≡◌, ◌+◌, ◌<◌, ◌^◌, IfOk, IfSome, length, option_map};
 ghost use Rattle.dw_model.specs.declared.dwarf.TheConstants.{OFFSET_SIZE_32};
 ghost use Rattle.dw_model.specs.Unit as model;
+ghost use Rattle.dw_model.specs.Root.{answers};
 ghost use Rattle.dw_model.specs.Answers.{Gives};
 ghost use Rattle.dw_elf.specs.OpenFault.{refusal_of};
 ghost use Rattle.dw_units.specs.Header.{kind_shown, header_shown, extent_shown, IsWhole};
@@ -68,6 +69,13 @@ impl Kind {
         ensures { result ≡ model.is_skipped (kind_shown self) }
     {
         matches!(self, Kind::Skipped)
+    }
+
+    /// Such a unit answers addresses.
+    pub fn answers(self) -> bool
+        ensures { result ≡ answers (kind_shown self) }
+    {
+        matches!(self, Kind::Compile | Kind::Skeleton)
     }
 
     /// Bytes of the `dwo_id` that ends the header.

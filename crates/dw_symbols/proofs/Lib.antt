@@ -1,0 +1,3 @@
+pub mod CoverLemmas
+pub mod OwnerLemmas
+pub mod ImageLemmas

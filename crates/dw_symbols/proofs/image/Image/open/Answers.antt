@@ -1,0 +1,45 @@
+use Rattle.std.proofs.Common.{◌≡◌, ◌∙◌, ℕ, None, map, ap}
+use Rattle.std.specs.Prelude.{option_map}
+use Rattle.std.proofs.lemmas.Result.{err_from_is_err_and}
+use Rattle.dw_model.specs.Section.{sections}
+use Rattle.dw_model.specs.Unit as model
+use Rattle.dw_model.specs.Root.{unit_refusal}
+use Rattle.dw_elf.specs.OpenFault.{refusal_of}
+use Rattle.dw_model.specs.Faults.{root_ranges}
+use Rattle.dw_ranges.specs.Range.{pair_shown}
+use Rattle.dw_ranges.specs.Owners.{least_owner}
+use Rattle.dw_ranges.specs.Segments.{owner_at}
+use Rattle.dw_symbols.proofs.OwnerLemmas.{none-bad, told-bad, index-unit}
+use Rattle.dw_symbols.proofs.ImageLemmas.{by-ranges, told-by-ranges}
+use Rattle.dw_symbols.proofs.image.Image.open.Goals as goal
+
+pub returns-in_err-pairs-clause-refused : goal.returns-in_err-pairs-clause-refused
+returns-in_err-pairs-clause-refused c =
+    let s = c.in_ok-units.units in
+    let same : s ≡ sections c.args.file.now = c.in_ok-units.ensures.sections ∙ ap sections c.in_ok-elf.ensures.file in
+    let units : unit_refusal s ≡ None = ap unit_refusal c.in_ok-units.ensures.sections ∙ c.in_ok-units.ensures.accepted in
+    let told = told-by-ranges c.args.file.now s (refusal_of c.in_err-pairs.field-0.0) same c.in_ok-elf.ensures.accepted units (told-bad s 0 (model.units s.info) (refusal_of c.in_err-pairs.field-0.0) c.in_err-pairs.ensures) in
+    let p = err_from_is_err_and c.from_residual-in_err-pairs.result c.from_residual-in_err-pairs.ensures.1 in
+    rw (p.1, p.2) told
+
+pub invariant_of-result : goal.invariant_of-result
+invariant_of-result c =
+    let s = c.in_ok-units.units in
+    let same : s ≡ sections c.args.file.now = c.in_ok-units.ensures.sections ∙ ap sections c.in_ok-elf.ensures.file in
+    let law = c.law_of_least_owner.ensures.first in
+    let pairs = map pair_shown c.in_ok-pairs.pairs.items in
+    let owner = λ (a : ℕ). index-unit s (sections c.args.file.now) pairs (owner_at c.in_ok-index.index a) a same law c.in_ok-pairs.ensures (c.in_ok-index.ensures.owners a ∙ ap (λ pairs. least_owner (map pair_shown pairs) a) c.deref.ensures.value) in
+    record {
+      units = same;
+      line = c.section.ensures ∙ ap (λ file. (sections file).line) c.in_ok-elf.ensures.file;
+      unit_at = λ a. (owner a).0;
+      within = λ a. (owner a).1;
+    }
+
+pub returns-clause-accepted : goal.returns-clause-accepted
+returns-clause-accepted c =
+    let s = c.in_ok-units.units in
+    let same : s ≡ sections c.args.file.now = c.in_ok-units.ensures.sections ∙ ap sections c.in_ok-elf.ensures.file in
+    let units : unit_refusal s ≡ None = ap unit_refusal c.in_ok-units.ensures.sections ∙ c.in_ok-units.ensures.accepted in
+    let none = none-bad s 0 (model.units s.info) (map pair_shown c.in_ok-pairs.pairs.items) c.in_ok-pairs.ensures in
+    by-ranges c.args.file.now s None same c.in_ok-elf.ensures.accepted units (ap (option_map (λ unit. root_ranges unit.offset)) none)

@@ -1,0 +1,69 @@
+//! A file that is open: its units, and which of them answers an address.
+
+ghost use Rattle.std.specs.Prelude.{◌≡◌, None, OnOk, IfOk, IfErr};
+ghost use Rattle.dw_model.specs.Refusal.{refusal};
+ghost use Rattle.dw_elf.specs.OpenFault.{RefusesUnlessMemory};
+
+use crate::cover::unit_pairs;
+use dw_elf::{Elf, Name, OpenFault};
+use dw_ranges::{Index, law_of_least_owner};
+use dw_units::Units;
+use std::alloc::Global;
+use std::marker::Model;
+
+/// A file whose addresses can be asked for. Contracts see its bytes.
+#[derive(Drop)]
+pub struct Image<'a> {
+    file: &'a [u8],
+    /// .debug_line
+    line: &'a [u8],
+    units: Units<'a>,
+    /// The places of the units that answer addresses.
+    index: Index,
+}
+
+impl<'a> Model for Image<'a> {
+    ghost use Rattle.std.specs.Prelude.{List, ℕ};
+    ghost use Rattle.std.specs.Coded.{coded_list, coded_ℕ};
+    ghost use Rattle.dw_symbols.specs.Image.{file_of, IsOpen};
+
+    ghost Value = { List ℕ };
+
+    ghost coded = { coded_list coded_ℕ };
+
+    ghost view = { file_of };
+
+    ghost invariant = { IsOpen };
+}
+
+impl<'a> Image<'a> {
+    /// Opens a file: tests its sections, cuts it into units, reads their first entries and the ranges
+    /// of these. Nothing of the file is copied.
+    ///
+    /// The error is the first condition that fails, or `Memory` where a growth was refused.
+    #[tactic(auto, unfolding(dw_model::specs::Refusal::refusal))]
+    pub fn open(alloc: Global, file: &'a [u8]) -> Result<Self, OpenFault>
+        ensures file { IfOk result (λ image. image ≡ file.now) }
+        ensures accepted { OnOk result (refusal file.now ≡ None) }
+        ensures refused { IfErr result (λ fault. RefusesUnlessMemory fault (refusal file.now)) }
+    {
+        let elf = Elf::open(file)?;
+        let units = Units::read(alloc, &elf)?;
+        let pairs = unit_pairs(alloc, &units)?;
+        let index = Index::build(alloc, &pairs)?;
+        law_of_least_owner();
+        Ok(Image {
+            file,
+            line: elf.section(Name::DebugLine),
+            units,
+            index,
+        })
+    }
+
+    /// The bytes of the file.
+    pub fn bytes(&self) -> &'a [u8]
+        ensures { result.now ≡ self.now }
+    {
+        self.file
+    }
+}
