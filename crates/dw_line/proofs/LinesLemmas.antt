@@ -8,7 +8,13 @@ use Rattle.dw_model.specs.Text.{Tables, Bases}
 use Rattle.dw_model.specs.LineHeader.{LineHeader, line_header}
 use Rattle.dw_model.specs.Instruction.{Instruction, instructions}
 use Rattle.dw_model.specs.Matrix.{Row, matrix, sequences, is_used, first_address, last_address, row_in, row_of}
-use Rattle.dw_model.specs.Answer.{Lines}
+use Rattle.dw_model.specs.Answer.{Lines, lines_at}
+use Rattle.dw_model.specs.declared.dwarf.TheConstants.{DW_AT_comp_dir}
+use Rattle.dw_model.specs.Section.{Sections}
+use Rattle.dw_model.specs.Unit.{DwarfUnit}
+use Rattle.dw_model.specs.Root.{bases}
+use Rattle.dw_model.specs.Entry.{Entry, attribute}
+use Rattle.dw_model.specs.Text.{text}
 use Rattle.dw_line.specs.Rows.{unended, used_rows, row_among}
 use Rattle.dw_line.specs.RowsInside.{row_told}
 use Rattle.dw_line.specs.Program.{used_by}
@@ -45,6 +51,11 @@ lines_are tables bases section comp_dir offset header used e f = rw e (by (instr
     by : (program : Result (List Instruction) Bad) → ◌>>=◌ {B = List (List Row)} program (λ program. Ok (used_rows (matrix header program))) ≡ Ok used → ◌>>=◌ {B = Lines} program (λ program. Ok (record { header = header; rows = matrix header program; comp_dir = comp_dir })) ≡ Ok (record { header = header; rows = matrix header (result_unwrap_or program []); comp_dir = comp_dir })
     by (Ok program) f = refl
     by (Err g) f = absurd cc
+
+-- the table that a unit names is read so
+pub of_a_unit : (sections : Sections) (unit : DwarfUnit) (root : Entry) (offset : ℕ) → lines_at sections unit root offset ≡ lines_of sections.tables (bases sections unit) sections.line (option_and_then (text sections.tables (bases sections unit)) (attribute DW_AT_comp_dir root)) offset
+unfolding lines_at lines_of
+of_a_unit sections unit root offset = refl
 
 -- ---- the row of an address
 

@@ -2,20 +2,17 @@
 use Rattle.std.specs.Prelude.{◌≡◌, ◌≤◌, ℕ, true, false, List, map, take, drop, length}
 use Rattle.std.specs.List.{AllByRecursion}
 use Rattle.dw_model.specs.Matrix.{Row, is_used, first_address, last_address}
+use Rattle.dw_model.specs.Registers.{row}
 use Rattle.dw_line.specs.declared.registers.Registers.{Registers}
 use Rattle.dw_line.specs.declared.rows.Row.{Row as RowTold}
 use Rattle.dw_line.specs.declared.rows.Sequence.{Sequence}
 use Rattle.dw_line.specs.declared.rows.Rows.TheInside.{Inside}
+use Rattle.dw_line.specs.Registers.{registers_shown}
 use Rattle.dw_line.specs.Rows.{Kept}
 
+-- a row as it is kept, which doesn't say whether it ends its sequence
 abbrev pub row_shown : Registers → Row
-row_shown registers = record {
-  address = registers.address;
-  file = registers.file;
-  line = registers.line;
-  column = registers.column;
-  ends = false;
-}
+row_shown registers = row (registers_shown registers) false
 
 -- what is told of a row
 abbrev pub row_told : Row → RowTold

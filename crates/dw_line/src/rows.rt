@@ -11,7 +11,7 @@ use std::alloc::{AllocError, Global};
 use std::marker::Model;
 
 /// Where in the source an address comes from. `file` is a number of the table's list of files, from
-/// 0 on; line 0 is no line, and column 0 no column.
+/// 0 on; line 0 is no line of a source, and column 0 the left edge of a line (section 6.2.2).
 #[derive(Clone, Copy, Debug, Default, PartialEq, Eq)]
 pub struct Row {
     pub file: u64,

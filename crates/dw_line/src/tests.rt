@@ -33,7 +33,7 @@ const NO_BASES: Bases = Bases {
 /// The table of a header and a program, with its length before them.
 fn table(alloc: Global, header: &[u8], program: &[u8]) -> Result<Vec<u8>, AllocError> {
     let mut bytes = Vec::new(alloc);
-    let len = (header.len() + program.len()) as u32;
+    let len = u32::try_from(header.len() + program.len()).unwrap_or(0);
     bytes.extend_from_slice(&len.to_le_bytes())?;
     bytes.extend_from_slice(header)?;
     bytes.extend_from_slice(program)?;
@@ -311,13 +311,11 @@ fn offsets_of_tables(rt: HostRuntime) {
     let mut section = Vec::new(alloc);
     assert!(rt; section.extend_from_slice(&first).is_ok());
     assert!(rt; section.extend_from_slice(&second).is_ok());
-    let offset = first.len() as u64;
-    match Lines::read(alloc, &section, &NO_TABLES, &NO_BASES, None, offset) {
+    match Lines::read(alloc, &section, &NO_TABLES, &NO_BASES, None, 53) {
         Ok(lines) => assert_eq!(rt; lines.row(0x40_1000), line(3)),
         Err(_) => assert!(rt; false, "not read"),
     }
-    let len = section.len() as u64;
-    for offset in [1, offset + 1, len - 1, len, len + 1, u64::MAX] {
+    for offset in [1, 54, 123, 124, 125, u64::MAX] {
         let read = Lines::read(alloc, &section, &NO_TABLES, &NO_BASES, None, offset);
         assert_eq!(rt; read.err(), Some(LineFault::Bad), "offset {offset}");
     }
@@ -423,36 +421,54 @@ fn files_without_formats(rt: HostRuntime) {
     }
 }
 
+/// The table of `PATHS` and `MANY_ROWS`, made once more where a growth was refused.
+fn table_retried(alloc: Global) -> Result<Vec<u8>, AllocError> {
+    let Ok(section) = table(alloc, PATHS, MANY_ROWS) else {
+        return table(alloc, PATHS, MANY_ROWS);
+    };
+    Ok(section)
+}
+
+/// The table at the front of a section, read once more where a growth was refused.
+fn read_retried<'a>(alloc: Global, section: &'a [u8]) -> Result<Lines<'a>, LineFault> {
+    let tables = Tables {
+        str: &[],
+        line_str: LINE_STR,
+        str_offsets: &[],
+        addr: &[],
+        rnglists: &[],
+    };
+    let first = Lines::read(alloc, section, &tables, &NO_BASES, None, 0);
+    let Err(LineFault::Memory) = first else {
+        return first;
+    };
+    Lines::read(alloc, section, &tables, &NO_BASES, None, 0)
+}
+
+/// The path of file 0, made once more where a growth was refused.
+fn path_retried(alloc: Global, lines: &Lines<'_>) -> Result<Option<Vec<u8>>, AllocError> {
+    let Ok(path) = lines.path(alloc, 0) else {
+        return lines.path(alloc, 0);
+    };
+    Ok(path)
+}
+
 /// A table whose growths are refused is want of memory, and so is a path; the next reading, with
 /// memory, gives them whole. So this test passes under `rt try --test --fail-alloc N` for each N.
 #[test]
 fn each_growth_refused(rt: HostRuntime) {
     let alloc = rt.alloc();
-    // more files than a small vector keeps in place, and more rows than the first growth holds
-    let first = table(alloc, PATHS, MANY_ROWS);
-    let Ok(section) = first.or_else(|_| table(alloc, PATHS, MANY_ROWS)) else {
+    let Ok(section) = table_retried(alloc) else {
         assert!(rt; false, "no memory");
         return;
     };
-    let tables = Tables {
-        line_str: LINE_STR,
-        ..NO_TABLES
-    };
-    let lines = match Lines::read(alloc, &section, &tables, &NO_BASES, None, 0) {
-        Err(LineFault::Memory) => Lines::read(alloc, &section, &tables, &NO_BASES, None, 0),
-        read => read,
-    };
-    let Ok(lines) = lines else {
+    let Ok(lines) = read_retried(alloc, &section) else {
         assert!(rt; false, "not read");
         return;
     };
     assert_eq!(rt; lines.row(0x1003), line(4));
     assert_eq!(rt; lines.row(0x2009), line(10));
-    let path = match lines.path(alloc, 0) {
-        Err(_) => lines.path(alloc, 0),
-        found => found,
-    };
-    match path {
+    match path_retried(alloc, &lines) {
         Ok(Some(path)) => assert_eq!(rt; path.as_slice(), b"/w/src/b.c".as_slice()),
         _ => assert!(rt; false, "no path"),
     }

@@ -1,0 +1,120 @@
+//! Where in the source an address comes from.
+
+ghost use Rattle.std.specs.Prelude.{◌≡◌, ◌<◌, IfOk, IfSome, length, None, option_and_then, option_map, slice_get};
+ghost use Rattle.dw_model.specs.Unit as model_unit;
+ghost use Rattle.dw_model.specs.Answer as model;
+ghost use Rattle.dw_model.specs.Answers.{GivesUnlessMemory};
+ghost use Rattle.dw_line.specs.Fault.{line_fault};
+ghost use Rattle.dw_symbols.specs.Answer.{location_shown};
+
+use crate::answer::Location;
+use dw_forms::Value;
+use dw_line::{LineFault, Lines};
+use dw_model::dwarf::{DW_AT_comp_dir, DW_AT_stmt_list};
+use dw_units::Units;
+use std::alloc::{AllocError, Global};
+
+/// The line table that a unit's first entry names, where it names one; .debug_line is handed in.
+#[tactic(auto, unfolding(dw_model::specs::Answer::lines, dw_model::specs::Answer::lines_at, dw_line::specs::Lines::lines_of))]
+pub(crate) fn lines_of<'a>(
+    alloc: Global,
+    units: &Units<'a>,
+    line: &'a [u8],
+    i: usize,
+) -> Result<Option<Lines<'a>>, LineFault>
+    requires unit { i < length (model_unit.units units.now.info) }
+    requires line { line.now ≡ units.now.line }
+    ensures { IfSome (slice_get (model_unit.units units.now.info) i) (λ unit. GivesUnlessMemory (λ lines. lines) line_fault result (model.lines units.now unit)) }
+{
+    let unit = units.unit(i);
+    let Some(root) = &unit.root else {
+        return Ok(None);
+    };
+    let Some(Value::SectionOffset(offset)) = root.attr(DW_AT_stmt_list) else {
+        return Ok(None);
+    };
+    let comp_dir = match root.attr(DW_AT_comp_dir) {
+        Some(value) => units.tables().text(value, &unit.bases),
+        None => None,
+    };
+    let lines = Lines::read(alloc, line, units.tables(), &unit.bases, comp_dir, *offset)?;
+    Ok(Some(lines))
+}
+
+/// A location of which nothing is known.
+fn nowhere() -> Location
+    ensures { location_shown result ≡ model.row_location None None }
+{
+    Location {
+        path: None,
+        line: None,
+        column: None,
+    }
+}
+
+/// Line 0 is no line, and without a line no column is told.
+fn location_at(path: Option<Vec<u8>>, line: Option<u64>, column: Option<u64>) -> Location
+    ensures { location_shown result ≡ model.location_at (option_map (λ path. path.items) path) line column }
+{
+    match line {
+        None | Some(0) => Location {
+            path,
+            line: None,
+            column: None,
+        },
+        Some(line) => Location {
+            path,
+            line: Some(line),
+            column,
+        },
+    }
+}
+
+/// The path of a file of a unit's line table.
+fn file_path(
+    alloc: Global,
+    lines: &Option<Lines<'_>>,
+    n: u64,
+) -> Result<Option<Vec<u8>>, AllocError>
+    ensures { IfOk result (λ found. option_map (λ path. path.items) found ≡ model.file_path lines.now n) }
+{
+    match lines {
+        Some(table) => table.path(alloc, n),
+        None => Ok(None),
+    }
+}
+
+/// The location of an address, by its row.
+pub(crate) fn row_location(
+    alloc: Global,
+    lines: &Option<Lines<'_>>,
+    a: u64,
+) -> Result<Location, AllocError>
+    ensures { IfOk result (λ location. location_shown location ≡ model.row_location lines.now (model.row_at lines.now a)) }
+{
+    let Some(table) = lines else {
+        return Ok(nowhere());
+    };
+    let Some(row) = table.row(a) else {
+        return Ok(nowhere());
+    };
+    let path = file_path(alloc, lines, row.file)?;
+    Ok(location_at(path, Some(row.line), Some(row.column)))
+}
+
+/// The location of a call that was inlined, by the numbers that its entry tells.
+pub(crate) fn call_location(
+    alloc: Global,
+    lines: &Option<Lines<'_>>,
+    file: Option<u64>,
+    line: Option<u64>,
+    column: Option<u64>,
+) -> Result<Location, AllocError>
+    ensures { IfOk result (λ location. location_shown location ≡ model.location_at (option_and_then (model.file_path lines.now) file) line column) }
+{
+    let path = match file {
+        Some(n) => file_path(alloc, lines, n)?,
+        None => None,
+    };
+    Ok(location_at(path, line, column))
+}

@@ -1,0 +1,53 @@
+-- What holds of every view, when one changes or another comes; and the same of every item.
+use Rattle.std.proofs.Common.{◌≡◌, ◌≢◌, ℕ, zero, suc, ◌⊎◌, List, [], ◌∷◌, ◌++◌, length, set, sym, refl, ap, subst, inl, inr, ⊎_elim}
+use Rattle.std.specs.List.{AllByRecursion}
+use mathlib.Core.Option.{some, some-ne-none, some-injective}
+use lib.ListN.{get_elem?}
+use Rattle.crossbeam_queue.proofs.Lists.{at_set}
+
+module _ {V : Type 0} where
+  abbrev pub All : (ℕ → V → Type 0) → List V → Type 0
+  All F views = (port : ℕ) (v : V) → get_elem? views port ≡ some v → F port v
+
+  -- one view changes
+  pub changed : (F : ℕ → V → Type 0) (views : List V) (port : ℕ) (w : V) → F port w
+      → ((j : ℕ) (u : V) → j ≢ port → get_elem? views j ≡ some u → F j u) → All F (set views port w)
+  changed F views port w mine others j u e =
+      ⊎_elim (λ (x : (j ≡ port) × (w ≡ u)). subst (λ (y : ℕ × V). F y.0 y.1) (λ i. (sym x.0 i, x.1 i)) mine)
+      (λ (x : (j ≢ port) × (get_elem? views j ≡ some u)). others j u x.0 x.1) (at_set views port j w u e)
+
+  -- the place of what is added
+  at_end : (l : List V) (a b : V) (j : ℕ) → get_elem? (l ++ a ∷ []) j ≡ some b → (get_elem? l j ≡ some b) ⊎ ((j ≡ length l) × (a ≡ b))
+  at_end [] a b zero e = inr (refl, some-injective a b e)
+  at_end [] a b (suc j) e = absurd (some-ne-none b (sym e))
+  at_end (x ∷ xs) a b zero e = inl e
+  at_end (x ∷ xs) a b (suc j) e = ⊎_elim (λ t. inl t) (λ t. inr (ap suc t.0, t.1)) (at_end xs a b j e)
+
+  -- a view is added
+  pub added : (F : ℕ → V → Type 0) (views : List V) (w : V) → F (length views) w → All F views → All F (views ++ w ∷ [])
+  added F views w mine all j u e =
+      ⊎_elim (λ (x : get_elem? views j ≡ some u). all j u x)
+      (λ (x : (j ≡ length views) × (w ≡ u)). subst (λ (y : ℕ × V). F y.0 y.1) (λ i. (sym x.0 i, x.1 i)) mine) (at_end views w u j e)
+
+  pub each_weaker : (F G : V → Type 0) (items : List V) → ((item : V) → F item → G item) → AllByRecursion F items → AllByRecursion G items
+  each_weaker F G [] f all = tt
+  each_weaker F G (item ∷ items) f all = (f item all.0, each_weaker F G items f all.1)
+
+  pub each_added : (F : V → Type 0) (items : List V) (item : V) → AllByRecursion F items → F item → AllByRecursion F (items ++ item ∷ [])
+  each_added F [] item all mine = (mine, tt)
+  each_added F (x ∷ xs) item all mine = (all.0, each_added F xs item all.1 mine)
+
+  -- what holds of each holds of the last
+  last_of : (F : V → Type 0) (items : List V) (item : V) → AllByRecursion F (items ++ item ∷ []) → F item
+  last_of F [] item all = all.0
+  last_of F (x ∷ xs) item all = last_of F xs item all.1
+
+  pub each_last : (F : V → Type 0) (items front : List V) (item : V) → AllByRecursion F items → items ≡ front ++ item ∷ [] → F item
+  each_last F items front item all is = last_of F front item (subst (AllByRecursion F) is all)
+
+  front_of : (F : V → Type 0) (items : List V) (item : V) → AllByRecursion F (items ++ item ∷ []) → AllByRecursion F items
+  front_of F [] item all = tt
+  front_of F (x ∷ xs) item all = (all.0, front_of F xs item all.1)
+
+  pub each_front : (F : V → Type 0) (items front : List V) (item : V) → AllByRecursion F items → items ≡ front ++ item ∷ [] → AllByRecursion F front
+  each_front F items front item all is = front_of F front item (subst (AllByRecursion F) is all)

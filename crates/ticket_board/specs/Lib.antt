@@ -1,0 +1,9 @@
+pub mod Faults
+pub mod Jobs
+pub mod Messages
+pub mod Places
+pub mod Seats
+pub mod BoardShown
+pub mod ClientShown
+pub mod Outcome
+pub mod WorkerShown

@@ -1,0 +1,24 @@
+//! The board of a symbolizer's pool: many senders ask, many workers answer, each on a thread of its
+//! own, and every sender receives the answers in the order of its queries, each once.
+#![tactic(auto)]
+
+mod board;
+mod client;
+mod fault;
+mod gate;
+mod jobs;
+mod messages;
+mod opening;
+mod outcome;
+mod places;
+#[cfg(test)]
+mod tests;
+mod worker;
+
+pub use board::Board;
+pub use client::Client;
+pub use fault::{AskFault, BoardFault};
+pub use gate::Gate;
+pub use opening::open;
+pub use outcome::{Next, Turn};
+pub use worker::Worker;
