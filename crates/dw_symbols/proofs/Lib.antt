@@ -1,3 +1,5 @@
 pub mod CoverLemmas
 pub mod OwnerLemmas
 pub mod ImageLemmas
+pub mod KeptLemmas
+pub mod LocationLemmas

@@ -1,6 +1,9 @@
 //! A file that is open: its units, and which of them answers an address.
 
-ghost use Rattle.std.specs.Prelude.{◌≡◌, None, OnOk, IfOk, IfErr};
+ghost use Rattle.std.specs.Prelude.{◌≡◌, ◌<◌, None, OnOk, IfOk, IfErr, IfSome, length, option_and_then, slice_get};
+ghost use Rattle.dw_model.specs.Section.{sections};
+ghost use Rattle.dw_model.specs.Unit.{units};
+ghost use Rattle.dw_model.specs.Answer.{unit_of};
 ghost use Rattle.dw_model.specs.Refusal.{refusal};
 ghost use Rattle.dw_elf.specs.OpenFault.{RefusesUnlessMemory};
 
@@ -58,6 +61,28 @@ impl<'a> Image<'a> {
             units,
             index,
         })
+    }
+
+    /// Its units.
+    pub(crate) fn units(&self) -> &Units<'a>
+        ensures { result.now ≡ sections self.now }
+    {
+        &self.units
+    }
+
+    /// Its .debug_line.
+    pub(crate) fn line(&self) -> &'a [u8]
+        ensures { result.now ≡ (sections self.now).line }
+    {
+        self.line
+    }
+
+    /// The place of the unit that answers an address: of those that cover it, the first.
+    pub(crate) fn unit_at(&self, a: u64) -> Option<usize>
+        ensures unit { option_and_then (slice_get (units (sections self.now).info)) result ≡ unit_of (sections self.now) a }
+        ensures within { IfSome result (λ i. i < length (units (sections self.now).info)) }
+    {
+        self.index.find(a)
     }
 
     /// The bytes of the file.

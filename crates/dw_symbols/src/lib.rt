@@ -2,9 +2,13 @@
 #![tactic(auto)]
 
 mod answer;
+mod context;
 mod cover;
+mod decoded;
 mod image;
+mod kept;
 mod location;
 
 pub use answer::{Answer, Frame, Location, UnitFault};
+pub use context::Context;
 pub use image::Image;

@@ -1,0 +1,18 @@
+-- What is kept of a unit.
+use Rattle.std.specs.Prelude.{◌≡◌, Option, Some, None, Result, Ok, Err}
+use Rattle.dw_model.specs.Results.{with_code}
+use Rattle.dw_model.specs.Section.{Sections}
+use Rattle.dw_model.specs.Unit.{DwarfUnit}
+use Rattle.dw_model.specs.Answer.{Lines, Code, line_fault, lines}
+use Rattle.dw_symbols.specs.declared.answer.UnitFault.{UnitFault}
+use Rattle.dw_symbols.specs.Answer.{code_shown}
+
+-- a line table, or why there is none
+abbrev pub lines_shown : Result (Option Lines) UnitFault → Result (Option Lines) Code
+lines_shown (Ok table) = Ok table
+lines_shown (Err fault) = Err (code_shown fault)
+
+-- the line table that is kept is the unit's
+abbrev pub HasLines : Sections → DwarfUnit → Option (Result (Option Lines) UnitFault) → Type 0
+HasLines sections unit None = Unit {0}
+HasLines sections unit (Some read) = lines_shown read ≡ with_code (λ _. line_fault) (lines sections unit)

@@ -1,0 +1,90 @@
+//! What is kept of a unit: each part is read when it is first asked for.
+
+ghost use Rattle.std.specs.Prelude.{◌≡◌, ◌<◌, Some, None, OnOk, IfOk, IfSome, IsSome, length, slice_get};
+ghost use Rattle.dw_model.specs.Section.{sections};
+ghost use Rattle.dw_model.specs.Unit.{units};
+ghost use Rattle.dw_model.specs.Answer.{as_answer, unit_location};
+ghost use Rattle.dw_symbols.specs.Answer.{answer_shown};
+ghost use Rattle.dw_symbols.specs.Decoded.{HasLines};
+
+use crate::answer::{Answer, Frame, UnitFault};
+use crate::image::Image;
+use crate::location::{lines_of, row_location};
+use dw_line::{LineFault, Lines};
+use std::alloc::{AllocError, Global};
+
+/// The parts of a unit that were read.
+#[derive(Drop)]
+pub(crate) struct Decoded<'a> {
+    /// The line table, where the unit names one, or why it can't be read.
+    pub(crate) lines: Option<Result<Option<Lines<'a>>, UnitFault>>,
+}
+
+/// The line table of a unit, where it names one, or why it can't be read.
+fn read_lines<'a>(
+    alloc: Global,
+    image: &Image<'a>,
+    i: usize,
+) -> Result<Result<Option<Lines<'a>>, UnitFault>, AllocError>
+    requires { i < length (units (sections image.now).info) }
+    ensures { IfOk result (λ read. IfSome (slice_get (units (sections image.now).info) i) (λ unit. HasLines (sections image.now) unit (Some read))) }
+{
+    match lines_of(alloc, image.units(), image.line(), i) {
+        Ok(lines) => Ok(Ok(lines)),
+        Err(LineFault::Bad) => Ok(Err(UnitFault::Line)),
+        Err(LineFault::Memory) => Err(AllocError),
+    }
+}
+
+impl<'a> Decoded<'a> {
+    /// Nothing was read yet.
+    pub(crate) fn new() -> Self
+        ensures { result.lines ≡ None }
+    {
+        Decoded { lines: None }
+    }
+
+    /// Reads the line table where it wasn't yet.
+    fn fill_lines(&mut self, alloc: Global, image: &Image<'a>, i: usize) -> Result<(), AllocError>
+        requires unit { i < length (units (sections image.now).info) }
+        requires kept { IfSome (slice_get (units (sections image.now).info) i) (λ unit. HasLines (sections image.now) unit self.old.lines) }
+        ensures kept { IfSome (slice_get (units (sections image.now).info) i) (λ unit. HasLines (sections image.now) unit self.new.lines) }
+        ensures filled { OnOk result (IsSome self.new.lines) }
+    {
+        let None = &self.lines else {
+            return Ok(());
+        };
+        self.lines = Some(read_lines(alloc, image, i)?);
+        Ok(())
+    }
+
+    /// Where an address comes from, by the line table alone: one frame without a name.
+    pub(crate) fn location(
+        &mut self,
+        alloc: Global,
+        image: &Image<'a>,
+        i: usize,
+        a: u64,
+    ) -> Result<Answer<'a>, AllocError>
+        requires unit { i < length (units (sections image.now).info) }
+        requires kept { IfSome (slice_get (units (sections image.now).info) i) (λ unit. HasLines (sections image.now) unit self.old.lines) }
+        ensures kept { IfSome (slice_get (units (sections image.now).info) i) (λ unit. HasLines (sections image.now) unit self.new.lines) }
+        ensures answer { IfOk result (λ answer. IfSome (slice_get (units (sections image.now).info) i) (λ unit. answer_shown answer ≡ as_answer unit.offset (unit_location (sections image.now) unit a))) }
+    {
+        self.fill_lines(alloc, image, i)?;
+        let unit = image.units().unit(i).offset;
+        let lines = match &self.lines {
+            Some(Ok(lines)) => lines,
+            Some(Err(code)) => return Ok(Answer::Fault { unit, code: *code }),
+            None => return Err(AllocError),
+        };
+        let location = row_location(alloc, lines, a)?;
+        let frames = vec![in alloc;
+            Frame {
+                name: None,
+                location
+            },
+        ]?;
+        Ok(Answer::Found { unit, frames })
+    }
+}
