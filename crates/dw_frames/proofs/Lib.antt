@@ -1,0 +1,16 @@
+pub mod NearLemmas
+pub mod FirstLemmas
+pub mod PlacedLemmas
+pub mod GetLemmas
+pub mod ChainLemmas
+pub mod NameLemmas
+pub mod DraftLemmas
+pub mod ReaderLemmas
+pub mod FollowLemmas
+pub mod MoveLemmas
+pub mod WalkLemmas
+pub mod SizeLemmas
+pub mod TreeLemmas
+pub mod InwardsLemmas
+pub mod SearchLemmas
+pub mod BuiltLemmas

@@ -1,0 +1,23 @@
+-- The nearest function in which a node lies, by depths alone.
+use Rattle.std.proofs.Common.{◌≡◌, ℕ, min, Bool, true, false, cond, List, [], ◌∷◌, Some, refl, ap, ◌∙◌, arith}
+use Rattle.std.specs.Prelude.{◌&&◌, nat_lt}
+use Rattle.std.specs.List.{list_all}
+use Rattle.std.proofs.lemmas.Bool.Decides.{nat_tests}
+use Rattle.dw_model.specs.Tree.{Node, is_function, enclosing}
+use Rattle.dw_frames.specs.Placed.{near}
+
+lt-min : (k d e : ℕ) → (nat_lt k e && nat_lt k d) ≡ nat_lt k (min d e)
+lt-min k d e = grind (arith, nat_tests)
+
+and-true : (b : Bool) → (b && true) ≡ b
+and-true true = refl
+and-true false = refl
+
+pub enclosing-near : (between before : List Node) (d : ℕ) → ((k : ℕ) → list_all (λ node. nat_lt k node.depth) between ≡ nat_lt k d) → enclosing between before ≡ near d before
+unfolding enclosing near
+enclosing-near between [] d h = refl
+enclosing-near between (node ∷ before) d h =
+    rw (h node.depth) (ap (cond (is_function node.entry && nat_lt node.depth d) (Some node)) (enclosing-near (node ∷ between) before (min d node.depth) (λ k. ap (λ t. nat_lt k node.depth && t) (h k) ∙ lt-min k d node.depth)))
+
+pub enclosing-one : (node : Node) (before : List Node) → enclosing (node ∷ []) before ≡ near node.depth before
+enclosing-one node before = enclosing-near (node ∷ []) before node.depth (λ k. and-true (nat_lt k node.depth))

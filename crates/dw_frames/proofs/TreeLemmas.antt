@@ -1,0 +1,123 @@
+-- The tree of a unit: its first entry, and those below it.
+use Rattle.std.proofs.Common.{◌≡◌, ℕ, Bool, true, false, cond, List, [], ◌∷◌, ◌++◌, length, reverse, Option, Some, None, Result, Ok, Err, refl, sym, ap, ◌∙◌}
+use Rattle.std.specs.Prelude.{MatchOption, option_map}
+use Rattle.dw_model.specs.declared.dwarf.TheConstants.{OFFSET_SIZE_32}
+use Rattle.dw_model.specs.Faults.{Fault, TreeFault, entry_fault}
+use Rattle.dw_model.specs.Results.{◌>>=◌}
+use Rattle.dw_model.specs.Reading.{Place}
+use Rattle.dw_model.specs.Abbrev.{Declaration, abbreviations}
+use Rattle.dw_model.specs.Entry.{Entry, entry_at}
+use Rattle.dw_model.specs.Section.{Sections}
+use Rattle.dw_model.specs.Unit.{DwarfUnit}
+use Rattle.dw_model.specs.Root.{place_in}
+use Rattle.dw_model.specs.Tree.{Node, depth_behind, nodes_from, nodes_below, tree, entry_ranges_in}
+use Rattle.dw_model.proofs.ItemsLemmas.{items-turn}
+use Rattle.dw_model.proofs.AdvanceLemmas.{nodes_advance}
+use Rattle.dw_ranges.specs.Owners.{least_owner}
+use Rattle.dw_units.specs.Entries.{Walk, IsNext}
+use Rattle.dw_units.specs.declared.entries.Next.{Next}
+use Rattle.dw_units.specs.declared.entries.Next.TheVariants.{Null, Function, Passed}
+use Rattle.dw_units.specs.Entry.{entry_shown}
+use Rattle.dw_frames.specs.Drafts.{Drafts, no_drafts, behind}
+use Rattle.dw_frames.specs.Placed.{placed, first, Follows}
+use Rattle.dw_frames.specs.Reader.{can_be_used, nodes_on}
+use Rattle.dw_frames.proofs.WalkLemmas.{next, state, behind-depth, next-ended, follows-entry}
+
+pub found-some : (next : Next) (found : Option Entry) → IsNext next found → (next ≡ Null → ⊥) → (entry : Entry) × (found ≡ Some entry)
+found-some Null found is other = absurd (other refl)
+found-some (Function entry) found is other = (entry_shown entry, is.0)
+found-some (Passed children) found is other = (is.0, is.1)
+
+-- before any entry
+follows-none : (s : Sections) (unit : DwarfUnit) (bound : ℕ) → Follows s unit [] no_drafts bound
+unfolding placed first least_owner
+follows-none s unit bound = record {
+  descriptions = refl;
+  rises = λ i j x y h e f. absurd cc;
+  below = λ k p e. absurd cc;
+  outermost = λ a. refl;
+  inlined = λ k a draft e. absurd cc;
+  lists = λ i number e. absurd cc;
+}
+
+module _ (s : Sections) (unit : DwarfUnit) (walk : Walk) (size : unit.offset_size ≡ OFFSET_SIZE_32) (declared : abbreviations s.abbrevs unit.debug_abbrev_offset ≡ Ok walk.declarations) (begins : walk.place ≡ place_in s unit unit.first_entry) where
+  abbrev from_first : Result (List Node) TreeFault
+  from_first = nodes_from (entry_ranges_in s unit) OFFSET_SIZE_32 walk.declarations walk.place
+
+  tree-is : tree s unit ≡ from_first
+  unfolding tree
+  tree-is = rw (declared, size, ← begins) refl
+
+  unread : (fault : Fault) → entry_at OFFSET_SIZE_32 walk.declarations walk.place ≡ Err fault → from_first ≡ Err entry_fault
+  unfolding nodes_from
+  unread fault e = rw e refl
+
+  null : (q : Place) → entry_at OFFSET_SIZE_32 walk.declarations walk.place ≡ Ok (None, q) → from_first ≡ Err entry_fault
+  unfolding nodes_from
+  null q e = rw e refl
+
+  unused : (found : Option Entry) (q : Place) (told : TreeFault) → entry_at OFFSET_SIZE_32 walk.declarations walk.place ≡ Ok (found, q) → can_be_used s unit 0 found ≡ Err told → from_first ≡ Err told
+  unfolding nodes_from
+  unused None q told e h = absurd cc
+  unused (Some entry) q told e h = rw (e, h) refl
+
+  none-below : (p : Place) → nodes_on s unit (record { declarations = walk.declarations; place = p }) 0 ≡ Ok []
+  none-below p =
+      let ended = next-ended s unit walk.declarations p 0 refl in
+      rw (items-turn (next s unit walk.declarations) (λ s. s.place.left) (nodes_advance (entry_ranges_in s unit) OFFSET_SIZE_32 walk.declarations) (state p 0), ended) refl
+
+  children-below : (children : Bool) (q : Place) → cond children (nodes_below (entry_ranges_in s unit) OFFSET_SIZE_32 walk.declarations q) (Ok []) ≡ nodes_on s unit (record { declarations = walk.declarations; place = q }) (cond children 1 0)
+  children-below true q = refl
+  children-below false q = sym (none-below q)
+
+  below : (entry : Entry) (q : Place) → entry_at OFFSET_SIZE_32 walk.declarations walk.place ≡ Ok (Some entry, q) → can_be_used s unit 0 (Some entry) ≡ Ok tt
+      → from_first ≡ (nodes_on s unit (record { declarations = walk.declarations; place = q }) (depth_behind 0 (Some entry)) >>= λ others. Ok (record { depth = 0; entry = entry } ∷ others))
+  unfolding nodes_from
+  below entry q e h = rw (e, h) (ap (λ (nodes : Result (List Node) TreeFault). nodes >>= λ others. Ok (record { depth = 0; entry = entry } ∷ others)) (children-below entry.children q))
+
+  -- ---- as the code reads it
+
+  pub root-unread : (told : Option Fault) → MatchOption told (Unit {0}) (λ told. entry_at OFFSET_SIZE_32 walk.declarations walk.place ≡ Err told) → MatchOption (option_map (λ _. entry_fault) told) (Unit {0}) (λ told. tree s unit ≡ Err told)
+  root-unread None e = tt
+  root-unread (Some fault) e = tree-is ∙ unread fault e
+
+  pub root-null : (found : Option Entry) (q : Place) → entry_at OFFSET_SIZE_32 walk.declarations walk.place ≡ Ok (found, q) → found ≡ None → tree s unit ≡ Err entry_fault
+  root-null found q e none = tree-is ∙ null q (e ∙ ap (λ (found : Option Entry). Ok (found, q)) none)
+
+  pub root-unused : (drafts : Drafts) (found : Option Entry) (q : Place) (told : Option TreeFault) → drafts ≡ no_drafts → entry_at OFFSET_SIZE_32 walk.declarations walk.place ≡ Ok (found, q)
+      → MatchOption told (Unit {0}) (λ told. can_be_used s unit (length drafts.lists) found ≡ Err told) → MatchOption told (Unit {0}) (λ told. tree s unit ≡ Err told)
+  root-unused drafts found q None is e h = tt
+  root-unused drafts found q (Some told) is e h =
+      tree-is ∙ unused found q told e (ap (λ (drafts : Drafts). can_be_used s unit (length drafts.lists) found) (sym is) ∙ h)
+
+  -- where the first entry was kept
+  pub record Began (drafts new_drafts : Drafts) (new : Walk) : Type 0 where
+    pub entry : Entry
+    pub nodes : tree s unit ≡ (nodes_on s unit new (length new_drafts.lists) >>= λ others. Ok (record { depth = 0; entry = entry } ∷ others))
+    pub follows : Follows s unit (record { depth = 0; entry = entry } ∷ []) new_drafts new.place.at
+
+  pub began : (drafts new_drafts : Drafts) (found : Option Entry) (entry : Entry) (new : Walk) → drafts ≡ no_drafts → new.declarations ≡ walk.declarations → entry_at OFFSET_SIZE_32 walk.declarations walk.place ≡ Ok (found, new.place) → found ≡ Some entry
+      → can_be_used s unit (length drafts.lists) found ≡ Ok tt → new_drafts ≡ behind s unit found drafts → Began drafts new_drafts new
+  began drafts new_drafts found entry new is kept e some used same =
+      let read : entry_at OFFSET_SIZE_32 walk.declarations walk.place ≡ Ok (Some entry, new.place) = e ∙ ap (λ (found : Option Entry). Ok (found, new.place)) some in
+      let fits : can_be_used s unit 0 (Some entry) ≡ Ok tt = ap (can_be_used s unit 0) (sym some) ∙ ap (λ (drafts : Drafts). can_be_used s unit (length drafts.lists) found) (sym is) ∙ used in
+      let behind_is : new_drafts ≡ behind s unit (Some entry) no_drafts = same ∙ ap (λ (found : Option Entry). behind s unit found drafts) some ∙ ap (behind s unit (Some entry)) is in
+      let depth : length new_drafts.lists ≡ depth_behind 0 (Some entry) = ap (λ (drafts : Drafts). length drafts.lists) behind_is ∙ behind-depth s unit (Some entry) no_drafts in
+      let at : new ≡ record { declarations = walk.declarations; place = new.place } = ap (λ (ds : List Declaration). record { declarations = ds; place = new.place }) kept in
+      record {
+        entry = entry;
+        nodes = tree-is ∙ below entry new.place read fits ∙ sym (ap (λ (new : Walk). nodes_on s unit new (length new_drafts.lists) >>= λ others. Ok (record { depth = 0; entry = entry } ∷ others)) at ∙ ap (λ (depth : ℕ). nodes_on s unit (record { declarations = walk.declarations; place = new.place }) depth >>= λ others. Ok (record { depth = 0; entry = entry } ∷ others)) depth);
+        follows = rw behind_is (follows-entry s unit [] no_drafts walk.declarations walk.place (Some entry, new.place) read (follows-none s unit walk.place.at));
+      }
+
+  pub below-faults : (drafts new_drafts : Drafts) (new : Walk) (told : Option TreeFault) → Began drafts new_drafts new → MatchOption told (Unit {0}) (λ told. nodes_on s unit new (length new_drafts.lists) ≡ Err told) → MatchOption told (Unit {0}) (λ told. tree s unit ≡ Err told)
+  below-faults drafts new_drafts new None b h = tt
+  below-faults drafts new_drafts new (Some told) b h = b.nodes ∙ rw h refl
+
+  pub below-follows : (drafts new_drafts last : Drafts) (new : Walk) (b : Began drafts new_drafts new)
+      → (found after : List Node) × (bound : ℕ) × (nodes_on s unit new (length new_drafts.lists) ≡ Ok found) × (reverse after ≡ reverse (record { depth = 0; entry = b.entry } ∷ []) ++ found) × Follows s unit after last bound
+      → (after : List Node) × (bound : ℕ) × (tree s unit ≡ Ok (reverse after)) × Follows s unit after last bound
+  below-follows drafts new_drafts last new b h =
+      let node : Node = record { depth = 0; entry = b.entry } in
+      let nodes : tree s unit ≡ Ok (node ∷ h.0) = b.nodes ∙ rw (h.3) refl in
+      (h.1, h.2, nodes ∙ ap Ok (sym h.4), h.5)

@@ -1,0 +1,162 @@
+-- The entries of a unit one after the other, and what is kept of them.
+use Rattle.std.proofs.Common.{◌≡◌, ℕ, ◌+◌, ◌-◌, ◌<◌, ◌≤◌, Bool, true, false, cond, List, [], ◌∷◌, ◌++◌, length, reverse, Option, Some, None, Result, Ok, Err, refl, sym, ap, ◌∙◌, arith, length-append}
+use Rattle.std.specs.Prelude.{MatchOption, option_map, filter_map, ◌||◌, ◌==◌}
+use Rattle.std.proofs.lemmas.List.{append-nil, append_assoc}
+use Rattle.std.proofs.lemmas.List.Elements.{filter_map-append}
+use Rattle.dw_model.specs.declared.dwarf.TheConstants.{OFFSET_SIZE_32}
+use Rattle.dw_model.specs.Faults.{Fault, TreeFault, entry_fault}
+use Rattle.dw_model.specs.Reading.{Place, items}
+use Rattle.dw_model.specs.Abbrev.{Declaration}
+use Rattle.dw_model.specs.Entry.{Entry, entry_at}
+use Rattle.dw_model.specs.Section.{Sections}
+use Rattle.dw_model.specs.Unit.{DwarfUnit}
+use Rattle.dw_model.specs.Tree.{Node, Reading, is_function, next_node, depth_behind, entry_ranges_in}
+use Rattle.dw_model.proofs.ItemsLemmas.{with_front, with_front-nil, loop_more, loop_done, loop_fault}
+use Rattle.dw_model.proofs.AdvanceLemmas.{nodes_advance}
+use Rattle.dw_units.specs.Entries.{Walk}
+use Rattle.dw_frames.specs.Drafts.{Drafts, behind, behind_function, with_list, innermost, without_last}
+use Rattle.dw_frames.specs.Placed.{Follows}
+use Rattle.dw_frames.specs.Reader.{can_be_used, nodes_on}
+use Rattle.dw_frames.proofs.PlacedLemmas.{reverse-cons}
+use Rattle.dw_frames.proofs.MoveLemmas.{entry-moves}
+use Rattle.dw_frames.proofs.FollowLemmas.{follows-null, follows-other, follows-function}
+
+abbrev pub Nodes : Type 0
+Nodes = Result (List (Option Node) × Reading) TreeFault
+
+abbrev pub state : Place → ℕ → Reading
+state place depth = record { place = place; depth = depth }
+
+abbrev pub node_at : ℕ → Option Entry → Option Node
+node_at depth found = option_map (λ entry. record { depth = depth; entry = entry }) found
+
+without-last-length : {X : Type 0} (xs : List X) → length (without_last xs) ≡ length xs - 1
+without-last-length [] = omega arith
+without-last-length (x ∷ []) = omega arith
+without-last-length (x ∷ y ∷ xs) = let rest = without-last-length (y ∷ xs) in omega (arith, rest)
+
+module _ (s : Sections) (unit : DwarfUnit) where
+  -- ---- the depth behind an entry
+
+  children-depth : (children : Bool) (lists : List (Option ℕ)) (number : Option ℕ) → length (cond children (lists ++ number ∷ []) lists) ≡ cond children (length lists + 1) (length lists)
+  children-depth true lists number = length-append lists (number ∷ [])
+  children-depth false lists number = refl
+
+  pub behind-depth : (found : Option Entry) (drafts : Drafts) → length (behind s unit found drafts).lists ≡ depth_behind (length drafts.lists) found
+  behind-depth None drafts = without-last-length drafts.lists
+  behind-depth (Some entry) drafts = by_kind (is_function entry)
+    where
+      by_kind : (b : Bool) → length (cond b (behind_function s unit entry drafts) (with_list entry.children (innermost drafts) drafts)).lists ≡ cond entry.children (length drafts.lists + 1) (length drafts.lists)
+      by_kind true = children-depth entry.children drafts.lists (Some (length drafts.functions))
+      by_kind false = children-depth entry.children drafts.lists (innermost drafts)
+
+  -- ---- what is kept behind an entry
+
+  -- the nodes with that of an entry, where it is none that is null
+  abbrev pub after_entry : ℕ → Option Entry → List Node → List Node
+  after_entry depth None after = after
+  after_entry depth (Some entry) after = record { depth = depth; entry = entry } ∷ after
+
+  pub follows-entry : (after : List Node) (drafts : Drafts) (declarations : List Declaration) (p : Place) (x : Option Entry × Place) → entry_at OFFSET_SIZE_32 declarations p ≡ Ok x → Follows s unit after drafts p.at → Follows s unit (after_entry (length drafts.lists) x.0 after) (behind s unit x.0 drafts) x.1.at
+  follows-entry after drafts declarations p x e f =
+      let moves = entry-moves OFFSET_SIZE_32 declarations p x e in
+      let on = moves.0 in
+      by_found x.0 (λ entry is. moves.1 entry is) (omega (arith, on)) on
+    where
+      by_kind : (entry : Entry) (b : Bool) → is_function entry ≡ b → entry.offset ≡ p.at → p.at < x.1.at → Follows s unit (record { depth = length drafts.lists; entry = entry } ∷ after) (cond b (behind_function s unit entry drafts) (with_list entry.children (innermost drafts) drafts)) x.1.at
+      by_kind entry true is at on = follows-function s unit after drafts p.at x.1.at entry is f (omega (arith, at)) (omega (arith, at, on))
+      by_kind entry false is at on = follows-other s unit after drafts p.at x.1.at entry is (omega (arith, on)) f
+
+      by_found : (found : Option Entry) → ((entry : Entry) → found ≡ Some entry → entry.offset ≡ p.at) → p.at ≤ x.1.at → p.at < x.1.at → Follows s unit (after_entry (length drafts.lists) found after) (behind s unit found drafts) x.1.at
+      by_found None at low on = follows-null s unit after drafts p.at x.1.at low f
+      by_found (Some entry) at low on = by_kind entry (is_function entry) refl (at entry refl) on
+
+  -- ---- the loop
+
+  module _ (declarations : List Declaration) where
+    abbrev pub next : Reading → Result (Option (Option Node) × Reading) TreeFault
+    next = next_node (entry_ranges_in s unit) OFFSET_SIZE_32 declarations
+
+    next-entry : (p : Place) (depth : ℕ) (found : Option Entry) (q : Place) → (depth == 0 || length p.left == 0) ≡ false → entry_at OFFSET_SIZE_32 declarations p ≡ Ok (found, q) → can_be_used s unit depth found ≡ Ok tt → next (state p depth) ≡ Ok (Some (node_at depth found), state q (depth_behind depth found))
+    unfolding next_node
+    next-entry p depth found q more e used = rw (more, e, used) refl
+
+    next-unread : (p : Place) (depth : ℕ) (fault : Fault) → (depth == 0 || length p.left == 0) ≡ false → entry_at OFFSET_SIZE_32 declarations p ≡ Err fault → next (state p depth) ≡ Err entry_fault
+    unfolding next_node
+    next-unread p depth fault more e = rw (more, e) refl
+
+    next-unused : (p : Place) (depth : ℕ) (found : Option Entry) (q : Place) (told : TreeFault) → (depth == 0 || length p.left == 0) ≡ false → entry_at OFFSET_SIZE_32 declarations p ≡ Ok (found, q) → can_be_used s unit depth found ≡ Err told → next (state p depth) ≡ Err told
+    unfolding next_node
+    next-unused p depth found q told more e used = rw (more, e, used) refl
+
+    pub next-ended : (p : Place) (depth : ℕ) → (depth == 0 || length p.left == 0) ≡ true → next (state p depth) ≡ Ok (None, state p depth)
+    unfolding next_node
+    next-ended p depth ended = rw ended refl
+
+    abbrev pub all_from : Place → ℕ → Nodes
+    all_from p depth = items (λ s. s.place.left) next (state p depth)
+
+  -- what was read so far is kept
+  pub record SoFar (before : List Node) (start : Walk) (depth : ℕ) (drafts : Drafts) (walk : Walk) : Type 0 where
+    pub same : walk.declarations ≡ start.declarations
+    pub front : List (Option Node)
+    pub after : List Node
+    pub so_far : with_front (next start.declarations) front (all_from start.declarations walk.place (length drafts.lists)) ≡ all_from start.declarations start.place depth
+    pub order : reverse after ≡ reverse before ++ filter_map (λ node. node) front
+    pub follows : Follows s unit after drafts walk.place.at
+
+  pub starts : (before : List Node) (start : Walk) (drafts : Drafts) → Follows s unit before drafts start.place.at → SoFar before start (length drafts.lists) drafts start
+  starts before start drafts f = record {
+    same = refl;
+    front = [];
+    after = before;
+    so_far = with_front-nil (next start.declarations) (all_from start.declarations start.place (length drafts.lists));
+    order = sym (append-nil (reverse before));
+    follows = f;
+  }
+
+  order-on : (before after : List Node) (front : List (Option Node)) (depth : ℕ) (found : Option Entry) → reverse after ≡ reverse before ++ filter_map (λ node. node) front → reverse (after_entry depth found after) ≡ reverse before ++ filter_map (λ node. node) (front ++ node_at depth found ∷ [])
+  order-on before after front depth None h =
+      h ∙ ap (λ (nodes : List Node). reverse before ++ nodes) (sym (filter_map-append (λ node. node) front (None ∷ []) ∙ append-nil (filter_map (λ node. node) front)))
+  order-on before after front depth (Some entry) h =
+      let node : Node = record { depth = depth; entry = entry } in
+      reverse-cons node after ∙ ap (λ (nodes : List Node). nodes ++ node ∷ []) h ∙ append_assoc (reverse before) (filter_map (λ node. node) front) (node ∷ [])
+      ∙ ap (λ (nodes : List Node). reverse before ++ nodes) (sym (filter_map-append (λ node. node) front (Some node ∷ [])))
+
+  pub goes-on : (before : List Node) (start : Walk) (depth : ℕ) (drafts new_drafts : Drafts) (walk new : Walk) (found : Option Entry) → (length drafts.lists == 0 || length walk.place.left == 0) ≡ false
+      → new.declarations ≡ walk.declarations → entry_at OFFSET_SIZE_32 walk.declarations walk.place ≡ Ok (found, new.place) → can_be_used s unit (length drafts.lists) found ≡ Ok tt → new_drafts ≡ behind s unit found drafts → SoFar before start depth drafts walk → SoFar before start depth new_drafts new
+  goes-on before start depth drafts new_drafts walk new found more kept e used is h =
+      let read : entry_at OFFSET_SIZE_32 start.declarations walk.place ≡ Ok (found, new.place) = ap (λ (ds : List Declaration). entry_at OFFSET_SIZE_32 ds walk.place) (sym h.same) ∙ e in
+      let step = next-entry start.declarations walk.place (length drafts.lists) found new.place more read used in
+      let on = loop_more (next start.declarations) (λ s. s.place.left) (nodes_advance (entry_ranges_in s unit) OFFSET_SIZE_32 start.declarations) h.front (node_at (length drafts.lists) found) (state walk.place (length drafts.lists)) (state new.place (depth_behind (length drafts.lists) found)) (all_from start.declarations start.place depth) step h.so_far in
+      record {
+        same = kept ∙ h.same;
+        front = h.front ++ node_at (length drafts.lists) found ∷ [];
+        after = after_entry (length drafts.lists) found h.after;
+        so_far = rw (is, behind-depth found drafts) on;
+        order = order-on before h.after h.front (length drafts.lists) found h.order;
+        follows = rw is (follows-entry h.after drafts walk.declarations walk.place (found, new.place) e h.follows);
+      }
+
+  pub ends : (before : List Node) (start : Walk) (depth : ℕ) (drafts : Drafts) (walk : Walk) → (length drafts.lists == 0 || length walk.place.left == 0) ≡ true → SoFar before start depth drafts walk
+      → (found after : List Node) × (bound : ℕ) × (nodes_on s unit start depth ≡ Ok found) × (reverse after ≡ reverse before ++ found) × Follows s unit after drafts bound
+  ends before start depth drafts walk ended h =
+      let done = loop_done (next start.declarations) (λ s. s.place.left) (nodes_advance (entry_ranges_in s unit) OFFSET_SIZE_32 start.declarations) h.front (state walk.place (length drafts.lists)) (state walk.place (length drafts.lists)) (all_from start.declarations start.place depth) (next-ended start.declarations walk.place (length drafts.lists) ended) h.so_far in
+      (filter_map (λ node. node) h.front, h.after, walk.place.at, rw done refl, h.order, h.follows)
+
+  stops : (before : List Node) (start : Walk) (depth : ℕ) (drafts : Drafts) (walk : Walk) (told : TreeFault) → next start.declarations (state walk.place (length drafts.lists)) ≡ Err told → SoFar before start depth drafts walk → nodes_on s unit start depth ≡ Err told
+  stops before start depth drafts walk told e h =
+      let fault = loop_fault (next start.declarations) (λ s. s.place.left) (nodes_advance (entry_ranges_in s unit) OFFSET_SIZE_32 start.declarations) h.front (state walk.place (length drafts.lists)) told (all_from start.declarations start.place depth) e h.so_far in
+      rw fault refl
+
+  pub stops-unread : (before : List Node) (start : Walk) (depth : ℕ) (drafts : Drafts) (walk : Walk) (told : Option Fault) → (length drafts.lists == 0 || length walk.place.left == 0) ≡ false
+      → MatchOption told (Unit {0}) (λ told. entry_at OFFSET_SIZE_32 walk.declarations walk.place ≡ Err told) → SoFar before start depth drafts walk → MatchOption (option_map (λ _. entry_fault) told) (Unit {0}) (λ told. nodes_on s unit start depth ≡ Err told)
+  stops-unread before start depth drafts walk None more e h = tt
+  stops-unread before start depth drafts walk (Some fault) more e h =
+      stops before start depth drafts walk entry_fault (next-unread start.declarations walk.place (length drafts.lists) fault more (ap (λ (ds : List Declaration). entry_at OFFSET_SIZE_32 ds walk.place) (sym h.same) ∙ e)) h
+
+  pub stops-unused : (before : List Node) (start : Walk) (depth : ℕ) (drafts : Drafts) (walk : Walk) (found : Option Entry) (q : Place) (told : Option TreeFault) → (length drafts.lists == 0 || length walk.place.left == 0) ≡ false
+      → entry_at OFFSET_SIZE_32 walk.declarations walk.place ≡ Ok (found, q) → MatchOption told (Unit {0}) (λ told. can_be_used s unit (length drafts.lists) found ≡ Err told) → SoFar before start depth drafts walk → MatchOption told (Unit {0}) (λ told. nodes_on s unit start depth ≡ Err told)
+  stops-unused before start depth drafts walk found q None more e used h = tt
+  stops-unused before start depth drafts walk found q (Some fault) more e used h =
+      stops before start depth drafts walk fault (next-unused start.declarations walk.place (length drafts.lists) found q fault more (ap (λ (ds : List Declaration). entry_at OFFSET_SIZE_32 ds walk.place) (sym h.same) ∙ e) used) h

@@ -1,0 +1,107 @@
+-- What is kept of the functions of a unit while its entries are read.
+use Rattle.std.specs.Prelude.{ℕ, zero, suc, ◌-◌, Bool, cond, List, [], ◌∷◌, ◌++◌, length, map, Option, Some, None, option_and_then, slice_get}
+use Rattle.std.specs.Result.{result_unwrap_or}
+use Rattle.dw_model.specs.Entry.{Entry}
+use Rattle.dw_model.specs.Section.{Sections}
+use Rattle.dw_model.specs.Unit.{DwarfUnit}
+use Rattle.dw_model.specs.Ranges.{Range}
+use Rattle.dw_model.specs.Tree.{is_function, is_subprogram, entry_ranges_in}
+use Rattle.dw_model.specs.Name.{name}
+use Rattle.dw_frames.specs.declared.call.Call.{Call}
+use Rattle.dw_frames.specs.Call.{call_of}
+
+-- what is told of a function
+pub record Description : Type 0 where
+  pub offset : ℕ
+  pub name : Option (List ℕ)
+  pub call : Call
+
+-- what the definitions tell of an entry of a unit
+abbrev pub described : Sections → DwarfUnit → Entry → Description
+described sections unit entry = record {
+  offset = entry.offset;
+  name = name sections (record { unit = unit; entry = entry });
+  call = call_of entry;
+}
+
+-- a function, and the ranges of those that are inlined directly in it, each with the number of its function
+pub record Draft : Type 0 where
+  pub description : Description
+  pub inlined : List (Range × ℕ)
+
+-- The functions in order; the ranges of all subprograms; and the lists of children that are open, the outermost first, each with the number of the function in which its entries lie.
+pub record Drafts : Type 0 where
+  pub functions : List Draft
+  pub outermost : List (Range × ℕ)
+  pub lists : List (Option ℕ)
+
+abbrev pub no_drafts : Drafts
+no_drafts = record { functions = []; outermost = []; lists = [] }
+
+-- the number of the function in which the next entry lies
+abbrev pub innermost : Drafts → Option ℕ
+innermost drafts = option_and_then (λ number. number) (slice_get drafts.lists (length drafts.lists - 1))
+
+abbrev pub owned : List Range → ℕ → List (Range × ℕ)
+owned ranges number = map (λ range. (range, number)) ranges
+
+abbrev pub with_inlined : Draft → List (Range × ℕ) → Draft
+with_inlined draft pairs = record { description = draft.description; inlined = draft.inlined ++ pairs }
+
+-- the function of a number with further ranges inlined in it
+abbrev pub with_inlined_in : ℕ → List (Range × ℕ) → List Draft → List Draft
+with_inlined_in number pairs [] = []
+with_inlined_in zero pairs (draft ∷ drafts) = with_inlined draft pairs ∷ drafts
+with_inlined_in (suc number) pairs (draft ∷ drafts) = draft ∷ with_inlined_in number pairs drafts
+
+abbrev pub inlined_into : Option ℕ → List (Range × ℕ) → List Draft → List Draft
+inlined_into None pairs drafts = drafts
+inlined_into (Some number) pairs drafts = with_inlined_in number pairs drafts
+
+-- The ranges of a subprogram are kept among those of all, and those of an inlined function in the function in which it lies.
+abbrev pub with_ranges : Bool → List (Range × ℕ) → Drafts → Drafts
+with_ranges subprogram pairs drafts = record {
+  functions = cond subprogram drafts.functions (inlined_into (innermost drafts) pairs drafts.functions);
+  outermost = cond subprogram (drafts.outermost ++ pairs) drafts.outermost;
+  lists = drafts.lists;
+}
+
+-- one more function
+abbrev pub with_function : Description → Drafts → Drafts
+with_function description drafts = record {
+  functions = drafts.functions ++ record { description = description; inlined = [] } ∷ [];
+  outermost = drafts.outermost;
+  lists = drafts.lists;
+}
+
+-- a list of children begins, where there is one, or ends
+abbrev pub with_list : Bool → Option ℕ → Drafts → Drafts
+with_list children number drafts = record {
+  functions = drafts.functions;
+  outermost = drafts.outermost;
+  lists = cond children (drafts.lists ++ number ∷ []) drafts.lists;
+}
+
+-- the lists but the last one
+abbrev pub without_last : {X : Type 0} → List X → List X
+without_last [] = []
+without_last (x ∷ []) = []
+without_last (x ∷ y ∷ xs) = x ∷ without_last (y ∷ xs)
+
+abbrev pub without_list : Drafts → Drafts
+without_list drafts = record { functions = drafts.functions; outermost = drafts.outermost; lists = without_last drafts.lists }
+
+abbrev pub known_ranges : Sections → DwarfUnit → Entry → List Range
+known_ranges sections unit entry = result_unwrap_or (entry_ranges_in sections unit entry) []
+
+-- the drafts behind a function
+abbrev pub behind_function : Sections → DwarfUnit → Entry → Drafts → Drafts
+behind_function sections unit entry drafts =
+    with_list entry.children (Some (length drafts.functions))
+    (with_function (described sections unit entry) (with_ranges (is_subprogram entry) (owned (known_ranges sections unit entry) (length drafts.functions)) drafts))
+
+-- the drafts behind an entry, or behind a null entry, which ends a list of children
+abbrev pub behind : Sections → DwarfUnit → Option Entry → Drafts → Drafts
+behind sections unit None drafts = without_list drafts
+behind sections unit (Some entry) drafts =
+    cond (is_function entry) (behind_function sections unit entry drafts) (with_list entry.children (innermost drafts) drafts)

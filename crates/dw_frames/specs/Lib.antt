@@ -1,0 +1,14 @@
+pub mod Built
+pub mod Call
+pub mod Description
+pub mod DraftInside
+pub mod Drafts
+pub mod DraftsInside
+pub mod Fault
+pub mod Function
+pub mod Name
+pub mod Placed
+pub mod Reader
+pub mod Rising
+pub mod Tree
+pub mod TreeInside

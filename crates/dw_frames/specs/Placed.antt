@@ -1,0 +1,59 @@
+-- The functions of a tree in order, each with the function in which it lies.
+use Rattle.std.specs.Prelude.{◌≡◌, ◌<◌, ℕ, suc, ◌+◌, min, Bool, cond, List, [], ◌∷◌, ◌++◌, map, Option, Some, None, option_map, slice_get, nat_lt, ◌&&◌}
+use Rattle.dw_model.specs.Entry.{Entry}
+use Rattle.dw_model.specs.Section.{Sections}
+use Rattle.dw_model.specs.Unit.{DwarfUnit}
+use Rattle.dw_model.specs.Tree.{Node, is_function, is_subprogram, is_inlined, enclosing, is_at, holds_address}
+use Rattle.dw_ranges.specs.Owners.{least_owner}
+use Rattle.dw_frames.specs.Rising.{Rises}
+use Rattle.dw_frames.specs.Drafts.{Description, described, Draft, Drafts}
+
+-- a function, and the one in which it lies
+abbrev pub Placed : Type 0
+Placed = Node × Option Node
+
+-- those of a list of nodes, of which the nearest comes first
+unfoldable pub placed : List Node → List Placed
+placed [] = []
+placed (node ∷ before) =
+    cond (is_function node.entry) (placed before ++ (node, enclosing (node ∷ []) before) ∷ []) (placed before)
+
+abbrev pub offset_of : Placed → ℕ
+offset_of p = p.0.entry.offset
+
+-- the last function that stands less deep than a bound, and less deep than all behind it
+unfoldable pub near : ℕ → List Node → Option Node
+near d [] = None
+near d (node ∷ before) =
+    cond (is_function node.entry && nat_lt node.depth d) (Some node) (near (min d node.depth) before)
+
+-- the number of the first element that passes a test
+unfoldable pub first : {X : Type 0} → (X → Bool) → List X → Option ℕ
+first test [] = None
+first test (x ∷ xs) = cond (test x) (Some 0) (option_map suc (first test xs))
+
+-- a subprogram that holds an address
+abbrev pub is_outermost : (Entry → Bool) → Placed → Bool
+is_outermost holds p = is_subprogram p.0.entry && holds p.0.entry
+
+-- an inlined function that holds an address, and lies directly in the function of an offset
+abbrev pub lies_in : (Entry → Bool) → ℕ → Placed → Bool
+lies_in holds offset p = is_inlined p.0.entry && holds p.0.entry && is_at p.1 offset
+
+-- the number is that of the function that was found
+abbrev pub Names : List Placed → Option ℕ → Option Node → Type 0
+Names all None found = found ≡ None
+Names all (Some k) found = (p : Placed) × (slice_get all k ≡ Some p) × (found ≡ Some p.0)
+
+-- what is told of a function
+abbrev pub described_in : Sections → DwarfUnit → Placed → Description
+described_in s unit p = described s unit p.0.entry
+
+-- The functions among the nodes so far are kept, with all that was inlined in them, and each open list names the function in which its entries lie. Offsets are below a bound.
+pub record Follows (s : Sections) (unit : DwarfUnit) (before : List Node) (drafts : Drafts) (bound : ℕ) : Type 0 where
+  pub descriptions : map (λ draft. draft.description) drafts.functions ≡ map (described_in s unit) (placed before)
+  pub rises : Rises (map offset_of (placed before))
+  pub below : (k : ℕ) (p : Placed) → slice_get (placed before) k ≡ Some p → offset_of p < bound
+  pub outermost : (a : ℕ) → least_owner drafts.outermost a ≡ first (is_outermost (holds_address s unit a)) (placed before)
+  pub inlined : (k a : ℕ) (draft : Draft) → slice_get drafts.functions k ≡ Some draft → least_owner draft.inlined a ≡ first (lies_in (holds_address s unit a) draft.description.offset) (placed before)
+  pub lists : (i : ℕ) (number : Option ℕ) → slice_get drafts.lists i ≡ Some number → Names (placed before) number (near (i + 1) before)

@@ -1,0 +1,43 @@
+//! Functions of a tree, and where they were called.
+
+ghost use Rattle.std.specs.Prelude.{◌≡◌};
+ghost use Rattle.dw_model.specs.Entry.{number_of};
+ghost use Rattle.dw_units.specs.Entry.{entry_shown};
+
+use dw_forms::Value;
+use dw_units::Entry;
+
+/// An entry of .debug_info.
+#[derive(Clone, Copy, Debug, PartialEq, Eq)]
+pub struct EntryId {
+    /// The place of its unit, in order of offset.
+    pub unit: usize,
+    /// Its offset, which counts from the first byte of .debug_info.
+    pub offset: u64,
+}
+
+/// Where a function was called that was inlined: the values of DW_AT_call_file, DW_AT_call_line and
+/// DW_AT_call_column (section 3.3.8.2). What is absent or negative is `None`.
+#[derive(Clone, Copy, Debug, PartialEq, Eq)]
+pub struct Call {
+    pub file: Option<u64>,
+    pub line: Option<u64>,
+    pub column: Option<u64>,
+}
+
+/// The value of an attribute as a number.
+pub(crate) fn number_of(entry: &Entry<'_>, name: u64) -> Option<u64>
+    ensures { result ≡ number_of name (entry_shown entry.now) }
+{
+    let value = entry.attr(name)?;
+    match *value {
+        Value::Unsigned(n) => Some(n),
+        Value::Signed(n) => {
+            if n < 0 {
+                return None;
+            }
+            Some(n as u64)
+        }
+        _ => None,
+    }
+}

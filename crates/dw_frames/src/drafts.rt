@@ -1,0 +1,222 @@
+//! The functions of a unit, while its entries are read.
+
+ghost use Rattle.std.specs.Prelude.{◌≡◌, ◌++◌, ℕ, [], false, OnOk, IfOk, length, map};
+ghost use Rattle.std.specs.List.{AllZip};
+ghost use Rattle.dw_ranges.specs.Owners.{least_owner};
+ghost use Rattle.dw_ranges.specs.Segments.{owner_at};
+ghost use Rattle.dw_frames.specs.Built.{IsBuilt};
+ghost use Rattle.dw_ranges.specs.Range.{pair_shown, range_shown};
+ghost use Rattle.dw_frames.specs.Description.{description_shown};
+ghost use Rattle.dw_frames.specs.Drafts as model;
+ghost use Rattle.dw_frames.specs.Drafts.{owned};
+
+use crate::description::Description;
+use crate::function::Function;
+use dw_ranges::{Index, Range};
+use std::alloc::{AllocError, Global};
+use std::marker::Model;
+
+/// A function, and the ranges of those that are inlined directly in it, each with the number of its
+/// function.
+#[derive(Drop)]
+pub(crate) struct Draft<'a> {
+    description: Description<'a>,
+    inlined: Vec<(Range, usize)>,
+}
+
+impl<'a> Model for Draft<'a> {
+    ghost use Rattle.dw_frames.specs.Drafts as model;
+
+    ghost Value = { model.Draft };
+
+    ghost use Rattle.dw_frames.specs.DraftInside.{draft_of};
+
+    ghost view = { draft_of };
+
+    ghost invariant = { λ draft. Unit {0} };
+}
+
+/// Adds ranges to others, each with the number of its function.
+fn push_ranges(
+    pairs: &mut Vec<(Range, usize)>,
+    ranges: &[Range],
+    number: usize,
+) -> Result<(), AllocError>
+    ensures { OnOk result (map pair_shown pairs.new.items ≡ map pair_shown pairs.old.items ++ owned (map range_shown ranges.now) number) }
+{
+    for range in ranges {
+        pairs.push((*range, number))?;
+    }
+    Ok(())
+}
+
+impl<'a> Draft<'a> {
+    /// A function in which none is inlined.
+    fn new(alloc: Global, description: Description<'a>) -> Self
+        ensures description { result.description ≡ description_shown description.entry }
+        ensures inlined { result.inlined ≡ [] }
+    {
+        Draft {
+            description,
+            inlined: Vec::new(alloc),
+        }
+    }
+
+    /// The function with the index of those that are inlined in it.
+    fn function(&self, alloc: Global) -> Result<Function<'a>, AllocError>
+        ensures { IfOk result (λ function. IsBuilt self.now function) }
+    {
+        let inlined = Index::build(alloc, &self.inlined)?;
+        Ok(Function {
+            description: self.description,
+            inlined,
+        })
+    }
+
+    /// Keeps the ranges of a function that is inlined in it.
+    fn push(&mut self, ranges: &[Range], number: usize) -> Result<(), AllocError>
+        ensures { OnOk result (self.new ≡ model.with_inlined self.old (owned (map range_shown ranges.now) number)) }
+    {
+        push_ranges(&mut self.inlined, ranges, number)
+    }
+}
+
+/// The functions of a unit, while its entries are read.
+#[derive(Drop)]
+pub(crate) struct Drafts<'a> {
+    functions: Vec<Draft<'a>>,
+    /// The ranges of all subprograms, each with the number of its function.
+    outermost: Vec<(Range, usize)>,
+    /// The lists of children that are open, the outermost first: each has the number of the function in
+    /// which its entries lie.
+    lists: Vec<Option<usize>>,
+}
+
+impl<'a> Model for Drafts<'a> {
+    ghost use Rattle.dw_frames.specs.Drafts as model;
+
+    ghost Value = { model.Drafts };
+
+    ghost use Rattle.dw_frames.specs.DraftsInside.{drafts_of};
+
+    ghost view = { drafts_of };
+
+    ghost invariant = { λ drafts. Unit {0} };
+}
+
+impl<'a> Drafts<'a> {
+    /// No entry was read yet.
+    pub(crate) fn new(alloc: Global) -> Self
+        ensures { result ≡ model.no_drafts }
+    {
+        Drafts {
+            functions: Vec::new(alloc),
+            outermost: Vec::new(alloc),
+            lists: Vec::new(alloc),
+        }
+    }
+
+    /// Below how many entries the next one stands.
+    pub(crate) fn depth(&self) -> usize
+        ensures { result ≡ length self.now.lists }
+    {
+        self.lists.len()
+    }
+
+    /// How many functions there are.
+    pub(crate) fn count(&self) -> usize
+        ensures { result ≡ length self.now.functions }
+    {
+        self.functions.len()
+    }
+
+    /// The number of the function in which the next entry lies.
+    pub(crate) fn innermost(&self) -> Option<usize>
+        ensures { result ≡ model.innermost self.now }
+    {
+        let number = self.lists.last()?;
+        *number
+    }
+
+    /// A list of children ends.
+    pub(crate) fn end_list(&mut self)
+        ensures { self.new ≡ model.without_list self.old }
+    {
+        self.lists.pop();
+    }
+
+    /// A list of children begins, where there is one, with the function in which its entries lie.
+    pub(crate) fn begin_list(
+        &mut self,
+        children: bool,
+        number: Option<usize>,
+    ) -> Result<(), AllocError>
+        ensures { OnOk result (self.new ≡ model.with_list children number self.old) }
+    {
+        if !children {
+            return Ok(());
+        }
+        self.lists.push(number)?;
+        Ok(())
+    }
+
+    /// Keeps the ranges of a function that is inlined in another one.
+    fn push_inlined(&mut self, ranges: &[Range], number: usize) -> Result<(), AllocError>
+        ensures { OnOk result (self.new ≡ model.with_ranges false (owned (map range_shown ranges.now) number) self.old) }
+    {
+        let Some(outer) = self.innermost() else {
+            return Ok(());
+        };
+        let Some(draft) = self.functions.get_mut(outer) else {
+            return Ok(());
+        };
+        draft.push(ranges, number)
+    }
+
+    /// Keeps the ranges of a function.
+    pub(crate) fn push_ranges(
+        &mut self,
+        is_subprogram: bool,
+        ranges: &[Range],
+        number: usize,
+    ) -> Result<(), AllocError>
+        ensures { OnOk result (self.new ≡ model.with_ranges is_subprogram (owned (map range_shown ranges.now) number) self.old) }
+    {
+        if !is_subprogram {
+            return self.push_inlined(ranges, number);
+        }
+        push_ranges(&mut self.outermost, ranges, number)
+    }
+
+    /// One more function.
+    pub(crate) fn push_function(
+        &mut self,
+        alloc: Global,
+        description: Description<'a>,
+    ) -> Result<(), AllocError>
+        ensures { OnOk result (self.new ≡ model.with_function (description_shown description.entry) self.old) }
+    {
+        self.functions.push(Draft::new(alloc, description))?;
+        Ok(())
+    }
+}
+
+impl<'a> Drafts<'a> {
+    /// The index of all subprograms.
+    pub(crate) fn index(&self, alloc: Global) -> Result<Index, AllocError>
+        ensures { IfOk result (λ index. (a : ℕ) → owner_at index a ≡ least_owner self.now.outermost a) }
+    {
+        Index::build(alloc, &self.outermost)
+    }
+
+    /// The functions, each with the index of those that are inlined directly in it.
+    pub(crate) fn functions(&self, alloc: Global) -> Result<Vec<Function<'a>>, AllocError>
+        ensures { IfOk result (λ functions. AllZip IsBuilt self.now.functions functions.items) }
+    {
+        let mut functions = Vec::new(alloc);
+        for draft in &self.functions {
+            functions.push(draft.function(alloc)?)?;
+        }
+        Ok(functions)
+    }
+}

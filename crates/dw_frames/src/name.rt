@@ -1,0 +1,152 @@
+//! Names of functions, across units, by sections 2.15 and 3.3.8 of DWARF 5.
+
+ghost use Rattle.std.specs.Prelude.{◌≡◌, ◌<◌, ◌≤◌, ◌+◌, IfOk, length, option_map, option_and_then, slice_get, Some};
+ghost use Rattle.dw_model.specs.Section as model;
+ghost use Rattle.dw_model.specs.Faults.{Fault};
+ghost use Rattle.dw_model.specs.Unit as cut;
+ghost use Rattle.dw_model.specs.Name as names;
+ghost use Rattle.dw_model.specs.Name.{UnitEntry};
+ghost use Rattle.dw_model.specs.Entry.{attribute};
+ghost use Rattle.dw_model.specs.Text.{text};
+ghost use Rattle.dw_forms.specs.Fault.{form_fault};
+ghost use Rattle.dw_forms.specs.Tables.{bases_shown, tables_shown};
+ghost use Rattle.dw_forms.specs.Value.{value_shown};
+ghost use Rattle.dw_units.specs.Entry.{entry_shown};
+ghost use Rattle.dw_units.specs.Unit.{unit_shown};
+ghost use Rattle.dw_frames.specs.Name.{own_name_in, IsEntry, Leads, IsTarget};
+
+use dw_forms::{Bases, FormFault, Tables, Value};
+use dw_model::dwarf::{DW_AT_abstract_origin, DW_AT_linkage_name, DW_AT_name, DW_AT_specification};
+use dw_units::{Entry, Units};
+use std::alloc::{AllocError, Global};
+
+/// The text of an attribute.
+fn attribute_text<'a>(
+    tables: &Tables<'a>,
+    bases: &Bases,
+    entry: &Entry<'a>,
+    name: u64,
+) -> Option<&'a [u8]>
+    ensures { option_map (λ text. text.now) result ≡ option_and_then (text (tables_shown tables.now) (bases_shown bases.now)) (attribute name (entry_shown entry.now)) }
+{
+    let value = entry.attr(name)?;
+    tables.text(value, bases)
+}
+
+/// The name that an entry has itself: the one for the linker, else the one of the source.
+fn own_name<'a>(tables: &Tables<'a>, bases: &Bases, entry: &Entry<'a>) -> Option<&'a [u8]>
+    ensures { option_map (λ text. text.now) result ≡ own_name_in (tables_shown tables.now) (bases_shown bases.now) (entry_shown entry.now) }
+{
+    let linkage = attribute_text(tables, bases, entry, DW_AT_linkage_name);
+    if let Some(text) = linkage {
+        return Some(text);
+    }
+    attribute_text(tables, bases, entry, DW_AT_name)
+}
+
+/// The reference by which an entry says what it is an instance of, or else which declaration it
+/// completes.
+fn reference<'b, 'a>(entry: &'b Entry<'a>) -> Option<&'b Value<'a>>
+    ensures { option_map (λ value. value_shown value.now) result ≡ names.reference (entry_shown entry.now) }
+{
+    let origin = entry.attr(DW_AT_abstract_origin);
+    if let Some(value) = origin {
+        return Some(value);
+    }
+    entry.attr(DW_AT_specification)
+}
+
+/// The offset to which a reference of a unit leads, where any unit may hold it.
+fn target(units: &Units<'_>, i: usize, value: &Value<'_>) -> Option<u64>
+    requires { i < length (cut.units units.now.info) }
+    ensures { (unit : _) → slice_get (cut.units units.now.info) i ≡ Some unit → IsTarget units.now unit (value_shown value.now) result }
+{
+    match *value {
+        Value::UnitRef(n) => {
+            let unit = units.unit(i);
+            let last = units.unit(units.len() - 1);
+            if n >= last.end.saturating_sub(unit.offset) {
+                return None;
+            }
+            Some(unit.offset + n)
+        }
+        Value::SectionRef(n) => Some(n),
+        _ => None,
+    }
+}
+
+/// Want of memory, which is no fault of an entry.
+fn unless_memory(fault: FormFault) -> Result<(), AllocError>
+    ensures { IfOk result (λ _. (told : Fault) × (form_fault fault ≡ Some told)) }
+{
+    match fault {
+        FormFault::Memory => Err(AllocError),
+        FormFault::End | FormFault::Form | FormFault::Wide | FormFault::Code => Ok(()),
+    }
+}
+
+/// The entry that stands at an offset of .debug_info, in whichever unit, and the place of that unit.
+/// `None` for a null entry, an entry that can't be read, a header or a skipped unit.
+fn entry_of<'a>(
+    alloc: Global,
+    units: &Units<'a>,
+    offset: u64,
+) -> Result<Option<(usize, Entry<'a>)>, AllocError>
+    ensures { IfOk result (λ found. Leads units.now found (names.entry_of units.now offset)) }
+{
+    let Some(i) = units.holding(offset) else {
+        return Ok(None);
+    };
+    match units.entry(alloc, i, offset) {
+        Ok(Some(entry)) => Ok(Some((i, entry))),
+        Ok(None) => Ok(None),
+        Err(fault) => {
+            unless_memory(fault)?;
+            Ok(None)
+        }
+    }
+}
+
+/// The entry to which an entry of a unit refers, and the place of its unit.
+fn referred<'a>(
+    alloc: Global,
+    units: &Units<'a>,
+    i: usize,
+    entry: &Entry<'a>,
+) -> Result<Option<(usize, Entry<'a>)>, AllocError>
+    requires { i < length (cut.units units.now.info) }
+    ensures { IfOk result (λ found. (here : UnitEntry) → IsEntry units.now i entry.now here → Leads units.now found (names.referred units.now here)) }
+{
+    let Some(value) = reference(entry) else {
+        return Ok(None);
+    };
+    let Some(offset) = target(units, i, value) else {
+        return Ok(None);
+    };
+    entry_of(alloc, units, offset)
+}
+
+/// The name of an entry of a unit: the first that it has itself, or that an entry has to which at
+/// most so many references lead. The error comes only where a growth was refused.
+pub(crate) fn name_within<'a>(
+    alloc: Global,
+    units: &Units<'a>,
+    i: usize,
+    entry: &Entry<'a>,
+    more: usize,
+) -> Result<Option<&'a [u8]>, AllocError>
+    requires { i < length (cut.units units.now.info) }
+    ensures { IfOk result (λ name. (here : UnitEntry) → IsEntry units.now i entry.now here → option_map (λ text. text.now) name ≡ names.name_within units.now more here) }
+{
+    let own = own_name(units.tables(), &units.unit(i).bases, entry);
+    if let Some(name) = own {
+        return Ok(Some(name));
+    }
+    if more == 0 {
+        return Ok(None);
+    }
+    let Some((unit, origin)) = referred(alloc, units, i, entry)? else {
+        return Ok(None);
+    };
+    name_within(alloc, units, unit, &origin, more - 1)
+}

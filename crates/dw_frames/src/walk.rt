@@ -1,0 +1,55 @@
+//! All entries of a unit, of which the functions are kept.
+
+ghost use Rattle.std.specs.Prelude.{◌≡◌, ◌<◌, List, IfSome, Some, false, length, slice_get};
+ghost use Rattle.dw_model.specs.Unit as cut;
+ghost use Rattle.dw_model.specs.Unit.{DwarfUnit, is_skipped};
+ghost use Rattle.dw_model.specs.Tree.{Node};
+ghost use Rattle.dw_frames.specs.Placed.{Follows};
+ghost use Rattle.dw_frames.specs.Reader.{nodes_on, FollowsOn, FollowsAll};
+
+use crate::drafts::Drafts;
+use crate::fault::TreeFault;
+use crate::reader::keep;
+use dw_units::{Entries, Next, Units};
+use std::alloc::Global;
+
+/// Reads entries until the list below the unit's first one has ended, or the unit has.
+fn read_below<'a>(
+    alloc: Global,
+    units: &Units<'a>,
+    i: usize,
+    entries: &mut Entries<'_, 'a>,
+    drafts: &mut Drafts<'a>,
+) -> Result<(), TreeFault>
+    requires { i < length (cut.units units.now.info) }
+    ensures { (unit : DwarfUnit) (before : List Node) → slice_get (cut.units units.now.info) i ≡ Some unit → Follows units.now unit before drafts.old entries.old.place.at → FollowsOn units.now unit before (nodes_on units.now unit entries.old (length drafts.old.lists)) result drafts.new }
+{
+    while drafts.depth() > 0 && !entries.is_done() {
+        let next = entries.next_function(alloc)?;
+        keep(alloc, units, i, next, drafts)?;
+    }
+    Ok(())
+}
+
+/// Reads the entries of a unit that isn't skipped, and keeps its functions.
+pub(crate) fn read_all<'a>(
+    alloc: Global,
+    units: &Units<'a>,
+    i: usize,
+) -> Result<Drafts<'a>, TreeFault>
+    requires within { i < length (cut.units units.now.info) }
+    requires kept { IfSome (slice_get (cut.units units.now.info) i) (λ unit. is_skipped unit.kind ≡ false) }
+    ensures { (unit : DwarfUnit) → slice_get (cut.units units.now.info) i ≡ Some unit → FollowsAll units.now unit result }
+{
+    let Some(mut entries) = units.entries(i) else {
+        return Err(TreeFault::Entry);
+    };
+    let mut drafts = Drafts::new(alloc);
+    let first = entries.next_function(alloc)?;
+    if let Next::Null = &first {
+        return Err(TreeFault::Entry);
+    }
+    keep(alloc, units, i, first, &mut drafts)?;
+    read_below(alloc, units, i, &mut entries, &mut drafts)?;
+    Ok(drafts)
+}
