@@ -29,7 +29,7 @@ starts s = nil (pairs_from s 0 (model.units s.info))
     nil (Ok pairs) = refl
     nil (Err refusal) = refl
 
-drop-at : {X : Type 0} (xs : List X) (i : ℕ) (x : X) → slice_get xs i ≡ Some x → drop i xs ≡ x ∷ drop (suc i) xs
+pub drop-at : {X : Type 0} (xs : List X) (i : ℕ) (x : X) → slice_get xs i ≡ Some x → drop i xs ≡ x ∷ drop (suc i) xs
 drop-at [] i x e = absurd cc
 drop-at (y ∷ xs) zero x e = let same : y ≡ x = cc in ap (λ (x : _). x ∷ xs) same
 drop-at (y ∷ xs) (suc i) x e = drop-at xs i x e

@@ -3,8 +3,11 @@ use Rattle.std.specs.Prelude.{◌≡◌, Option, Some, None, Result, Ok, Err}
 use Rattle.dw_model.specs.Results.{with_code}
 use Rattle.dw_model.specs.Section.{Sections}
 use Rattle.dw_model.specs.Unit.{DwarfUnit}
-use Rattle.dw_model.specs.Answer.{Lines, Code, line_fault, lines}
+use Rattle.dw_model.specs.Answer.{Lines, Code, tree_fault, line_fault, lines}
+use Rattle.dw_model.specs.Tree.{tree as model_tree}
+use Rattle.dw_frames.specs.Tree.{Tree, IsTreeOf}
 use Rattle.dw_symbols.specs.declared.answer.UnitFault.{UnitFault}
+use Rattle.dw_symbols.specs.declared.decoded.Decoded.{Decoded}
 use Rattle.dw_symbols.specs.Answer.{code_shown}
 
 -- a line table, or why there is none
@@ -16,3 +19,14 @@ lines_shown (Err fault) = Err (code_shown fault)
 abbrev pub HasLines : Sections → DwarfUnit → Option (Result (Option Lines) UnitFault) → Type 0
 HasLines sections unit None = Unit {0}
 HasLines sections unit (Some read) = lines_shown read ≡ with_code (λ _. line_fault) (lines sections unit)
+
+-- the tree that is kept is the unit's, or tells why it has none
+abbrev pub HasTree : Sections → DwarfUnit → Option (Result Tree UnitFault) → Type 0
+HasTree sections unit None = Unit {0}
+HasTree sections unit (Some (Ok tree)) = IsTreeOf sections unit tree
+HasTree sections unit (Some (Err fault)) = with_code tree_fault (model_tree sections unit) ≡ Err (code_shown fault)
+
+-- what is kept of a unit is the unit's
+pub record Holds (sections : Sections) (unit : DwarfUnit) (decoded : Decoded) : Type 0 where
+  pub tree : HasTree sections unit decoded.tree
+  pub lines : HasLines sections unit decoded.lines

@@ -7,7 +7,7 @@ ghost use Rattle.dw_symbols.specs.Answer.{answer_shown};
 use crate::answer::Answer;
 use crate::decoded::Decoded;
 use crate::image::Image;
-use crate::kept::{Kept, keep, kept_location};
+use crate::kept::{Kept, keep, kept_answer, kept_location};
 use lru::LruCache;
 use std::alloc::{AllocError, Global};
 use std::marker::Model;
@@ -67,6 +67,23 @@ impl<'a> Context<'a> {
         }
         let mut unit = Decoded::new();
         let answer = unit.location(self.alloc, self.image, i, a)?;
+        keep(&mut self.units, i, unit);
+        Ok(answer)
+    }
+
+    /// What an address means: its frames, innermost first, or why its unit can't be read.
+    pub fn find_frames(&mut self, a: u64) -> Result<Answer<'a>, AllocError>
+        ensures answer { IfOk result (λ answer. answer_shown answer ≡ model.answer self.old a) }
+        ensures file { self.new ≡ self.old }
+    {
+        let Some(i) = self.image.unit_at(a) else {
+            return Ok(Answer::NotCovered);
+        };
+        if let Some(answer) = kept_answer(&mut self.units, self.alloc, self.image, i, a) {
+            return answer;
+        }
+        let mut unit = Decoded::new();
+        let answer = unit.answer(self.alloc, self.image, i, a)?;
         keep(&mut self.units, i, unit);
         Ok(answer)
     }

@@ -1,21 +1,25 @@
 //! What is kept of a unit: each part is read when it is first asked for.
 
-ghost use Rattle.std.specs.Prelude.{◌≡◌, ◌<◌, Some, None, OnOk, IfOk, IfSome, IsSome, length, slice_get};
+ghost use Rattle.std.specs.Prelude.{◌≡◌, ◌<◌, false, Some, None, OnOk, IfOk, IfSome, IsSome, length, slice_get};
 ghost use Rattle.dw_model.specs.Section.{sections};
-ghost use Rattle.dw_model.specs.Unit.{units};
-ghost use Rattle.dw_model.specs.Answer.{as_answer, unit_location};
+ghost use Rattle.dw_model.specs.Unit.{DwarfUnit, is_skipped, units};
+ghost use Rattle.dw_model.specs.Answer.{as_answer, unit_answer, unit_location};
 ghost use Rattle.dw_symbols.specs.Answer.{answer_shown};
-ghost use Rattle.dw_symbols.specs.Decoded.{HasLines};
+ghost use Rattle.dw_symbols.specs.Decoded.{HasLines, HasTree, Holds};
 
 use crate::answer::{Answer, Frame, UnitFault};
+use crate::frames::answer_of;
 use crate::image::Image;
 use crate::location::{lines_of, row_location};
+use dw_frames::{Tree, TreeFault};
 use dw_line::{LineFault, Lines};
 use std::alloc::{AllocError, Global};
 
 /// The parts of a unit that were read.
 #[derive(Drop)]
 pub(crate) struct Decoded<'a> {
+    /// The functions, or why they can't be read.
+    pub(crate) tree: Option<Result<Tree<'a>, UnitFault>>,
     /// The line table, where the unit names one, or why it can't be read.
     pub(crate) lines: Option<Result<Option<Lines<'a>>, UnitFault>>,
 }
@@ -36,19 +40,57 @@ fn read_lines<'a>(
     }
 }
 
+/// The functions of a unit that isn't skipped, or why they can't be read.
+fn read_tree<'a>(
+    alloc: Global,
+    image: &Image<'a>,
+    i: usize,
+) -> Result<Result<Tree<'a>, UnitFault>, AllocError>
+    requires unit { i < length (units (sections image.now).info) }
+    requires answers { IfSome (slice_get (units (sections image.now).info) i) (λ unit. is_skipped unit.kind ≡ false) }
+    ensures { IfOk result (λ read. (unit : DwarfUnit) → slice_get (units (sections image.now).info) i ≡ Some unit → HasTree (sections image.now) unit (Some read)) }
+{
+    match Tree::read(alloc, image.units(), i) {
+        Ok(tree) => Ok(Ok(tree)),
+        Err(TreeFault::Entry) => Ok(Err(UnitFault::Entry)),
+        Err(TreeFault::Depth) => Ok(Err(UnitFault::Depth)),
+        Err(TreeFault::Ranges) => Ok(Err(UnitFault::Ranges)),
+        Err(TreeFault::Memory) => Err(AllocError),
+    }
+}
+
 impl<'a> Decoded<'a> {
     /// Nothing was read yet.
     pub(crate) fn new() -> Self
-        ensures { result.lines ≡ None }
+        ensures tree { result.tree ≡ None }
+        ensures lines { result.lines ≡ None }
     {
-        Decoded { lines: None }
+        Decoded {
+            tree: None,
+            lines: None,
+        }
+    }
+
+    /// Reads the functions where they weren't yet.
+    fn fill_tree(&mut self, alloc: Global, image: &Image<'a>, i: usize) -> Result<(), AllocError>
+        requires unit { i < length (units (sections image.now).info) }
+        requires answers { IfSome (slice_get (units (sections image.now).info) i) (λ unit. is_skipped unit.kind ≡ false) }
+        requires kept { IfSome (slice_get (units (sections image.now).info) i) (λ unit. Holds (sections image.now) unit self.old) }
+        ensures kept { IfSome (slice_get (units (sections image.now).info) i) (λ unit. Holds (sections image.now) unit self.new) }
+        ensures filled { OnOk result (IsSome self.new.tree) }
+    {
+        let None = &self.tree else {
+            return Ok(());
+        };
+        self.tree = Some(read_tree(alloc, image, i)?);
+        Ok(())
     }
 
     /// Reads the line table where it wasn't yet.
     fn fill_lines(&mut self, alloc: Global, image: &Image<'a>, i: usize) -> Result<(), AllocError>
         requires unit { i < length (units (sections image.now).info) }
-        requires kept { IfSome (slice_get (units (sections image.now).info) i) (λ unit. HasLines (sections image.now) unit self.old.lines) }
-        ensures kept { IfSome (slice_get (units (sections image.now).info) i) (λ unit. HasLines (sections image.now) unit self.new.lines) }
+        requires kept { IfSome (slice_get (units (sections image.now).info) i) (λ unit. Holds (sections image.now) unit self.old) }
+        ensures kept { IfSome (slice_get (units (sections image.now).info) i) (λ unit. Holds (sections image.now) unit self.new) }
         ensures filled { OnOk result (IsSome self.new.lines) }
     {
         let None = &self.lines else {
@@ -67,8 +109,8 @@ impl<'a> Decoded<'a> {
         a: u64,
     ) -> Result<Answer<'a>, AllocError>
         requires unit { i < length (units (sections image.now).info) }
-        requires kept { IfSome (slice_get (units (sections image.now).info) i) (λ unit. HasLines (sections image.now) unit self.old.lines) }
-        ensures kept { IfSome (slice_get (units (sections image.now).info) i) (λ unit. HasLines (sections image.now) unit self.new.lines) }
+        requires kept { IfSome (slice_get (units (sections image.now).info) i) (λ unit. Holds (sections image.now) unit self.old) }
+        ensures kept { IfSome (slice_get (units (sections image.now).info) i) (λ unit. Holds (sections image.now) unit self.new) }
         ensures answer { IfOk result (λ answer. IfSome (slice_get (units (sections image.now).info) i) (λ unit. answer_shown answer ≡ as_answer unit.offset (unit_location (sections image.now) unit a))) }
     {
         self.fill_lines(alloc, image, i)?;
@@ -86,5 +128,35 @@ impl<'a> Decoded<'a> {
             },
         ]?;
         Ok(Answer::Found { unit, frames })
+    }
+
+    /// What an address means in the unit.
+    pub(crate) fn answer(
+        &mut self,
+        alloc: Global,
+        image: &Image<'a>,
+        i: usize,
+        a: u64,
+    ) -> Result<Answer<'a>, AllocError>
+        requires unit { i < length (units (sections image.now).info) }
+        requires answers { IfSome (slice_get (units (sections image.now).info) i) (λ unit. is_skipped unit.kind ≡ false) }
+        requires kept { IfSome (slice_get (units (sections image.now).info) i) (λ unit. Holds (sections image.now) unit self.old) }
+        ensures kept { IfSome (slice_get (units (sections image.now).info) i) (λ unit. Holds (sections image.now) unit self.new) }
+        ensures answer { IfOk result (λ answer. IfSome (slice_get (units (sections image.now).info) i) (λ unit. answer_shown answer ≡ as_answer unit.offset (unit_answer (sections image.now) unit a))) }
+    {
+        self.fill_tree(alloc, image, i)?;
+        let unit = image.units().unit(i).offset;
+        if let Some(Err(code)) = &self.tree {
+            return Ok(Answer::Fault { unit, code: *code });
+        }
+        self.fill_lines(alloc, image, i)?;
+        let Some(Ok(tree)) = &self.tree else {
+            return Err(AllocError);
+        };
+        match &self.lines {
+            Some(Ok(lines)) => answer_of(alloc, unit, tree, lines, a),
+            Some(Err(code)) => Ok(Answer::Fault { unit, code: *code }),
+            None => Err(AllocError),
+        }
     }
 }

@@ -1,8 +1,8 @@
 //! A file that is open: its units, and which of them answers an address.
 
-ghost use Rattle.std.specs.Prelude.{◌≡◌, ◌<◌, None, OnOk, IfOk, IfErr, IfSome, length, option_and_then, slice_get};
+ghost use Rattle.std.specs.Prelude.{◌≡◌, ◌<◌, false, None, OnOk, IfOk, IfErr, IfSome, length, option_and_then, slice_get};
 ghost use Rattle.dw_model.specs.Section.{sections};
-ghost use Rattle.dw_model.specs.Unit.{units};
+ghost use Rattle.dw_model.specs.Unit.{is_skipped, units};
 ghost use Rattle.dw_model.specs.Answer.{unit_of};
 ghost use Rattle.dw_model.specs.Refusal.{refusal};
 ghost use Rattle.dw_elf.specs.OpenFault.{RefusesUnlessMemory};
@@ -81,6 +81,7 @@ impl<'a> Image<'a> {
     pub(crate) fn unit_at(&self, a: u64) -> Option<usize>
         ensures unit { option_and_then (slice_get (units (sections self.now).info)) result ≡ unit_of (sections self.now) a }
         ensures within { IfSome result (λ i. i < length (units (sections self.now).info)) }
+        ensures answers { IfSome result (λ i. IfSome (slice_get (units (sections self.now).info) i) (λ unit. is_skipped unit.kind ≡ false)) }
     {
         self.index.find(a)
     }

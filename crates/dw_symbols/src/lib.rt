@@ -5,6 +5,7 @@ mod answer;
 mod context;
 mod cover;
 mod decoded;
+mod frames;
 mod image;
 mod kept;
 mod location;

@@ -1,0 +1,66 @@
+//! The frames at an address, from the functions at it.
+
+ghost use Rattle.std.specs.Prelude.{◌≡◌, List, IfOk, Some, map};
+ghost use Rattle.dw_model.specs.Section.{Sections};
+ghost use Rattle.dw_model.specs.Unit.{DwarfUnit};
+ghost use Rattle.dw_model.specs.Tree.{Node, chain};
+ghost use Rattle.dw_model.specs.Name.{name};
+ghost use Rattle.dw_model.specs.Answer as model;
+ghost use Rattle.dw_frames.specs.Tree.{function_at, nodes_of, IsTreeOf};
+ghost use Rattle.dw_symbols.specs.Answer.{location_shown, frame_shown, answer_shown};
+
+use crate::answer::{Answer, Frame, Location};
+use crate::location::{call_location, row_location};
+use dw_frames::{EntryId, Tree};
+use dw_line::Lines;
+use std::alloc::{AllocError, Global};
+use std::mem;
+
+/// The frames of functions, innermost first; each but the first stands where the one inside it was
+/// called. Without functions there is one frame without a name.
+pub(crate) fn frames_of<'a>(
+    alloc: Global,
+    tree: &Tree<'a>,
+    lines: &Option<Lines<'_>>,
+    ids: &[EntryId],
+    location: Location,
+) -> Result<Vec<Frame<'a>>, AllocError>
+    ensures { IfOk result (λ frames. (s : Sections) (unit : DwarfUnit) (nodes : List Node) → IsTreeOf s unit tree.now → map (function_at tree.now.unit (nodes_of s unit)) ids.now ≡ map Some nodes → map frame_shown frames.items ≡ model.frames (λ entry. name s (record { unit = unit; entry = entry })) lines.now (location_shown location) nodes) }
+{
+    if ids.len() == 0 {
+        let frames = vec![in alloc;
+            Frame {
+                name: None,
+                location
+            },
+        ]?;
+        return Ok(frames);
+    }
+    let mut location = location;
+    let mut frames = Vec::new(alloc);
+    for id in ids {
+        let call = tree.call(*id);
+        let next = call_location(alloc, lines, call.file, call.line, call.column)?;
+        frames.push(Frame {
+            name: tree.name(*id),
+            location: mem::replace(&mut location, next),
+        })?;
+    }
+    Ok(frames)
+}
+
+/// What an address means in a unit, by its functions and its line table.
+pub(crate) fn answer_of<'a>(
+    alloc: Global,
+    unit: u64,
+    tree: &Tree<'a>,
+    lines: &Option<Lines<'_>>,
+    a: u64,
+) -> Result<Answer<'a>, AllocError>
+    ensures { IfOk result (λ answer. (s : Sections) (of : DwarfUnit) → IsTreeOf s of tree.now → answer_shown answer ≡ model.found unit (model.frames (λ entry. name s (record { unit = of; entry = entry })) lines.now (model.row_location lines.now (model.row_at lines.now a)) (chain s of (nodes_of s of) a))) }
+{
+    let location = row_location(alloc, lines, a)?;
+    let ids = tree.chain(alloc, a)?;
+    let frames = frames_of(alloc, tree, lines, &ids, location)?;
+    Ok(Answer::Found { unit, frames })
+}
