@@ -79,6 +79,15 @@ ListFails faults.Read refusal before after = ⊥
 ListFails faults.Write refusal before after = before < after
 ListFails faults.Memory refusal before after = Unit {0}
 
+-- why answering ends early: the file is refused for just this reason, the reader or the writer failed, or memory did
+abbrev pub SymbolizeFails : Fault → Option Refusal → (reads_before reads_after writes_before writes_after : ℕ) → Type 0
+SymbolizeFails faults.CommandLine refusal reads_before reads_after writes_before writes_after = ⊥
+SymbolizeFails faults.File refusal reads_before reads_after writes_before writes_after = ⊥
+SymbolizeFails (faults.Refused fault) refusal reads_before reads_after writes_before writes_after = Refuses fault refusal
+SymbolizeFails faults.Read refusal reads_before reads_after writes_before writes_after = reads_before < reads_after
+SymbolizeFails faults.Write refusal reads_before reads_after writes_before writes_after = writes_before < writes_after
+SymbolizeFails faults.Memory refusal reads_before reads_after writes_before writes_after = Unit {0}
+
 abbrev pub IsRefused : Fault → Type 0
 IsRefused faults.CommandLine = ⊥
 IsRefused faults.File = ⊥

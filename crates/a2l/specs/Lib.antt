@@ -3,3 +3,8 @@ pub mod Fault
 pub mod Command
 pub mod Conversions
 pub mod Listing
+pub mod Input
+pub mod Text
+pub mod Ask
+pub mod Symbolize
+pub mod Serving

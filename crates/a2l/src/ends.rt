@@ -1,7 +1,7 @@
 //! What the program reads from and writes to, so that it can be run on anything.
 
-ghost use Rattle.std.specs.Prelude.{◌≡◌, ◌+◌, ◌≤◌, List, Option, ℕ, length, IfOk, IfSome};
-ghost use Rattle.std.specs.Io.KnownBytes.{append_known, Consumes};
+ghost use Rattle.std.specs.Prelude.{◌≡◌, ◌+◌, ◌<◌, ◌≤◌, List, Option, ℕ, length, Ok, IfOk, IfSome};
+ghost use Rattle.std.specs.Io.KnownBytes.{append_known, Consumes, IsAtEnd};
 ghost use Rattle.a2l.specs.Ends.{taken, failures_of, given};
 
 use thiserror::Error;
@@ -43,6 +43,7 @@ pub trait Source {
     fn read(&mut self, buffer: &mut [u8]) -> Result<usize, Failed>
         ensures within { IfOk result (λ n. n ≤ length buffer.old) }
         ensures left { IfOk result (λ n. Consumes (left self.old) (left self.new) (given n buffer.new)) }
+        ensures end { result ≡ Ok 0 → 0 < length buffer.old → IsAtEnd (left self.new) }
         ensures failures { failures self.new ≡ failures self.old + failures_of result 0 };
 }
 

@@ -1,13 +1,19 @@
 //! `a2l`: addresses of a program to function, file and line.
 #![tactic(auto)]
 
+mod answering;
+mod ask;
 mod command;
 mod count;
 mod ends;
 mod fault;
+mod input;
 mod listing;
+mod reading;
 mod real;
 mod run;
+mod symbolize;
+mod text;
 mod writing;
 
 ghost use Rattle.std.specs.Prelude.{◌≡◌, ◌<◌};

@@ -1,7 +1,10 @@
 //! Whole runs of the program over ends in memory.
 
 mod entries;
+mod frames;
 mod samples;
+mod symbolizing;
+mod texts;
 
 ghost use Rattle.std.specs.Prelude.{◌≡◌, ◌<◌, Some, None, option_copied};
 
@@ -205,11 +208,9 @@ fn poked(alloc: Global, hex: &str, at: usize, new: &[u8]) -> Result<Vec<u8>, Fai
 #[test]
 fn usage(rt: HostRuntime) {
     expect(&rt, &run_on(rt.alloc(), &[], &[]), 0, USAGE_LINE, "");
-    let refused: [&[&str]; 12] = [
+    let refused: [&[&str]; 10] = [
         &["-f"],
         &["--help"],
-        &["-e", "FILE"],
-        &["-e", "FILE", "401000"],
         &["--units"],
         &["-e", "FILE", "--units", "--workers", "0"],
         &["-e", "FILE", "--units", "--workers", "65"],

@@ -16,14 +16,14 @@ use std::num::NonZeroUsize;
 /// Answers the addresses of a file. Contracts see the file's bytes: what was asked before, what was
 /// dropped since and what memory refused changes no answer.
 #[derive(Drop)]
-pub struct Context<'a> {
-    image: &'a Image<'a>,
+pub struct Context<'b, 'a> {
+    image: &'b Image<'a>,
     alloc: Global,
     /// The units that were read last, by their places.
     units: Kept<'a>,
 }
 
-impl<'a> Model for Context<'a> {
+impl<'b, 'a> Model for Context<'b, 'a> {
     ghost use Rattle.std.specs.Prelude.{List, ℕ};
     ghost use Rattle.std.specs.Coded.{coded_list, coded_ℕ};
     ghost use Rattle.dw_symbols.specs.Context.{file_in, IsKept};
@@ -37,11 +37,11 @@ impl<'a> Model for Context<'a> {
     ghost invariant = { IsKept };
 }
 
-impl<'a> Context<'a> {
+impl<'b, 'a> Context<'b, 'a> {
     /// A context that keeps so many units. Nothing of them is read yet.
     pub fn new(
         alloc: Global,
-        image: &'a Image<'a>,
+        image: &'b Image<'a>,
         capacity: NonZeroUsize,
     ) -> Result<Self, AllocError>
         ensures { IfOk result (λ context. context ≡ image.now) }

@@ -32,6 +32,11 @@ IsNext Null found = found ≡ None
 IsNext (Function entry) found = (found ≡ Some (entry_shown entry)) × (is_function (entry_shown entry) ≡ true)
 IsNext (Passed children) found = (entry : Entry) × (found ≡ Some entry) × (is_function entry ≡ false) × (children ≡ entry.children)
 
+-- a function ends where the walk goes on
+abbrev pub IsBefore : Next → Place → Type 0
+IsBefore (Function entry) new = entry.next ≡ new.at
+IsBefore _ new = Unit {0}
+
 -- The next entry is read as the definition has it; want of memory may be told in place of it.
 abbrev pub ReadsNext : Result Next FormFault → Result (Option Entry × Place) Fault → Place → Type 0
 ReadsNext (Ok next) given new = (found : Option Entry) × (given ≡ Ok (found, new)) × IsNext next found

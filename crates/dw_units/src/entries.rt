@@ -4,7 +4,7 @@ ghost use Rattle.std.specs.Prelude.{◌≡◌, ◌==◌, ◌||◌, IfOk, length,
 ghost use Rattle.dw_model.specs.declared.dwarf.TheConstants.{OFFSET_SIZE_32};
 ghost use Rattle.dw_model.specs.Entry.{attributes_at, entry_at};
 ghost use Rattle.dw_forms.specs.Declaration.{spec_shown};
-ghost use Rattle.dw_units.specs.Entries.{ReadsNext, Passes};
+ghost use Rattle.dw_units.specs.Entries.{ReadsNext, IsBefore, Passes};
 
 use crate::entry::{Entry, attributes_of};
 use dw_bytes::Cursor;
@@ -69,7 +69,8 @@ fn next_of<'a>(
     cursor: &mut Cursor<'a>,
     abbrevs: &Abbrevs,
 ) -> Result<Next<'a>, FormFault>
-    ensures { ReadsNext result (entry_at OFFSET_SIZE_32 abbrevs.now cursor.old) cursor.new }
+    ensures next { ReadsNext result (entry_at OFFSET_SIZE_32 abbrevs.now cursor.old) cursor.new }
+    ensures past { IfOk result (λ next. IsBefore next cursor.new) }
 {
     let offset = cursor.at() as u64;
     let code = cursor.uleb()?;
@@ -112,6 +113,7 @@ impl<'b, 'a> Entries<'b, 'a> {
     pub fn next_function(&mut self, alloc: Global) -> Result<Next<'a>, FormFault>
         ensures declarations { self.new.declarations ≡ self.old.declarations }
         ensures next { ReadsNext result (entry_at OFFSET_SIZE_32 self.old.declarations self.old.place) self.new.place }
+        ensures past { IfOk result (λ next. IsBefore next self.new.place) }
     {
         next_of(alloc, &mut self.cursor, self.abbrevs)
     }

@@ -1,8 +1,8 @@
 //! A worker: it takes jobs, solves them, and tells the answers.
 
-ghost use Rattle.std.specs.Prelude.{◌≡◌, ◌+◌, OnErr, IfOk, is_ok, if◌then◌else◌};
+ghost use Rattle.std.specs.Prelude.{◌≡◌, ◌+◌, OnErr, IfOk, is_ok, if◌then◌else◌, MatchOption, Some};
 ghost use Rattle.ticket_board.specs.Seats.{IsWorkerOf, DropsNothing, StandsAgain};
-ghost use Rattle.ticket_board.specs.Outcome.{told_after};
+ghost use Rattle.ticket_board.specs.Outcome.{told_after, IsTurnOf, IsOfSender, IsOfJob, GoesOn, StillGoesOn};
 
 use crate::board::Board;
 use crate::gate::Gate;
@@ -53,6 +53,7 @@ impl<'a, S: Solver> Worker<'a, S> {
         requires { IsWorkerOf board.now self.old }
         ensures seat { self.new.seat ≡ self.old.seat }
         ensures told { self.new.told ≡ self.old.told }
+        ensures goes_on { MatchOption self.old.kept (Unit {0}) (λ ticket. self.new.kept ≡ Some ticket) }
     {
         if let Kept::Nothing = &self.kept {
             if let Some(job) = jobs::take(rt, &board.jobs, &mut self.jobs) {
@@ -77,6 +78,7 @@ impl<'a, S: Solver> Worker<'a, S> {
         ensures again { OnErr result (StandsAgain self.new) }
         ensures key { S.key solver.new ≡ S.key solver.old }
         ensures refused { S.refused solver.new ≡ (if is_ok result then S.refused solver.old else S.refused solver.old + 1) }
+        ensures goes_on { StillGoesOn result self.old.kept self.new.kept }
     {
         let Kept::Taken(job) = &self.kept else {
             return Ok(());
@@ -108,6 +110,9 @@ impl<'a, S: Solver> Worker<'a, S> {
         requires { IsWorkerOf board.now self.old }
         ensures seat { self.new.seat ≡ self.old.seat }
         ensures told { self.new.told ≡ told_after result self.old.told }
+        ensures goes_on { MatchOption self.old.kept (Unit {0}) (λ ticket. IsTurnOf result ticket self.new.kept) }
+        ensures sender { IsOfSender result self.old.told }
+        ensures job { IsOfJob result self.new.held self.new.kept }
     {
         match mem::replace(&mut self.kept, Kept::Nothing) {
             Kept::Solved(sender, reply) => {
@@ -149,6 +154,9 @@ impl<'a, S: Solver> Worker<'a, S> {
         ensures again { OnErr result (StandsAgain self.new) }
         ensures key { S.key solver.new ≡ S.key solver.old }
         ensures refused { S.refused solver.new ≡ (if is_ok result then S.refused solver.old else S.refused solver.old + 1) }
+        ensures goes_on { GoesOn result self.old.kept self.new.kept }
+        ensures sender { IfOk result (λ turn. IsOfSender turn self.old.told) }
+        ensures job { IfOk result (λ turn. IsOfJob turn self.new.held self.new.kept) }
     {
         self.take(rt, board);
         self.solve(rt, board, solver, gate)?;

@@ -1,8 +1,17 @@
-use Rattle.a2l.proofs.ListingLemmas.{lists_loaded}
+use Rattle.std.proofs.Common.{map}
+use Rattle.a2l.specs.Input.{word_shown}
+use Rattle.a2l.specs.Text.{options_shown}
+use Rattle.a2l.proofs.ServingLemmas.{answers-loaded, lists-loaded}
 use Rattle.a2l.proofs.run.answer.Goals as goal
 
-pub returns-clause-listed : goal.returns-clause-listed
-returns-clause-listed g c = λ _.
-    let listed = rw c.deref.ensures.value at c.list_file.ensures.listed in
-    let written = rw c.deref.ensures.value at c.list_file.ensures.written in
-    lists_loaded c.list_file.result (g.L.Load.known c.args.loader.now) c.in_ok-job.job.file.now c.in_ok-file.file.items (g.W.Sink.told c.args.writer.now) (g.W.Sink.told c.list_file.new.writer) c.in_ok-file.ensures listed written
+pub returns-then-not-job-clause-served : goal.returns-then-not-job-clause-served
+returns-then-not-job-clause-served g c = λ _.
+    let accepted = rw c.deref.ensures.value at c.symbolize_file.ensures.accepted in
+    let written = rw c.deref.ensures.value at c.symbolize_file.ensures.written in
+    answers-loaded c.symbolize_file.result (g.L.Load.known c.args.loader.now) c.in_ok-job.job.file.now c.in_ok-file.file.items (options_shown c.in_ok-job.job.options) (map word_shown c.in_ok-job.job.options.words.items) (g.R.Source.left c.args.reader.now) (g.W.Sink.told c.args.writer.now) (g.W.Sink.told c.symbolize_file.new.writer) c.in_ok-file.ensures accepted written
+
+pub returns-clause-served : goal.returns-clause-served
+returns-clause-served g c = λ _.
+    let accepted = rw c.deref-2.ensures.value at c.in_ok-list_file.ensures.listed in
+    let written = rw c.deref-2.ensures.value at c.in_ok-list_file.ensures.written in
+    lists-loaded (g.L.Load.known c.args.loader.now) c.in_ok-job.job.file.now c.in_ok-file.file.items (g.R.Source.left c.args.reader.now) (g.W.Sink.told c.args.writer.now) (g.W.Sink.told c.list_file.new.writer) c.in_ok-file.ensures accepted written

@@ -8,8 +8,8 @@ use Rattle.dw_forms.specs.Declaration.{spec_shown, declaration_shown}
 use Rattle.dw_units.proofs.PlaceLemmas.{read-entry}
 use Rattle.dw_units.proofs.entries.next_of.Goals as goal
 
-pub returns-then-not-is_function : goal.returns-then-not-is_function
-returns-then-not-is_function c =
+pub returns-then-not-is_function-clause-next : goal.returns-then-not-is_function-clause-next
+returns-then-not-is_function-clause-next c =
     let declaration = declaration_shown c.in_ok-declaration.declaration.now in
     let found : declared c.args.abbrevs.now c.in_ok-code.code ≡ Some declaration = search rules in
     let entry : Entry = record { offset = c.args.cursor.now.at; tag = declaration.tag; children = declaration.children; attributes = c.in_ok-pass_attributes.ensures.0 } in
