@@ -16,3 +16,6 @@ mod walk;
 pub use call::{Call, EntryId};
 pub use fault::TreeFault;
 pub use tree::Tree;
+
+#[cfg(test)]
+mod tests;
