@@ -6,7 +6,7 @@ set -euo pipefail
 here=$(cd "$(dirname "$0")/.." && pwd)
 log=$(mktemp)
 trap 'rm -f "$log"' EXIT
-for crate in ${@:-dw_forms dw_units dw_ranges dw_line ticket_core}; do
+for crate in ${@:-dw_forms dw_units dw_ranges dw_line dw_frames ticket_core}; do
     cd "$here/crates/$crate"
     for n in $(seq 1 30); do
         rt try --test --fail-alloc "$n" > "$log" 2>&1 || true
