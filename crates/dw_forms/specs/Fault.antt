@@ -1,5 +1,5 @@
 -- What an error says of the bytes.
-use Rattle.std.specs.Prelude.{Option, Some, None}
+use Rattle.std.specs.Prelude.{ℕ, Option, Some, None}
 use Rattle.dw_model.specs.Faults as model
 use Rattle.dw_forms.specs.declared.fault.FormFault.{FormFault}
 use Rattle.dw_forms.specs.declared.fault.FormFault.TheVariants.{End, Form, Wide, Memory, Code}
@@ -11,3 +11,11 @@ form_fault Form = Some model.unknown_form
 form_fault Wide = Some model.too_wide
 form_fault Memory = None
 form_fault Code = Some model.undeclared
+
+-- the number of each reason
+abbrev pub fault_number : FormFault → ℕ
+fault_number End = 1
+fault_number Form = 2
+fault_number Wide = 3
+fault_number Memory = 4
+fault_number Code = 5

@@ -24,6 +24,24 @@ pub enum FormFault {
     Code,
 }
 
+impl FormFault {
+    ghost use Rattle.std.specs.Prelude.{◌≡◌};
+    ghost use Rattle.dw_forms.specs.Fault.{fault_number};
+
+    /// The number of the reason, 1 to 5.
+    pub fn number(&self) -> u8
+        ensures { result ≡ fault_number self.now }
+    {
+        match self {
+            FormFault::End => 1,
+            FormFault::Form => 2,
+            FormFault::Wide => 3,
+            FormFault::Memory => 4,
+            FormFault::Code => 5,
+        }
+    }
+}
+
 impl From<Leb> for FormFault {
     ghost use Rattle.std.specs.Prelude.{◌≡◌};
     ghost use Rattle.dw_bytes.specs.Leb.{leb_fault};

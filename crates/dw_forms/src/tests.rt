@@ -318,3 +318,17 @@ fn each_growth_refused(rt: HostRuntime) {
     assert_eq!(rt; first.specs.as_slice()[9].name, 12);
     assert_eq!(rt; table.get(4).map(|found| found.tag), Some(0x35));
 }
+
+#[test]
+fn faults_have_numbers(rt: HostRuntime) {
+    let faults = [
+        FormFault::End,
+        FormFault::Form,
+        FormFault::Wide,
+        FormFault::Memory,
+        FormFault::Code,
+    ];
+    for (i, fault) in faults.iter().enumerate() {
+        assert_eq!(rt; fault.number() as usize, i + 1);
+    }
+}

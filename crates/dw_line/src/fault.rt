@@ -16,6 +16,21 @@ pub enum LineFault {
     Memory,
 }
 
+impl LineFault {
+    ghost use Rattle.std.specs.Prelude.{◌≡◌};
+    ghost use Rattle.dw_line.specs.Fault.{fault_number};
+
+    /// The number of the reason, 1 or 2.
+    pub fn number(&self) -> u8
+        ensures { result ≡ fault_number self.now }
+    {
+        match self {
+            LineFault::Bad => 1,
+            LineFault::Memory => 2,
+        }
+    }
+}
+
 impl From<Leb> for LineFault {
     ghost use Rattle.std.specs.Prelude.{◌≡◌};
     ghost use Rattle.dw_line.specs.declared.fault.LineFault.TheVariants.{Bad};

@@ -56,7 +56,6 @@ impl Machine {
 
     /// Runs one instruction.
     fn execute(&mut self, header: &Header<'_>, instruction: Instruction) -> Result<(), AllocError>
-        requires { 0 < header.now.line_range }
         ensures { OnOk result (machine_shown self.new ≡ executed (header_shown header.now) (instruction_shown instruction) (machine_shown self.old)) }
     {
         let registers = self.registers.step(header, instruction);
@@ -73,7 +72,6 @@ impl Machine {
 
 /// The rows of the used sequences of a header's program.
 pub(crate) fn rows_of(alloc: Global, header: &Header<'_>) -> Result<Rows, LineFault>
-    requires { 0 < header.now.line_range }
     ensures { GivesUnlessMemory (λ rows. rows.used) line_fault result (used_by (header_shown header.now)) }
 {
     let mut machine = Machine::new(alloc);

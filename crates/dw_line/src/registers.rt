@@ -24,7 +24,6 @@ pub(crate) struct Registers {
 /// The operation advance of a special opcode, which lies `n` above the first one, in bytes (section
 /// 6.2.5.1).
 fn special_advance_of(header: &Header<'_>, n: u8) -> u64
-    requires { 0 < header.now.line_range }
     ensures { result ≡ special_advance (header_shown header.now) n }
 {
     header.minimum_instruction_length as u64 * (n / header.line_range) as u64
@@ -32,7 +31,6 @@ fn special_advance_of(header: &Header<'_>, n: u8) -> u64
 
 /// What an instruction adds to the address, modulo 2^64.
 fn address_advance_of(header: &Header<'_>, instruction: Instruction) -> u64
-    requires { 0 < header.now.line_range }
     ensures { result ≡ address_advance (header_shown header.now) (instruction_shown instruction) % 2 ^ 64 }
 {
     match instruction {
@@ -46,7 +44,6 @@ fn address_advance_of(header: &Header<'_>, instruction: Instruction) -> u64
 
 /// What an instruction adds to the line.
 fn line_advance_of(header: &Header<'_>, instruction: Instruction) -> i64
-    requires { 0 < header.now.line_range }
     ensures { result ≡ line_advance (header_shown header.now) (instruction_shown instruction) }
 {
     match instruction {
@@ -71,7 +68,6 @@ impl Registers {
 
     /// The address when the instruction is done.
     fn next_address(&self, header: &Header<'_>, instruction: Instruction) -> u64
-        requires { 0 < header.now.line_range }
         ensures { result ≡ next_address (header_shown header.now) (instruction_shown instruction) self.now.address }
     {
         match instruction {
@@ -84,7 +80,6 @@ impl Registers {
 
     /// The line when the instruction is done.
     fn next_line(&self, header: &Header<'_>, instruction: Instruction) -> u64
-        requires { 0 < header.now.line_range }
         ensures { result ≡ next_line (header_shown header.now) (instruction_shown instruction) self.now.line }
     {
         let lines = line_advance_of(header, instruction);
@@ -93,7 +88,6 @@ impl Registers {
 
     /// The registers when the instruction is done.
     pub(crate) fn step(&self, header: &Header<'_>, instruction: Instruction) -> Self
-        requires { 0 < header.now.line_range }
         ensures { registers_shown result ≡ model.step (header_shown header.now) (instruction_shown instruction) (registers_shown self.now) }
     {
         Registers {

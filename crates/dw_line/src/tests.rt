@@ -473,3 +473,11 @@ fn each_growth_refused(rt: HostRuntime) {
         _ => assert!(rt; false, "no path"),
     }
 }
+
+#[test]
+fn faults_have_numbers(rt: HostRuntime) {
+    assert_eq!(rt;
+        (LineFault::Bad.number(), LineFault::Memory.number()),
+        (1, 2)
+    );
+}
