@@ -1,10 +1,2 @@
-pub mod WriteLemmas
-pub mod LineLemmas
 pub mod ListingLemmas
 pub mod ServingLemmas
-pub mod ReadLemmas
-pub mod InputLemmas
-pub mod TextLemmas
-pub mod SymbolizeLemmas
-pub mod NothingLemmas
-pub mod AskLemmas

@@ -4,8 +4,8 @@ use Rattle.std.specs.Prelude.{IfOk, IfSome, OnOk}
 use Rattle.std.specs.Io.KnownBytes.{append_known}
 use Rattle.dw_model.specs.Refusal.{refusal, listing_refusal}
 use Rattle.dw_model.specs.Output.{Options, listing}
-use Rattle.a2l.specs.declared.symbolize.Status.{Status}
-use Rattle.a2l.specs.Symbolize.{Symbolizes}
+use Rattle.a2l_lines.specs.declared.symbolizing.Status.{Status}
+use Rattle.a2l_lines.specs.Symbolize.{Symbolizes}
 use Rattle.a2l.specs.Serving.{ServesSome, number_of}
 use Rattle.a2l.proofs.ListingLemmas.{lists_loaded}
 

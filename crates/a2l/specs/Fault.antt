@@ -9,7 +9,7 @@ use Rattle.dw_elf.specs.OpenFault.{Refuses, number_of, name_of}
 use Rattle.dw_elf.specs.Name.{text_of}
 use Rattle.a2l.specs.declared.fault.Fault.{Fault}
 use Rattle.a2l.specs.declared.fault.Fault.TheVariants as faults
-use Rattle.a2l.specs.Ends.{WritesBeginning}
+use Rattle.a2l_lines.specs.Ends.{WritesBeginning}
 
 -- how the program is called
 abbrev pub usage_line : List ℕ

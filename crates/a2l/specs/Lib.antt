@@ -1,10 +1,5 @@
-pub mod Ends
 pub mod Fault
 pub mod Command
 pub mod Conversions
 pub mod Listing
-pub mod Input
-pub mod Text
-pub mod Ask
-pub mod Symbolize
 pub mod Serving

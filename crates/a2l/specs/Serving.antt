@@ -3,9 +3,9 @@ use Rattle.std.specs.Prelude.{◌≡◌, ◌⊎◌, ℕ, List, Option, None, IfS
 use Rattle.dw_model.specs.Refusal.{refusal}
 use Rattle.dw_model.specs.Output.{Options}
 use Rattle.a2l.specs.Listing.{ListsSome}
-use Rattle.a2l.specs.Symbolize.{Symbolizes}
-use Rattle.a2l.specs.declared.symbolize.Status.{Status}
-use Rattle.a2l.specs.declared.symbolize.Status.TheVariants.{Clean, Faults}
+use Rattle.a2l_lines.specs.Symbolize.{Symbolizes}
+use Rattle.a2l_lines.specs.declared.symbolizing.Status.{Status}
+use Rattle.a2l_lines.specs.declared.symbolizing.Status.TheVariants.{Clean, Faults}
 
 -- the status of the program
 abbrev pub number_of : Status → ℕ

@@ -1,16 +1,14 @@
 //! Answering the addresses of a file.
 
-ghost use Rattle.std.specs.Prelude.{◌≡◌, ◌<◌, None, OnOk, IfOk, IfErr, map};
+ghost use Rattle.std.specs.Prelude.{◌≡◌, ◌≢◌, ◌<◌, [], None, OnOk, OnErr, IfOk, IfErr, IsErrOf, map};
 ghost use Rattle.dw_model.specs.Refusal.{refusal};
-ghost use Rattle.a2l.specs.Input.{word_shown};
-ghost use Rattle.a2l.specs.Text.{options_shown};
+ghost use Rattle.a2l_lines.specs.Input.{word_shown};
+ghost use Rattle.a2l_lines.specs.Text.{options_shown};
 ghost use Rattle.a2l.specs.Fault.{IsRefused, SymbolizeFails};
-ghost use Rattle.a2l.specs.Symbolize.{Symbolizes};
+ghost use Rattle.a2l_lines.specs.Symbolize.{Symbolizes, SymbolizesBeginning};
 
-use crate::command::Options;
-use crate::ends::{Sink, Source};
 use crate::fault::Fault;
-use crate::symbolize::{Status, symbolize};
+use a2l_lines::{Options, Sink, Source, Status, symbolize};
 use dw_symbols::{Context, Image};
 use std::alloc::Global;
 use std::num::NonZeroUsize;
@@ -18,7 +16,9 @@ use std::num::NonZeroUsize;
 /// How many units are kept that were read.
 const KEPT_UNITS: usize = 16;
 
-/// Answers the addresses that are asked for of a file.
+/// Answers the addresses that are asked for of a file. After an error a beginning of the text was
+/// written, after a read that failed or a refused file nothing; the reader is read only where there
+/// are no words.
 pub fn symbolize_file<R: Source, W: Sink>(
     alloc: Global,
     reader: &mut R,
@@ -28,6 +28,9 @@ pub fn symbolize_file<R: Source, W: Sink>(
 ) -> Result<Status, Fault>
     ensures accepted { OnOk result (refusal file.now ≡ None) }
     ensures written { IfOk result (Symbolizes (options_shown options.now) file.now (map word_shown options.now.words.items) (R.left reader.old) (W.told writer.old) (W.told writer.new)) }
+    ensures beginning { OnErr result (SymbolizesBeginning (options_shown options.now) file.now (map word_shown options.now.words.items) (R.left reader.old) (W.told writer.old) (W.told writer.new)) }
+    ensures nothing { IsErrOf result Fault.Read → writer.new ≡ writer.old }
+    ensures words { options.now.words.items ≢ [] → reader.new ≡ reader.old }
     ensures fault { IfErr result (λ fault. SymbolizeFails fault (refusal file.now) (R.failures reader.old) (R.failures reader.new) (W.failures writer.old) (W.failures writer.new)) }
     ensures refused { IfErr result (λ fault. IsRefused fault → writer.new ≡ writer.old) }
 {

@@ -4,6 +4,7 @@ ghost use Rattle.std.specs.Prelude.{◌≡◌, ◌≤◌, IfOk};
 ghost use Rattle.clap.specs.Words.{first_value, found_of};
 ghost use Rattle.a2l.specs.Command.{IsCount, AsksFor};
 
+use a2l_lines::Options;
 use clap::error::ErrorKind;
 use clap::{Arg, ArgAction, ArgMatches, Command};
 use std::alloc::{AllocError, AllocFailed, Global};
@@ -22,23 +23,6 @@ const DEFAULT_SENDERS: u8 = 1;
 
 /// The most workers, and the most senders.
 const MOST_THREADS: u8 = 64;
-
-/// How addresses are answered.
-#[derive(Debug, Drop)]
-pub struct Options<'a> {
-    /// `-f`: the function of each frame is written.
-    pub functions: bool,
-    /// `-i`: all frames are written, and not the innermost alone.
-    pub inlines: bool,
-    /// `-a`: the address is written before its frames.
-    pub addresses: bool,
-    /// Threads that answer, 1 to 64.
-    pub workers: u8,
-    /// Threads that ask, 1 to 64.
-    pub senders: u8,
-    /// The addresses, as they were written. None: they are read from the input.
-    pub words: Vec<&'a str>,
-}
 
 /// What the program is to do.
 #[derive(Debug, Drop)]

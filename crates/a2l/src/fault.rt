@@ -5,47 +5,11 @@ ghost use Rattle.std.specs.Cow.{cow_str_bytes};
 ghost use Rattle.a2l.specs.Fault.{subject_of, refusal_line, line_of, status_of, Tells, Reports};
 
 use crate::command::{ParseFault, USAGE};
-use crate::ends::{LoadFault, Sink};
-use crate::writing::write_all;
+use crate::load::LoadFault;
+use a2l_lines::{RunFault, Sink, write_all};
 use dw_elf::OpenFault;
-use std::alloc::{AllocError, AllocFailed, Global};
+use std::alloc::{AllocError, Global};
 use std::borrow::CowStr;
-use thiserror::Error;
-
-/// Why input or output came to an end too early.
-#[derive(Clone, Copy, Debug, PartialEq, Eq, Error)]
-pub enum RunFault {
-    /// The reader failed.
-    #[error("read failed")]
-    Read,
-    /// The writer failed, or took nothing of a piece.
-    #[error("write failed")]
-    Write,
-    #[error("out of memory")]
-    Memory,
-}
-
-impl From<AllocError> for RunFault {
-    ghost use Rattle.std.specs.Prelude.{◌≡◌};
-    ghost use Rattle.a2l.specs.declared.fault.RunFault.TheVariants.{Memory};
-
-    ghost from_gives = { λ _ e. e ≡ Memory };
-
-    fn from(_error: AllocError) -> Self {
-        RunFault::Memory
-    }
-}
-
-impl<T: Drop> From<AllocFailed<T>> for RunFault {
-    ghost use Rattle.std.specs.Prelude.{◌≡◌};
-    ghost use Rattle.a2l.specs.declared.fault.RunFault.TheVariants.{Memory};
-
-    ghost from_gives = { λ _ e. e ≡ Memory };
-
-    fn from(_error: AllocFailed<T>) -> Self {
-        RunFault::Memory
-    }
-}
 
 /// Why a run ends early.
 #[derive(Clone, Copy, Debug, PartialEq, Eq)]

@@ -1,58 +1,17 @@
-//! The lines of `--units`.
+//! Listing the units of a file.
 
-ghost use Rattle.std.specs.Prelude.{◌≡◌, ◌≢◌, ◌++◌, ◌<◌, None, Err, OnOk, OnErr, IfOk, IfErr, IsErrOf, string_bytes};
+ghost use Rattle.std.specs.Prelude.{◌≡◌, ◌<◌, None, OnOk, OnErr, IfErr};
 ghost use Rattle.std.specs.Io.KnownBytes.{append_known};
-ghost use Rattle.dw_model.specs.Unit as model;
 ghost use Rattle.dw_model.specs.Refusal.{listing_refusal};
-ghost use Rattle.dw_model.specs.Output.{unit_line, unit_lines, listing};
-ghost use Rattle.dw_units.specs.Unit.{unit_shown};
-ghost use Rattle.a2l.specs.Ends.{WritesBeginning};
+ghost use Rattle.dw_model.specs.Output.{listing};
+ghost use Rattle.a2l_lines.specs.Ends.{WritesBeginning};
 ghost use Rattle.a2l.specs.Fault.{ListFails, IsRefused};
 
-use crate::ends::{Failed, Sink};
-use crate::fault::{Fault, RunFault};
-use crate::writing::write_all;
+use crate::fault::Fault;
+use a2l_lines::{Sink, list_units};
 use dw_elf::Elf;
-use dw_units::{Unit, Units};
-use std::alloc::{AllocError, Global};
-
-/// Adds the line of a unit to a text.
-fn push_line(text: &mut String, unit: &Unit<'_>) -> Result<(), AllocError>
-    ensures { OnOk result (string_bytes text.new ≡ string_bytes text.old ++ unit_line (unit_shown unit.now)) }
-{
-    let offset = unit.offset;
-    let version = unit.version;
-    let kind = unit.kind;
-    write!(text, "0x{offset:x} version {version} {kind}\n")
-}
-
-/// The lines of `--units`.
-fn listing(alloc: Global, units: &Units<'_>) -> Result<String, AllocError>
-    ensures { IfOk result (λ text. string_bytes text ≡ unit_lines (model.units units.now.info)) }
-{
-    let mut text = String::new(alloc);
-    for i in 0..units.len() {
-        push_line(&mut text, units.unit(i))?;
-    }
-    Ok(text)
-}
-
-/// Writes the lines of `--units`: one for each unit, in order of offset.
-///
-/// After an error a beginning of them was written.
-pub fn list_units<W: Sink>(alloc: Global, writer: &mut W, units: &Units<'_>) -> Result<(), RunFault>
-    ensures written { OnOk result (W.told writer.new ≡ append_known (W.told writer.old) (unit_lines (model.units units.now.info))) }
-    ensures beginning { OnErr result (WritesBeginning (W.told writer.old) (W.told writer.new) (unit_lines (model.units units.now.info))) }
-    ensures write { IsErrOf result RunFault.Write → W.failures writer.old < W.failures writer.new }
-    ensures memory { IsErrOf result RunFault.Memory → writer.new ≡ writer.old }
-    ensures read { result ≢ Err RunFault.Read }
-{
-    let text = listing(alloc, units)?;
-    match write_all(writer, text.as_bytes()) {
-        Ok(()) => Ok(()),
-        Err(Failed) => Err(RunFault::Write),
-    }
-}
+use dw_units::Units;
+use std::alloc::Global;
 
 /// Lists the units of a file.
 pub fn list_file<W: Sink>(alloc: Global, writer: &mut W, file: &[u8]) -> Result<(), Fault>

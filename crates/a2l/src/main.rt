@@ -2,26 +2,19 @@
 #![tactic(auto)]
 
 mod answering;
-mod ask;
 mod command;
-mod count;
-mod ends;
 mod fault;
-mod input;
 mod listing;
-mod reading;
+mod load;
 mod real;
 mod run;
-mod symbolize;
-mod text;
-mod writing;
 
 ghost use Rattle.std.specs.Prelude.{◌≡◌, ◌<◌};
 
-use crate::count::Count;
 use crate::fault::{Fault, report};
 use crate::real::{Disk, Stream};
 use crate::run::run;
+use a2l_lines::Count;
 use std::io::{ErrorKind, Lock};
 use std::marker::Brand;
 use std::process::ExitCode;

@@ -2,8 +2,8 @@
 
 ghost use Rattle.std.specs.Prelude.{◌≤◌, length, None, IfOk};
 
-use crate::count::Count;
-use crate::ends::{Failed, Load, LoadFault, Sink, Source};
+use crate::load::{Load, LoadFault};
+use a2l_lines::{Count, Failed, Sink, Source};
 use std::fs;
 use std::io::{self, ErrorKind, Read, Write};
 use std::rt::Files;

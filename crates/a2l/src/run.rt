@@ -4,15 +4,14 @@ ghost use Rattle.std.specs.Prelude.{◌≡◌, ◌≢◌, ◌<◌, ◌≤◌, []
 ghost use Rattle.std.specs.Io.KnownBytes.{append_known};
 ghost use Rattle.a2l.specs.Fault.{usage_line, EndsBadly};
 ghost use Rattle.a2l.specs.Serving.{ServesSome, number_of};
-ghost use Rattle.a2l.specs.declared.symbolize.Status.TheVariants.{Clean};
+ghost use Rattle.a2l_lines.specs.declared.symbolizing.Status.TheVariants.{Clean};
 
 use crate::answering::symbolize_file;
 use crate::command::{USAGE, parse};
-use crate::ends::{Failed, Load, Sink, Source};
 use crate::fault::{Fault, report};
 use crate::listing::list_file;
-use crate::symbolize::Status;
-use crate::writing::write_all;
+use crate::load::Load;
+use a2l_lines::{Failed, Sink, Source, Status, write_all};
 use std::alloc::Global;
 use std::convert::AsStr;
 

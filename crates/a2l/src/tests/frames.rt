@@ -1,12 +1,12 @@
 //! Addresses of the sample files, whose frames were worked out by hand.
 
-use super::samples::{INLINED, MIXED, SMALLEST};
+use super::samples::{FOLLOWED, INLINED, MIXED, OVERLAPPING, OVERLAPPING_TURNED, SMALLEST};
 use super::{expect, poked, run_on};
 use std::test::Fail;
 
 #[test]
 fn three_frames(rt: HostRuntime) -> Result<(), Fail> {
-    let file = poked(rt.alloc(), INLINED, 0, &[])?;
+    let file = hex::decode(rt.alloc(), INLINED)?;
     let all = &["-e", "FILE", "-a", "-f", "-i", "0x401004"];
     let text = "0x0000000000401004\nleaf\n/w/a.c:4\nmid\n/w/a.c:30\nmain\n/w/z.c:20\n";
     expect(&rt, &run_on(rt.alloc(), &file, all), 0, text, "");
@@ -18,7 +18,7 @@ fn three_frames(rt: HostRuntime) -> Result<(), Fail> {
 
 #[test]
 fn frames_at_borders(rt: HostRuntime) -> Result<(), Fail> {
-    let file = poked(rt.alloc(), INLINED, 0, &[])?;
+    let file = hex::decode(rt.alloc(), INLINED)?;
     let words = &["-e", "FILE", "-f", "-i", "401000", "401006", "40100e"];
     let text = "main\n/w/a.c:3\nmid\n/w/a.c:4\nmain\n/w/z.c:20\n??\n??:0\n";
     expect(&rt, &run_on(rt.alloc(), &file, words), 0, text, "");
@@ -28,7 +28,7 @@ fn frames_at_borders(rt: HostRuntime) -> Result<(), Fail> {
 #[test]
 fn mixed_versions(rt: HostRuntime) -> Result<(), Fail> {
     // The reference of the second frame leads into a header now.
-    let file = poked(rt.alloc(), MIXED, 0, &[])?;
+    let file = hex::decode(rt.alloc(), MIXED)?;
     let words = &["-e", "FILE", "-f", "-i", "401003"];
     let text = "??\n/w/a.c:3\nmain\n/w/z.c:20\n";
     expect(&rt, &run_on(rt.alloc(), &file, words), 0, text, "");
@@ -37,7 +37,7 @@ fn mixed_versions(rt: HostRuntime) -> Result<(), Fail> {
 
 #[test]
 fn smallest_file(rt: HostRuntime) -> Result<(), Fail> {
-    let file = poked(rt.alloc(), SMALLEST, 0, &[])?;
+    let file = hex::decode(rt.alloc(), SMALLEST)?;
     let outcome = run_on(rt.alloc(), &file, &["-e", "FILE", "0x0"]);
     expect(&rt, &outcome, 0, "??:0\n", "");
     Ok(())
@@ -74,8 +74,30 @@ fn faults_of_units(rt: HostRuntime) -> Result<(), Fail> {
 }
 
 #[test]
-fn empty_input(rt: HostRuntime) -> Result<(), Fail> {
-    let file = poked(rt.alloc(), INLINED, 0, &[])?;
-    expect(&rt, &run_on(rt.alloc(), &file, &["-e", "FILE"]), 0, "", "");
+fn overlapping_units(rt: HostRuntime) -> Result<(), Fail> {
+    // Both units hold the address; the one that stands first answers, and only one of them has lines.
+    let words = &["-e", "FILE", "-f", "2000"];
+    let file = hex::decode(rt.alloc(), OVERLAPPING)?;
+    expect(&rt, &run_on(rt.alloc(), &file, words), 0, "??\n??:0\n", "");
+    let file = hex::decode(rt.alloc(), OVERLAPPING_TURNED)?;
+    expect(
+        &rt,
+        &run_on(rt.alloc(), &file, words),
+        0,
+        "??\n/w/a.c:3\n",
+        "",
+    );
+    Ok(())
+}
+
+#[test]
+fn units_in_turn(rt: HostRuntime) -> Result<(), Fail> {
+    let file = hex::decode(rt.alloc(), FOLLOWED)?;
+    let words = &[
+        "-e", "FILE", "-f", "-i", "401004", "500001", "401004", "500004",
+    ];
+    let frames = "leaf\n/w/a.c:4\nmid\n/w/a.c:30\nmain\n/w/z.c:20\n";
+    let text = format!(in rt.alloc(); "{frames}??\n??:0\n{frames}??\n??:0\n")?;
+    expect(&rt, &run_on(rt.alloc(), &file, words), 0, &text, "");
     Ok(())
 }

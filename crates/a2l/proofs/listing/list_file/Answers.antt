@@ -1,6 +1,6 @@
 use Rattle.std.proofs.lemmas.Result.{err_from_is_err_and}
 use Rattle.dw_model.specs.Output.{listing}
-use Rattle.a2l.proofs.WriteLemmas.{Writes-start}
+use Rattle.a2l_lines.proofs.WriteLemmas.{Writes-start}
 use Rattle.a2l.proofs.listing.list_file.Goals as goal
 
 pub returns-in_err-elf-clause-beginning : goal.returns-in_err-elf-clause-beginning

@@ -1,6 +1,6 @@
 use Rattle.std.proofs.Common.{map}
-use Rattle.a2l.specs.Input.{word_shown}
-use Rattle.a2l.specs.Text.{options_shown}
+use Rattle.a2l_lines.specs.Input.{word_shown}
+use Rattle.a2l_lines.specs.Text.{options_shown}
 use Rattle.a2l.proofs.ServingLemmas.{answers-loaded, lists-loaded}
 use Rattle.a2l.proofs.run.answer.Goals as goal
 

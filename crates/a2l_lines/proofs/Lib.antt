@@ -1,0 +1,7 @@
+pub mod WriteLemmas
+pub mod LineLemmas
+pub mod ReadLemmas
+pub mod InputLemmas
+pub mod TextLemmas
+pub mod SymbolizeLemmas
+pub mod AskLemmas

@@ -1,0 +1,5 @@
+pub mod Ends
+pub mod Input
+pub mod Text
+pub mod Ask
+pub mod Symbolize

@@ -1,0 +1,129 @@
+//! What is asked for: the words of the command line, or the lines of the input.
+
+ghost use Rattle.std.specs.Prelude.{◌≡◌, ◌==◌, ◌<◌, ◌≤◌, if◌then◌else◌, length, map, position, IfOk, Some, None};
+ghost use Rattle.std.specs.List.{list_all};
+ghost use Rattle.std.specs.Char.{is_ascii_hexdigit};
+ghost use Rattle.std.specs.Str.Lines.{lines, strip_carriage_return};
+ghost use Rattle.std.specs.Str.Parse.{digits_value};
+ghost use Rattle.dw_model.specs.Output.{address_in, without_prefix};
+ghost use Rattle.a2l_lines.specs.Input.{input_shown, word_shown, first_line, after_line};
+
+use std::alloc::{AllocError, Global};
+
+/// The most digits of an address.
+const MOST_DIGITS: usize = 16;
+
+/// A text that is asked for.
+#[derive(Clone, Copy, Debug, PartialEq, Eq)]
+pub enum Input {
+    /// It is this address.
+    Address(u64),
+    /// It is no address.
+    Bad,
+}
+
+/// A text without `0x` or `0X` before it.
+fn without_prefix(text: &[u8]) -> &[u8]
+    ensures { result.now ≡ without_prefix text.now }
+{
+    if text.len() >= 2 && text[0] == b'0' && (text[1] == b'x' || text[1] == b'X') {
+        return text.split_at(2).1;
+    }
+    text
+}
+
+/// The number that at most 16 hexadecimal digits write; none where one of them is no digit.
+fn number(digits: &[u8]) -> Option<u64>
+    requires { length digits.now ≤ 16 }
+    ensures { result ≡ if list_all is_ascii_hexdigit digits.now then Some (digits_value 16 digits.now) else None }
+{
+    let mut number = 0u64;
+    for digit in digits {
+        if !digit.is_ascii_hexdigit() {
+            return None;
+        }
+        let digit = (*digit as char).to_digit(16)?;
+        number = number * 16 + u64::from(digit);
+    }
+    Some(number)
+}
+
+/// The address that a text writes in 1 to 16 hexadecimal digits of either case, before which `0x` or
+/// `0X` may stand; none for any other text.
+fn address_in(text: &[u8]) -> Option<u64>
+    ensures { result ≡ address_in text.now }
+{
+    let digits = without_prefix(text);
+    if digits.is_empty() || digits.len() > MOST_DIGITS {
+        return None;
+    }
+    number(digits)
+}
+
+impl Input {
+    /// What a text asks for.
+    pub fn of(text: &[u8]) -> Self
+        ensures { input_shown result ≡ address_in text.now }
+    {
+        match address_in(text) {
+            Some(address) => Input::Address(address),
+            None => Input::Bad,
+        }
+    }
+}
+
+/// What the words of a command line ask for.
+pub fn inputs_of_words(alloc: Global, words: &[&str]) -> Result<Vec<Input>, AllocError>
+    ensures { IfOk result (λ inputs. map input_shown inputs.items ≡ map address_in (map word_shown words.now)) }
+{
+    let mut inputs = Vec::new(alloc);
+    for word in words {
+        inputs.push(Input::of(word.as_bytes()))?;
+    }
+    Ok(inputs)
+}
+
+/// The place of the first newline.
+fn newline(bytes: &[u8]) -> Option<usize>
+    ensures { result ≡ position (λ byte. byte == 10) bytes.now }
+{
+    bytes.iter().position(|byte| *byte == b'\n')
+}
+
+/// A line without the one `\r` at its end.
+fn strip_carriage_return(line: &[u8]) -> &[u8]
+    ensures { result.now ≡ strip_carriage_return line.now }
+{
+    let len = line.len();
+    if len > 0 && line[len - 1] == b'\r' {
+        return line.split_at(len - 1).0;
+    }
+    line
+}
+
+/// The first line of a text that isn't empty, without its end, and what follows it.
+fn split_line(bytes: &[u8]) -> (&[u8], &[u8])
+    requires { 0 < length bytes.now }
+    ensures line { result.0.now ≡ first_line bytes.now }
+    ensures rest { result.1.now ≡ after_line bytes.now }
+{
+    let Some(end) = newline(bytes) else {
+        return (bytes, &[]);
+    };
+    let (line, rest) = bytes.split_at(end);
+    (strip_carriage_return(line), rest.split_at(1).1)
+}
+
+/// What the lines of a text ask for. Nothing behind the last newline is no line.
+pub fn inputs_of_lines(alloc: Global, bytes: &[u8]) -> Result<Vec<Input>, AllocError>
+    ensures { IfOk result (λ inputs. map input_shown inputs.items ≡ map address_in (lines bytes.now)) }
+{
+    let mut inputs = Vec::new(alloc);
+    let mut left = bytes;
+    while !left.is_empty() {
+        let (line, rest) = split_line(left);
+        inputs.push(Input::of(line))?;
+        left = rest;
+    }
+    Ok(inputs)
+}

@@ -1,0 +1,128 @@
+//! Answering addresses.
+
+ghost use Rattle.std.specs.Prelude.{◌≡◌, ◌≢◌, ◌<◌, List, [], map, Err, OnErr, IfOk, IsErrOf};
+ghost use Rattle.std.specs.List.{list_any};
+ghost use Rattle.dw_model.specs.Output.{is_fault};
+ghost use Rattle.dw_symbols.specs.Answer.{answer_shown};
+ghost use Rattle.a2l_lines.specs.Input.{input_shown, word_shown};
+ghost use Rattle.a2l_lines.specs.Text.{options_shown, addresses, is_bad, some_fault};
+ghost use Rattle.a2l_lines.specs.Symbolize.{Asks, Symbolizes, SymbolizesBeginning, status_for};
+
+use crate::ask::{Ask, answers_of};
+use crate::ends::{Failed, Sink, Source};
+use crate::fault::RunFault;
+use crate::input::{Input, inputs_of_lines, inputs_of_words};
+use crate::options::Options;
+use crate::reading::read_all;
+use crate::text::text_of;
+use crate::writing::write_all;
+use dw_symbols::Answer;
+use std::alloc::{AllocError, Global};
+
+/// How a run ends whose text was written.
+#[derive(Clone, Copy, Debug, PartialEq, Eq)]
+pub enum Status {
+    /// Each input is an address, and none has a fault for an answer.
+    Clean,
+    /// Some input is a bad address, or has a fault for an answer.
+    Faults,
+}
+
+/// What is asked for: the words, or where there are none the lines of the reader, which isn't read
+/// otherwise.
+fn inputs_of<R: Source>(
+    alloc: Global,
+    reader: &mut R,
+    words: &[&str],
+) -> Result<Vec<Input>, RunFault>
+    ensures asked { IfOk result (λ inputs. Asks (map word_shown words.now) (R.left reader.old) (map input_shown inputs.items)) }
+    ensures words { words.now ≢ [] → reader.new ≡ reader.old }
+    ensures read { IsErrOf result RunFault.Read → R.failures reader.old < R.failures reader.new }
+    ensures write { result ≢ Err RunFault.Write }
+{
+    if !words.is_empty() {
+        let inputs = inputs_of_words(alloc, words)?;
+        return Ok(inputs);
+    }
+    let bytes = read_all(alloc, reader)?;
+    let inputs = inputs_of_lines(alloc, &bytes)?;
+    Ok(inputs)
+}
+
+/// The addresses among some inputs.
+fn addresses(alloc: Global, inputs: &[Input]) -> Result<Vec<u64>, AllocError>
+    ensures { IfOk result (λ found. found.items ≡ addresses (map input_shown inputs.now)) }
+{
+    let mut addresses = Vec::new(alloc);
+    for input in inputs {
+        let Input::Address(address) = input else {
+            continue;
+        };
+        addresses.push(*address)?;
+    }
+    Ok(addresses)
+}
+
+/// Whether some input is a bad address.
+fn some_bad(inputs: &[Input]) -> bool
+    ensures { result ≡ list_any is_bad (map input_shown inputs.now) }
+{
+    for input in inputs {
+        if let Input::Bad = input {
+            return true;
+        }
+    }
+    false
+}
+
+/// Whether some answer is a fault.
+fn some_refused(answers: &[Answer<'_>]) -> bool
+    ensures { result ≡ list_any is_fault (map answer_shown answers.now) }
+{
+    for answer in answers {
+        if let Answer::Fault { .. } = answer {
+            return true;
+        }
+    }
+    false
+}
+
+/// How a run over these inputs ends, of which those that are addresses have these answers.
+fn outcome(inputs: &[Input], answers: &[Answer<'_>]) -> Status
+    ensures { result ≡ status_for (some_fault (map input_shown inputs.now) (map answer_shown answers.now)) }
+{
+    if some_bad(inputs) || some_refused(answers) {
+        return Status::Faults;
+    }
+    Status::Clean
+}
+
+/// Answers the addresses that the words of the options name, or where there are none the lines of
+/// the reader, and writes the lines of their answers in that order.
+///
+/// The errors: `Read`, after which nothing was written; `Write`; `Memory`. After each a beginning of
+/// the text was written. The reader is read only where there are no words.
+pub fn symbolize<'a, R: Source, W: Sink, A: Ask<'a>>(
+    alloc: Global,
+    reader: &mut R,
+    writer: &mut W,
+    asker: &mut A,
+    options: &Options<'_>,
+) -> Result<Status, RunFault>
+    ensures written { IfOk result (Symbolizes (options_shown options.now) (A.file asker.old) (map word_shown options.now.words.items) (R.left reader.old) (W.told writer.old) (W.told writer.new)) }
+    ensures beginning { OnErr result (SymbolizesBeginning (options_shown options.now) (A.file asker.old) (map word_shown options.now.words.items) (R.left reader.old) (W.told writer.old) (W.told writer.new)) }
+    ensures read { IsErrOf result RunFault.Read → R.failures reader.old < R.failures reader.new }
+    ensures nothing { IsErrOf result RunFault.Read → writer.new ≡ writer.old }
+    ensures write { IsErrOf result RunFault.Write → W.failures writer.old < W.failures writer.new }
+    ensures memory { IsErrOf result RunFault.Memory → writer.new ≡ writer.old }
+    ensures words { options.now.words.items ≢ [] → reader.new ≡ reader.old }
+{
+    let inputs = inputs_of(alloc, reader, &options.words)?;
+    let queries = addresses(alloc, &inputs)?;
+    let answers = answers_of(alloc, asker, &queries)?;
+    let text = text_of(alloc, options, &inputs, &answers)?;
+    match write_all(writer, &text) {
+        Ok(()) => Ok(outcome(&inputs, &answers)),
+        Err(Failed) => Err(RunFault::Write),
+    }
+}

@@ -1,0 +1,3 @@
+//! Lines that are worked out by hand.
+
+mod texts;

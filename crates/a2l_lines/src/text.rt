@@ -1,0 +1,227 @@
+//! The lines that are written for inputs.
+
+ghost use Rattle.std.specs.Prelude.{◌≡◌, ◌≤◌, ◌++◌, length, drop, if◌then◌else◌, [], OnOk, IfOk, map, flat_map, string_bytes, option_map};
+ghost use Rattle.dw_model.specs.Output.{newline, name_text, location_text, frame_lines, unknown_frame, shown, fault_line, address_line, address_lines, answer_lines, bad_address_line};
+ghost use Rattle.dw_symbols.specs.Answer.{answer_shown, frame_shown, code_shown, location_shown};
+ghost use Rattle.a2l_lines.specs.Input.{input_shown};
+ghost use Rattle.a2l_lines.specs.Text.{options_shown, lines_of, line_text, path_text, name_shown, input_text, left_after};
+
+use crate::input::Input;
+use crate::options::Options;
+use dw_symbols::{Answer, Frame, Location, UnitFault};
+use std::alloc::{AllocError, Global};
+
+/// The line of a location as it stands behind the path.
+fn line_text(alloc: Global, location: &Location) -> Result<String, AllocError>
+    ensures { IfOk result (λ text. string_bytes text ≡ line_text (location_shown location.now).path (location_shown location.now).line ++ newline) }
+{
+    let Some(line) = location.line else {
+        return match location.path {
+            Some(_) => format!(in alloc; ":?\n"),
+            None => format!(in alloc; ":0\n"),
+        };
+    };
+    format!(in alloc; ":{line}\n")
+}
+
+/// Adds the path of a source file, or `??`.
+fn push_path(text: &mut Vec<u8>, path: &Option<Vec<u8>>) -> Result<(), AllocError>
+    ensures { OnOk result (text.new.items ≡ text.old.items ++ path_text (option_map (λ path. path.items) path.now)) }
+{
+    match path {
+        Some(path) => text.extend_from_slice(path),
+        None => text.extend_from_slice(b"??"),
+    }
+}
+
+/// Adds where an address comes from: `PATH:LINE`, with `??` for a path and `?` for a line that isn't
+/// known, and `??:0` where neither is.
+fn push_location(alloc: Global, text: &mut Vec<u8>, location: &Location) -> Result<(), AllocError>
+    ensures { OnOk result (text.new.items ≡ text.old.items ++ (location_text (location_shown location.now).path (location_shown location.now).line ++ newline)) }
+{
+    let line = line_text(alloc, location)?;
+    push_path(text, &location.path)?;
+    text.extend_from_slice(line.as_bytes())
+}
+
+/// Adds the name of a function, or `??`.
+fn push_name(text: &mut Vec<u8>, name: Option<&[u8]>) -> Result<(), AllocError>
+    ensures { OnOk result (text.new.items ≡ text.old.items ++ (name_text (name_shown name.entry) ++ newline)) }
+{
+    match name {
+        Some(name) => text.extend_from_slice(name)?,
+        None => text.extend_from_slice(b"??")?,
+    }
+    text.extend_from_slice(b"\n")
+}
+
+/// Adds the lines of a frame: with `-f` its name, and where in it the address comes from.
+fn push_frame(
+    alloc: Global,
+    text: &mut Vec<u8>,
+    options: &Options<'_>,
+    frame: &Frame<'_>,
+) -> Result<(), AllocError>
+    ensures { OnOk result (text.new.items ≡ text.old.items ++ frame_lines (options_shown options.now) (frame_shown frame.now)) }
+{
+    if options.functions {
+        push_name(text, frame.name)?;
+    }
+    push_location(alloc, text, &frame.location)
+}
+
+/// Adds the lines of frames.
+fn push_frames(
+    alloc: Global,
+    text: &mut Vec<u8>,
+    options: &Options<'_>,
+    frames: &[Frame<'_>],
+) -> Result<(), AllocError>
+    ensures { OnOk result (text.new.items ≡ text.old.items ++ flat_map (frame_lines (options_shown options.now)) (map frame_shown frames.now)) }
+{
+    for frame in frames {
+        push_frame(alloc, text, options, frame)?;
+    }
+    Ok(())
+}
+
+/// The frames that are written: all with `-i`, else the innermost alone.
+fn shown<'s, 'a>(options: &Options<'_>, frames: &'s [Frame<'a>]) -> &'s [Frame<'a>]
+    ensures { map frame_shown result.now ≡ shown (options_shown options.now) (map frame_shown frames.now) }
+{
+    if options.inlines || frames.is_empty() {
+        return frames;
+    }
+    frames.split_at(1).0
+}
+
+/// Adds the line of a unit that gives no answer.
+fn push_fault(
+    alloc: Global,
+    text: &mut Vec<u8>,
+    unit: u64,
+    code: UnitFault,
+) -> Result<(), AllocError>
+    ensures { OnOk result (text.new.items ≡ text.old.items ++ fault_line unit (code_shown code)) }
+{
+    let number = code.number();
+    let line = format!(in alloc; "!unit 0x{unit:x} fault {number}\n")?;
+    text.extend_from_slice(line.as_bytes())
+}
+
+/// Adds the lines of a frame of which nothing is known.
+fn push_unknown(alloc: Global, text: &mut Vec<u8>, options: &Options<'_>) -> Result<(), AllocError>
+    ensures { OnOk result (text.new.items ≡ text.old.items ++ frame_lines (options_shown options.now) unknown_frame) }
+{
+    let location = Location {
+        path: None,
+        line: None,
+        column: None,
+    };
+    push_frame(
+        alloc,
+        text,
+        options,
+        &Frame {
+            name: None,
+            location,
+        },
+    )
+}
+
+/// Adds the lines of an answer.
+fn push_answer(
+    alloc: Global,
+    text: &mut Vec<u8>,
+    options: &Options<'_>,
+    answer: &Answer<'_>,
+) -> Result<(), AllocError>
+    ensures { OnOk result (text.new.items ≡ text.old.items ++ answer_lines (options_shown options.now) (answer_shown answer.now)) }
+{
+    match answer {
+        Answer::NotCovered => push_unknown(alloc, text, options),
+        Answer::Fault { unit, code } => push_fault(alloc, text, *unit, *code),
+        Answer::Found { frames, .. } => push_frames(alloc, text, options, shown(options, frames)),
+    }
+}
+
+/// The line of an address itself.
+fn address_line(alloc: Global, address: u64) -> Result<String, AllocError>
+    ensures { IfOk result (λ line. string_bytes line ≡ address_line address) }
+{
+    let line = format!(in alloc; "0x{address:016x}\n")?;
+    Ok(line)
+}
+
+/// Adds the line of an address itself, with `-a`.
+fn push_address_line(
+    alloc: Global,
+    text: &mut Vec<u8>,
+    options: &Options<'_>,
+    address: u64,
+) -> Result<(), AllocError>
+    ensures { OnOk result (text.new.items ≡ text.old.items ++ (if options.now.addresses then address_line address else [])) }
+{
+    if !options.addresses {
+        return Ok(());
+    }
+    let line = address_line(alloc, address)?;
+    text.extend_from_slice(line.as_bytes())
+}
+
+/// Adds the lines of an address: with `-a` the address itself, then its answer.
+fn push_address(
+    alloc: Global,
+    text: &mut Vec<u8>,
+    options: &Options<'_>,
+    address: u64,
+    answer: &Answer<'_>,
+) -> Result<(), AllocError>
+    ensures { OnOk result (text.new.items ≡ text.old.items ++ address_lines (options_shown options.now) address (answer_shown answer.now)) }
+{
+    push_address_line(alloc, text, options, address)?;
+    push_answer(alloc, text, options, answer)
+}
+
+/// Adds the lines of an input, and tells how many of the answers that are left it took: an address
+/// takes the first.
+fn push_input(
+    alloc: Global,
+    text: &mut Vec<u8>,
+    options: &Options<'_>,
+    input: Input,
+    answers: &[Answer<'_>],
+) -> Result<usize, AllocError>
+    ensures text { OnOk result (text.new.items ≡ text.old.items ++ input_text (options_shown options.now) (input_shown input) (map answer_shown answers.now)) }
+    ensures within { IfOk result (λ more. more ≤ length answers.now) }
+    ensures left { IfOk result (λ more. drop more (map answer_shown answers.now) ≡ left_after (input_shown input) (map answer_shown answers.now)) }
+{
+    let Input::Address(address) = input else {
+        text.extend_from_slice(b"!bad address\n")?;
+        return Ok(0);
+    };
+    if answers.is_empty() {
+        return Ok(0);
+    }
+    push_address(alloc, text, options, address, &answers[0])?;
+    Ok(1)
+}
+
+/// The lines of inputs, with the answers of those that are addresses, in order.
+pub fn text_of(
+    alloc: Global,
+    options: &Options<'_>,
+    inputs: &[Input],
+    answers: &[Answer<'_>],
+) -> Result<Vec<u8>, AllocError>
+    ensures { IfOk result (λ text. text.items ≡ lines_of (options_shown options.now) (map input_shown inputs.now) (map answer_shown answers.now)) }
+{
+    let mut text = Vec::new(alloc);
+    let mut taken = 0usize;
+    for input in inputs {
+        let left = answers.split_at(taken).1;
+        let more = push_input(alloc, &mut text, options, *input, left)?;
+        taken += more;
+    }
+    Ok(text)
+}
