@@ -78,7 +78,7 @@ pub fn answers_of<'a, A: Ask<'a>>(
 }
 
 impl<'b, 'a> Ask<'a> for Context<'b, 'a> {
-    ghost file = { λ context. context };
+    ghost file = { λ context. context.file };
 
     fn ask(&mut self, address: u64) -> Result<Answer<'a>, AllocError> {
         self.find_frames(address)

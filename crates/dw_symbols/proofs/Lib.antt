@@ -1,3 +1,4 @@
+pub mod CountSteps
 pub mod CoverLemmas
 pub mod OwnerLemmas
 pub mod ImageLemmas
@@ -6,3 +7,4 @@ pub mod LocationLemmas
 pub mod FrameLemmas
 pub mod TreeLemmas
 pub mod AnswerLemmas
+pub mod ToldLemmas

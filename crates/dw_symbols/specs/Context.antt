@@ -1,11 +1,11 @@
 -- What a context is seen as.
-use Rattle.std.specs.Prelude.{ℕ, List}
 use Rattle.dw_model.specs.Section.{sections}
 use Rattle.dw_symbols.specs.declared.context.Context.TheInside.{Inside}
+use Rattle.dw_symbols.specs.ContextState.{ContextState}
 use Rattle.dw_symbols.specs.Kept.{AreOf}
 
-abbrev pub file_in : Inside → List ℕ
-file_in context = context.image.now
+abbrev pub state_of : Inside → ContextState
+state_of context = record { file = context.image.now; refused = context.refusals.count }
 
 -- the units that are kept are the file's
 abbrev pub IsKept : Inside → Type 0

@@ -1,5 +1,8 @@
 pub mod Answer
+pub mod Codes
+pub mod ContextState
 pub mod Context
+pub mod Told
 pub mod Kept
 pub mod Cover
 pub mod Decoded

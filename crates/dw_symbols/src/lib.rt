@@ -9,7 +9,10 @@ mod frames;
 mod image;
 mod kept;
 mod location;
+mod refusals;
+mod solver;
 
 pub use answer::{Answer, Frame, Location, UnitFault};
 pub use context::Context;
 pub use image::Image;
+pub use solver::law_of_shown;
