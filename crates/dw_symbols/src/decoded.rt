@@ -92,6 +92,7 @@ impl<'a> Decoded<'a> {
         requires kept { IfSome (slice_get (units (sections image.now).info) i) (λ unit. Holds (sections image.now) unit self.old) }
         ensures kept { IfSome (slice_get (units (sections image.now).info) i) (λ unit. Holds (sections image.now) unit self.new) }
         ensures filled { OnOk result (IsSome self.new.lines) }
+        ensures tree { self.new.tree ≡ self.old.tree }
     {
         let None = &self.lines else {
             return Ok(());
@@ -118,7 +119,7 @@ impl<'a> Decoded<'a> {
         let lines = match &self.lines {
             Some(Ok(lines)) => lines,
             Some(Err(code)) => return Ok(Answer::Fault { unit, code: *code }),
-            None => return Err(AllocError),
+            None => unreachable!(),
         };
         let location = row_location(alloc, lines, a)?;
         let frames = vec![in alloc;
@@ -151,12 +152,12 @@ impl<'a> Decoded<'a> {
         }
         self.fill_lines(alloc, image, i)?;
         let Some(Ok(tree)) = &self.tree else {
-            return Err(AllocError);
+            unreachable!()
         };
         match &self.lines {
             Some(Ok(lines)) => answer_of(alloc, unit, tree, lines, a),
             Some(Err(code)) => Ok(Answer::Fault { unit, code: *code }),
-            None => Err(AllocError),
+            None => unreachable!(),
         }
     }
 }
