@@ -11,6 +11,8 @@ mod kept;
 mod location;
 mod refusals;
 mod solver;
+#[cfg(test)]
+mod tests;
 
 pub use answer::{Answer, Frame, Location, UnitFault};
 pub use context::Context;
