@@ -141,14 +141,12 @@ fn context_retried<'b, 'a>(
 fn each_growth_refused(rt: HostRuntime) -> Result<(), Fail> {
     let image = open_retried(rt.alloc()).ok().ok_or("a file")?;
     let mut context = context_retried(rt.alloc(), &image)?;
-    for _ in 0..2 {
-        expect_frames(&rt, &frames_retried(&mut context, 0x40_1004)?, 0, INLINED);
-        expect_frames(
-            &rt,
-            &frames_retried(&mut context, 0x50_0001)?,
-            0x6e,
-            UNKNOWN,
-        );
-    }
+    expect_frames(&rt, &frames_retried(&mut context, 0x40_1004)?, 0, INLINED);
+    expect_frames(
+        &rt,
+        &frames_retried(&mut context, 0x50_0001)?,
+        0x6e,
+        UNKNOWN,
+    );
     Ok(())
 }
