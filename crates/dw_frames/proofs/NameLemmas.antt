@@ -1,6 +1,6 @@
 -- References that lead behind all units.
-use Rattle.std.proofs.Common.{◌≡◌, ℕ, zero, suc, ◌-◌, ◌≤◌, ◌<◌, List, [], ◌∷◌, length, Option, Some, None, Result, Ok, Err, refl, sym, ap, subst, ◌∙◌, arith}
-use Rattle.std.specs.Prelude.{IfSome, MatchOption, option_map, option_and_then, slice_get, nat_le, nat_lt}
+use Rattle.std.proofs.Common.{◌≡◌, ℕ, Bool, true, false, zero, suc, ◌-◌, ◌≤◌, ◌<◌, List, [], ◌∷◌, length, Option, Some, None, Result, Ok, Err, refl, sym, ap, subst, ◌∙◌, arith}
+use Rattle.std.specs.Prelude.{IfSome, MatchOption, option_and_then, slice_get, nat_le, nat_lt}
 use Rattle.std.proofs.lemmas.Bool.{and_right, le-ltb}
 use Rattle.std.proofs.lemmas.Option.{same_Some}
 use Rattle.std.specs.Result.{result_unwrap_or, result_ok}
@@ -17,7 +17,7 @@ use Rattle.dw_model.specs.Name.{UnitEntry, holding, entry_of, reference, target,
 use Rattle.dw_forms.specs.declared.fault.FormFault.{FormFault}
 use Rattle.dw_forms.specs.Fault.{form_fault}
 use Rattle.dw_units.specs.declared.entry.Entry.{Entry as CodeEntry}
-use Rattle.dw_units.specs.Entry.{entry_shown, FindsEntry}
+use Rattle.dw_units.specs.Entry.{entry_shown, ReadsEntry}
 use Rattle.dw_units.proofs.HoldingLemmas.{Ascending, cut-ascends}
 use Rattle.dw_frames.specs.Name.{own_name_in, IsEntry, Leads}
 use Rattle.dw_frames.proofs.GetLemmas.{get-there}
@@ -61,30 +61,28 @@ unfolding entry_of
 in-unit s unit o read found held e is = rw (held, e) is
 
 -- what a call tells of the entry at an offset of the unit that holds it
-abbrev pub Told : Sections → ℕ → ℕ → Result (Option CodeEntry) FormFault → Type 0
-Told s i o result = IfSome (slice_get (units s.info) i) (λ unit. FindsEntry result (entry s unit o))
+abbrev pub Told : Sections → ℕ → ℕ → CodeEntry → Result Bool FormFault → Type 0
+Told s i o kept result = IfSome (slice_get (units s.info) i) (λ unit. ReadsEntry result kept (entry s unit o))
 
-told-of : (s : Sections) (i o : ℕ) (unit : DwarfUnit) (result : Result (Option CodeEntry) FormFault) → slice_get (units s.info) i ≡ Some unit → Told s i o result → FindsEntry result (entry s unit o)
-told-of s i o unit result e h = subst (λ found. IfSome found (λ unit. FindsEntry result (entry s unit o))) e h
+told-of : (s : Sections) (i o : ℕ) (unit : DwarfUnit) (kept : CodeEntry) (result : Result Bool FormFault) → slice_get (units s.info) i ≡ Some unit → Told s i o kept result → ReadsEntry result kept (entry s unit o)
+told-of s i o unit kept result e h = subst (λ found. IfSome found (λ unit. ReadsEntry result kept (entry s unit o))) e h
 
-pub leads-here : (s : Sections) (i o : ℕ) (found : Option CodeEntry) (here : CodeEntry) → i < length (units s.info) → option_and_then (slice_get (units s.info)) (Some i) ≡ holding (units s.info) o → Told s i o (Ok found) → found ≡ Some here → Leads s (Some (i, here)) (entry_of s o)
+pub leads-here : (s : Sections) (i o : ℕ) (found : Bool) (here : CodeEntry) → i < length (units s.info) → option_and_then (slice_get (units s.info)) (Some i) ≡ holding (units s.info) o → Told s i o here (Ok found) → found ≡ true → Leads s (Some (i, here)) (entry_of s o)
 leads-here s i o found here within held told is =
     let unit = get-there (units s.info) i within in
-    let read = told-of s i o unit.0 (Ok found) unit.1 told in
-    let e : entry s unit.0 o ≡ Ok (Some (entry_shown here), read.0) = read.1 ∙ ap (λ (found : Option CodeEntry). Ok (option_map entry_shown found, read.0)) is in
-    (record { unit = unit.0; entry = entry_shown here }, in-unit s unit.0 o (Ok (Some (entry_shown here), read.0)) (Some (record { unit = unit.0; entry = entry_shown here })) (sym held ∙ unit.1) e refl, (unit.1, refl))
+    let read = told-of s i o unit.0 here (Ok true) unit.1 (subst (λ found. Told s i o here (Ok found)) is told) in
+    (record { unit = unit.0; entry = entry_shown here }, in-unit s unit.0 o (Ok (Some (entry_shown here), read.0)) (Some (record { unit = unit.0; entry = entry_shown here })) (sym held ∙ unit.1) read.1 refl, (unit.1, refl))
 
-pub leads-to_null : (s : Sections) (i o : ℕ) (found : Option CodeEntry) → i < length (units s.info) → option_and_then (slice_get (units s.info)) (Some i) ≡ holding (units s.info) o → Told s i o (Ok found) → found ≡ None → entry_of s o ≡ None
-leads-to_null s i o found within held told is =
+pub leads-to_null : (s : Sections) (i o : ℕ) (found : Bool) (here : CodeEntry) → i < length (units s.info) → option_and_then (slice_get (units s.info)) (Some i) ≡ holding (units s.info) o → Told s i o here (Ok found) → found ≡ false → entry_of s o ≡ None
+leads-to_null s i o found here within held told is =
     let unit = get-there (units s.info) i within in
-    let read = told-of s i o unit.0 (Ok found) unit.1 told in
-    let e : entry s unit.0 o ≡ Ok (None, read.0) = read.1 ∙ ap (λ (found : Option CodeEntry). Ok (option_map entry_shown found, read.0)) is in
-    in-unit s unit.0 o (Ok (None, read.0)) None (sym held ∙ unit.1) e refl
+    let read = told-of s i o unit.0 here (Ok false) unit.1 (subst (λ found. Told s i o here (Ok found)) is told) in
+    in-unit s unit.0 o (Ok (None, read.0)) None (sym held ∙ unit.1) read.1 refl
 
-pub leads-to_fault : (s : Sections) (i o : ℕ) (fault : FormFault) (told : Fault) → i < length (units s.info) → option_and_then (slice_get (units s.info)) (Some i) ≡ holding (units s.info) o → Told s i o (Err fault) → form_fault fault ≡ Some told → entry_of s o ≡ None
-leads-to_fault s i o fault tells within held told is =
+pub leads-to_fault : (s : Sections) (i o : ℕ) (here : CodeEntry) (fault : FormFault) (told : Fault) → i < length (units s.info) → option_and_then (slice_get (units s.info)) (Some i) ≡ holding (units s.info) o → Told s i o here (Err fault) → form_fault fault ≡ Some told → entry_of s o ≡ None
+leads-to_fault s i o here fault tells within held told is =
     let unit = get-there (units s.info) i within in
-    let read = told-of s i o unit.0 (Err fault) unit.1 told in
+    let read = told-of s i o unit.0 here (Err fault) unit.1 told in
     let e : entry s unit.0 o ≡ Err tells = subst (λ told. MatchOption told (Unit {0}) (λ told. entry s unit.0 o ≡ Err told)) is read in
     in-unit s unit.0 o (Err tells) None (sym held ∙ unit.1) e refl
 

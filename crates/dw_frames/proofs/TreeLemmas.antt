@@ -17,16 +17,17 @@ use Rattle.dw_ranges.specs.Owners.{least_owner}
 use Rattle.dw_units.specs.Entries.{Walk, IsNext}
 use Rattle.dw_units.specs.declared.entries.Next.{Next}
 use Rattle.dw_units.specs.declared.entries.Next.TheVariants.{Null, Function, Passed}
+use Rattle.dw_units.specs.declared.entry.Entry.{Entry as CodeEntry}
 use Rattle.dw_units.specs.Entry.{entry_shown}
 use Rattle.dw_frames.specs.Drafts.{Drafts, no_drafts, behind}
 use Rattle.dw_frames.specs.Placed.{placed, first, Follows}
 use Rattle.dw_frames.specs.Reader.{can_be_used, nodes_on}
 use Rattle.dw_frames.proofs.WalkLemmas.{next, state, behind-depth, next-ended, follows-entry}
 
-pub found-some : (next : Next) (found : Option Entry) → IsNext next found → (next ≡ Null → ⊥) → (entry : Entry) × (found ≡ Some entry)
-found-some Null found is other = absurd (other refl)
-found-some (Function entry) found is other = (entry_shown entry, is.0)
-found-some (Passed children) found is other = (is.0, is.1)
+pub found-some : (next : Next) (kept : CodeEntry) (found : Option Entry) → IsNext next kept found → (next ≡ Null → ⊥) → (entry : Entry) × (found ≡ Some entry)
+found-some Null kept found is other = absurd (other refl)
+found-some Function kept found is other = (entry_shown kept, is.0)
+found-some (Passed children) kept found is other = (is.0, is.1)
 
 -- before any entry
 follows-none : (s : Sections) (unit : DwarfUnit) (bound : ℕ) → Follows s unit [] no_drafts bound

@@ -1,5 +1,5 @@
 -- Entries to which references lead, as the code finds them.
-use Rattle.std.specs.Prelude.{◌≡◌, ℕ, List, Option, Some, None, slice_get, option_and_then}
+use Rattle.std.specs.Prelude.{◌≡◌, ℕ, List, Option, Some, None, slice_get, option_and_then, option_map}
 use Rattle.std.specs.Option.{option_or}
 use Rattle.dw_model.specs.declared.dwarf.TheConstants.{DW_AT_name, DW_AT_linkage_name}
 use Rattle.dw_model.specs.Form.{Value}
@@ -25,6 +25,10 @@ IsEntry sections place entry found =
 abbrev pub Leads : Sections → Option (ℕ × CodeEntry) → Option UnitEntry → Type 0
 Leads sections None given = given ≡ None
 Leads sections (Some here) given = (found : UnitEntry) × (given ≡ Some found) × IsEntry sections here.0 here.1 found
+
+-- the entry that was read, with the place of its unit where there is one
+abbrev pub read_of : CodeEntry → Option ℕ → Option (ℕ × CodeEntry)
+read_of entry place = option_map (λ place. (place, entry)) place
 
 -- the offset leads where the reference leads
 abbrev pub IsTarget : Sections → DwarfUnit → Value → Option ℕ → Type 0

@@ -13,12 +13,12 @@ ghost use Rattle.dw_forms.specs.Tables.{bases_shown, tables_shown};
 ghost use Rattle.dw_forms.specs.Value.{value_shown};
 ghost use Rattle.dw_units.specs.Entry.{entry_shown};
 ghost use Rattle.dw_units.specs.Unit.{unit_shown};
-ghost use Rattle.dw_frames.specs.Name.{own_name_in, IsEntry, Leads, IsTarget};
+ghost use Rattle.dw_frames.specs.Name.{own_name_in, read_of, IsEntry, Leads, IsTarget};
 
 use dw_forms::{Bases, FormFault, Tables, Value};
 use dw_model::dwarf::{DW_AT_abstract_origin, DW_AT_linkage_name, DW_AT_name, DW_AT_specification};
 use dw_units::{Entry, Units};
-use std::alloc::{AllocError, Global};
+use std::alloc::AllocError;
 
 /// The text of an attribute.
 fn attribute_text<'a>(
@@ -85,21 +85,26 @@ fn unless_memory(fault: FormFault) -> Result<(), AllocError>
     }
 }
 
-/// The entry that stands at an offset of .debug_info, in whichever unit, and the place of that unit.
-/// `None` for a null entry, an entry that can't be read, a header or a skipped unit.
-fn entry_of<'a>(
-    alloc: Global,
+/// Reads the entry that stands at an offset of .debug_info, in whichever unit, in place of the one that
+/// was kept, and answers the place of its unit. `None` for a null entry, an entry that can't be read, a
+/// header or a skipped unit; then any entry may be kept.
+fn read_at<'a>(
     units: &Units<'a>,
     offset: u64,
-) -> Result<Option<(usize, Entry<'a>)>, AllocError>
-    ensures { IfOk result (λ found. Leads units.now found (names.entry_of units.now offset)) }
+    kept: &mut Entry<'a>,
+) -> Result<Option<usize>, AllocError>
+    ensures { IfOk result (λ place. Leads units.now (read_of kept.new place) (names.entry_of units.now offset)) }
 {
     let Some(i) = units.holding(offset) else {
         return Ok(None);
     };
-    match units.entry(alloc, i, offset) {
-        Ok(Some(entry)) => Ok(Some((i, entry))),
-        Ok(None) => Ok(None),
+    match units.read_entry(i, offset, kept) {
+        Ok(found) => {
+            if !found {
+                return Ok(None);
+            }
+            Ok(Some(i))
+        }
         Err(fault) => {
             unless_memory(fault)?;
             Ok(None)
@@ -107,36 +112,44 @@ fn entry_of<'a>(
     }
 }
 
-/// The entry to which an entry of a unit refers, and the place of its unit.
-fn referred<'a>(
-    alloc: Global,
-    units: &Units<'a>,
-    i: usize,
-    entry: &Entry<'a>,
-) -> Result<Option<(usize, Entry<'a>)>, AllocError>
+/// The offset to which an entry of a unit refers.
+fn referred_offset(units: &Units<'_>, i: usize, entry: &Entry<'_>) -> Option<u64>
     requires { i < length (cut.units units.now.info) }
-    ensures { IfOk result (λ found. (here : UnitEntry) → IsEntry units.now i entry.now here → Leads units.now found (names.referred units.now here)) }
+    ensures { (here : UnitEntry) → IsEntry units.now i entry.now here → option_and_then (names.entry_of units.now) result ≡ names.referred units.now here }
 {
     let Some(value) = reference(entry) else {
+        return None;
+    };
+    target(units, i, value)
+}
+
+/// Reads the entry to which an entry of a unit refers in place of it, and answers the place of its
+/// unit. `None` where it refers to none; then any entry may be kept.
+fn read_referred<'a>(
+    units: &Units<'a>,
+    i: usize,
+    entry: &mut Entry<'a>,
+) -> Result<Option<usize>, AllocError>
+    requires { i < length (cut.units units.now.info) }
+    ensures { IfOk result (λ place. (here : UnitEntry) → IsEntry units.now i entry.old here → Leads units.now (read_of entry.new place) (names.referred units.now here)) }
+{
+    let Some(offset) = referred_offset(units, i, entry) else {
         return Ok(None);
     };
-    let Some(offset) = target(units, i, value) else {
-        return Ok(None);
-    };
-    entry_of(alloc, units, offset)
+    read_at(units, offset, entry)
 }
 
 /// The name of an entry of a unit: the first that it has itself, or that an entry has to which at
-/// most so many references lead. The error comes only where a growth was refused.
+/// most so many references lead. Those are read in place of it, so any entry may be kept then. The
+/// error comes only where a growth was refused.
 pub(crate) fn name_within<'a>(
-    alloc: Global,
     units: &Units<'a>,
     i: usize,
-    entry: &Entry<'a>,
+    entry: &mut Entry<'a>,
     more: usize,
 ) -> Result<Option<&'a [u8]>, AllocError>
     requires { i < length (cut.units units.now.info) }
-    ensures { IfOk result (λ name. (here : UnitEntry) → IsEntry units.now i entry.now here → option_map (λ text. text.now) name ≡ names.name_within units.now more here) }
+    ensures { IfOk result (λ name. (here : UnitEntry) → IsEntry units.now i entry.old here → option_map (λ text. text.now) name ≡ names.name_within units.now more here) }
 {
     let own = own_name(units.tables(), &units.unit(i).bases, entry);
     if let Some(name) = own {
@@ -145,8 +158,8 @@ pub(crate) fn name_within<'a>(
     if more == 0 {
         return Ok(None);
     }
-    let Some((unit, origin)) = referred(alloc, units, i, entry)? else {
+    let Some(unit) = read_referred(units, i, entry)? else {
         return Ok(None);
     };
-    name_within(alloc, units, unit, &origin, more - 1)
+    name_within(units, unit, entry, more - 1)
 }

@@ -36,22 +36,19 @@ const REFERENCES: usize = 16;
 /// Below how many entries one may stand.
 const DEPTH: usize = 512;
 
-/// What is told of a function of a unit.
+/// What is told of a function of a unit. Entries to which it refers are read in place of it.
 fn describe<'a>(
-    alloc: Global,
     units: &Units<'a>,
     i: usize,
-    entry: &Entry<'a>,
+    entry: &mut Entry<'a>,
 ) -> Result<Description<'a>, AllocError>
     requires { i < length (cut.units units.now.info) }
-    ensures { IfOk result (λ description. IfSome (slice_get (cut.units units.now.info) i) (λ unit. description_shown description ≡ model.described units.now unit (entry_shown entry.now))) }
+    ensures { IfOk result (λ description. IfSome (slice_get (cut.units units.now.info) i) (λ unit. description_shown description ≡ model.described units.now unit (entry_shown entry.old))) }
 {
-    let name = name_within(alloc, units, i, entry, REFERENCES)?;
-    Ok(Description {
-        offset: entry.offset,
-        name,
-        call: call_of(entry),
-    })
+    let offset = entry.offset;
+    let call = call_of(entry);
+    let name = name_within(units, i, entry, REFERENCES)?;
+    Ok(Description { offset, name, call })
 }
 
 /// The ranges of an entry of a unit.
@@ -77,37 +74,41 @@ fn check_depth(depth: usize) -> Result<(), TreeFault>
     Ok(())
 }
 
-/// Keeps a function of a unit. The error is `Ranges` where its ranges can't be read, or `Memory`.
+/// Keeps a function of a unit, in place of whose entry others are read. The error is `Ranges` where its
+/// ranges can't be read, or `Memory`.
 fn add_function<'a>(
     alloc: Global,
     units: &Units<'a>,
     i: usize,
     drafts: &mut Drafts<'a>,
-    entry: &Entry<'a>,
+    entry: &mut Entry<'a>,
 ) -> Result<(), TreeFault>
     requires { i < length (cut.units units.now.info) }
-    ensures { (unit : DwarfUnit) → slice_get (cut.units units.now.info) i ≡ Some unit → AddsFunction units.now unit (entry_shown entry.now) result drafts.old drafts.new }
+    ensures { (unit : DwarfUnit) → slice_get (cut.units units.now.info) i ≡ Some unit → AddsFunction units.now unit (entry_shown entry.old) result drafts.old drafts.new }
 {
     let ranges = ranges_in(alloc, units, i, entry)?;
-    let description = describe(alloc, units, i, entry)?;
     let number = drafts.count();
     drafts.push_ranges(entry.tag == DW_TAG_subprogram, &ranges, number)?;
+    let children = entry.children;
+    let description = describe(units, i, entry)?;
     drafts.push_function(alloc, description)?;
-    drafts.begin_list(entry.children, Some(number))?;
+    drafts.begin_list(children, Some(number))?;
     Ok(())
 }
 
-/// Keeps the next entry of a unit, where it is a function. The error is `Depth` where it stands too
-/// deep, `Ranges` where it is a function whose ranges can't be read, or `Memory`.
+/// Keeps the next entry of a unit, where it is a function; others are read in place of it. The error is
+/// `Depth` where it stands too deep, `Ranges` where it is a function whose ranges can't be read, or
+/// `Memory`.
 pub(crate) fn keep<'a>(
     alloc: Global,
     units: &Units<'a>,
     i: usize,
-    next: Next<'a>,
+    next: Next,
+    entry: &mut Entry<'a>,
     drafts: &mut Drafts<'a>,
 ) -> Result<(), TreeFault>
     requires { i < length (cut.units units.now.info) }
-    ensures { (unit : DwarfUnit) (found : Option ModelEntry) → slice_get (cut.units units.now.info) i ≡ Some unit → IsNext next.entry found → Keeps units.now unit found result drafts.old drafts.new }
+    ensures { (unit : DwarfUnit) (found : Option ModelEntry) → slice_get (cut.units units.now.info) i ≡ Some unit → IsNext next entry.old found → Keeps units.now unit found result drafts.old drafts.new }
 {
     let depth = drafts.depth();
     match next {
@@ -121,9 +122,9 @@ pub(crate) fn keep<'a>(
             drafts.begin_list(children, number)?;
             Ok(())
         }
-        Next::Function(entry) => {
+        Next::Function => {
             check_depth(depth)?;
-            add_function(alloc, units, i, drafts, &entry)?;
+            add_function(alloc, units, i, drafts, entry)?;
             Ok(())
         }
     }

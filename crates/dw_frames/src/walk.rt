@@ -10,23 +10,24 @@ ghost use Rattle.dw_frames.specs.Reader.{nodes_on, FollowsOn, FollowsAll};
 use crate::drafts::Drafts;
 use crate::fault::TreeFault;
 use crate::reader::keep;
-use dw_units::{Entries, Next, Units};
+use dw_units::{Entries, Entry, Next, Units};
 use std::alloc::Global;
 
-/// Reads entries until the list below the unit's first one has ended, or the unit has.
+/// Reads entries, each in place of the one before, until the list below the unit's first one has ended, or the unit has.
 fn read_below<'a>(
     alloc: Global,
     units: &Units<'a>,
     i: usize,
     entries: &mut Entries<'_, 'a>,
+    entry: &mut Entry<'a>,
     drafts: &mut Drafts<'a>,
 ) -> Result<(), TreeFault>
     requires { i < length (cut.units units.now.info) }
     ensures { (unit : DwarfUnit) (before : List Node) → slice_get (cut.units units.now.info) i ≡ Some unit → Follows units.now unit before drafts.old entries.old.place.at → FollowsOn units.now unit before (nodes_on units.now unit entries.old (length drafts.old.lists)) result drafts.new }
 {
     while drafts.depth() > 0 && !entries.is_done() {
-        let next = entries.next_function(alloc)?;
-        keep(alloc, units, i, next, drafts)?;
+        let next = entries.next_function(entry)?;
+        keep(alloc, units, i, next, entry, drafts)?;
     }
     Ok(())
 }
@@ -45,11 +46,12 @@ pub(crate) fn read_all<'a>(
         return Err(TreeFault::Entry);
     };
     let mut drafts = Drafts::new(alloc);
-    let first = entries.next_function(alloc)?;
-    if let Next::Null = &first {
+    let mut entry = Entry::unread(alloc);
+    let first = entries.next_function(&mut entry)?;
+    if let Next::Null = first {
         return Err(TreeFault::Entry);
     }
-    keep(alloc, units, i, first, &mut drafts)?;
-    read_below(alloc, units, i, &mut entries, &mut drafts)?;
+    keep(alloc, units, i, first, &mut entry, &mut drafts)?;
+    read_below(alloc, units, i, &mut entries, &mut entry, &mut drafts)?;
     Ok(drafts)
 }

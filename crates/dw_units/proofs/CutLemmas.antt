@@ -64,11 +64,12 @@ same-tables old new offset place same kept h =
 
 still-placed : (s : Sections) (old new : Read) (unit : DwarfUnit) (place : Option ℕ) → new.section ≡ old.section → IsKept old new → HasEntries s old unit place → HasEntries s new unit place
 still-placed s old new unit None same kept h = h
-still-placed s old new unit (Some place) same kept h = (same-tables old new unit.debug_abbrev_offset place same kept h.0, h.1)
+still-placed s old new unit (Some place) same kept h = (same-tables old new unit.debug_abbrev_offset place same kept h.0, h.1, h.2)
 
 still-opened : (s : Sections) (old new : Read) (unit : CodeUnit) → new.section ≡ old.section → IsKept old new → IsOpened s old unit → IsOpened s new unit
 still-opened s old new unit same kept h = record {
   root = h.root;
+  first = h.first;
   bases = h.bases;
   table = still-placed s old new (unit_shown unit) unit.table same kept h.table;
 }

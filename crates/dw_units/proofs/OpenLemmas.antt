@@ -18,7 +18,7 @@ use Rattle.dw_units.specs.declared.header.Header.{Header}
 use Rattle.dw_units.specs.declared.unit.Unit.{Unit as CodeUnit}
 use Rattle.dw_units.specs.declared.entry.Entry.{Entry as CodeEntry}
 use Rattle.dw_units.specs.Header.{header_shown}
-use Rattle.dw_units.specs.Entry.{entry_shown}
+use Rattle.dw_units.specs.Entry.{entry_shown, FindsEntry, IsFound}
 use Rattle.dw_units.specs.Shared.{Read}
 use Rattle.dw_units.specs.Unit.{unit_shown, HasEntries, IsOpened}
 use Rattle.dw_units.proofs.PlaceLemmas.{outside-all}
@@ -82,10 +82,20 @@ declarations-told s unit section (Some fault) same e = root-undeclared s unit fa
 
 -- ---- a unit that is opened
 
+-- nothing is asked of the first entry of a skipped unit
+pub unasked : (found : Option CodeEntry) (given : Result (Option Entry × Place) Fault) (skipped : Bool) → skipped ≡ true → skipped ≡ false → IsFound found given
+unasked found given skipped e f = let no : true ≡ false = sym e ∙ f in absurd cc
+
+pub found-first : (found : Option CodeEntry) (first : CodeEntry) (given : Result (Option Entry × Place) Fault) → FindsEntry (Ok found) given → found ≡ Some first → IsFound (Some first) given
+found-first found first given h is =
+    let here = subst (λ found. FindsEntry (Ok found) given) is h in
+    (first, here.0, refl, here.1, here.2)
+
 pub opened : (s : Sections) (read : Read) (header : Header) (unit : CodeUnit) (found : Option CodeEntry) (table : Option ℕ) → unit_shown unit ≡ header_shown header → bases_shown unit.bases ≡ bases_in OFFSET_SIZE_32 (option_map entry_shown found) → unit.root ≡ found → unit.table ≡ table
-    → root s (header_shown header) ≡ option_map entry_shown found → HasEntries s read (header_shown header) table → IsOpened s read unit
-opened s read header unit found table same bases first placed is h = record {
+    → root s (header_shown header) ≡ option_map entry_shown found → (is_skipped (header_shown header).kind ≡ false → IsFound found (entry s (header_shown header) header.first_entry)) → HasEntries s read (header_shown header) table → IsOpened s read unit
+opened s read header unit found table same bases first placed is here h = record {
   root = ap (option_map entry_shown) first ∙ sym is ∙ ap (root s) (sym same);
+  first = rw first (subst (λ (u : DwarfUnit). is_skipped u.kind ≡ false → IsFound found (entry s u u.first_entry)) (sym same) here);
   bases = bases ∙ ap (bases_in OFFSET_SIZE_32) (sym is ∙ ap (root s) (sym same));
   table = rw placed (subst (λ u. HasEntries s read u table) (sym same) h);
 }

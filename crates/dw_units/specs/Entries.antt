@@ -12,6 +12,7 @@ use Rattle.dw_forms.specs.declared.fault.FormFault.{FormFault}
 use Rattle.dw_forms.specs.Fault.{form_fault}
 use Rattle.dw_units.specs.declared.entries.Next.{Next}
 use Rattle.dw_units.specs.declared.entries.Next.TheVariants.{Null, Function, Passed}
+use Rattle.dw_units.specs.declared.entry.Entry.{Entry as CodeEntry}
 use Rattle.dw_units.specs.Entry.{entry_shown}
 
 -- the declarations of a unit, and the place of its next entry
@@ -19,28 +20,29 @@ pub record Walk : Type 0 where
   pub declarations : List Declaration
   pub place : Place
 
--- the walk over a unit's entries begins at its first one; a skipped unit has none
+-- the walk over a unit's entries begins at its first one; just the skipped units have none
 abbrev pub WalksFrom : Sections → DwarfUnit → Option Walk → Type 0
 WalksFrom sections unit None = is_skipped unit.kind ≡ true
 WalksFrom sections unit (Some walk) =
     (abbreviations sections.abbrevs unit.debug_abbrev_offset ≡ Ok walk.declarations)
     × (walk.place ≡ place_in sections unit unit.first_entry)
+    × (is_skipped unit.kind ≡ false)
 
--- it is a null entry, or a function, or an entry that is none, of which only the children are told
-abbrev pub IsNext : Next → Option Entry → Type 0
-IsNext Null found = found ≡ None
-IsNext (Function entry) found = (found ≡ Some (entry_shown entry)) × (is_function (entry_shown entry) ≡ true)
-IsNext (Passed children) found = (entry : Entry) × (found ≡ Some entry) × (is_function entry ≡ false) × (children ≡ entry.children)
+-- it is a null entry, or a function, which is kept, or an entry that is none, of which only the children are told
+abbrev pub IsNext : Next → CodeEntry → Option Entry → Type 0
+IsNext Null kept found = found ≡ None
+IsNext Function kept found = (found ≡ Some (entry_shown kept)) × (is_function (entry_shown kept) ≡ true)
+IsNext (Passed children) kept found = (entry : Entry) × (found ≡ Some entry) × (is_function entry ≡ false) × (children ≡ entry.children)
 
--- a function ends where the walk goes on
-abbrev pub IsBefore : Next → Place → Type 0
-IsBefore (Function entry) new = entry.next ≡ new.at
-IsBefore _ new = Unit {0}
+-- a function ends where the walk goes on; what was kept stays where the entry is none
+abbrev pub IsBefore : Next → CodeEntry → CodeEntry → Place → Type 0
+IsBefore Function old kept new = kept.next ≡ new.at
+IsBefore _ old kept new = kept ≡ old
 
 -- The next entry is read as the definition has it; want of memory may be told in place of it.
-abbrev pub ReadsNext : Result Next FormFault → Result (Option Entry × Place) Fault → Place → Type 0
-ReadsNext (Ok next) given new = (found : Option Entry) × (given ≡ Ok (found, new)) × IsNext next found
-ReadsNext (Err fault) given new = MatchOption (form_fault fault) (Unit {0}) (λ told. given ≡ Err told)
+abbrev pub ReadsNext : Result Next FormFault → CodeEntry → Result (Option Entry × Place) Fault → Place → Type 0
+ReadsNext (Ok next) kept given new = (found : Option Entry) × (given ≡ Ok (found, new)) × IsNext next kept found
+ReadsNext (Err fault) kept given new = MatchOption (form_fault fault) (Unit {0}) (λ told. given ≡ Err told)
 
 -- values were passed over: the definition reads them
 abbrev pub Passes : {A : Type 0} → Result (Unit {0}) FormFault → Result (A × Place) Fault → Place → Type 0

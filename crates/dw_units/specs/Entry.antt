@@ -1,5 +1,5 @@
 -- Entries as the definitions have them.
-use Rattle.std.specs.Prelude.{◌≡◌, map, Option, option_map, IfSome, MatchOption, Result, Ok, Err}
+use Rattle.std.specs.Prelude.{◌≡◌, map, Bool, true, false, cond, [], Option, Some, None, option_map, IfSome, MatchOption, Result, Ok, Err}
 use Rattle.dw_model.specs.Reading.{Place}
 use Rattle.dw_model.specs.Faults.{Fault}
 use Rattle.dw_model.specs.Entry as model
@@ -24,3 +24,22 @@ entry_shown entry = record {
 abbrev pub FindsEntry : Result (Option Entry) FormFault → Result (Option model.Entry × Place) Fault → Type 0
 FindsEntry (Ok found) given = (past : Place) × (given ≡ Ok (option_map entry_shown found, past)) × IfSome found (λ entry. entry.next ≡ past.at)
 FindsEntry (Err fault) given = MatchOption (form_fault fault) (Unit {0}) (λ told. given ≡ Err told)
+
+-- The same of an entry that is read in place of another one: none is kept of a null entry.
+abbrev pub ReadsEntry : Result Bool FormFault → Entry → Result (Option model.Entry × Place) Fault → Type 0
+ReadsEntry (Ok true) entry given = FindsEntry (Ok (Some entry)) given
+ReadsEntry (Ok false) entry given = FindsEntry (Ok None) given
+ReadsEntry (Err fault) entry given = FindsEntry (Err fault) given
+
+-- what is read of an entry, and nothing of a null entry
+abbrev pub shown_where : Bool → Entry → Option model.Entry
+shown_where found entry = cond found (Some (entry_shown entry)) None
+
+-- an entry before it is read
+abbrev pub unread : model.Entry
+unread = record { offset = 0; tag = 0; children = false; attributes = [] }
+
+-- the entry stands where the definition has it, and it isn't null; its end is the offset just past it
+abbrev pub IsFound : Option Entry → Result (Option model.Entry × Place) Fault → Type 0
+IsFound found given =
+    (entry : Entry) × (past : Place) × (found ≡ Some entry) × (given ≡ Ok (Some (entry_shown entry), past)) × (entry.next ≡ past.at)

@@ -1,5 +1,5 @@
 -- What a unit stands for.
-use Rattle.std.specs.Prelude.{◌≡◌, ◌≤◌, ℕ, true, length, take, Option, Some, None, option_map}
+use Rattle.std.specs.Prelude.{◌≡◌, ◌≤◌, ℕ, true, false, length, take, Option, Some, None, option_map}
 use Rattle.dw_model.specs.declared.dwarf.TheConstants.{OFFSET_SIZE_32}
 use Rattle.dw_model.specs.Unit.{DwarfUnit, is_skipped}
 use Rattle.dw_model.specs.Section.{Sections}
@@ -7,7 +7,7 @@ use Rattle.dw_model.specs.Root as model
 use Rattle.dw_forms.specs.Tables.{bases_shown}
 use Rattle.dw_units.specs.declared.unit.Unit.{Unit}
 use Rattle.dw_units.specs.Header.{kind_shown}
-use Rattle.dw_units.specs.Entry.{entry_shown}
+use Rattle.dw_units.specs.Entry.{entry_shown, IsFound}
 use Rattle.dw_units.specs.Shared.{Read, HasTable}
 
 abbrev pub unit_shown : Unit → DwarfUnit
@@ -25,10 +25,16 @@ unit_shown unit = record {
 abbrev pub HasEntries : Sections → Read → DwarfUnit → Option ℕ → Type 0
 HasEntries sections read unit None = (is_skipped unit.kind ≡ true) × (unit.first_entry ≡ unit.end)
 HasEntries sections read unit (Some place) =
-    HasTable read unit.debug_abbrev_offset place × (unit.first_entry ≤ length (take unit.end sections.info))
+    HasTable read unit.debug_abbrev_offset place × (unit.first_entry ≤ length (take unit.end sections.info)) × (is_skipped unit.kind ≡ false)
+
+-- a unit that isn't skipped has its first entry, with the offset just past it
+abbrev pub HasFirst : Sections → Unit → Type 0
+HasFirst sections unit =
+    is_skipped (kind_shown unit.kind) ≡ false → IsFound unit.root (model.entry sections (unit_shown unit) unit.first_entry)
 
 -- The unit's first entry and its bases are those of the definitions, and its declarations were read where it has entries.
 pub record IsOpened (sections : Sections) (read : Read) (unit : Unit) : Type 0 where
   pub root : option_map entry_shown unit.root ≡ model.root sections (unit_shown unit)
+  pub first : HasFirst sections unit
   pub bases : bases_shown unit.bases ≡ model.bases sections (unit_shown unit)
   pub table : HasEntries sections read (unit_shown unit) unit.table

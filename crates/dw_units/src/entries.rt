@@ -6,7 +6,7 @@ ghost use Rattle.dw_model.specs.Entry.{attributes_at, entry_at};
 ghost use Rattle.dw_forms.specs.Declaration.{spec_shown};
 ghost use Rattle.dw_units.specs.Entries.{ReadsNext, IsBefore, Passes};
 
-use crate::entry::{Entry, attributes_of};
+use crate::entry::{Entry, read_attributes};
 use dw_bytes::Cursor;
 use dw_forms::{Abbrevs, FormFault, Spec, read_value};
 use dw_model::dwarf::{DW_TAG_inlined_subroutine, DW_TAG_subprogram};
@@ -14,12 +14,12 @@ use std::alloc::Global;
 use std::marker::Model;
 
 /// The next entry of a unit.
-#[derive(Drop)]
-pub enum Next<'a> {
+#[derive(Clone, Copy, Debug, PartialEq, Eq)]
+pub enum Next {
     /// A null entry, which ends a list of children.
     Null,
-    /// A subprogram or an inlined subroutine.
-    Function(Entry<'a>),
+    /// A subprogram or an inlined subroutine, which was read.
+    Function,
     /// Any other entry: its attributes were passed over.
     Passed {
         /// A list of children follows it.
@@ -62,15 +62,16 @@ fn pass_attributes(cursor: &mut Cursor<'_>, specs: &[Spec]) -> Result<(), FormFa
     Ok(())
 }
 
-/// The entry at the cursor, which goes just past it. After a refusal the cursor may stand anywhere.
+/// Reads the entry at the cursor, which goes just past it; a function in place of the one that was
+/// kept. After a refusal the cursor may stand anywhere.
 #[tactic(auto, unfolding(dw_model::specs::Entry::entry_at))]
 fn next_of<'a>(
-    alloc: Global,
     cursor: &mut Cursor<'a>,
     abbrevs: &Abbrevs,
-) -> Result<Next<'a>, FormFault>
-    ensures next { ReadsNext result (entry_at OFFSET_SIZE_32 abbrevs.now cursor.old) cursor.new }
-    ensures past { IfOk result (λ next. IsBefore next cursor.new) }
+    kept: &mut Entry<'a>,
+) -> Result<Next, FormFault>
+    ensures next { ReadsNext result kept.new (entry_at OFFSET_SIZE_32 abbrevs.now cursor.old) cursor.new }
+    ensures past { IfOk result (λ next. IsBefore next kept.old kept.new cursor.new) }
 {
     let offset = cursor.at() as u64;
     let code = cursor.uleb()?;
@@ -83,14 +84,12 @@ fn next_of<'a>(
         pass_attributes(cursor, declaration.specs.as_slice())?;
         return Ok(Next::Passed { children });
     }
-    let attrs = attributes_of(alloc, cursor, declaration.specs.as_slice())?;
-    Ok(Next::Function(Entry {
-        offset,
-        next: cursor.at() as u64,
-        tag: declaration.tag,
-        children,
-        attrs,
-    }))
+    read_attributes(&mut kept.attrs, cursor, declaration.specs.as_slice())?;
+    kept.offset = offset;
+    kept.next = cursor.at() as u64;
+    kept.tag = declaration.tag;
+    kept.children = children;
+    Ok(Next::Function)
 }
 
 impl<'b, 'a> Entries<'b, 'a> {
@@ -109,12 +108,13 @@ impl<'b, 'a> Entries<'b, 'a> {
         self.cursor.left() == 0
     }
 
-    /// The next entry. The error is its first fault, or `Memory`; then the walk may stand anywhere.
-    pub fn next_function(&mut self, alloc: Global) -> Result<Next<'a>, FormFault>
+    /// Reads the next entry: a function in place of the one that was kept, which stays where the entry is
+    /// none. The error is its first fault, or `Memory`; then the walk may stand anywhere.
+    pub fn next_function(&mut self, kept: &mut Entry<'a>) -> Result<Next, FormFault>
         ensures declarations { self.new.declarations ≡ self.old.declarations }
-        ensures next { ReadsNext result (entry_at OFFSET_SIZE_32 self.old.declarations self.old.place) self.new.place }
-        ensures past { IfOk result (λ next. IsBefore next self.new.place) }
+        ensures next { ReadsNext result kept.new (entry_at OFFSET_SIZE_32 self.old.declarations self.old.place) self.new.place }
+        ensures past { IfOk result (λ next. IsBefore next kept.old kept.new self.new.place) }
     {
-        next_of(alloc, &mut self.cursor, self.abbrevs)
+        next_of(&mut self.cursor, self.abbrevs, kept)
     }
 }

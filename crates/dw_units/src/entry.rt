@@ -1,6 +1,6 @@
 //! Entries of units, by sections 7.5.2 to 7.5.6 of DWARF 5.
 
-ghost use Rattle.std.specs.Prelude.{◌≡◌, ◌==◌, ◌<◌, ℕ, Ok, IfOk, IfSome, find, length, map, option_map, take, MatchOption};
+ghost use Rattle.std.specs.Prelude.{◌≡◌, ◌==◌, ◌<◌, ℕ, true, Ok, IfOk, IfSome, find, length, map, option_map, take, MatchOption};
 ghost use Rattle.dw_model.specs.declared.dwarf.TheConstants.{OFFSET_SIZE_32};
 ghost use Rattle.dw_model.specs.Entry.{attributes_at, entry_at};
 ghost use Rattle.dw_model.specs.Entry as model;
@@ -10,7 +10,7 @@ ghost use Rattle.dw_model.specs.Answers.{ReadsUnlessMemory};
 ghost use Rattle.dw_forms.specs.Fault.{form_fault};
 ghost use Rattle.dw_forms.specs.Declaration.{spec_shown};
 ghost use Rattle.dw_forms.specs.Value.{value_shown};
-ghost use Rattle.dw_units.specs.Entry.{attribute_shown, entry_shown, FindsEntry};
+ghost use Rattle.dw_units.specs.Entry.{attribute_shown, entry_shown, shown_where, unread, FindsEntry, ReadsEntry};
 ghost use Rattle.dw_units.specs.Header.{header_shown};
 ghost use Rattle.dw_units.specs.Sections.{sections_shown};
 ghost use Rattle.dw_units.specs.Null.{IsNull, IsPastNull};
@@ -20,7 +20,6 @@ use crate::header::Header;
 use crate::sections::Sections;
 use dw_bytes::Cursor;
 use dw_forms::{Abbrevs, FormFault, Spec, Value, read_value};
-use smallvec::SmallVec;
 use std::alloc::Global;
 
 /// An attribute: its name, a DW_AT code, and its value.
@@ -30,8 +29,8 @@ pub struct Attribute<'a> {
     pub value: Value<'a>,
 }
 
-/// The attributes of an entry, in order. Most entries have no more than are kept in place.
-pub type Attributes<'a> = SmallVec<Attribute<'a>, 12>;
+/// The attributes of an entry, in order.
+pub type Attributes<'a> = Vec<Attribute<'a>>;
 
 /// An entry. Offsets count from the first byte of .debug_info.
 #[derive(Drop)]
@@ -46,15 +45,15 @@ pub struct Entry<'a> {
     pub attrs: Attributes<'a>,
 }
 
-/// The values that a declaration asks for.
-pub(crate) fn attributes_of<'a>(
-    alloc: Global,
+/// Reads the values that a declaration asks for, in place of those that were kept.
+pub(crate) fn read_attributes<'a>(
+    attributes: &mut Attributes<'a>,
     cursor: &mut Cursor<'a>,
     specs: &[Spec],
-) -> Result<Attributes<'a>, FormFault>
-    ensures { ReadsUnlessMemory (λ attributes. map attribute_shown attributes.items) form_fault result (attributes_at OFFSET_SIZE_32 (map spec_shown specs.now) cursor.old) cursor.new }
+) -> Result<(), FormFault>
+    ensures { ReadsUnlessMemory (λ _. map attribute_shown attributes.new.items) form_fault result (attributes_at OFFSET_SIZE_32 (map spec_shown specs.now) cursor.old) cursor.new }
 {
-    let mut attributes = SmallVec::new(alloc);
+    attributes.clear();
     for spec in specs {
         let value = read_value(cursor, spec.form, spec.implicit)?;
         attributes.push(Attribute {
@@ -62,37 +61,50 @@ pub(crate) fn attributes_of<'a>(
             value,
         })?;
     }
-    Ok(attributes)
+    Ok(())
 }
 
-/// The entry at the cursor, which goes just past it; `None` for a null entry, which ends a list of
-/// children. After a refusal the cursor may stand anywhere.
+/// Reads the entry at the cursor, which goes just past it, in place of the one that was kept; `false`
+/// for a null entry, which ends a list of children. After a refusal the cursor may stand anywhere.
 #[tactic(auto, unfolding(dw_model::specs::Entry::entry_at))]
-pub(crate) fn entry_of<'a>(
-    alloc: Global,
+pub(crate) fn read_entry<'a>(
+    kept: &mut Entry<'a>,
     cursor: &mut Cursor<'a>,
     abbrevs: &Abbrevs,
-) -> Result<Option<Entry<'a>>, FormFault>
-    ensures entry { ReadsUnlessMemory (option_map entry_shown) form_fault result (entry_at OFFSET_SIZE_32 abbrevs.now cursor.old) cursor.new }
-    ensures next { IfOk result (λ found. IfSome found (λ entry. entry.next ≡ cursor.new.at)) }
+) -> Result<bool, FormFault>
+    ensures entry { ReadsUnlessMemory (λ found. shown_where found kept.new) form_fault result (entry_at OFFSET_SIZE_32 abbrevs.now cursor.old) cursor.new }
+    ensures next { IfOk result (λ found. found ≡ true → kept.new.next ≡ cursor.new.at) }
 {
     let offset = cursor.at() as u64;
     let code = cursor.uleb()?;
     if code == 0 {
-        return Ok(None);
+        return Ok(false);
     }
     let declaration = abbrevs.get(code).ok_or(FormFault::Code)?;
-    let attrs = attributes_of(alloc, cursor, declaration.specs.as_slice())?;
-    Ok(Some(Entry {
-        offset,
-        next: cursor.at() as u64,
-        tag: declaration.tag,
-        children: declaration.children,
-        attrs,
-    }))
+    read_attributes(&mut kept.attrs, cursor, declaration.specs.as_slice())?;
+    kept.offset = offset;
+    kept.next = cursor.at() as u64;
+    kept.tag = declaration.tag;
+    kept.children = declaration.children;
+    Ok(true)
 }
 
 impl<'a> Entry<'a> {
+    /// An entry that isn't read yet, in place of which others are read. The memory that its attributes
+    /// take serves them all.
+    pub fn unread(alloc: Global) -> Self
+        ensures unread { entry_shown result ≡ unread }
+        ensures next { result.next ≡ 0 }
+    {
+        Entry {
+            offset: 0,
+            next: 0,
+            tag: 0,
+            children: false,
+            attrs: Vec::new(alloc),
+        }
+    }
+
     /// The value of the first attribute of a name, where it is of a kind that counts for the name;
     /// else the attribute is absent.
     #[tactic(auto, unfolding(dw_model::specs::Entry::attribute))]
@@ -134,9 +146,30 @@ pub(crate) fn cursor_at<'a>(
     Some(cursor)
 }
 
+/// Reads the entry at an offset of .debug_info that lies between a unit's first entry and its end, in
+/// place of the one that was kept; `false` for a null entry. Nothing past the unit's end is read.
+#[tactic(auto, unfolding(dw_model::specs::Root::entry))]
+pub(crate) fn read_in<'a>(
+    kept: &mut Entry<'a>,
+    sections: &Sections<'a>,
+    unit: &Header,
+    abbrevs: &Abbrevs,
+    offset: u64,
+) -> Result<bool, FormFault>
+    requires { abbreviations sections.now.abbrevs.now unit.now.debug_abbrev_offset ≡ Ok abbrevs.now }
+    ensures { ReadsEntry result kept.new (entry (sections_shown sections.now) (header_shown unit.now) offset) }
+{
+    if offset < unit.first_entry || offset >= unit.end {
+        return Err(FormFault::End);
+    }
+    let Some(mut cursor) = cursor_at(sections, unit, offset) else {
+        return Err(FormFault::End);
+    };
+    read_entry(kept, &mut cursor, abbrevs)
+}
+
 /// The entry at an offset of .debug_info that lies between a unit's first entry and its end; `None`
 /// for a null entry. Nothing past the unit's end is read.
-#[tactic(auto, unfolding(dw_model::specs::Root::entry))]
 pub(crate) fn entry_in<'a>(
     alloc: Global,
     sections: &Sections<'a>,
@@ -147,13 +180,12 @@ pub(crate) fn entry_in<'a>(
     requires { abbreviations sections.now.abbrevs.now unit.now.debug_abbrev_offset ≡ Ok abbrevs.now }
     ensures { FindsEntry result (entry (sections_shown sections.now) (header_shown unit.now) offset) }
 {
-    if offset < unit.first_entry || offset >= unit.end {
-        return Err(FormFault::End);
+    let mut found = Entry::unread(alloc);
+    let is_some = read_in(&mut found, sections, unit, abbrevs, offset)?;
+    if !is_some {
+        return Ok(None);
     }
-    let Some(mut cursor) = cursor_at(sections, unit, offset) else {
-        return Err(FormFault::End);
-    };
-    entry_of(alloc, &mut cursor, abbrevs)
+    Ok(Some(found))
 }
 
 /// The offset just past a null entry, whose code may be padded.

@@ -1,12 +1,27 @@
 //! Entries, worked out by hand from the standard's tables.
 
-use crate::entry::entry_of;
+use crate::entry::{Entry, read_entry};
 use dw_bytes::Cursor;
 use dw_forms::{Abbrevs, FormFault, Value};
 use dw_model::dwarf::{
     DW_AT_abstract_origin, DW_AT_call_column, DW_AT_call_file, DW_AT_call_line, DW_AT_high_pc,
     DW_AT_low_pc, DW_AT_name,
 };
+use std::alloc::Global;
+
+/// The entry at a cursor; `None` for a null entry.
+fn entry_of<'a>(
+    alloc: Global,
+    cursor: &mut Cursor<'a>,
+    abbrevs: &Abbrevs,
+) -> Result<Option<Entry<'a>>, FormFault> {
+    let mut entry = Entry::unread(alloc);
+    let found = read_entry(&mut entry, cursor, abbrevs)?;
+    if !found {
+        return Ok(None);
+    }
+    Ok(Some(entry))
+}
 
 /// An inlined call: its origin, its range, and where it was called.
 const DECLARATIONS: &[u8] = &[
@@ -78,7 +93,7 @@ fn first_of_two_attributes_decides(rt: HostRuntime) {
     );
 }
 
-/// An entry of 13 attributes, which are more than are kept in place.
+/// An entry of 13 attributes.
 const MANY: &[u8] = &[
     1, 0x34, 0, 3, 0x0b, 4, 0x0b, 5, 0x0b, 6, 0x0b, 7, 0x0b, 8, 0x0b, 9, 0x0b, 10, 0x0b, 11, 0x0b,
     12, 0x0b, 13, 0x0b, 14, 0x0b, 15, 0x0b, 0, 0, 0,

@@ -8,13 +8,13 @@ ghost use Rattle.dw_model.specs.Name.{holding};
 ghost use Rattle.dw_model.specs.Root as model;
 ghost use Rattle.dw_elf.specs.OpenFault.{RefusesUnlessMemory};
 ghost use Rattle.dw_forms.specs.Tables.{bases_shown, tables_shown};
-ghost use Rattle.dw_units.specs.Entry.{entry_shown, FindsEntry};
+ghost use Rattle.dw_units.specs.Entry.{entry_shown, FindsEntry, ReadsEntry};
 ghost use Rattle.dw_units.specs.Entries.{WalksFrom};
-ghost use Rattle.dw_units.specs.Unit.{unit_shown};
+ghost use Rattle.dw_units.specs.Unit.{unit_shown, HasFirst};
 ghost use Rattle.dw_units.specs.Null.{IsNull, IsPastNull};
 
 use crate::entries::Entries;
-use crate::entry::{Entry, cursor_at, end_of_null, entry_in};
+use crate::entry::{Entry, cursor_at, end_of_null, entry_in, read_in};
 use crate::header::piece;
 use crate::sections::Sections;
 use crate::shared::Shared;
@@ -93,6 +93,7 @@ impl<'a> Units<'a> {
         requires { i < length (units self.now.info) }
         ensures header { slice_get (units self.now.info) i ≡ Some (unit_shown result.now) }
         ensures root { option_map entry_shown result.now.root ≡ model.root self.now (unit_shown result.now) }
+        ensures first { HasFirst self.now result.now }
         ensures bases { bases_shown result.now.bases ≡ model.bases self.now (unit_shown result.now) }
     {
         &self.units[i]
@@ -150,7 +151,21 @@ impl<'a> Units<'a> {
         )
     }
 
-    /// A walk over the entries of the unit at a place, from its first one on; `None` for a skipped
+    /// Reads the entry at an offset of .debug_info, in the unit at a place, in place of the one that was
+    /// kept; `false` for a null entry. The error is that of `entry`; then any entry may be kept.
+    pub fn read_entry(&self, i: usize, offset: u64, kept: &mut Entry<'a>) -> Result<bool, FormFault>
+        requires { i < length (units self.now.info) }
+        ensures { IfSome (slice_get (units self.now.info) i) (λ unit. ReadsEntry result kept.new (model.entry self.now unit offset)) }
+    {
+        let unit = &self.units[i];
+        let Some(table) = unit.table else {
+            return Err(FormFault::End);
+        };
+        let abbrevs = self.shared.get(table);
+        read_in(kept, &self.sections, &unit.header(), abbrevs, offset)
+    }
+
+    /// A walk over the entries of the unit at a place, from its first one on; `None` just for a skipped
     /// unit.
     pub fn entries(&self, i: usize) -> Option<Entries<'_, 'a>>
         requires { i < length (units self.now.info) }

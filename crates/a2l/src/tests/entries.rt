@@ -8,7 +8,7 @@ use dw_model::dwarf::{
     DW_AT_abstract_origin, DW_AT_call_column, DW_AT_call_file, DW_AT_call_line, DW_AT_high_pc,
     DW_AT_low_pc, DW_AT_name, DW_TAG_inlined_subroutine, DW_TAG_partial_unit,
 };
-use dw_units::{Next, Units};
+use dw_units::{Entry, Next, Units};
 use std::test::Fail;
 
 #[test]
@@ -125,13 +125,14 @@ fn walk_of_a_unit(rt: HostRuntime) -> Result<(), Fail> {
         return Err(Fail::from("two units"));
     }
     let mut entries = units.entries(0).ok_or("entries of the first unit")?;
+    let mut kept = Entry::unread(rt.alloc());
     // The unit's first entry and the lexical block are no functions.
     let rows = [None, Some(0x1d), Some(0x23), None, Some(0x36), Some(0x47)];
     for row in rows {
         assert!(rt; !entries.is_done());
-        let next = entries.next_function(rt.alloc()).ok().ok_or("an entry")?;
+        let next = entries.next_function(&mut kept).ok().ok_or("an entry")?;
         let offset = match next {
-            Next::Function(entry) => Some(entry.offset),
+            Next::Function => Some(kept.offset),
             Next::Passed { children } => {
                 assert!(rt; children);
                 None
@@ -142,7 +143,7 @@ fn walk_of_a_unit(rt: HostRuntime) -> Result<(), Fail> {
     }
     for _ in 0..4 {
         let next = entries
-            .next_function(rt.alloc())
+            .next_function(&mut kept)
             .ok()
             .ok_or("a null entry")?;
         assert!(rt; matches!(next, Next::Null));

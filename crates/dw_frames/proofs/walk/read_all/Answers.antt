@@ -26,7 +26,7 @@ pub returns-in-Null : goal.returns-in-Null
 returns-in-Null c unit e =
     let walk = walks c.args.units.now c.args.i unit c.in-Some.entries e c.in-Some.ensures in
     let read = c.in_ok-first.ensures.next in
-    root-null c.args.units.now unit c.in-Some.entries (small c.args.units.now c.args.i unit e) walk.0 walk.1 read.0 c.next_function.new.self.place read.1 (subst (λ next. IsNext next read.0) c.in-Null.is read.2)
+    root-null c.args.units.now unit c.in-Some.entries (small c.args.units.now c.args.i unit e) walk.0 walk.1 read.0 c.next_function.new.self.place read.1 (subst (λ next. IsNext next c.next_function.new.kept read.0) c.in-Null.is read.2)
 
 pub returns-in_err-keep : goal.returns-in_err-keep
 returns-in_err-keep c unit e =
@@ -41,7 +41,7 @@ returns-in_err-read_below c unit e =
     let p = err_from_is_err_and c.from_residual-in_err-read_below.result c.from_residual-in_err-read_below.ensures.1 in
     let walk = walks c.args.units.now c.args.i unit c.in-Some.entries e c.in-Some.ensures in
     let read = c.in_ok-first.ensures.next in
-    let first = found-some c.in_ok-first.first read.0 read.2 c.in_default-first.not-Null in
+    let first = found-some c.in_ok-first.first c.next_function.new.kept read.0 read.2 c.in_default-first.not-Null in
     let kept = c.in_ok-keep.ensures unit read.0 e read.2 in
     let b = began c.args.units.now unit c.in-Some.entries (small c.args.units.now c.args.i unit e) walk.0 walk.1 c.new-drafts.result c.keep.new.drafts read.0 first.0 c.next_function.new.self c.new-drafts.ensures c.in_ok-first.ensures.declarations read.1 first.1 kept.0 kept.1 in
     let told = subst (λ fault. MatchOption (tree_fault fault) (Unit {0}) (λ told. nodes_on c.args.units.now unit c.next_function.new.self (length c.keep.new.drafts.lists) ≡ Err told)) (sym p.2) (c.in_err-read_below.ensures unit (record { depth = 0; entry = b.entry } ∷ []) e b.follows) in
@@ -51,7 +51,7 @@ pub returns : goal.returns
 returns c unit e =
     let walk = walks c.args.units.now c.args.i unit c.in-Some.entries e c.in-Some.ensures in
     let read = c.in_ok-first.ensures.next in
-    let first = found-some c.in_ok-first.first read.0 read.2 c.in_default-first.not-Null in
+    let first = found-some c.in_ok-first.first c.next_function.new.kept read.0 read.2 c.in_default-first.not-Null in
     let kept = c.in_ok-keep.ensures unit read.0 e read.2 in
     let b = began c.args.units.now unit c.in-Some.entries (small c.args.units.now c.args.i unit e) walk.0 walk.1 c.new-drafts.result c.keep.new.drafts read.0 first.0 c.next_function.new.self c.new-drafts.ensures c.in_ok-first.ensures.declarations read.1 first.1 kept.0 kept.1 in
     below-follows c.args.units.now unit c.in-Some.entries (small c.args.units.now c.args.i unit e) walk.0 walk.1 c.new-drafts.result c.keep.new.drafts c.read_below.new.drafts c.next_function.new.self b (c.in_ok-read_below.ensures unit (record { depth = 0; entry = b.entry } ∷ []) e b.follows)

@@ -6,14 +6,16 @@ use Rattle.dw_elf.specs.OpenFault.{refusal_of}
 use Rattle.dw_units.specs.Header.{header_shown}
 use Rattle.dw_units.specs.Entry.{entry_shown}
 use Rattle.dw_units.specs.Sections.{sections_shown}
-use Rattle.dw_units.proofs.OpenLemmas.{root-end, root-found, rooted-passes, rootless-fails, fails-as, entry-told, declarations-told, opened}
+use Rattle.dw_model.specs.Unit.{is_skipped}
+use Rattle.dw_model.specs.Root.{entry}
+use Rattle.dw_units.proofs.OpenLemmas.{root-end, root-found, rooted-passes, rootless-fails, fails-as, entry-told, declarations-told, unasked, found-first, opened}
 use Rattle.dw_units.proofs.PlaceLemmas.{entry-within}
 use Rattle.dw_units.proofs.unit.open_unit.Goals as goal
 
 pub returns-then-is_skipped-clause-opened : goal.returns-then-is_skipped-clause-opened
 returns-then-is_skipped-clause-opened c =
     let end = c.requires.whole (sym c.if-is_skipped.ensures) in
-    opened (sections_shown c.args.sections.now) c.args.shared.now c.args.header c.new.result None None c.new.ensures.header c.new.ensures.bases c.new.ensures.root c.new.ensures.table (root-end (sections_shown c.args.sections.now) (header_shown c.args.header) end) (sym c.if-is_skipped.ensures, end)
+    opened (sections_shown c.args.sections.now) c.args.shared.now c.args.header c.new.result None None c.new.ensures.header c.new.ensures.bases c.new.ensures.root c.new.ensures.table (root-end (sections_shown c.args.sections.now) (header_shown c.args.header) end) (unasked None (entry (sections_shown c.args.sections.now) (header_shown c.args.header) c.args.header.first_entry) (is_skipped (header_shown c.args.header).kind) (sym c.if-is_skipped.ensures)) (sym c.if-is_skipped.ensures, end)
 
 pub returns-in-Err-clause-root : goal.returns-in-Err-clause-root
 returns-in-Err-clause-root c =
@@ -40,7 +42,7 @@ returns-clause-opened c =
     let found = root-found (sections_shown c.args.sections.now) (header_shown c.args.header) (option_map entry_shown c.in-Ok-entry_in.found) c.in-Ok-entry_in.ensures.0 c.in-Ok-entry_in.ensures.1 in
     let first = entry-within (sections_shown c.args.sections.now) (header_shown c.args.header) c.args.header.first_entry (option_map entry_shown c.in-Ok-entry_in.found, c.in-Ok-entry_in.ensures.0) c.in-Ok-entry_in.ensures.1 in
     let within : c.args.header.first_entry ≤ length (take c.args.header.end c.args.sections.now.info.now) = omega (arith, first) in
-    opened (sections_shown c.args.sections.now) c.place.new.self c.args.header c.new-2.result (Some c.in-Some.root) (Some c.in-Ok.table) c.new-2.ensures.header c.new-2.ensures.bases c.new-2.ensures.root c.new-2.ensures.table (found ∙ ap (option_map entry_shown) c.in-Some.is) (c.in-Ok.ensures.found, within)
+    opened (sections_shown c.args.sections.now) c.place.new.self c.args.header c.new-2.result (Some c.in-Some.root) (Some c.in-Ok.table) c.new-2.ensures.header c.new-2.ensures.bases c.new-2.ensures.root c.new-2.ensures.table (found ∙ ap (option_map entry_shown) c.in-Some.is) (λ kept. found-first c.in-Ok-entry_in.found c.in-Some.root (entry (sections_shown c.args.sections.now) (header_shown c.args.header) c.args.header.first_entry) c.in-Ok-entry_in.ensures c.in-Some.is) (c.in-Ok.ensures.found, within, sym c.if-is_skipped.ensures)
 
 pub returns-clause-root : goal.returns-clause-root
 returns-clause-root c =

@@ -7,7 +7,7 @@ use Rattle.dw_forms.specs.declared.declaration.Spec.{Spec}
 use Rattle.dw_forms.specs.Value.{value_shown}
 use Rattle.dw_forms.specs.Fault.{form_fault}
 use Rattle.dw_units.proofs.EntryLemmas.{goes_on, stops, ends}
-use Rattle.dw_units.proofs.entry.attributes_of.Goals as goal
+use Rattle.dw_units.proofs.entry.read_attributes.Goals as goal
 
 -- what stands in the place of a specification behind the last one
 abbrev none : Spec
@@ -21,7 +21,7 @@ returns-in_err-value c =
 pub loop-spec-preserved : goal.loop-spec-preserved
 loop-spec-preserved c =
     let spec = get_or c.args.specs.now c.loop-spec.spec-index none in
-    rw (c.in_ok-push.ensures.ok) (goes_on c.loop-spec.attributes.items c.args.specs.now c.loop-spec.spec-index none spec (record { name = spec.name; value = c.in_ok-value.value }) (value_shown c.in_ok-value.value) c.loop-spec.cursor c.read_value.new.cursor (attributes_at OFFSET_SIZE_32 (map spec_shown c.args.specs.now) c.args.cursor.now) c.loop-spec-test.true refl c.in_ok-value.ensures refl c.loop-spec.invariant)
+    rw (c.in_ok-push.ensures.items) (goes_on c.loop-spec.attributes.items c.args.specs.now c.loop-spec.spec-index none spec (record { name = spec.name; value = c.in_ok-value.value }) (value_shown c.in_ok-value.value) c.loop-spec.cursor c.read_value.new.cursor (attributes_at OFFSET_SIZE_32 (map spec_shown c.args.specs.now) c.args.cursor.now) c.loop-spec-test.true refl c.in_ok-value.ensures refl c.loop-spec.invariant)
 
 pub returns : goal.returns
 returns c =

@@ -2,7 +2,7 @@ use Rattle.std.proofs.Common.{◌∙◌, take, arith}
 use Rattle.dw_units.specs.Header.{header_shown}
 use Rattle.dw_units.specs.Sections.{sections_shown}
 use Rattle.dw_units.proofs.PlaceLemmas.{inside, behind_all}
-use Rattle.dw_units.proofs.entry.entry_in.Goals as goal
+use Rattle.dw_units.proofs.entry.read_in.Goals as goal
 
 pub returns-in_default : goal.returns-in_default
 returns-in_default c =
