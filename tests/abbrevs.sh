@@ -3,43 +3,16 @@
 # same codes, tags, children, names, forms and numbers, at each table. It adds a test to a copy of the
 # crates and runs it. Tags and names are compared where `dw_model` has a constant for them. It needs
 # python3. Its last line counts the declarations that agree.
-set -euo pipefail
-here=$(cd "$(dirname "$0")/.." && pwd)
-work=$(mktemp -d)
-trap 'rm -rf "$work"' EXIT
-cd "$work"
+. "$(dirname "$0")/programs.sh"
+write_sources
 
-cat > a.c <<'END'
-#include <stdio.h>
-static inline int twice(int x) { return x + x; }
-int main(int argc, char **argv) { printf("%d\n", twice(argc)); return 0; }
-END
-cat > c.cc <<'END'
-#include <map>
-#include <string>
-int main(int argc, char **argv) {
-    std::map<std::string, int> sizes;
-    sizes[argv[0]] = argc;
-    return static_cast<int>(sizes.size()) - 1;
-}
-END
-echo 'fn main() { println!("{}", std::env::args().count()); }' > d.rs
-gcc -g -gdwarf-5 -O2 a.c -o gcc
-clang -g -gdwarf-5 -O2 a.c -o clang
-g++ -g -gdwarf-5 -O2 c.cc -o g++
-gcc -g -gdwarf-5 -static a.c -o static
-rustc -g -C dwarf-version=5 d.rs -o rustc
+gcc -g -gdwarf-5 -O2 calls.c other.c -o gcc
+clang -g -gdwarf-5 -O2 calls.c other.c -o clang
+g++ -g -gdwarf-5 -O2 sizes.cc -o g++
+gcc -g -gdwarf-5 -static calls.c other.c -o static
+rustc -g -C dwarf-version=5 words.rs -o rustc
 
-mkdir copy
-cp "$here/HANDLES" copy/
-grep -E '^(dw_model|dw_bytes|dw_forms):' "$here/crates.txt" > copy/crates.txt
-mkdir copy/crates
-for crate in dw_model dw_bytes dw_forms; do
-    mkdir copy/crates/$crate
-    for part in src specs proofs; do
-        [ ! -d "$here/crates/$crate/$part" ] || cp -r "$here/crates/$crate/$part" copy/crates/$crate/
-    done
-done
+copy_crates dw_model dw_bytes dw_forms
 
 cat > rows.py <<'END'
 import re, subprocess, sys

@@ -2,61 +2,26 @@
 # Walks every entry of every unit that isn't skipped, on programs of this machine's compilers, and compares
 # offset, depth and tag with readelf. It builds a small program over a copy of the crates, without proof. It
 # needs python3. Its last line counts the entries that agree; it fails where one differs.
-set -euo pipefail
-here=$(cd "$(dirname "$0")/.." && pwd)
-work=$(mktemp -d)
-trap 'rm -rf "$work"' EXIT
-cd "$work"
+. "$(dirname "$0")/programs.sh"
+write_sources
 
-cat > a.c <<'END'
-#include <stdio.h>
-static inline int twice(int x) { return x + x; }
-int other(int);
-int main(int argc, char **argv) { printf("%d\n", twice(argc) + other(argc)); return 0; }
-END
-echo 'int other(int x) { return 3 * x; }' > b.c
-cat > c.cc <<'END'
-#include <map>
-#include <string>
-struct Shape { virtual ~Shape() {} virtual int size() const { return 1; } };
-struct Big : Shape { int size() const override { return 2; } };
-int main(int argc, char **argv) {
-    std::map<std::string, int> sizes;
-    sizes[argv[0]] = Big().size();
-    return static_cast<int>(sizes.size()) - 1;
-}
-END
-cat > d.rs <<'END'
-fn main() {
-    let words: Vec<String> = std::env::args().collect();
-    println!("{}", words.len());
-}
-END
 for cc in gcc clang; do
     for level in 0 2; do
-        "$cc" -g -gdwarf-5 -O$level a.c b.c -o $cc-O$level
+        "$cc" -g -gdwarf-5 -O$level calls.c other.c -o $cc-O$level
     done
-    "$cc" -g -gdwarf-5 -c a.c -o a5.o
-    "$cc" -g -gdwarf-4 -c b.c -o b4.o
-    "$cc" a5.o b4.o -o $cc-mixed
-    "$cc" -g -gdwarf-5 -static a.c b.c -o $cc-static
+    "$cc" -g -gdwarf-5 -c calls.c -o calls5.o
+    "$cc" -g -gdwarf-4 -c other.c -o other4.o
+    "$cc" calls5.o other4.o -o $cc-mixed
+    "$cc" -g -gdwarf-5 -static calls.c other.c -o $cc-static
 done
-g++ -g -gdwarf-5 -O0 -fdebug-types-section c.cc -o g++-types
-g++ -g -gdwarf-5 -O2 -ffunction-sections c.cc -o g++-sections
-clang++ -g -gdwarf-5 -O2 c.cc -o clang++
-rustc -g -C dwarf-version=5 d.rs -o rustc-O0
-rustc -g -O -C dwarf-version=5 d.rs -o rustc-O2
+g++ -g -gdwarf-5 -O0 -fdebug-types-section sizes.cc -o g++-types
+g++ -g -gdwarf-5 -O2 -ffunction-sections sizes.cc -o g++-sections
+clang++ -g -gdwarf-5 -O2 sizes.cc -o clang++
+rustc -g -C dwarf-version=5 words.rs -o rustc-O0
+rustc -g -O -C dwarf-version=5 words.rs -o rustc-O2
 
+copy_crates dw_model dw_bytes dw_elf dw_forms dw_units
 mkdir -p copy/crates/walk/src
-cp "$here/HANDLES" copy/
-crates='dw_model dw_bytes dw_elf dw_forms dw_units'
-for crate in $crates; do
-    grep "^$crate:" "$here/crates.txt" >> copy/crates.txt
-    mkdir copy/crates/$crate
-    for part in src specs proofs; do
-        [ ! -d "$here/crates/$crate/$part" ] || cp -r "$here/crates/$crate/$part" copy/crates/$crate/
-    done
-done
 echo 'walk: dw_model dw_elf dw_units' >> copy/crates.txt
 cat > copy/crates/walk/src/main.rt <<'END'
 //! Prints each entry of the files of the command line: offset, depth and tag.

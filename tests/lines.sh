@@ -3,60 +3,17 @@
 # each address of each used sequence of each table, at the addresses before and at its end, and the path of
 # each file. Tables of another version have to be bad. It adds a program to a copy of the crates and runs it.
 # It needs python3. Its last line counts the rows and the paths that agree.
-set -euo pipefail
-here=$(cd "$(dirname "$0")/.." && pwd)
-work=$(mktemp -d)
-trap 'rm -rf "$work"' EXIT
-cd "$work"
+. "$(dirname "$0")/programs.sh"
+write_sources
 
-mkdir inc
-echo 'static inline int four(int x) { int y = x; for (int i = 0; i < 3; i++) y += x; return y; }' > inc/four.h
-cat > a.c <<'END'
-#include <stdio.h>
-#include "inc/four.h"
-static inline int twice(int x) { return x + x; }
-__attribute__((cold)) void fail(const char *text) { fprintf(stderr, "%s\n", text); }
-int main(int argc, char **argv) {
-    if (argc > 3) fail(argv[1]);
-    printf("%d %d\n", twice(argc), four(argc));
-    return 0;
-}
-END
-cat > c.cc <<'END'
-#include <algorithm>
-#include <map>
-#include <string>
-#include <vector>
-template <int n> struct Sum { static int of(int x) { return x % n ? Sum<n - 1>::of(x / 2) : n; } };
-template <> struct Sum<0> { static int of(int x) { return x; } };
-int main(int argc, char **argv) {
-    std::map<std::string, int> sizes;
-    std::vector<std::string> words(argv, argv + argc);
-    std::sort(words.begin(), words.end());
-    for (auto &word : words) sizes[word] = Sum<60>::of(argc);
-    return static_cast<int>(sizes.size()) - 1;
-}
-END
-cat > d.rs <<'END'
-use std::collections::BTreeMap;
-fn main() {
-    let mut sizes = BTreeMap::new();
-    for word in std::env::args() {
-        *sizes.entry(word.len()).or_insert(0u64) += 1;
-    }
-    let mut sorted: Vec<_> = sizes.into_iter().collect();
-    sorted.sort_by_key(|pair| std::cmp::Reverse(pair.1));
-    println!("{sorted:?}");
-}
-END
 programs=()
 for level in 0 2; do
-    gcc -g -gdwarf-5 -O$level a.c -o gcc$level
-    gcc -g -gdwarf-5 -O$level -ffunction-sections -Wl,--gc-sections a.c -o gcc_sections$level
-    clang -g -gdwarf-5 -O$level a.c -o clang$level
-    g++ -g -gdwarf-5 -O$level c.cc -o gxx$level
-    clang++ -g -gdwarf-5 -O$level -ffunction-sections c.cc -o clangxx$level
-    rustc -g -C dwarf-version=5 -C opt-level=$level d.rs -o rustc$level
+    gcc -g -gdwarf-5 -O$level calls.c other.c -o gcc$level
+    gcc -g -gdwarf-5 -O$level -ffunction-sections -Wl,--gc-sections calls.c other.c -o gcc_sections$level
+    clang -g -gdwarf-5 -O$level calls.c other.c -o clang$level
+    g++ -g -gdwarf-5 -O$level sizes.cc -o gxx$level
+    clang++ -g -gdwarf-5 -O$level -ffunction-sections sizes.cc -o clangxx$level
+    rustc -g -C dwarf-version=5 -C opt-level=$level words.rs -o rustc$level
     programs+=(gcc$level gcc_sections$level clang$level gxx$level clangxx$level rustc$level)
 done
 
@@ -113,17 +70,9 @@ print(f'{counts[1]} rows and {counts[2]} paths of {counts[0]} tables agree with 
 END
 python3 wanted.py "${programs[@]}" > count
 
-mkdir copy
-cp "$here/HANDLES" copy/
-grep -E '^(dw_model|dw_bytes|dw_forms|dw_line):' "$here/crates.txt" > copy/crates.txt
+copy_crates dw_model dw_bytes dw_forms dw_line
 echo 'line_rows: dw_forms dw_line' >> copy/crates.txt
 mkdir -p copy/crates/line_rows/src
-for crate in dw_model dw_bytes dw_forms dw_line; do
-    mkdir copy/crates/$crate
-    for part in src specs proofs; do
-        [ ! -d "$here/crates/$crate/$part" ] || cp -r "$here/crates/$crate/$part" copy/crates/$crate/
-    done
-done
 cat > copy/crates/line_rows/src/main.rt <<'END'
 //! Compares the tables of one program with the lines of a file.
 #![tactic(auto)]

@@ -2,12 +2,8 @@
 # Lets the Nth growth of memory fail, for each N until a run meets no refusal: each run ends with status 3
 # and `a2l: out of memory`, after a beginning of its output, or as if nothing had been refused. Run it after
 # `rt run` in crates/a2l has built the program.
-set -euo pipefail
-here=$(cd "$(dirname "$0")/.." && pwd)
-a2l=$here/crates/a2l/out/a2l
-[ -x "$a2l" ] || { echo "build the program first: cd crates/a2l && rt run"; exit 1; }
-work=$(mktemp -d)
-trap 'rm -rf "$work"' EXIT
+. "$(dirname "$0")/programs.sh"
+need_a2l
 
 cat > "$work/refuse.c" <<'END'
 /* Refuses the growth of memory that REFUSE counts, from 1, and leaves a mark where it did. */

@@ -5,57 +5,19 @@
 # those of fewer, and without the base of a unit, so it has to agree where a list sets its own base. The
 # script adds a test to a copy of the crates and runs it on the programs. It needs python3. Its last line
 # counts the entries that agree.
-set -euo pipefail
-here=$(cd "$(dirname "$0")/.." && pwd)
-work=$(mktemp -d)
-trap 'rm -rf "$work"' EXIT
-cd "$work"
+. "$(dirname "$0")/programs.sh"
+write_sources
 
-cat > a.c <<'END'
-#include <stdio.h>
-#include <stdlib.h>
-static inline int twice(int x) { return x > 5 ? x + x : abs(x) * 3; }
-static int cold(int x) {
-    if (x > 100) { fprintf(stderr, "big\n"); abort(); }
-    return twice(x) + twice(x + 1);
-}
-int other(int x) {
-    for (int i = 0; i < x; i++) {
-        int y = twice(i);
-        if (y & 1) printf("%d\n", cold(y));
-    }
-    return x;
-}
-int main(int argc, char **argv) { printf("%d\n", twice(argc)); return other(argc); }
-END
-cat > c.cc <<'END'
-#include <map>
-#include <string>
-int main(int argc, char **argv) {
-    std::map<std::string, int> sizes;
-    sizes[argv[0]] = argc;
-    return static_cast<int>(sizes.size()) - 1;
-}
-END
-echo 'fn main() { println!("{}", std::env::args().count()); }' > d.rs
-gcc -g -gdwarf-5 -O2 -ffunction-sections a.c -o gcc
-clang -g -gdwarf-5 -O2 -ffunction-sections a.c -o clang
-g++ -g -gdwarf-5 -O2 -ffunction-sections c.cc -o g++
-clang -g -gdwarf-5 -O2 a.c -o clang_based
-clang++ -g -gdwarf-5 -O2 c.cc -o clang++
-rustc -g -O -C dwarf-version=5 d.rs -o rustc
+gcc -g -gdwarf-5 -O2 -ffunction-sections calls.c other.c -o gcc
+clang -g -gdwarf-5 -O2 -ffunction-sections calls.c other.c -o clang
+g++ -g -gdwarf-5 -O2 -ffunction-sections sizes.cc -o g++
+clang -g -gdwarf-5 -O2 calls.c other.c -o clang_based
+clang++ -g -gdwarf-5 -O2 sizes.cc -o clang++
+# one unit of version 5, since readelf 2.40 looks up the bases of all units among the addresses of the first one
+rustc -g -O -C dwarf-version=5 -C codegen-units=1 words.rs -o rustc
 
-mkdir copy
-cp "$here/HANDLES" copy/
-needed='dw_model dw_bytes dw_elf dw_forms dw_units dw_ranges'
-grep -E "^(${needed// /|}):" "$here/crates.txt" | sed 's/^dw_ranges:/dw_ranges: dw_elf/' > copy/crates.txt
-mkdir copy/crates
-for crate in $needed; do
-    mkdir copy/crates/$crate
-    for part in src specs proofs; do
-        [ ! -d "$here/crates/$crate/$part" ] || cp -r "$here/crates/$crate/$part" copy/crates/$crate/
-    done
-done
+copy_crates dw_model dw_bytes dw_elf dw_forms dw_units dw_ranges
+sed -i 's/^dw_ranges:/dw_ranges: dw_elf/' copy/crates.txt
 
 cat > rows.py <<'END'
 import re, subprocess, sys

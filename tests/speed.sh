@@ -2,50 +2,9 @@
 # How long `a2l --units` takes on a large program, beside reading the file and beside readelf. It builds the
 # program of as many C++ units as its word says (60 without), which takes some minutes. Run it after `rt run`
 # in crates/a2l has built a2l. It prints times and ratios of one run, and tests nothing.
-set -euo pipefail
-here=$(cd "$(dirname "$0")/.." && pwd)
-a2l=$here/crates/a2l/out/a2l
-[ -x "$a2l" ] || { echo "build the program first: cd crates/a2l && rt run"; exit 1; }
-count=${1:-60}
-work=$(mktemp -d)
-trap 'rm -rf "$work"' EXIT
-cd "$work"
-
-for i in $(seq "$count"); do
-    cat > unit$i.cc <<END
-#include <algorithm>
-#include <iostream>
-#include <map>
-#include <regex>
-#include <sstream>
-#include <string>
-#include <unordered_map>
-#include <vector>
-namespace n$i {
-struct Item { int a; std::string b; std::map<std::string, std::vector<int>> c; };
-int run(int count) {
-    std::unordered_map<std::string, Item> found;
-    std::vector<Item> items;
-    for (int i = 0; i < count; i++) {
-        Item item{i, std::to_string(i), {}};
-        item.c[item.b].push_back(i);
-        items.push_back(item);
-        found[item.b] = item;
-    }
-    std::sort(items.begin(), items.end(), [](const Item &p, const Item &q) { return p.b < q.b; });
-    std::ostringstream out;
-    for (auto &item : items)
-        if (std::regex_match(item.b, std::regex("a(b|c)*$i"))) out << item.a;
-    std::cout << out.str();
-    return static_cast<int>(found.size());
-}
-}
-END
-    echo "namespace n$i { int run(int); }" >> main.cc
-done
-echo 'int main(int argc, char **) { return 0' >> main.cc
-for i in $(seq "$count"); do echo "+ n$i::run(argc)" >> main.cc; done
-echo '; }' >> main.cc
+. "$(dirname "$0")/programs.sh"
+need_a2l
+write_large "${1:-60}"
 ls ./*.cc | xargs -P "$(nproc)" -I{} g++ -std=c++17 -g -gdwarf-5 -O1 -c {} -o {}.o
 g++ ./*.o -o large
 

@@ -1,0 +1,160 @@
+# Sourced by the other scripts, and run by none: it names the repository (`here`), makes a folder for what a
+# script makes (`work`), goes there, and removes it at the end. It has the sample programs that they share, and
+# what else several of them do.
+set -euo pipefail
+here=$(cd "$(dirname "${BASH_SOURCE[0]}")/.." && pwd)
+work=$(mktemp -d)
+trap 'rm -rf "$work"' EXIT
+cd "$work"
+
+# The built program, as `a2l`. The variable A2L names another one.
+need_a2l() {
+    a2l=${A2L:-$here/crates/a2l/out/a2l}
+    [ -x "$a2l" ] || { echo "build the program first: cd crates/a2l && rt run"; exit 1; }
+}
+
+# Whether all commands are there; else says what is skipped for want of which.
+has() {
+    local what=$1 command
+    shift
+    for command in "$@"; do
+        command -v "$command" > /dev/null || { echo "skipped, no $command here: $what"; return 1; }
+    done
+}
+
+# Writes the sources: calls.c with other.c, one program of C; sizes.cc of C++, and words.rs of Rust. They have
+# functions inlined in one another, functions in several ranges, a header in a folder, and templates.
+write_sources() {
+    mkdir -p inc
+    echo 'static inline int four(int x) { int y = x; for (int i = 0; i < 3; i++) y += x; return y; }' > inc/four.h
+    cat > calls.c <<'END_C'
+#include <stdio.h>
+#include <stdlib.h>
+#include "inc/four.h"
+int other(int);
+static inline int twice(int x) { return x > 5 ? x + x : abs(x) * 3; }
+static int rare(int x) {
+    if (x > 100) {
+        fprintf(stderr, "big\n");
+        abort();
+    }
+    return twice(x) + twice(x + 1);
+}
+__attribute__((cold)) void fail(const char *text) { fprintf(stderr, "%s\n", text); }
+static inline __attribute__((always_inline)) int deep(int x) { return four(twice(x)) + 1; }
+int each(int x) {
+    for (int i = 0; i < x; i++) {
+        int y = twice(i);
+        if (y & 1) printf("%d\n", rare(y));
+    }
+    return deep(x);
+}
+int unused(int x) { return deep(x) + other(x); }
+int main(int argc, char **argv) {
+    if (argc > 3) fail(argv[1]);
+    printf("%d %d %d\n", twice(argc), four(argc), other(argc));
+    return each(argc) & 1;
+}
+END_C
+    cat > other.c <<'END_C'
+#include "inc/four.h"
+static inline int thrice(int x) { return 3 * x; }
+int other(int x) { return thrice(x) + four(x); }
+END_C
+    cat > sizes.cc <<'END_CC'
+#include <algorithm>
+#include <map>
+#include <stdexcept>
+#include <string>
+#include <vector>
+namespace shapes {
+struct Shape { virtual ~Shape() {} virtual int size() const { return 1; } };
+struct Big : Shape {
+    int count;
+    explicit Big(int n) : count(n) { if (n > 100) throw std::runtime_error("too big"); }
+    int size() const override { return count; }
+};
+}
+template <int n> struct Sum { static int of(int x) { return x % n ? Sum<n - 1>::of(x / 2) : n; } };
+template <> struct Sum<0> { static int of(int x) { return x; } };
+int main(int argc, char **argv) {
+    std::map<std::string, int> sizes;
+    std::vector<std::string> words(argv, argv + argc);
+    std::sort(words.begin(), words.end(), [](const std::string &a, const std::string &b) { return b < a; });
+    for (auto &word : words) sizes[word] = Sum<60>::of(shapes::Big(argc).size());
+    return static_cast<int>(sizes.size()) - 1;
+}
+END_CC
+    cat > words.rs <<'END_RS'
+use std::collections::BTreeMap;
+trait Shape { fn size(&self) -> usize; }
+struct Big(usize);
+impl Shape for Big { #[inline] fn size(&self) -> usize { self.0.wrapping_mul(3) } }
+fn total(shapes: &[Box<dyn Shape>]) -> usize { shapes.iter().map(|shape| shape.size()).sum() }
+fn main() {
+    let mut sizes = BTreeMap::new();
+    for word in std::env::args() {
+        *sizes.entry(word.len()).or_insert(0u64) += 1;
+    }
+    let mut sorted: Vec<_> = sizes.into_iter().collect();
+    sorted.sort_by_key(|pair| std::cmp::Reverse(pair.1));
+    let shapes: Vec<Box<dyn Shape>> = sorted.iter().map(|pair| Box::new(Big(pair.0)) as Box<dyn Shape>).collect();
+    println!("{sorted:?} {}", total(&shapes));
+}
+END_RS
+}
+
+# Writes a C++ program of many units of templates: `unit1.cc` and so on as many as the first word says, and `main.cc`.
+write_large() {
+    local count=$1 i
+    for i in $(seq "$count"); do
+        cat > unit$i.cc <<END_CC
+#include <algorithm>
+#include <iostream>
+#include <map>
+#include <regex>
+#include <sstream>
+#include <string>
+#include <unordered_map>
+#include <vector>
+namespace n$i {
+struct Item { int a; std::string b; std::map<std::string, std::vector<int>> c; };
+int run(int count) {
+    std::unordered_map<std::string, Item> found;
+    std::vector<Item> items;
+    for (int i = 0; i < count; i++) {
+        Item item{i, std::to_string(i), {}};
+        item.c[item.b].push_back(i);
+        items.push_back(item);
+        found[item.b] = item;
+    }
+    std::sort(items.begin(), items.end(), [](const Item &p, const Item &q) { return p.b < q.b; });
+    std::ostringstream out;
+    for (auto &item : items)
+        if (std::regex_match(item.b, std::regex("a(b|c)*$i"))) out << item.a;
+    std::cout << out.str();
+    return static_cast<int>(found.size());
+}
+}
+END_CC
+        echo "namespace n$i { int run(int); }" >> main.cc
+    done
+    echo 'int main(int argc, char **) { return 0' >> main.cc
+    for i in $(seq "$count"); do echo "+ n$i::run(argc)" >> main.cc; done
+    echo '; }' >> main.cc
+}
+
+# Copies crates into copy/crates, so that a script may add to them: their code, definitions and proofs, and their
+# lines of crates.txt.
+copy_crates() {
+    local crate part
+    mkdir -p copy/crates
+    cp "$here/HANDLES" copy/
+    for crate in "$@"; do
+        grep "^$crate:" "$here/crates.txt" >> copy/crates.txt
+        mkdir copy/crates/$crate
+        for part in src specs proofs; do
+            [ ! -d "$here/crates/$crate/$part" ] || cp -r "$here/crates/$crate/$part" copy/crates/$crate/
+        done
+    done
+}
