@@ -5,3 +5,4 @@ pub mod PlaceLemmas
 pub mod ClientLemmas
 pub mod WorkerLemmas
 pub mod OpeningLemmas
+pub mod PoolLemmas

@@ -2,6 +2,7 @@ pub mod Faults
 pub mod Jobs
 pub mod Messages
 pub mod Places
+pub mod Pool
 pub mod Seats
 pub mod BoardShown
 pub mod ClientShown

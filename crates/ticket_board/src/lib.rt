@@ -11,6 +11,7 @@ mod messages;
 mod opening;
 mod outcome;
 mod places;
+pub mod pool;
 #[cfg(test)]
 mod tests;
 mod worker;
