@@ -1,7 +1,13 @@
 -- Every step-th of the queries, and the answers to them.
-use Rattle.std.proofs.Common.{◌≡◌, ℕ, zero, suc, ◌+◌, ◌-◌, ◌<◌, ◌≤◌, List, [], ◌∷◌, ◌++◌, length, get_or, drop, refl, sym, ap, ◌∙◌, append_assoc, add-one, arith, drop-cons}
-use Rattle.std.proofs.lemmas.List.{drop-drop}
-use Rattle.ticket_board.specs.Pool.{every}
+use Rattle.std.proofs.Common.{◌≡◌, ℕ, zero, suc, ◌+◌, ◌-◌, ◌<◌, ◌≤◌, List, [], ◌∷◌, ◌++◌, length, get_or, drop, refl, sym, ap, subst, ◌∙◌, append_assoc, add-one, arith, drop-cons}
+use Rattle.std.specs.List.{AllByRecursion}
+use Rattle.std.proofs.lemmas.List.{drop-drop, nil_from_length}
+use Rattle.atomic_table.specs.Seated.{TableId}
+use Rattle.ticket_core.specs.State.{Shown, Meaning}
+use Rattle.ticket_board.specs.declared.pool.task.Task.{Task}
+use Rattle.ticket_board.specs.declared.pool.task.Lot.{Lot}
+use Rattle.ticket_board.specs.Seats.{BoardSeat, ClientState, IsClientOf, new_clients_from, new_clients}
+use Rattle.ticket_board.specs.Pool.{every, EachFrom, IsLane, AreLanes, IsNewSender, IsPromised}
 
 -- what is passed over is dropped
 pub every_drop : (step k : ℕ) (queries : List ℕ) → every step k queries ≡ every step 0 (drop k queries)
@@ -23,3 +29,98 @@ pub asked_next : (step next : ℕ) (queries asked : List ℕ) → 1 ≤ step →
     → (asked ++ get_or queries next 0 ∷ []) ++ every step 0 (drop (next + step) queries) ≡ asked ++ every step 0 (drop next queries)
 asked_next step next queries asked positive within =
     append_assoc asked (get_or queries next 0 ∷ []) (every step 0 (drop (next + step) queries)) ∙ ap (λ rest. asked ++ rest) (sym (every_next step next queries positive within))
+
+-- ---- lists of which each is known with its place
+
+module _ {V : Type 0} where
+  pub each_from_added : (F : ℕ → V → Type 0) (k : ℕ) (xs : List V) (x : V) → EachFrom F k xs → F (k + length xs) x → EachFrom F k (xs ++ x ∷ [])
+  each_from_added F k [] x all last = (subst (λ n. F n x) (omega arith) last, tt)
+  each_from_added F k (y ∷ xs) x all last = (all.0, each_from_added F (suc k) xs x all.1 (subst (λ n. F n x) (omega arith) last))
+
+  pub each_from_end : (F : ℕ → V → Type 0) (xs ys : List V) (x : V) (n : ℕ) → EachFrom F 0 xs → ys ≡ xs ++ x ∷ [] → n ≡ length xs → F n x → EachFrom F 0 ys
+  each_from_end F xs ys x n all is len last =
+      subst (EachFrom F 0) (sym is) (each_from_added F 0 xs x all (subst (λ (i : ℕ). F i x) (omega (arith, len)) last))
+
+  -- without the first
+  pub each_from_next : (F : ℕ → V → Type 0) (k n : ℕ) (xs rest : List V) (x : V) → EachFrom F k xs → xs ≡ x ∷ rest → n ≡ k + 1 → F k x × EachFrom F n rest
+  each_from_next F k n xs rest x all is next =
+      let both : EachFrom F k (x ∷ rest) = subst (EachFrom F k) is all in
+      (both.0, subst (λ (i : ℕ). EachFrom F i rest) (sym (next ∙ add-one k)) both.1)
+
+  pub each_from_same : (F : ℕ → V → Type 0) (k n : ℕ) (xs ys : List V) → EachFrom F k xs → n ≡ k → ys ≡ xs → EachFrom F n ys
+  each_from_same F k n xs ys all number is = subst (λ (x : ℕ × List V). EachFrom F x.0 x.1) (λ i. (sym number i, sym is i)) all
+
+  pub each_from_none : (F : ℕ → V → Type 0) (xs : List V) → length xs ≡ 0 → EachFrom F 0 xs
+  each_from_none F xs none = subst (EachFrom F 0) (sym (nil_from_length xs none)) tt
+
+-- the clients of a new board are those of its senders, in order
+each_new : (board : BoardSeat) (s : ℕ) (lines : List TableId)
+    → AllByRecursion (IsClientOf board) (new_clients_from s board.shape board.key board.jobs lines)
+    → EachFrom (IsNewSender board) s (new_clients_from s board.shape board.key board.jobs lines)
+each_new board s [] all = tt
+each_new board s (line ∷ lines) all =
+    let P : ℕ → Type 0 = λ n. AllByRecursion (IsClientOf board) (new_clients_from n board.shape board.key board.jobs lines)
+    → EachFrom (IsNewSender board) (suc s) (new_clients_from n board.shape board.key board.jobs lines) in
+    ((all.0, refl, (refl, refl, refl)), subst P (sym (add-one s)) (each_new board (suc s) lines) all.1)
+
+pub all_new : (board : BoardSeat) (clients : List ClientState) → clients ≡ new_clients board → AllByRecursion (IsClientOf board) clients → EachFrom (IsNewSender board) 0 clients
+all_new board clients is all =
+    subst (EachFrom (IsNewSender board) 0) (sym is) (each_new board 0 board.lines (subst (AllByRecursion (IsClientOf board)) is all))
+
+count_new : (s : ℕ) (board : BoardSeat) (lines : List TableId) → length (new_clients_from s board.shape board.key board.jobs lines) ≡ length lines
+count_new s board [] = refl
+count_new s board (line ∷ lines) = ap suc (count_new (s + 1) board lines)
+
+pub many_new : (board : BoardSeat) (clients : List ClientState) → clients ≡ new_clients board → length clients ≡ length board.lines
+many_new board clients is = ap length is ∙ count_new 0 board board.lines
+
+-- ---- lanes
+
+module _ {A : Type 0} (shown : A → Shown) (meaning : Meaning) (key : List ℕ) (senders : ℕ) where
+  -- one query less: the lane of each sender but the first is that of the sender before it
+  lanes_on : (k a : ℕ) (queries : List ℕ) (lanes : List (List A))
+      → EachFrom (IsLane shown meaning key senders (a ∷ queries)) (suc k) lanes → EachFrom (IsLane shown meaning key senders queries) k lanes
+  lanes_on k a queries [] all = tt
+  lanes_on k a queries (lane ∷ lanes) all = (all.0, lanes_on (suc k) a queries lanes all.1)
+
+  -- the first lane begins with the next answer, and without it is the last lane of the rest
+  next_answer : (a : ℕ) (queries : List ℕ) (rest : List A) (answer : A)
+      → IsLane shown meaning key senders (a ∷ queries) 0 (answer ∷ rest)
+      → (shown answer ≡ meaning key a) × IsLane shown meaning key senders queries (senders - 1) rest
+  next_answer a queries rest answer right = (cc right, cc right)
+
+  -- it comes last
+  pub turned : (i : ℕ) (queries : List ℕ) (lanes lanes' new : List (List A)) (lane : List A) (answer : A)
+      → i < length queries → length lanes ≡ senders → lanes ≡ (answer ∷ lane) ∷ lanes' → new ≡ lanes' ++ lane ∷ []
+      → AreLanes shown meaning key senders (drop i queries) lanes
+      → (shown answer ≡ meaning key (get_or queries i 0)) × AreLanes shown meaning key senders (drop (i + 1) queries) new
+  turned i queries lanes lanes' new lane answer within len is new_is all =
+      let a = get_or queries i 0 in
+      let later = drop (suc i) queries in
+      let cut : drop i queries ≡ a ∷ later = drop-cons queries i 0 within in
+      let each : AreLanes shown meaning key senders (a ∷ later) ((answer ∷ lane) ∷ lanes') =
+      subst (λ (x : List ℕ × List (List A)). AreLanes shown meaning key senders x.0 x.1) (λ j. (cut j, is j)) all in
+      let next = next_answer a later lane answer each.0 in
+      let many : senders - 1 ≡ 0 + length lanes' = omega (arith, len, ap length is) in
+      let last : IsLane shown meaning key senders later (0 + length lanes') lane = subst (λ (k : ℕ). IsLane shown meaning key senders later k lane) many next.1 in (
+        next.0,
+        subst (λ (x : ℕ × List (List A)). AreLanes shown meaning key senders (drop x.0 queries) x.1)
+            (λ j. (sym (add-one i) j, sym new_is j)) (each_from_added (IsLane shown meaning key senders later) 0 lanes' lane (lanes_on 0 a later lanes' each.1) last),
+      )
+
+  -- while queries are left, the first lane isn't empty
+  pub not_empty : (i : ℕ) (queries : List ℕ) (lanes lanes' : List (List A)) → i < length queries → lanes ≡ [] ∷ lanes'
+      → AreLanes shown meaning key senders (drop i queries) lanes → ⊥
+  not_empty i queries lanes lanes' within is all =
+      let a = get_or queries i 0 in
+      let cut : drop i queries ≡ a ∷ drop (suc i) queries = drop-cons queries i 0 within in
+      let each : AreLanes shown meaning key senders (a ∷ drop (suc i) queries) ([] ∷ lanes') =
+      subst (λ (x : List ℕ × List (List A)). AreLanes shown meaning key senders x.0 x.1) (λ j. (cut j, is j)) all in
+      cc each.0
+
+-- what a thread promised is the lane of its sender
+pub kept_lane : {A S : Type 0} (shown : A → Shown) (meaning : Meaning) (task : Task) (sender : ℕ) (lot : Lot S) (lane : List A) → IsPromised task sender lot
+    → IsLane shown meaning lot.task.key.now lot.task.senders lot.task.queries.now lot.sender lane
+    → IsLane shown meaning task.key.now task.senders task.queries.now sender lane
+kept_lane shown meaning task sender lot lane promised kept =
+    subst (λ (x : Task × ℕ). IsLane shown meaning x.0.key.now x.0.senders x.0.queries.now x.1 lane) (λ i. (promised.0 i, promised.1 i)) kept

@@ -1,9 +1,33 @@
--- What a pool answers, and which queries each of its senders asks.
-use Rattle.std.specs.Prelude.{◌≡◌, ℕ, zero, suc, ◌-◌, ◌*◌, ◌≤◌, false, List, [], ◌∷◌, map}
+-- What a pool answers, and how its queries are dealt to its senders.
+use Rattle.std.specs.Prelude.{◌≡◌, ℕ, zero, suc, ◌-◌, ◌*◌, ◌≤◌, false, List, [], ◌∷◌, length, map}
+use Rattle.std.specs.List.{AllByRecursion}
+use Rattle.ticket_core.specs.declared.shape.Shape.{Shape}
+use Rattle.ticket_core.specs.Shape.{Fits}
 use Rattle.ticket_core.specs.State.{Address, Shown, Meaning}
+use Rattle.ticket_board.specs.declared.pool.fault.PoolFault.{PoolFault}
+use Rattle.ticket_board.specs.declared.pool.fault.PoolFault.TheVariants.{BadShape, Memory}
 use Rattle.ticket_board.specs.declared.pool.sending.Came.{Came}
 use Rattle.ticket_board.specs.declared.pool.sending.Came.TheVariants.{End}
-use Rattle.ticket_board.specs.Seats.{ClientState}
+use Rattle.ticket_board.specs.declared.pool.task.Task.{Task}
+use Rattle.ticket_board.specs.declared.pool.task.Lot.{Lot}
+use Rattle.ticket_board.specs.Seats.{BoardSeat, ClientState, WorkerState, IsClientOf, IsWorkerOf}
+
+-- ---- what a pool answers
+
+-- the answers to these queries, in their order, and as many as they are
+abbrev pub AreAnswers : {A : Type 0} → (A → Shown) → Meaning → List ℕ → List Address → List A → Type 0
+AreAnswers shown meaning key queries answers = map shown answers ≡ map (meaning key) queries
+
+-- the shape is within its limits, and no sender has more of so many queries than it may ask
+abbrev pub PoolFits : Shape → ℕ → Type 0
+PoolFits shape queries = Fits shape × (queries ≤ shape.senders * shape.most)
+
+-- a shape that doesn't fit is told as that, and want of memory only of one that does
+abbrev pub RefusesPool : PoolFault → Shape → ℕ → Type 0
+RefusesPool BadShape shape queries = ¬ PoolFits shape queries
+RefusesPool Memory shape queries = PoolFits shape queries
+
+-- ---- how queries are dealt
 
 -- of these queries every step-th, after the first k
 abbrev pub every : ℕ → ℕ → List Address → List Address
@@ -11,15 +35,44 @@ every step k [] = []
 every step zero (a ∷ queries) = a ∷ every step (step - 1) queries
 every step (suc k) (a ∷ queries) = every step k queries
 
--- the answers to these queries, in their order, and as many as they are
-abbrev pub AreAnswers : {A : Type 0} → (A → Shown) → Meaning → List ℕ → List Address → List A → Type 0
-AreAnswers shown meaning key queries answers = map shown answers ≡ map (meaning key) queries
+-- what holds of each and its place, where the first has the place k
+abbrev pub EachFrom : {V : Type 0} → (ℕ → V → Type 0) → ℕ → List V → Type 0
+EachFrom F k [] = Unit {0}
+EachFrom F k (x ∷ xs) = F k x × EachFrom F (suc k) xs
+
+-- the answers of one sender: those to its queries, of all that are dealt to so many senders
+abbrev pub IsLane : {A : Type 0} → (A → Shown) → Meaning → List ℕ → ℕ → List Address → ℕ → List A → Type 0
+IsLane shown meaning key senders queries sender lane = AreAnswers shown meaning key (every senders sender queries) lane
+
+-- the answers of each sender, in order
+abbrev pub AreLanes : {A : Type 0} → (A → Shown) → Meaning → List ℕ → ℕ → List Address → List (List A) → Type 0
+AreLanes shown meaning key senders queries lanes = EachFrom (IsLane shown meaning key senders queries) 0 lanes
+
+-- ---- threads
 
 -- it has asked and received nothing, and asks still
 abbrev pub IsFresh : ClientState → Type 0
 IsFresh client = (client.asked ≡ []) × (client.received ≡ []) × (client.closed ≡ false)
 
+-- it is this sender's of the board, and fresh
+abbrev pub IsNewSender : BoardSeat → ℕ → ClientState → Type 0
+IsNewSender board sender client = IsClientOf board client × (client.seat.sender ≡ sender) × IsFresh client
+
 -- a sender is told that all was asked and received
 abbrev pub IsEnd : Came → Type 0
 IsEnd End = Unit {0}
 IsEnd _ = ⊥
+
+-- the thread promises the answers of this sender
+abbrev pub IsPromised : {S : Type 0} → Task → ℕ → Lot S → Type 0
+IsPromised task sender lot = (lot.task ≡ task) × (lot.sender ≡ sender)
+
+-- what a pool runs on: a new board with all its ends, and a task and a maker under the board's key
+pub record IsPool (board : BoardSeat) (task : Task) (made_by : List ℕ) (clients : List ClientState) (workers : List WorkerState) : Type 0 where
+  pub key : task.key.now ≡ board.key
+  pub maker : made_by ≡ board.key
+  pub some : 1 ≤ task.senders
+  pub few : task.senders ≤ 64
+  pub count : length clients ≡ task.senders
+  pub new : EachFrom (IsNewSender board) 0 clients
+  pub hired : AllByRecursion (IsWorkerOf board) workers

@@ -1,9 +1,80 @@
 //! The pool: queries are asked by many senders and answered by many workers, each on a thread of its
 //! own, and the answers stand in the order of the queries.
 
+ghost use Rattle.std.specs.Prelude.{◌≡◌, IfOk, IfErr, OnOk, length};
+ghost use Rattle.ticket_board.specs.Pool.{AreAnswers, PoolFits, RefusesPool};
+
+mod fault;
+mod gathering;
+mod limits;
 mod maker;
+mod running;
+mod senders;
 mod sending;
 mod stop;
+mod task;
+mod workers;
 mod working;
 
+use crate::gate::Gate;
+use crate::opening::open;
+pub use fault::PoolFault;
+use gathering::gather;
+use limits::fits;
 pub use maker::Maker;
+use running::{Pool, run};
+use std::alloc::Global;
+use std::sync::Wait;
+use std::thread::Threads;
+use stop::Stop;
+use task::Task;
+use ticket_core::{Shape, Solver};
+
+/// Answers all queries: the answer at `i` is that of `queries[i]`, by the maker's key. There is a
+/// thread for each sender and each worker of the shape, and query `i` is asked by sender
+/// `i % senders`. Each worker's solver is made on its thread. When the call returns, all threads have
+/// ended.
+///
+/// The error is `BadShape` exactly where the shape is past its limits, or some sender would have more
+/// than `most` queries; else `Memory` where a growth or a thread was refused, which stops the pool.
+pub fn run_pool<
+    S: Solver + Drop + Send + Sync,
+    R: Threads + Wait + Sync,
+    M: Maker<S> + Sync,
+    G: Gate + Sync,
+>(
+    rt: &R,
+    alloc: Global,
+    maker: &M,
+    shape: Shape,
+    queries: &[u64],
+    gate: &G,
+) -> Result<Vec<S::Answer>, PoolFault>
+    ensures answers { IfOk result (λ answers. AreAnswers S.shown S.meaning (M.key maker.now) queries.now answers.items) }
+    ensures fits { OnOk result (PoolFits shape (length queries.now)) }
+    ensures refusal { IfErr result (λ fault. RefusesPool fault shape (length queries.now)) }
+{
+    if !fits(&shape, queries.len()) {
+        return Err(PoolFault::BadShape);
+    }
+    let stop = Stop::new();
+    let key = maker.key();
+    let (board, clients, workers) = open::<S>(alloc, shape, key)?;
+    let task = Task {
+        key,
+        queries,
+        senders: shape.senders,
+    };
+    let pool = Pool {
+        board: &board,
+        clients,
+        workers,
+        maker,
+        gate,
+        task,
+        stop: &stop,
+    };
+    let lanes = run(rt, alloc, pool)?;
+    let answers = gather::<S>(alloc, &task, lanes)?;
+    Ok(answers)
+}

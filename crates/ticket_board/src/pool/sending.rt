@@ -2,9 +2,10 @@
 
 ghost use Rattle.std.specs.Prelude.{◌≡◌, ◌≤◌, ◌<◌, ◌++◌, true, [], drop, map, length, IfOk, OnOk};
 ghost use Rattle.ticket_board.specs.Seats.{IsClientOf, HasEnded};
-ghost use Rattle.ticket_board.specs.Pool.{every, AreAnswers, IsFresh, IsEnd};
+ghost use Rattle.ticket_board.specs.Pool.{every, IsEnd, IsLane, IsNewSender};
 
 use super::stop::Stop;
+use super::task::{Lane, Task};
 use crate::board::Board;
 use crate::client::Client;
 use crate::outcome::Next;
@@ -79,28 +80,39 @@ fn receive<'a, S: Solver, R: Wait>(
     }
 }
 
-/// Asks every `step`-th of the queries, after the first `first`, and gives the answers in their order.
-/// The error says that the pool was stopped, or that a growth of memory was refused.
-pub fn send<'a, S: Solver, R: Wait>(
+/// A sender at its board, with its part of a task.
+#[derive(Drop)]
+pub struct Sending<'p, 'a, S: Solver> {
+    pub board: &'p Board<'a, S>,
+    pub client: Client<'a, S>,
+    pub task: Task<'p>,
+    pub sender: usize,
+    pub stop: &'p Stop,
+}
+
+/// Asks all queries of the sender, and gives the answers in their order; the error says that the pool
+/// was stopped before all came, or that a growth of memory was refused.
+fn ask_all<S: Solver, R: Wait>(
     rt: &R,
     alloc: Global,
-    board: &Board<'a, S>,
-    client: Client<'a, S>,
-    queries: &[u64],
-    first: usize,
-    step: usize,
-    stop: &Stop,
-) -> Result<VecDeque<S::Answer>, NoMemory>
-    requires board { IsClientOf board.now client }
-    requires fresh { IsFresh client }
-    requires step { (1 ≤ step) × (step ≤ 64) }
-    ensures { IfOk result (λ lane. AreAnswers S.shown S.meaning board.now.key (every step first queries.now) lane.items) }
+    sending: Sending<'_, '_, S>,
+) -> Result<Lane<S>, NoMemory>
+    requires key { sending.task.key.now ≡ sending.board.now.key }
+    requires senders { (1 ≤ sending.task.senders) × (sending.task.senders ≤ 64) }
+    requires client { IsNewSender sending.board.now sending.sender sending.client }
+    ensures { IfOk result (λ lane. IsLane S.shown S.meaning sending.entry.task.key.now sending.entry.task.senders sending.entry.task.queries.now sending.entry.sender lane.items) }
 {
-    let mut client = client;
+    let Sending {
+        board,
+        mut client,
+        task,
+        sender,
+        stop,
+    } = sending;
     let mut lane = VecDeque::new(alloc);
-    let mut next = first;
+    let mut next = sender;
     for _ in rt.forever() {
-        next = ask_on(rt, board, &mut client, queries, next, step);
+        next = ask_on(rt, board, &mut client, task.queries, next, task.senders);
         match receive(rt, board, &mut client, &mut lane)? {
             Came::Answer => {}
             Came::Nothing => {
@@ -116,4 +128,24 @@ pub fn send<'a, S: Solver, R: Wait>(
         }
     }
     unreachable!()
+}
+
+/// What a sender's thread does: it asks its queries and gives the answers in their order. Where memory
+/// is wanting, it stops the pool. The error says so, or that the pool was stopped before.
+pub fn send<S: Solver, R: Wait>(
+    rt: &R,
+    alloc: Global,
+    sending: Sending<'_, '_, S>,
+) -> Result<Lane<S>, NoMemory>
+    requires key { sending.task.key.now ≡ sending.board.now.key }
+    requires senders { (1 ≤ sending.task.senders) × (sending.task.senders ≤ 64) }
+    requires client { IsNewSender sending.board.now sending.sender sending.client }
+    ensures { IfOk result (λ lane. IsLane S.shown S.meaning sending.entry.task.key.now sending.entry.task.senders sending.entry.task.queries.now sending.entry.sender lane.items) }
+{
+    let stop = sending.stop;
+    let lane = ask_all(rt, alloc, sending);
+    if lane.is_err() {
+        stop.set();
+    }
+    lane
 }

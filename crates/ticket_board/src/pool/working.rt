@@ -3,17 +3,19 @@
 ghost use Rattle.std.specs.Prelude.{◌≡◌, OnOk};
 ghost use Rattle.ticket_board.specs.Seats.{IsWorkerOf};
 
+use super::maker::Maker;
 use super::stop::Stop;
 use crate::board::Board;
 use crate::gate::Gate;
 use crate::outcome::Turn;
 use crate::worker::Worker;
+use std::alloc::Global;
 use std::sync::Wait;
 use std::thread;
 use ticket_core::{NoMemory, Solver};
 
 /// Takes turns until the pool stops. The error is the solver's want of memory.
-pub fn work<'a, S: Solver, R: Wait, G: Gate>(
+fn work<'a, S: Solver, R: Wait, G: Gate>(
     rt: &R,
     board: &Board<'a, S>,
     worker: &mut Worker<'a, S>,
@@ -35,4 +37,41 @@ pub fn work<'a, S: Solver, R: Wait, G: Gate>(
         }
     }
     Ok(())
+}
+
+/// A worker at its board, with what it needs for its work.
+#[derive(Drop)]
+pub struct Serving<'p, 'a, S: Solver, M, G> {
+    pub board: &'p Board<'a, S>,
+    pub worker: Worker<'a, S>,
+    pub maker: &'p M,
+    pub gate: &'p G,
+    pub stop: &'p Stop,
+}
+
+/// What a worker's thread does: it makes its solver, and takes turns until the pool stops. Where
+/// memory is wanting, it stops the pool.
+pub fn serve<S: Solver + Drop, R: Wait, M: Maker<S>, G: Gate>(
+    rt: &R,
+    alloc: Global,
+    serving: Serving<'_, '_, S, M, G>,
+) -> Result<(), NoMemory>
+    requires board { IsWorkerOf serving.board.now serving.worker }
+    requires key { M.key serving.maker.now ≡ serving.board.now.key }
+{
+    let Serving {
+        board,
+        mut worker,
+        maker,
+        gate,
+        stop,
+    } = serving;
+    let served = match maker.make(alloc) {
+        Ok(mut solver) => work(rt, board, &mut worker, &mut solver, gate, stop),
+        Err(error) => Err(error),
+    };
+    if served.is_err() {
+        stop.set();
+    }
+    served
 }

@@ -1,5 +1,4 @@
 use Rattle.std.proofs.Common.{◌≡◌, ◌≤◌, ◌-◌, ◌++◌, true, drop, length}
-use Rattle.ticket_board.specs.Seats.{IsClientOf}
 use Rattle.ticket_board.specs.Pool.{every}
 use Rattle.ticket_board.proofs.pool.sending.ask_on.Given as goal
 

@@ -1,0 +1,35 @@
+//! What a pool has to answer, and what each of its senders promises of it.
+
+ghost use Rattle.std.specs.Prelude.{IfOk};
+
+use std::collections::VecDeque;
+use std::marker::PhantomData;
+use std::thread::Promise;
+use ticket_core::{NoMemory, Solver};
+
+/// What a pool has to answer: these queries, under this key, dealt to so many senders in turn.
+#[derive(Clone, Copy)]
+pub struct Task<'q> {
+    pub key: &'q [u8],
+    pub queries: &'q [u64],
+    pub senders: usize,
+}
+
+/// The answers that one sender received, in the order of its queries.
+pub type Lane<S> = VecDeque<<S as Solver>::Answer>;
+
+/// What one sender answers of a task: the query at its own number, and from there on as many queries
+/// further as there are senders. Its thread promises that lane.
+#[derive(Drop)]
+pub struct Lot<'q, S> {
+    pub task: Task<'q>,
+    pub sender: usize,
+    pub solved_by: PhantomData<S>,
+}
+
+impl<'q, S: Solver> Promise<Result<VecDeque<S::Answer>, NoMemory>> for Lot<'q, S> {
+    ghost use Rattle.std.specs.Prelude.{IfOk};
+    ghost use Rattle.ticket_board.specs.Pool.{IsLane};
+
+    ghost kept_by = { λ lot result. IfOk result (λ lane. IsLane S.shown S.meaning lot.task.key.now lot.task.senders lot.task.queries.now lot.sender lane.items) };
+}
