@@ -11,7 +11,7 @@ mod messages;
 mod opening;
 mod outcome;
 mod places;
-pub mod pool;
+mod pool;
 #[cfg(test)]
 mod tests;
 mod worker;
@@ -22,4 +22,5 @@ pub use fault::{AskFault, BoardFault};
 pub use gate::Gate;
 pub use opening::open;
 pub use outcome::{Next, Turn};
+pub use pool::{Maker, PoolFault, run_pool};
 pub use worker::Worker;

@@ -3,6 +3,7 @@
 mod desk;
 mod echo;
 mod meeting;
+mod pool;
 
 use crate::fault::{AskFault, BoardFault};
 use crate::outcome::{Next, Turn};
@@ -66,6 +67,30 @@ fn board_limits(rt: HostRuntime) -> Result<(), Fail> {
     assert_eq!(rt; desk.next(&rt), Next::Pending);
     desk.close();
     assert_eq!(rt; desk.next(&rt), Next::Ended);
+    Ok(())
+}
+
+/// A whole window is asked and answered before the first answer is received: the queues have room for it.
+#[test]
+fn board_whole_window(rt: HostRuntime) -> Result<(), Fail> {
+    let shape = Shape {
+        senders: 1,
+        workers: 1,
+        window: 4,
+        most: 10,
+    };
+    let mut desk = Desk::new(rt.alloc(), shape, &KEY, 0)?;
+    for number in 0..4 {
+        assert_eq!(rt; desk.ask(&rt, 100 + number), Ok(number));
+    }
+    assert_eq!(rt; desk.ask(&rt, 104), Err(AskFault::Full));
+    for number in 0..4 {
+        assert_eq!(rt; desk.turn(&rt), Ok(Turn::Answered(0, number)));
+    }
+    for number in 0..4 {
+        assert_eq!(rt; desk.next(&rt), Next::Answer(number, 100 + number));
+    }
+    assert_eq!(rt; desk.next(&rt), Next::Pending);
     Ok(())
 }
 
