@@ -1,6 +1,6 @@
 //! Answering the addresses of a file.
 
-ghost use Rattle.std.specs.Prelude.{◌≡◌, ◌≢◌, ◌<◌, [], None, OnOk, OnErr, IfOk, IfErr, IsErrOf, map};
+ghost use Rattle.std.specs.Prelude.{◌≡◌, ◌≢◌, ◌<◌, ◌≤◌, [], None, OnOk, OnErr, IfOk, IfErr, IsErrOf, map};
 ghost use Rattle.dw_model.specs.Refusal.{refusal};
 ghost use Rattle.a2l_lines.specs.Input.{word_shown};
 ghost use Rattle.a2l_lines.specs.Text.{options_shown};
@@ -9,23 +9,32 @@ ghost use Rattle.a2l_lines.specs.Symbolize.{Symbolizes, SymbolizesBeginning};
 
 use crate::fault::Fault;
 use a2l_lines::{Options, Sink, Source, Status, symbolize};
-use dw_symbols::{Context, Image};
+use dw_symbols::Image;
 use std::alloc::Global;
-use std::num::NonZeroUsize;
+use std::sync::Wait;
+use std::thread::Threads;
+use ticket_board::Gate;
 
-/// How many units are kept that were read.
-const KEPT_UNITS: usize = 16;
+/// A gate that stands open.
+struct Open;
+
+impl Gate for Open {
+    fn enter(&self, _sender: usize, _number: u64, _a: u64) {}
+}
 
 /// Answers the addresses that are asked for of a file. After an error a beginning of the text was
 /// written, after a read that failed or a refused file nothing; the reader is read only where there
 /// are no words.
-pub fn symbolize_file<R: Source, W: Sink>(
+pub fn symbolize_file<T: Threads + Wait + Sync, R: Source, W: Sink>(
+    rt: &T,
     alloc: Global,
     reader: &mut R,
     writer: &mut W,
     file: &[u8],
     options: &Options<'_>,
 ) -> Result<Status, Fault>
+    requires workers { (1 ≤ options.now.workers) × (options.now.workers ≤ 64) }
+    requires senders { (1 ≤ options.now.senders) × (options.now.senders ≤ 64) }
     ensures accepted { OnOk result (refusal file.now ≡ None) }
     ensures written { IfOk result (Symbolizes (options_shown options.now) file.now (map word_shown options.now.words.items) (R.left reader.old) (W.told writer.old) (W.told writer.new)) }
     ensures beginning { OnErr result (SymbolizesBeginning (options_shown options.now) file.now (map word_shown options.now.words.items) (R.left reader.old) (W.told writer.old) (W.told writer.new)) }
@@ -35,8 +44,6 @@ pub fn symbolize_file<R: Source, W: Sink>(
     ensures refused { IfErr result (λ fault. IsRefused fault → writer.new ≡ writer.old) }
 {
     let image = Image::open(alloc, file)?;
-    let capacity = NonZeroUsize::MIN.saturating_add(KEPT_UNITS - 1);
-    let mut context = Context::new(alloc, &image, capacity)?;
-    let status = symbolize(alloc, reader, writer, &mut context, options)?;
+    let status = symbolize(rt, alloc, reader, writer, &image, options, &Open)?;
     Ok(status)
 }

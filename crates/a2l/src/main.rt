@@ -18,7 +18,9 @@ use a2l_lines::Count;
 use std::io::{ErrorKind, Lock};
 use std::marker::Brand;
 use std::process::ExitCode;
+use std::sync::Wait;
 use std::sync::ledger::{Blank, Ledger};
+use std::thread::Threads;
 use std::{env, io};
 
 /// The words of the command line, without the program's own name.
@@ -34,9 +36,11 @@ fn words(rt: &HostRuntime) -> Result<Vec<String>, Fault> {
     }
 }
 
-/// Runs the program on the real ends, each with a count of its failures.
-fn served<I: Ledger, O: Ledger, E: Ledger>(
+/// Runs the program on the real ends, each with a count of its failures. The threads of the pool come
+/// from the same runtime.
+fn served<T: Threads + Wait + Sync, I: Ledger, O: Ledger, E: Ledger>(
     rt: &HostRuntime,
+    threads: &T,
     input: Blank,
     output: Blank,
     errors: Blank,
@@ -63,6 +67,7 @@ fn served<I: Ledger, O: Ledger, E: Ledger>(
     };
     let mut disk = Disk { rt };
     run(
+        threads,
         rt.alloc(),
         words.as_slice(),
         &mut disk,
@@ -73,7 +78,13 @@ fn served<I: Ledger, O: Ledger, E: Ledger>(
 }
 
 fn main(rt: HostRuntime) -> ExitCode {
-    let status = served::<Brand, Brand, Brand>(&rt, Blank::new(1), Blank::new(1), Blank::new(1));
+    let status = served::<_, Brand, Brand, Brand>(
+        &rt,
+        &rt,
+        Blank::new(1),
+        Blank::new(1),
+        Blank::new(1),
+    );
     ExitCode::from(status)
 }
 

@@ -14,11 +14,14 @@ use crate::load::Load;
 use a2l_lines::{Failed, Sink, Source, Status, write_all};
 use std::alloc::Global;
 use std::convert::AsStr;
+use std::sync::Wait;
+use std::thread::Threads;
 
 /// Runs the program on the words of a command line, which are without its own name, and answers its
 /// status: 0 where all is well, 1 where an input is a bad address or its unit can't be read, 2 where the command line or the file is refused, and 3 where the
 /// file, the input or the output failed, or memory did.
-pub fn run<S: AsStr, L: Load, R: Source, W: Sink, E: Sink>(
+pub fn run<T: Threads + Wait + Sync, S: AsStr, L: Load, R: Source, W: Sink, E: Sink>(
+    rt: &T,
     alloc: Global,
     words: &[S],
     loader: &mut L,
@@ -32,7 +35,7 @@ pub fn run<S: AsStr, L: Load, R: Source, W: Sink, E: Sink>(
     ensures well { result ≤ 1 → errors.new ≡ errors.old }
     ensures badly { 1 < result → EndsBadly result (E.told errors.old) (E.told errors.new) (E.failures errors.old) (E.failures errors.new) }
 {
-    match answer(alloc, words, loader, reader, writer) {
+    match answer(rt, alloc, words, loader, reader, writer) {
         Ok(Status::Clean) => 0,
         Ok(Status::Faults) => 1,
         Err(fault) => report(alloc, errors, fault),
@@ -40,7 +43,8 @@ pub fn run<S: AsStr, L: Load, R: Source, W: Sink, E: Sink>(
 }
 
 /// Does what the command line asks for. The first fault decides.
-fn answer<S: AsStr, L: Load, R: Source, W: Sink>(
+fn answer<T: Threads + Wait + Sync, S: AsStr, L: Load, R: Source, W: Sink>(
+    rt: &T,
     alloc: Global,
     words: &[S],
     loader: &mut L,
@@ -60,7 +64,7 @@ fn answer<S: AsStr, L: Load, R: Source, W: Sink>(
     let job = parse(alloc, words)?;
     let file = loader.load(job.file)?;
     if !job.units {
-        return symbolize_file(alloc, reader, writer, &file, &job.options);
+        return symbolize_file(rt, alloc, reader, writer, &file, &job.options);
     }
     list_file(alloc, writer, &file)?;
     Ok(Status::Clean)

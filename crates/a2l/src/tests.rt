@@ -6,6 +6,7 @@ mod entries;
 mod frames;
 mod input;
 mod listing;
+mod pools;
 mod samples;
 
 ghost use Rattle.std.specs.Prelude.{◌≡◌, ◌<◌};
@@ -16,8 +17,10 @@ use ends::{Kept, Lines, OneFile};
 use std::alloc::Global;
 use std::marker::Brand;
 use std::process::Abort;
+use std::sync::Wait;
 use std::sync::ledger::{Blank, Ledger};
 use std::test::Fail;
+use std::thread::Threads;
 
 /// How a run ended, and what it wrote.
 #[derive(Drop)]
@@ -52,7 +55,8 @@ impl Setting<'static> {
     };
 }
 
-fn run_counted<I: Ledger, O: Ledger, E: Ledger>(
+fn run_counted<T: Threads + Wait + Sync, I: Ledger, O: Ledger, E: Ledger>(
+    rt: &T,
     alloc: Global,
     setting: Setting<'_>,
     words: &[&str],
@@ -87,6 +91,7 @@ fn run_counted<I: Ledger, O: Ledger, E: Ledger>(
         failures: Count::new(errors),
     };
     let status = run(
+        rt,
         alloc,
         words,
         &mut loader,
@@ -103,8 +108,14 @@ fn run_counted<I: Ledger, O: Ledger, E: Ledger>(
     }
 }
 
-fn run_in(alloc: Global, setting: Setting<'_>, words: &[&str]) -> Outcome {
-    run_counted::<Brand, Brand, Brand>(
+fn run_in<T: Threads + Wait + Sync>(
+    rt: &T,
+    alloc: Global,
+    setting: Setting<'_>,
+    words: &[&str],
+) -> Outcome {
+    run_counted::<T, Brand, Brand, Brand>(
+        rt,
         alloc,
         setting,
         words,
@@ -115,18 +126,24 @@ fn run_in(alloc: Global, setting: Setting<'_>, words: &[&str]) -> Outcome {
 }
 
 /// A run over a file, without input.
-fn run_on(alloc: Global, file: &[u8], words: &[&str]) -> Outcome {
-    run_over(alloc, file, b"", words)
+fn run_on<T: Threads + Wait + Sync>(rt: &T, alloc: Global, file: &[u8], words: &[&str]) -> Outcome {
+    run_over(rt, alloc, file, b"", words)
 }
 
 /// A run over a file and an input.
-fn run_over(alloc: Global, file: &[u8], input: &[u8], words: &[&str]) -> Outcome {
+fn run_over<T: Threads + Wait + Sync>(
+    rt: &T,
+    alloc: Global,
+    file: &[u8],
+    input: &[u8],
+    words: &[&str],
+) -> Outcome {
     let setting = Setting {
         file: Some(file),
         input,
         ..Setting::NOTHING
     };
-    run_in(alloc, setting, words)
+    run_in(rt, alloc, setting, words)
 }
 
 const USAGE_LINE: &str =

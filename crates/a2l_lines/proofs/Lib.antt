@@ -4,4 +4,4 @@ pub mod ReadLemmas
 pub mod InputLemmas
 pub mod TextLemmas
 pub mod SymbolizeLemmas
-pub mod AskLemmas
+pub mod OrderLemmas

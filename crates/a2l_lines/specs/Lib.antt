@@ -1,5 +1,6 @@
 pub mod Ends
 pub mod Input
 pub mod Text
-pub mod Ask
+pub mod Order
 pub mod Symbolize
+pub mod Pool

@@ -2,24 +2,25 @@
 //! and the lines of `--units`.
 #![tactic(auto)]
 
-mod ask;
 mod count;
 mod ends;
 mod fault;
 mod input;
 mod listing;
 mod options;
+mod order;
+mod pool;
 mod reading;
 mod symbolizing;
 mod text;
 mod writing;
 
-pub use ask::Ask;
 pub use count::Count;
 pub use ends::{Failed, Sink, Source};
 pub use fault::RunFault;
 pub use listing::list_units;
 pub use options::Options;
+pub use pool::run_pool;
 pub use symbolizing::{Status, symbolize};
 pub use writing::write_all;
 

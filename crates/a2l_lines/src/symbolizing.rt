@@ -1,23 +1,34 @@
 //! Answering addresses.
 
-ghost use Rattle.std.specs.Prelude.{◌≡◌, ◌≢◌, ◌<◌, List, [], map, Err, OnErr, IfOk, IsErrOf};
+ghost use Rattle.std.specs.Prelude.{◌≡◌, ◌≢◌, ◌<◌, ◌≤◌, ◌^◌, length, List, [], map, Err, OnErr, IfOk, IsErrOf};
 ghost use Rattle.std.specs.List.{list_any};
 ghost use Rattle.dw_model.specs.Output.{is_fault};
 ghost use Rattle.dw_symbols.specs.Answer.{answer_shown};
 ghost use Rattle.a2l_lines.specs.Input.{input_shown, word_shown};
 ghost use Rattle.a2l_lines.specs.Text.{options_shown, addresses, is_bad, some_fault};
+ghost use Rattle.a2l_lines.specs.Pool.{shape_of};
 ghost use Rattle.a2l_lines.specs.Symbolize.{Asks, Symbolizes, SymbolizesBeginning, status_for};
 
-use crate::ask::{Ask, answers_of};
 use crate::ends::{Failed, Sink, Source};
 use crate::fault::RunFault;
 use crate::input::{Input, inputs_of_lines, inputs_of_words};
 use crate::options::Options;
+use crate::pool::answers_of;
 use crate::reading::read_all;
 use crate::text::text_of;
 use crate::writing::write_all;
-use dw_symbols::Answer;
+use dw_symbols::{Answer, Image};
 use std::alloc::{AllocError, Global};
+use std::sync::Wait;
+use std::thread::Threads;
+use ticket_board::Gate;
+use ticket_core::Shape;
+
+/// How many queries each sender has outstanding at most.
+const WINDOW: usize = 16;
+
+/// How many queries each sender asks at most.
+const MOST: u64 = 1 << 60;
 
 /// How a run ends whose text was written.
 #[derive(Clone, Copy, Debug, PartialEq, Eq)]
@@ -49,9 +60,11 @@ fn inputs_of<R: Source>(
     Ok(inputs)
 }
 
-/// The addresses among some inputs.
+/// The addresses among some inputs. There are no more than one sender may ask, as no memory holds
+/// more.
 fn addresses(alloc: Global, inputs: &[Input]) -> Result<Vec<u64>, AllocError>
-    ensures { IfOk result (λ found. found.items ≡ addresses (map input_shown inputs.now)) }
+    ensures found { IfOk result (λ found. found.items ≡ addresses (map input_shown inputs.now)) }
+    ensures most { IfOk result (λ found. length found.items ≤ 2 ^ 60) }
 {
     let mut addresses = Vec::new(alloc);
     for input in inputs {
@@ -59,6 +72,9 @@ fn addresses(alloc: Global, inputs: &[Input]) -> Result<Vec<u64>, AllocError>
             continue;
         };
         addresses.push(*address)?;
+    }
+    if addresses.len() as u64 > MOST {
+        return Err(AllocError);
     }
     Ok(addresses)
 }
@@ -97,20 +113,37 @@ fn outcome(inputs: &[Input], answers: &[Answer<'_>]) -> Status
     Status::Clean
 }
 
+/// The shape of the pool that some options ask for.
+fn shape_of(options: &Options<'_>) -> Shape
+    ensures { result ≡ shape_of options.now.senders options.now.workers }
+{
+    Shape {
+        senders: usize::from(options.senders),
+        workers: usize::from(options.workers),
+        window: WINDOW,
+        most: MOST,
+    }
+}
+
 /// Answers the addresses that the words of the options name, or where there are none the lines of
-/// the reader, and writes the lines of their answers in that order.
+/// the reader, and writes the lines of their answers in that order. The gate is entered for each
+/// address that a worker took.
 ///
 /// The errors: `Read`, after which nothing was written; `Write`; `Memory`. After each a beginning of
 /// the text was written. The reader is read only where there are no words.
-pub fn symbolize<'a, R: Source, W: Sink, A: Ask<'a>>(
+pub fn symbolize<'a, T: Threads + Wait + Sync, R: Source, W: Sink, G: Gate + Sync>(
+    rt: &T,
     alloc: Global,
     reader: &mut R,
     writer: &mut W,
-    asker: &mut A,
+    image: &Image<'a>,
     options: &Options<'_>,
+    gate: &G,
 ) -> Result<Status, RunFault>
-    ensures written { IfOk result (Symbolizes (options_shown options.now) (A.file asker.old) (map word_shown options.now.words.items) (R.left reader.old) (W.told writer.old) (W.told writer.new)) }
-    ensures beginning { OnErr result (SymbolizesBeginning (options_shown options.now) (A.file asker.old) (map word_shown options.now.words.items) (R.left reader.old) (W.told writer.old) (W.told writer.new)) }
+    requires workers { (1 ≤ options.now.workers) × (options.now.workers ≤ 64) }
+    requires senders { (1 ≤ options.now.senders) × (options.now.senders ≤ 64) }
+    ensures written { IfOk result (Symbolizes (options_shown options.now) image.now (map word_shown options.now.words.items) (R.left reader.old) (W.told writer.old) (W.told writer.new)) }
+    ensures beginning { OnErr result (SymbolizesBeginning (options_shown options.now) image.now (map word_shown options.now.words.items) (R.left reader.old) (W.told writer.old) (W.told writer.new)) }
     ensures read { IsErrOf result RunFault.Read → R.failures reader.old < R.failures reader.new }
     ensures nothing { IsErrOf result RunFault.Read → writer.new ≡ writer.old }
     ensures write { IsErrOf result RunFault.Write → W.failures writer.old < W.failures writer.new }
@@ -119,7 +152,7 @@ pub fn symbolize<'a, R: Source, W: Sink, A: Ask<'a>>(
 {
     let inputs = inputs_of(alloc, reader, &options.words)?;
     let queries = addresses(alloc, &inputs)?;
-    let answers = answers_of(alloc, asker, &queries)?;
+    let answers = answers_of(rt, alloc, image, shape_of(options), &queries, gate)?;
     let text = text_of(alloc, options, &inputs, &answers)?;
     match write_all(writer, &text) {
         Ok(()) => Ok(outcome(&inputs, &answers)),

@@ -1,10 +1,10 @@
 use Rattle.a2l.proofs.main.Given as goal
 
 abbrev pub ghosts-served-I-Ledger : goal.ghosts-served-I-Ledger
-ghosts-served-I-Ledger a = record { name = a.input.name; parts = a.input.parts }
+ghosts-served-I-Ledger a b = record { name = b.input.name; parts = b.input.parts }
 
 abbrev pub ghosts-served-O-Ledger : goal.ghosts-served-O-Ledger
-ghosts-served-O-Ledger a = record { name = a.output.name; parts = a.output.parts }
+ghosts-served-O-Ledger a b = record { name = b.output.name; parts = b.output.parts }
 
 abbrev pub ghosts-served-E-Ledger : goal.ghosts-served-E-Ledger
-ghosts-served-E-Ledger a = record { name = a.errors.name; parts = a.errors.parts }
+ghosts-served-E-Ledger a b = record { name = b.errors.name; parts = b.errors.parts }

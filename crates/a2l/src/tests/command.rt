@@ -7,7 +7,7 @@ use std::test::Fail;
 
 #[test]
 fn usage(rt: HostRuntime) {
-    expect(&rt, &run_on(rt.alloc(), &[], &[]), 0, USAGE_LINE, "");
+    expect(&rt, &run_on(&rt, rt.alloc(), &[], &[]), 0, USAGE_LINE, "");
     let refused: [&[&str]; 10] = [
         &["-f"],
         &["--help"],
@@ -21,7 +21,7 @@ fn usage(rt: HostRuntime) {
         &["-e"],
     ];
     for words in refused {
-        expect(&rt, &run_on(rt.alloc(), &[], words), 2, "", USAGE_LINE);
+        expect(&rt, &run_on(&rt, rt.alloc(), &[], words), 2, "", USAGE_LINE);
     }
 }
 
@@ -39,7 +39,7 @@ fn spellings(rt: HostRuntime) -> Result<(), Fail> {
     for words in accepted {
         expect(
             &rt,
-            &run_on(rt.alloc(), &file, words),
+            &run_on(&rt, rt.alloc(), &file, words),
             0,
             INLINED_LISTING,
             "",

@@ -142,10 +142,7 @@ fn walk_of_a_unit(rt: HostRuntime) -> Result<(), Fail> {
         assert_eq!(rt; offset, row);
     }
     for _ in 0..4 {
-        let next = entries
-            .next_function(&mut kept)
-            .ok()
-            .ok_or("a null entry")?;
+        let next = entries.next_function(&mut kept).ok().ok_or("a null entry")?;
         assert!(rt; matches!(next, Next::Null));
     }
     assert!(rt; entries.is_done());

@@ -25,7 +25,7 @@ fn lines_of_input(rt: HostRuntime) -> Result<(), Fail> {
     for (input, status, output) in table {
         expect(
             &rt,
-            &run_over(alloc, &file, input, &PLAIN),
+            &run_over(&rt, rt.alloc(), &file, input, &PLAIN),
             status,
             output,
             "",
@@ -36,7 +36,13 @@ fn lines_of_input(rt: HostRuntime) -> Result<(), Fail> {
             read_most: 1,
             ..Setting::NOTHING
         };
-        expect(&rt, &run_in(alloc, setting, &PLAIN), status, output, "");
+        expect(
+            &rt,
+            &run_in(&rt, rt.alloc(), setting, &PLAIN),
+            status,
+            output,
+            "",
+        );
     }
     Ok(())
 }
@@ -52,14 +58,20 @@ fn words_before_lines(rt: HostRuntime) -> Result<(), Fail> {
         read_fails_at: 0,
         ..Setting::NOTHING
     };
-    expect(&rt, &run_in(rt.alloc(), setting, &words), 1, output, "");
+    expect(
+        &rt,
+        &run_in(&rt, rt.alloc(), setting, &words),
+        1,
+        output,
+        "",
+    );
     Ok(())
 }
 
 #[test]
 fn empty_input(rt: HostRuntime) -> Result<(), Fail> {
     let file = hex::decode(rt.alloc(), INLINED)?;
-    expect(&rt, &run_on(rt.alloc(), &file, &PLAIN), 0, "", "");
+    expect(&rt, &run_on(&rt, rt.alloc(), &file, &PLAIN), 0, "", "");
     Ok(())
 }
 
@@ -68,6 +80,7 @@ fn faults_and_bad_lines(rt: HostRuntime) -> Result<(), Fail> {
     // With another code at 0x23, the entries of the first unit can't be read.
     let file = poked(rt.alloc(), FOLLOWED, 64 + 0x23, &[0x63])?;
     let outcome = run_over(
+        &rt,
         rt.alloc(),
         &file,
         b"0x401000\nzz\n\n0x500001\n",
@@ -75,6 +88,28 @@ fn faults_and_bad_lines(rt: HostRuntime) -> Result<(), Fail> {
     );
     let text = "!unit 0x0 fault 1\n!bad address\n!bad address\n??\n??:0\n";
     expect(&rt, &outcome, 1, text, "");
+    Ok(())
+}
+
+#[test]
+fn same_for_all_pools(rt: HostRuntime) -> Result<(), Fail> {
+    let file = poked(rt.alloc(), FOLLOWED, 64 + 0x23, &[0x63])?;
+    let text = "!unit 0x0 fault 1\n!bad address\n!bad address\n??\n??:0\n";
+    for workers in ["1", "2", "64"] {
+        for senders in ["1", "3", "64"] {
+            let words = &[
+                "-e",
+                "FILE",
+                "-f",
+                "--workers",
+                workers,
+                "--senders",
+                senders,
+            ];
+            let outcome = run_over(&rt, rt.alloc(), &file, b"0x401000\nzz\n\n0x500001\n", words);
+            expect(&rt, &outcome, 1, text, "");
+        }
+    }
     Ok(())
 }
 
@@ -90,7 +125,7 @@ fn failing_reads(rt: HostRuntime) -> Result<(), Fail> {
             read_fails_at: call,
             ..Setting::NOTHING
         };
-        let outcome = run_in(rt.alloc(), setting, &PLAIN);
+        let outcome = run_in(&rt, rt.alloc(), setting, &PLAIN);
         expect(&rt, &outcome, 3, "", "a2l: read failed\n");
     }
     Ok(())
@@ -108,7 +143,7 @@ fn failing_writes(rt: HostRuntime) -> Result<(), Fail> {
             write_fails_at: call,
             ..Setting::NOTHING
         };
-        let outcome = run_in(rt.alloc(), setting, &PLAIN);
+        let outcome = run_in(&rt, rt.alloc(), setting, &PLAIN);
         let beginning = text.get(..5 * call as usize).ok_or("a beginning")?;
         expect(&rt, &outcome, 3, beginning, "a2l: write failed\n");
     }

@@ -12,10 +12,10 @@ pub const INLINED_LISTING: &str = "0x0 version 5 compile\n0x5b version 5 partial
 fn listings(rt: HostRuntime) -> Result<(), Fail> {
     let alloc = rt.alloc();
     let smallest = hex::decode(alloc, SMALLEST)?;
-    expect(&rt, &run_on(alloc, &smallest, &LIST), 0, "", "");
+    expect(&rt, &run_on(&rt, rt.alloc(), &smallest, &LIST), 0, "", "");
     let mixed = hex::decode(alloc, MIXED)?;
     let listing = "0x0 version 4 skipped\n0xb version 5 compile\n0x66 version 5 partial\n";
-    expect(&rt, &run_on(alloc, &mixed, &LIST), 0, listing, "");
+    expect(&rt, &run_on(&rt, rt.alloc(), &mixed, &LIST), 0, listing, "");
     Ok(())
 }
 
@@ -26,7 +26,7 @@ fn refusals(rt: HostRuntime) -> Result<(), Fail> {
     let short = smallest.get(..63).ok_or("63 bytes")?;
     expect(
         &rt,
-        &run_on(alloc, short, &LIST),
+        &run_on(&rt, rt.alloc(), short, &LIST),
         2,
         "",
         "a2l: file refused: 1 NotElf\n",
@@ -35,7 +35,7 @@ fn refusals(rt: HostRuntime) -> Result<(), Fail> {
     let short = inlined.get(..685).ok_or("685 bytes")?;
     expect(
         &rt,
-        &run_on(alloc, short, &LIST),
+        &run_on(&rt, rt.alloc(), short, &LIST),
         2,
         "",
         "a2l: file refused: 4 SectionTable\n",
@@ -61,7 +61,7 @@ fn refusals(rt: HostRuntime) -> Result<(), Fail> {
     for (at, new, fault) in table {
         let file = poked(alloc, INLINED, at, new)?;
         let line = format!(in alloc; "a2l: file refused: {fault}\n")?;
-        expect(&rt, &run_on(alloc, &file, &LIST), 2, "", &line);
+        expect(&rt, &run_on(&rt, rt.alloc(), &file, &LIST), 2, "", &line);
     }
     Ok(())
 }
@@ -71,13 +71,13 @@ fn section_past_the_end(rt: HostRuntime) -> Result<(), Fail> {
     // The size of .debug_line stands at 366 + 3 * 64 + 32.
     let file = poked(rt.alloc(), INLINED, 366 + 3 * 64 + 33, &[4])?;
     let line = "a2l: file refused: 5 SectionRange .debug_line\n";
-    expect(&rt, &run_on(rt.alloc(), &file, &LIST), 2, "", line);
+    expect(&rt, &run_on(&rt, rt.alloc(), &file, &LIST), 2, "", line);
     // A section of type SHT_NOBITS takes no bytes of the file.
     let mut file = file;
     *file.get_mut(366 + 3 * 64 + 4).ok_or("the section's type")? = 8;
     expect(
         &rt,
-        &run_on(rt.alloc(), &file, &LIST),
+        &run_on(&rt, rt.alloc(), &file, &LIST),
         0,
         INLINED_LISTING,
         "",
@@ -90,7 +90,7 @@ fn without_lines(rt: HostRuntime) -> Result<(), Fail> {
     let file = poked(rt.alloc(), INLINED, 354, b"x")?;
     expect(
         &rt,
-        &run_on(rt.alloc(), &file, &LIST),
+        &run_on(&rt, rt.alloc(), &file, &LIST),
         0,
         INLINED_LISTING,
         "",
@@ -104,7 +104,7 @@ fn root_without_its_base(rt: HostRuntime) -> Result<(), Fail> {
     let file = poked(rt.alloc(), INLINED, 180, &[0x1b])?;
     expect(
         &rt,
-        &run_on(rt.alloc(), &file, &LIST),
+        &run_on(&rt, rt.alloc(), &file, &LIST),
         0,
         INLINED_LISTING,
         "",
@@ -114,7 +114,7 @@ fn root_without_its_base(rt: HostRuntime) -> Result<(), Fail> {
 
 #[test]
 fn no_device(rt: HostRuntime) {
-    let outcome = run_in(rt.alloc(), Setting::NOTHING, &LIST);
+    let outcome = run_in(&rt, rt.alloc(), Setting::NOTHING, &LIST);
     expect(&rt, &outcome, 3, "", "a2l: cannot read file\n");
 }
 
@@ -128,7 +128,7 @@ fn short_writes(rt: HostRuntime) -> Result<(), Fail> {
     };
     expect(
         &rt,
-        &run_in(rt.alloc(), setting, &LIST),
+        &run_in(&rt, rt.alloc(), setting, &LIST),
         0,
         INLINED_LISTING,
         "",
@@ -137,7 +137,7 @@ fn short_writes(rt: HostRuntime) -> Result<(), Fail> {
         write_most: 0,
         ..setting
     };
-    let outcome = run_in(rt.alloc(), setting, &LIST);
+    let outcome = run_in(&rt, rt.alloc(), setting, &LIST);
     expect(&rt, &outcome, 3, "", "a2l: write failed\n");
     Ok(())
 }
@@ -159,7 +159,7 @@ fn failing_writes(rt: HostRuntime) -> Result<(), Fail> {
             .flatten()
             .copied();
         let beginning: Vec<u8> = beginning.collect(rt.alloc())?;
-        let outcome = run_in(rt.alloc(), setting, &LIST);
+        let outcome = run_in(&rt, rt.alloc(), setting, &LIST);
         assert_eq!(rt;
             outcome.output.as_slice(),
             beginning.as_slice(),

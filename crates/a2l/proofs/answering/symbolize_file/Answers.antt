@@ -7,7 +7,3 @@ use Rattle.a2l.proofs.answering.symbolize_file.Goals as goal
 pub returns-in_err-image-clause-beginning : goal.returns-in_err-image-clause-beginning
 returns-in_err-image-clause-beginning g c =
     on_err c.from_residual.result (begins (options_shown c.args.options.now) c.args.file.now (map word_shown c.args.options.now.words.items) (g.R.Source.left c.args.reader.now) (g.W.Sink.told c.args.writer.now))
-
-pub returns-in_err-context-clause-beginning : goal.returns-in_err-context-clause-beginning
-returns-in_err-context-clause-beginning g c =
-    on_err c.from_residual-in_err-context.result (begins (options_shown c.args.options.now) c.args.file.now (map word_shown c.args.options.now.words.items) (g.R.Source.left c.args.reader.now) (g.W.Sink.told c.args.writer.now))

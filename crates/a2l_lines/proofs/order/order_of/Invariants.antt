@@ -1,10 +1,11 @@
-use Rattle.std.proofs.Common.{◌<◌, ℕ, length}
+use Rattle.std.proofs.Common.{◌≡◌, ◌<◌, ℕ, length}
 use Rattle.std.specs.Prelude.{slice_index}
 use Rattle.std.specs.List.{All, Contains}
-use Rattle.a2l_lines.proofs.ask.order_of.Given as goal
+use Rattle.a2l_lines.proofs.order.order_of.Given as goal
 
 abbrev pub invariant-loop-i : goal.invariant-loop-i
 invariant-loop-i l = record {
+  len : length l.order.items ≡ l.i;
   within : All (λ pair. pair.1 < length l.queries) l.order.items;
   all : (j : ℕ) → j < l.i → Contains l.order.items (slice_index l.queries j, j);
 }

@@ -1,0 +1,72 @@
+//! The order in which addresses are asked.
+
+ghost use Rattle.std.specs.Prelude.{◌≡◌, ◌<◌, ℕ, length, map, IfOk, slice_index};
+ghost use Rattle.std.specs.List.{All};
+ghost use Rattle.dw_model.specs.Answer as model;
+ghost use Rattle.dw_symbols.specs.Answer.{answer_shown};
+ghost use Rattle.a2l_lines.specs.Order.{IsOrder, asked_in};
+
+use dw_symbols::Answer;
+use std::alloc::{AllocError, Global};
+use std::mem;
+
+/// Each query with its place, in order of address.
+pub fn order_of(alloc: Global, queries: &[u64]) -> Result<Vec<(u64, usize)>, AllocError>
+    ensures { IfOk result (λ order. IsOrder queries.now order.items) }
+{
+    let mut order = Vec::new(alloc);
+    for i in 0..queries.len() {
+        let query = queries[i];
+        order.push((query, i))?;
+    }
+    order.sort_unstable();
+    Ok(order)
+}
+
+/// The queries in an order of their places.
+pub fn in_order(
+    alloc: Global,
+    queries: &[u64],
+    order: &[(u64, usize)],
+) -> Result<Vec<u64>, AllocError>
+    requires { All (λ pair. pair.1 < length queries.now) order.now }
+    ensures { IfOk result (λ asked. asked.items ≡ asked_in queries.now order.now) }
+{
+    let mut asked = Vec::new(alloc);
+    for (_, place) in order {
+        asked.push(queries[*place])?;
+    }
+    Ok(asked)
+}
+
+/// Room for as many answers.
+fn unanswered<'a>(alloc: Global, count: usize) -> Result<Vec<Answer<'a>>, AllocError>
+    ensures { IfOk result (λ answers. length answers.items ≡ count) }
+{
+    let mut answers = Vec::new(alloc);
+    for _ in 0..count {
+        answers.push(Answer::NotCovered)?;
+    }
+    Ok(answers)
+}
+
+/// The answers in the order of their queries, of answers that were found in another order: whatever
+/// each address means.
+pub fn in_place<'a>(
+    alloc: Global,
+    queries: &[u64],
+    order: &[(u64, usize)],
+    found: Vec<Answer<'a>>,
+) -> Result<Vec<Answer<'a>>, AllocError>
+    requires order { IsOrder queries.now order.now }
+    requires len { length found.items ≡ length order.now }
+    ensures { IfOk result (λ answers. (means : ℕ → model.Answer) → map answer_shown found.entry.items ≡ map means (asked_in queries.now order.now) → map answer_shown answers.items ≡ map means queries.now) }
+{
+    let mut found = found;
+    let mut answers = unanswered(alloc, queries.len())?;
+    for i in 0..order.len() {
+        let place = order[i].1;
+        answers[place] = mem::replace(&mut found[i], Answer::NotCovered);
+    }
+    Ok(answers)
+}

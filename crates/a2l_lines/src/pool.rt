@@ -1,0 +1,88 @@
+//! Answering queries by a pool of threads over one file.
+
+ghost use Rattle.std.specs.Prelude.{◌≡◌, map, length, IfOk, IfErr, OnOk};
+ghost use Rattle.dw_model.specs.Answer as model;
+ghost use Rattle.dw_symbols.specs.Answer.{answer_shown};
+ghost use Rattle.ticket_board.specs.Pool.{PoolFits, RefusesPool};
+ghost use Rattle.a2l_lines.specs.Order.{IsOrder};
+
+use crate::order::{in_order, in_place, order_of};
+use dw_symbols::{Answer, Context, Image, law_of_shown};
+use std::alloc::{AllocError, Global};
+use std::num::NonZeroUsize;
+use std::sync::Wait;
+use std::thread::Threads;
+use ticket_board::{Gate, Maker, PoolFault};
+use ticket_core::{NoMemory, Shape};
+
+/// How many units each worker keeps that it read.
+const KEPT_UNITS: usize = 16;
+
+/// Makes the contexts of workers, all over one image.
+#[derive(Drop)]
+struct Contexts<'b, 'a> {
+    image: &'b Image<'a>,
+}
+
+impl<'b, 'a> Maker<Context<'b, 'a>> for Contexts<'b, 'a> {
+    ghost key = { λ maker. maker.image.now };
+
+    fn key(&self) -> &[u8] {
+        self.image.bytes()
+    }
+
+    fn make(&self, alloc: Global) -> Result<Context<'b, 'a>, NoMemory> {
+        let capacity = NonZeroUsize::MIN.saturating_add(KEPT_UNITS - 1);
+        Context::new(alloc, self.image, capacity)
+    }
+}
+
+/// What each of some addresses means: the answer at `i` is that of `queries[i]`. There is a thread for
+/// each sender and each worker of the shape, query `i` is asked by sender `i % senders`, and each worker
+/// has a context of its own. The gate is entered for each query that a worker took.
+///
+/// The error is `BadShape` exactly where the shape is past its limits, or some sender would have more
+/// than `most` queries; else `Memory` where a growth or a thread was refused.
+pub fn run_pool<'a, R: Threads + Wait + Sync, G: Gate + Sync>(
+    rt: &R,
+    alloc: Global,
+    image: &Image<'a>,
+    shape: Shape,
+    queries: &[u64],
+    gate: &G,
+) -> Result<Vec<Answer<'a>>, PoolFault>
+    ensures answers { IfOk result (λ answers. map answer_shown answers.items ≡ map (model.answer image.now) queries.now) }
+    ensures fits { OnOk result (PoolFits shape (length queries.now)) }
+    ensures refusal { IfErr result (λ fault. RefusesPool fault shape (length queries.now)) }
+{
+    let maker = Contexts { image };
+    law_of_shown();
+    let answers = ticket_board::run_pool::<Context<'_, 'a>, R, _, G>(
+        rt, alloc, &maker, shape, queries, gate,
+    )?;
+    Ok(answers)
+}
+
+/// What each of some addresses means, in their order. They are asked in order of address, so that what
+/// one unit answers is asked at one time.
+pub fn answers_of<'a, R: Threads + Wait + Sync, G: Gate + Sync>(
+    rt: &R,
+    alloc: Global,
+    image: &Image<'a>,
+    shape: Shape,
+    queries: &[u64],
+    gate: &G,
+) -> Result<Vec<Answer<'a>>, AllocError>
+    requires { PoolFits shape (length queries.now) }
+    ensures { IfOk result (λ answers. map answer_shown answers.items ≡ map (model.answer image.now) queries.now) }
+{
+    let order = order_of(alloc, queries)?;
+    let asked = in_order(alloc, queries, &order)?;
+    let found = match run_pool(rt, alloc, image, shape, &asked, gate) {
+        Ok(found) => found,
+        Err(PoolFault::BadShape) => unreachable!(),
+        Err(PoolFault::Memory) => return Err(AllocError),
+    };
+    let answers = in_place(alloc, queries, &order, found)?;
+    Ok(answers)
+}
