@@ -1,0 +1,134 @@
+#!/usr/bin/env bash
+# How long a2l takes, and how much memory, beside GNU addr2line, llvm-symbolizer and the Rust crate addr2line, on
+# a large C++ program of many units, all in one run. The program is built of as many units of templates as the first
+# word says (60 without, about 100 MB), which takes some minutes; or the first word is the path of one that is there.
+# Each task is run by each tool in turn, as often as the second word says (3 without), and the least time counts. The
+# crate is built from Debian's packages (librust-addr2line-dev), and what is missing is said. Run it after `rt run` in
+# crates/a2l has built a2l. It prints a table, and tests only that a2l's answers are the same at any order and number
+# of workers.
+. "$(dirname "$0")/programs.sh"
+need_a2l
+large=${1:-60}
+times=${2:-3}
+[ -x /usr/bin/time ] || { echo "no /usr/bin/time here, which measures memory"; exit 1; }
+if [ -e "$large" ]; then
+    program=$(realpath "$large")
+else
+    write_large "$large"
+    ls ./*.cc | xargs -P "${JOBS:-2}" -I{} g++ -std=c++17 -g -gdwarf-5 -O1 -c {} -o {}.o
+    g++ ./*.o -o large
+    program=$work/large
+fi
+
+# the crate's own example, for raw names and without columns
+build_crate() {
+    local registry=/usr/share/cargo/registry
+    has "the Rust crate addr2line" cargo || return 1
+    ls -d $registry/addr2line-* > /dev/null 2>&1 || { echo "skipped, librust-addr2line-dev isn't installed: the Rust crate addr2line"; return 1; }
+    mkdir -p crate/src crate/.cargo
+    printf '[source.crates-io]\nreplace-with = "debian"\n[source.debian]\ndirectory = "%s"\n' $registry > crate/.cargo/config.toml
+    cat > crate/Cargo.toml <<'END_TOML'
+[package]
+name = "crate_addr2line"
+version = "0.1.0"
+edition = "2021"
+[dependencies]
+addr2line = { version = "*", default-features = false, features = ["std-object"] }
+object = "*"
+END_TOML
+    cat > crate/src/main.rs <<'END_RS'
+use std::io::{BufRead, BufWriter, Write};
+fn main() -> Result<(), Box<dyn std::error::Error>> {
+    let bytes = std::fs::read(std::env::args().nth(1).ok_or("no file")?)?;
+    let file = object::File::parse(&*bytes)?;
+    let context = addr2line::Context::new(&file)?;
+    let mut out = BufWriter::new(std::io::stdout().lock());
+    for line in std::io::stdin().lock().lines() {
+        let a = u64::from_str_radix(line?.trim_start_matches("0x"), 16)?;
+        writeln!(out, "0x{a:016x}")?;
+        let (mut frames, mut count) = (context.find_frames(a)?, 0);
+        while let Some(frame) = frames.next()? {
+            count += 1;
+            match &frame.function {
+                Some(function) => writeln!(out, "{}", function.raw_name()?)?,
+                None => writeln!(out, "??")?,
+            }
+            match frame.location {
+                Some(at) => writeln!(out, "{}:{}", at.file.unwrap_or("??"), at.line.unwrap_or(0))?,
+                None => writeln!(out, "??:0")?,
+            }
+        }
+        if count == 0 {
+            writeln!(out, "??\n??:0")?;
+        }
+    }
+    Ok(())
+}
+END_RS
+    (cd crate && cargo build --release --offline) > log 2>&1 || { echo "skipped, it can't be built here: the Rust crate addr2line"; tail -3 log; return 1; }
+}
+
+tools=(a2l)
+if has "GNU addr2line" addr2line; then tools+=(gnu); fi
+if has "llvm-symbolizer" llvm-symbolizer; then tools+=(llvm); fi
+if build_crate; then tools+=(crate); fi
+command_of() {
+    case $1 in
+        a2l) echo "$a2l -e $program -a -f -i" ;;
+        a2l-4) echo "$a2l -e $program -a -f -i --workers 4" ;;
+        gnu) echo "addr2line -e $program -a -f -i" ;;
+        llvm) echo "llvm-symbolizer -e $program --output-style=GNU --addresses --functions=linkage --no-demangle" ;;
+        crate) echo "crate/target/release/crate_addr2line $program" ;;
+    esac
+}
+
+# random addresses of the code, so that large functions are asked more often than small ones
+python3 - "$program" <<'END_PY'
+import random, re, subprocess, sys
+random.seed(1)
+shown = subprocess.run(['readelf', '--wide', '--section-headers', sys.argv[1]], check=True, capture_output=True, text=True).stdout
+begin, size = (int(n, 16) for n in re.search(r'\] \.text +PROGBITS +(\w+) \w+ (\w+)', shown).groups())
+asked = [random.randrange(begin, begin + size) for _ in range(10000)]
+for name, addresses in (('one', asked[:1]), ('sorted', sorted(asked)), ('random', asked)):
+    with open(name, 'w') as out:
+        out.writelines(f'{a:#x}\n' for a in addresses)
+END_PY
+
+declare -A least peak
+measure() {
+    local task=$1 tool=$2 n seconds memory
+    for n in $(seq "$times"); do
+        # shellcheck disable=SC2046
+        /usr/bin/time -o measured -f '%e %M' $(command_of "$tool") < "$task" > "$task.$tool" 2> errors || { echo "$tool fails:"; head -3 errors; exit 1; }
+        read -r seconds memory < measured
+        least[$task.$tool]=$(printf '%s\n%s\n' "${least[$task.$tool]:-$seconds}" "$seconds" | sort -n | head -1)
+        peak[$task.$tool]=$memory
+    done
+}
+megabytes() { awk -v k="$1" 'BEGIN { printf "%.0f", k / 1000 }'; }
+info=$((16#$(objdump -h "$program" | awk '$2 == ".debug_info" { print $3 }')))
+echo "a program of $(megabytes "$(($(stat -Lc %s "$program") / 1000))") MB with $((info / 1000000)) MB of .debug_info in $("$a2l" -e "$program" --units | wc -l) units; the least of $times times"
+printf '%-34s %-6s %10s %8s %8s\n' task tool seconds ratio MB
+for task in one sorted random; do
+    case $task in
+        one) what='one address' ;;
+        sorted) what='10,000 addresses in order' ;;
+        random) what='10,000 addresses in random order' ;;
+    esac
+    all=("${tools[@]}")
+    [ "$task" = one ] || all+=(a2l-4)
+    for tool in "${all[@]}"; do
+        measure $task "$tool"
+        ratio=$(awk -v a="${least[$task.a2l]}" -v b="${least[$task.$tool]}" 'BEGIN { if (b > 0) printf "%.2f", a / b; else print "-" }')
+        printf '%-34s %-6s %10s %8s %8s\n' "$what" "$tool" "${least[$task.$tool]}" "$ratio" "$(megabytes "${peak[$task.$tool]}")"
+    done
+    [ "$task" = one ] || cmp "$task.a2l" "$task.a2l-4"
+done
+echo "ratio: a2l's time by the tool's; a2l-4: with 4 workers"
+python3 - <<'END_PY'
+import re
+def blocks(path):
+    return {block.split('\n')[0]: block for block in re.split(r'^(?=0x)', open(path, errors='replace').read(), flags=re.M) if block}
+if blocks('sorted.a2l') != blocks('random.a2l'):
+    raise SystemExit('a2l answers otherwise in another order')
+END_PY
