@@ -14,9 +14,7 @@ times=${2:-3}
 if [ -e "$large" ]; then
     program=$(realpath "$large")
 else
-    write_large "$large"
-    ls ./*.cc | xargs -P "${JOBS:-2}" -I{} g++ -std=c++17 -g -gdwarf-5 -O1 -c {} -o {}.o
-    g++ ./*.o -o large
+    build_large "$large" large
     program=$work/large
 fi
 

@@ -6,6 +6,7 @@ here=$(cd "$(dirname "${BASH_SOURCE[0]}")/.." && pwd)
 work=$(mktemp -d)
 trap 'rm -rf "$work"' EXIT
 cd "$work"
+export PYTHONDONTWRITEBYTECODE=1
 
 # The built program, as `a2l`. The variable A2L names another one.
 need_a2l() {
@@ -142,6 +143,13 @@ END_CC
     echo 'int main(int argc, char **) { return 0' >> main.cc
     for i in $(seq "$count"); do echo "+ n$i::run(argc)" >> main.cc; done
     echo '; }' >> main.cc
+}
+
+# Builds that program under the name that the second word says.
+build_large() {
+    write_large "$1"
+    ls ./unit*.cc main.cc | xargs -P "$(nproc)" -I{} g++ -std=c++17 -g -gdwarf-5 -O1 -c {} -o {}.o
+    g++ ./unit*.cc.o main.cc.o -o "$2"
 }
 
 # Copies crates into copy/crates, so that a script may add to them: their code, definitions and proofs, and their

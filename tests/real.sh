@@ -9,7 +9,6 @@
 . "$(dirname "$0")/programs.sh"
 need_a2l
 write_sources
-write_large 2
 cat > twiced.s <<'END_S'
     .text
     .globl twiced
@@ -49,6 +48,7 @@ for cc in gcc clang; do
 done
 if has "link-time optimization of gcc" gcc; then add gcc-lto gcc $five -O2 -flto $c; fi
 if has "link-time optimization of clang" clang ld.lld; then add clang-lto clang $five -O2 -flto -fuse-ld=lld $c; fi
+if has "a range for each block" clang++ ld.lld; then add clang++-blocks clang++ $five -O2 -fbasic-block-sections=all -fuse-ld=lld sizes.cc; fi
 for cc in g++ clang++; do
     has "programs of $cc" "$cc" || continue
     add $cc-O0 $cc $five -O0 sizes.cc
@@ -57,8 +57,8 @@ for cc in g++ clang++; do
     add $cc-types $cc $five -O2 -fdebug-types-section sizes.cc
 done
 if has "templates of many units" g++; then
-    for unit in unit1 unit2 main; do g++ -std=c++17 $five -O1 -c $unit.cc -o $unit.o; done
-    add g++-units g++ unit1.o unit2.o main.o
+    build_large 2 g++-units
+    programs+=(g++-units)
     if has "partial units, and a supplementary file" dwz; then
         cp g++-units dwz-units
         dwz dwz-units
@@ -89,7 +89,7 @@ if has "the C library, and a compressed program" gcc; then
     [ "$(cat told)" = "a2l: file refused: 6 Compressed .debug_info" ] || { cat told; exit 1; }
 fi
 for word in "$a2l" "$@"; do
-    if readelf --wide --section-headers "$word" 2> log | grep ' \.debug_info ' > log; then programs+=("$word"); fi
+    if readelf --wide --section-headers "$word" 2> /dev/null | grep ' \.debug_info ' > log; then programs+=("$word"); fi
 done
 
 cat > compare.py <<'END_PY'

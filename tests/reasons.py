@@ -15,6 +15,7 @@ SAID = {
     'other units': 'GNU knows no functions of a program with type units or partial units in .debug_info',
     'file 1': 'GNU takes file 0 for file 1, of rows before which the program of lines sets no file',
     'no linkage name': 'the function has no DW_AT_linkage_name: GNU names it by the symbol table, and not by DW_AT_name',
+    'no row': 'no row is at the address: the peer names the file by the symbol table',
     'no function': 'no function holds the address: GNU names it by the symbol table',
     'outermost': 'LLVM names the outermost frame by the symbol table',
 }
@@ -37,12 +38,11 @@ def of_chain(peer, program, a, theirs, why):
     if has_others and len(theirs) == 1 and bare(theirs[0][0]) in program.symbols_at(a) | {'??'}:
         why.append('other units')
         return []
-    if 0 < len(chain) <= len(theirs):
-        return chain
     known = [n for n, entry in enumerate(chain) if not entry.is_indexed()]
     from_here = known[0] if known else len(chain)
-    if from_here > 0:
-        why.append('ranges by index')
+    if from_here == 0 or max(len(chain) - from_here, 1) != len(theirs):
+        return chain
+    why.append('ranges by index')
     return chain[from_here:]
 
 
@@ -66,6 +66,8 @@ def name_reason(peer, program, a, chain, n, wanted, got, why):
 def path_reason(peer, program, a, n, wanted, got):
     """Why the path of frame n differs."""
     table, row = program.table(a), program.row(a)
+    if n == 0 and row is None and got in program.files:
+        return 'no row'
     directory = program.units[program.unit_at[a]].root.values.get('DW_AT_comp_dir')
     if directory and not directory[1].startswith('/') and got == directory[1] + '/' + wanted:
         return 'directory 0'

@@ -4,9 +4,7 @@
 # in crates/a2l has built a2l. It prints times and ratios of one run, and tests nothing.
 . "$(dirname "$0")/programs.sh"
 need_a2l
-write_large "${1:-60}"
-ls ./*.cc | xargs -P "$(nproc)" -I{} g++ -std=c++17 -g -gdwarf-5 -O1 -c {} -o {}.o
-g++ ./*.o -o large
+build_large "${1:-60}" large
 
 # the least of five times, in milliseconds
 least() {
