@@ -76,9 +76,11 @@ class Table:
             if 0 < int(directory) < len(directories):
                 path = os.path.join(path, directories[int(directory)])
             self.paths.append(os.path.join(path, name))
+        # rows: address, file, line, and whether all rows of the sequence up to this one are of file 1
         self.sequences, rows = [], []
         for row in re.finditer(r'^0x([0-9a-f]{16}) +(\d+) +\d+ +(\d+) (.*)$', text, re.M):
-            rows.append((int(row[1], 16), int(row[3]), int(row[2])))
+            unset = int(row[3]) == 1 and (not rows or rows[-1][3])
+            rows.append((int(row[1], 16), int(row[3]), int(row[2]), unset))
             if 'end_sequence' in row[4]:
                 at = [row[0] for row in rows]
                 if at == sorted(at) and at[0] < at[-1]:

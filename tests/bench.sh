@@ -96,7 +96,6 @@ declare -A least peak
 measure() {
     local task=$1 tool=$2 n seconds memory
     for n in $(seq "$times"); do
-        # shellcheck disable=SC2046
         /usr/bin/time -o measured -f '%e %M' $(command_of "$tool") < "$task" > "$task.$tool" 2> errors || { echo "$tool fails:"; head -3 errors; exit 1; }
         read -r seconds memory < measured
         least[$task.$tool]=$(printf '%s\n%s\n' "${least[$task.$tool]:-$seconds}" "$seconds" | sort -n | head -1)

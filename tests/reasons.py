@@ -6,6 +6,7 @@ explains all of the difference.
 
 SAID = {
     'no unit': 'no unit covers the address: the peer names it by the symbol table, where a2l says ??',
+    'no range': 'the address lies in no range of a unit, but behind a row of its table (between functions): GNU takes the row, if it has read the unit',
     'skipped unit': 'the address lies in a unit of another version or kind, which a2l skips',
     'dropped code': 'the address lies in no code: the linker dropped it and left its ranges; a2l takes the first of them, LLVM another, GNU none',
     'skeleton': 'the unit is a skeleton: the peer reads its functions in another file, or GNU nothing at all of gcc\'s',
@@ -13,7 +14,7 @@ SAID = {
     'directory 0': 'directory 0 is relative, as the directory in which the unit was compiled: the peer puts it behind itself',
     'ranges by index': 'GNU knows no ranges of a function by DW_FORM_rnglistx, so it begins at a function around it',
     'other units': 'GNU knows no functions of a program with type units or partial units in .debug_info',
-    'file 1': 'GNU takes file 0 for file 1, of rows before which the program of lines sets no file',
+    'file 1': 'GNU takes file 0 for file 1 in rows of a sequence before any other file',
     'no linkage name': 'the function has no DW_AT_linkage_name: GNU names it by the symbol table, and not by DW_AT_name',
     'no row': 'no row is at the address: the peer names the file by the symbol table',
     'no function': 'no function holds the address: GNU names it by the symbol table',
@@ -23,6 +24,16 @@ SAID = {
 
 def bare(name):
     return name.split('@')[0]
+
+
+def is_behind_row(program, a, path, line):
+    """Whether a row of this path and line is the last before an address."""
+    for table in program.tables.values():
+        for row in table.rows(a):
+            files = (row[1], 0) if row[3] else (row[1],)
+            if row[2] == line and any(path.endswith(table.path(n).removeprefix('./')) for n in files):
+                return True
+    return False
 
 
 def of_chain(peer, program, a, theirs, why):
@@ -71,7 +82,7 @@ def path_reason(peer, program, a, n, wanted, got):
     directory = program.units[program.unit_at[a]].root.values.get('DW_AT_comp_dir')
     if directory and not directory[1].startswith('/') and got == directory[1] + '/' + wanted:
         return 'directory 0'
-    if peer == 'gnu' and n == 0 and row and row[1] == 1 and table.path(0) in (got, got.removeprefix((directory or ['', ''])[1] + '/')):
+    if peer == 'gnu' and n == 0 and row and row[3] and table.path(0) in (got, got.removeprefix((directory or ['', ''])[1] + '/')):
         return 'file 1'
     return None
 
@@ -84,6 +95,8 @@ def reasons(peer, program, a, ours, theirs):
         if program.is_skipped(a):
             return ['skipped unit']
         (name, path, line), *others = theirs
+        if peer == 'gnu' and not others and line > 0 and is_behind_row(program, a, path, line):
+            return ['no range']
         named = name == '??' or bare(name) in program.symbols_at(a)
         return ['no unit'] if named and not others and line == 0 and path in program.files else []
     why = []
