@@ -1,10 +1,10 @@
 use Rattle.a2l.proofs.tests.run_in.Given as goal
 
 abbrev pub ghosts-run_counted-I-Ledger : goal.ghosts-run_counted-I-Ledger
-ghosts-run_counted-I-Ledger a = record { name = a.input.name; parts = a.input.parts }
+ghosts-run_counted-I-Ledger a b = record { name = b.input.name; parts = b.input.parts }
 
 abbrev pub ghosts-run_counted-O-Ledger : goal.ghosts-run_counted-O-Ledger
-ghosts-run_counted-O-Ledger a = record { name = a.output.name; parts = a.output.parts }
+ghosts-run_counted-O-Ledger a b = record { name = b.output.name; parts = b.output.parts }
 
 abbrev pub ghosts-run_counted-E-Ledger : goal.ghosts-run_counted-E-Ledger
-ghosts-run_counted-E-Ledger a = record { name = a.errors.name; parts = a.errors.parts }
+ghosts-run_counted-E-Ledger a b = record { name = b.errors.name; parts = b.errors.parts }
