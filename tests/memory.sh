@@ -13,7 +13,7 @@ cat > "$work/refuse.c" <<'END'
 #include <stdlib.h>
 #include <unistd.h>
 #include <fcntl.h>
-static long count;
+static _Atomic long count;
 static int refused(void) {
     const char *wanted = getenv("REFUSE");
     if (!wanted || ++count != atol(wanted)) return 0;
@@ -53,4 +53,6 @@ refuse -e "$here/samples/mixed.elf" --units
 refuse -e "$here/samples/mixed.elf" --units --workers 3 -fia 401000 401004
 head -c 685 "$here/samples/inlined.elf" > "$work/cut.elf"
 refuse -e "$work/cut.elf" --units
+refuse -e "$here/samples/inlined.elf" -fia --workers 1 401000 401004 zz
+refuse -e "$here/samples/inlined.elf" -fia --workers 3 --senders 2 401000 401004 zz
 refuse -x
