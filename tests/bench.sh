@@ -72,7 +72,7 @@ if has "llvm-symbolizer" llvm-symbolizer; then tools+=(llvm); fi
 if build_crate; then tools+=(crate); fi
 command_of() {
     case $1 in
-        a2l) echo "$a2l -e $program -a -f -i" ;;
+        a2l) echo "$a2l -e $program -a -f -i --workers 1" ;;
         a2l-4) echo "$a2l -e $program -a -f -i --workers 4" ;;
         gnu) echo "addr2line -e $program -a -f -i" ;;
         llvm) echo "llvm-symbolizer -e $program --output-style=GNU --addresses --functions=linkage --no-demangle" ;;
@@ -121,7 +121,7 @@ for task in one sorted random; do
     done
     [ "$task" = one ] || cmp "$task.a2l" "$task.a2l-4"
 done
-echo "ratio: a2l's time by the tool's; a2l-4: with 4 workers"
+echo "ratio: a2l's time with 1 worker by the tool's; a2l-4: with 4 workers"
 python3 - <<'END_PY'
 import re
 def blocks(path):
