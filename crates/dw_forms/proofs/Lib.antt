@@ -1,2 +1,3 @@
 pub mod IndirectLemmas
 pub mod FindLemmas
+pub mod TextLemmas

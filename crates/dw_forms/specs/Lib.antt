@@ -4,4 +4,5 @@ pub mod Declaration
 pub mod Fault
 pub mod Spelling
 pub mod Tables
+pub mod Text
 pub mod Value

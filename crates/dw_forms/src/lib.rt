@@ -6,12 +6,14 @@ mod declaration;
 mod fault;
 mod form;
 mod tables;
+mod text;
 mod value;
 
 pub use abbrevs::Abbrevs;
 pub use declaration::{Decl, Spec};
 pub use fault::FormFault;
 pub use tables::{Bases, Tables};
+pub use text::Text;
 pub use value::{Value, read_value};
 
 #[cfg(test)]

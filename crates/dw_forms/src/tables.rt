@@ -4,8 +4,10 @@ ghost use Rattle.std.specs.Prelude.{◌≡◌, ◌+◌, ◌*◌, drop, option_ma
 ghost use Rattle.dw_model.specs.Text.{text_in};
 ghost use Rattle.dw_model.specs.Text as model;
 ghost use Rattle.dw_forms.specs.Tables.{tables_shown, bases_shown};
+ghost use Rattle.dw_forms.specs.Text.{text_shown};
 ghost use Rattle.dw_forms.specs.Value.{value_shown};
 
+use crate::text::Text;
 use crate::value::Value;
 use dw_bytes::Cursor;
 use dw_model::dwarf::{ADDRESS_SIZE, OFFSET_SIZE_32};
@@ -38,12 +40,20 @@ impl<'a> Tables<'a> {
     /// The text to which a value leads, without its zero byte: itself, or what stands at its offset
     /// or at its index behind the unit's base. `None` where the base is missing, the place isn't in
     /// its section, no zero byte follows, or the value is no text.
-    #[tactic(auto, unfolding(dw_model::specs::Text::text))]
     pub fn text(&self, value: &Value<'a>, bases: &Bases) -> Option<&'a [u8]>
         ensures { option_map (λ text. text.now) result ≡ model.text (tables_shown self.now) (bases_shown bases.now) (value_shown value.now) }
     {
+        let text = self.find_text(value, bases)?;
+        Some(text.bytes())
+    }
+
+    /// The same, but its end is looked for only when its bytes are asked for.
+    #[tactic(auto, unfolding(dw_model::specs::Text::text))]
+    pub fn find_text(&self, value: &Value<'a>, bases: &Bases) -> Option<Text<'a>>
+        ensures { option_map text_shown result ≡ model.text (tables_shown self.now) (bases_shown bases.now) (value_shown value.now) }
+    {
         match *value {
-            Value::Inline(text) => Some(text),
+            Value::Inline(text) => Some(Text::Whole(text)),
             Value::Str(offset) => text_at(self.str, offset),
             Value::LineStr(offset) => text_at(self.line_str, offset),
             Value::StrIndex(i) => {
@@ -100,8 +110,8 @@ fn entry(section: &[u8], base: u64, index: u64, size: u64) -> &[u8]
 }
 
 /// The text at an offset of a section.
-fn text_at(section: &[u8], offset: u64) -> Option<&[u8]>
-    ensures { option_map (λ text. text.now) result ≡ text_in section.now offset }
+fn text_at(section: &[u8], offset: u64) -> Option<Text<'_>>
+    ensures { option_map text_shown result ≡ text_in section.now offset }
 {
-    Cursor::new(behind(section, offset)).text()
+    Text::first(behind(section, offset))
 }

@@ -7,6 +7,7 @@ pub mod DraftsInside
 pub mod Fault
 pub mod Function
 pub mod Name
+pub mod Named
 pub mod Placed
 pub mod Reader
 pub mod Rising

@@ -9,6 +9,7 @@ mod drafts;
 mod fault;
 mod function;
 mod name;
+mod named;
 mod reader;
 mod tree;
 mod walk;

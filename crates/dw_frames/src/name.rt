@@ -10,12 +10,13 @@ ghost use Rattle.dw_model.specs.Entry.{attribute};
 ghost use Rattle.dw_model.specs.Text.{text};
 ghost use Rattle.dw_forms.specs.Fault.{form_fault};
 ghost use Rattle.dw_forms.specs.Tables.{bases_shown, tables_shown};
+ghost use Rattle.dw_forms.specs.Text.{text_shown};
 ghost use Rattle.dw_forms.specs.Value.{value_shown};
 ghost use Rattle.dw_units.specs.Entry.{entry_shown};
 ghost use Rattle.dw_units.specs.Unit.{unit_shown};
 ghost use Rattle.dw_frames.specs.Name.{own_name_in, read_of, IsEntry, Leads, IsTarget};
 
-use dw_forms::{Bases, FormFault, Tables, Value};
+use dw_forms::{Bases, FormFault, Tables, Text, Value};
 use dw_model::dwarf::{DW_AT_abstract_origin, DW_AT_linkage_name, DW_AT_name, DW_AT_specification};
 use dw_units::{Entry, Units};
 use std::alloc::AllocError;
@@ -26,16 +27,16 @@ fn attribute_text<'a>(
     bases: &Bases,
     entry: &Entry<'a>,
     name: u64,
-) -> Option<&'a [u8]>
-    ensures { option_map (λ text. text.now) result ≡ option_and_then (text (tables_shown tables.now) (bases_shown bases.now)) (attribute name (entry_shown entry.now)) }
+) -> Option<Text<'a>>
+    ensures { option_map text_shown result ≡ option_and_then (text (tables_shown tables.now) (bases_shown bases.now)) (attribute name (entry_shown entry.now)) }
 {
     let value = entry.attr(name)?;
-    tables.text(value, bases)
+    tables.find_text(value, bases)
 }
 
 /// The name that an entry has itself: the one for the linker, else the one of the source.
-fn own_name<'a>(tables: &Tables<'a>, bases: &Bases, entry: &Entry<'a>) -> Option<&'a [u8]>
-    ensures { option_map (λ text. text.now) result ≡ own_name_in (tables_shown tables.now) (bases_shown bases.now) (entry_shown entry.now) }
+pub(crate) fn own_name<'a>(tables: &Tables<'a>, bases: &Bases, entry: &Entry<'a>) -> Option<Text<'a>>
+    ensures { option_map text_shown result ≡ own_name_in (tables_shown tables.now) (bases_shown bases.now) (entry_shown entry.now) }
 {
     let linkage = attribute_text(tables, bases, entry, DW_AT_linkage_name);
     if let Some(text) = linkage {
@@ -88,7 +89,7 @@ fn unless_memory(fault: FormFault) -> Result<(), AllocError>
 /// Reads the entry that stands at an offset of .debug_info, in whichever unit, in place of the one that
 /// was kept, and answers the place of its unit. `None` for a null entry, an entry that can't be read, a
 /// header or a skipped unit; then any entry may be kept.
-fn read_at<'a>(
+pub(crate) fn read_at<'a>(
     units: &Units<'a>,
     offset: u64,
     kept: &mut Entry<'a>,
@@ -113,7 +114,7 @@ fn read_at<'a>(
 }
 
 /// The offset to which an entry of a unit refers.
-fn referred_offset(units: &Units<'_>, i: usize, entry: &Entry<'_>) -> Option<u64>
+pub(crate) fn referred_offset(units: &Units<'_>, i: usize, entry: &Entry<'_>) -> Option<u64>
     requires { i < length (cut.units units.now.info) }
     ensures { (here : UnitEntry) → IsEntry units.now i entry.now here → option_and_then (names.entry_of units.now) result ≡ names.referred units.now here }
 {
@@ -147,9 +148,9 @@ pub(crate) fn name_within<'a>(
     i: usize,
     entry: &mut Entry<'a>,
     more: usize,
-) -> Result<Option<&'a [u8]>, AllocError>
+) -> Result<Option<Text<'a>>, AllocError>
     requires { i < length (cut.units units.now.info) }
-    ensures { IfOk result (λ name. (here : UnitEntry) → IsEntry units.now i entry.old here → option_map (λ text. text.now) name ≡ names.name_within units.now more here) }
+    ensures { IfOk result (λ name. (here : UnitEntry) → IsEntry units.now i entry.old here → option_map text_shown name ≡ names.name_within units.now more here) }
 {
     let own = own_name(units.tables(), &units.unit(i).bases, entry);
     if let Some(name) = own {

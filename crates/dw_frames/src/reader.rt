@@ -19,19 +19,17 @@ ghost use Rattle.dw_frames.specs.Fault.{tree_fault};
 ghost use Rattle.dw_frames.specs.Drafts as model;
 ghost use Rattle.dw_frames.specs.Description.{description_shown};
 ghost use Rattle.dw_frames.specs.Reader.{AddsFunction, Keeps};
+ghost use Rattle.dw_frames.specs.Named.{AreNames};
 
 use crate::call_of::call_of;
 use crate::description::Description;
 use crate::drafts::Drafts;
 use crate::fault::TreeFault;
-use crate::name::name_within;
+use crate::named::{Names, name_of};
 use dw_model::dwarf::DW_TAG_subprogram;
 use dw_ranges::{Range, RangeFault, ranges_of};
 use dw_units::{Entry, Next, Units};
 use std::alloc::{AllocError, Global};
-
-/// How many references are followed to a name.
-const REFERENCES: usize = 16;
 
 /// Below how many entries one may stand.
 const DEPTH: usize = 512;
@@ -41,13 +39,16 @@ fn describe<'a>(
     units: &Units<'a>,
     i: usize,
     entry: &mut Entry<'a>,
+    names: &mut Names<'a>,
 ) -> Result<Description<'a>, AllocError>
-    requires { i < length (cut.units units.now.info) }
-    ensures { IfOk result (λ description. IfSome (slice_get (cut.units units.now.info) i) (λ unit. description_shown description ≡ model.described units.now unit (entry_shown entry.old))) }
+    requires within { i < length (cut.units units.now.info) }
+    requires names { AreNames units.now names.old }
+    ensures names { AreNames units.now names.new }
+    ensures description { IfOk result (λ description. IfSome (slice_get (cut.units units.now.info) i) (λ unit. description_shown description ≡ model.described units.now unit (entry_shown entry.old))) }
 {
     let offset = entry.offset;
     let call = call_of(entry);
-    let name = name_within(units, i, entry, REFERENCES)?;
+    let name = name_of(units, i, entry, names)?;
     Ok(Description { offset, name, call })
 }
 
@@ -82,15 +83,18 @@ fn add_function<'a>(
     i: usize,
     drafts: &mut Drafts<'a>,
     entry: &mut Entry<'a>,
+    names: &mut Names<'a>,
 ) -> Result<(), TreeFault>
-    requires { i < length (cut.units units.now.info) }
-    ensures { (unit : DwarfUnit) → slice_get (cut.units units.now.info) i ≡ Some unit → AddsFunction units.now unit (entry_shown entry.old) result drafts.old drafts.new }
+    requires within { i < length (cut.units units.now.info) }
+    requires names { AreNames units.now names.old }
+    ensures names { AreNames units.now names.new }
+    ensures function { (unit : DwarfUnit) → slice_get (cut.units units.now.info) i ≡ Some unit → AddsFunction units.now unit (entry_shown entry.old) result drafts.old drafts.new }
 {
     let ranges = ranges_in(alloc, units, i, entry)?;
     let number = drafts.count();
     drafts.push_ranges(entry.tag == DW_TAG_subprogram, &ranges, number)?;
     let children = entry.children;
-    let description = describe(units, i, entry)?;
+    let description = describe(units, i, entry, names)?;
     drafts.push_function(alloc, description)?;
     drafts.begin_list(children, Some(number))?;
     Ok(())
@@ -106,9 +110,12 @@ pub(crate) fn keep<'a>(
     next: Next,
     entry: &mut Entry<'a>,
     drafts: &mut Drafts<'a>,
+    names: &mut Names<'a>,
 ) -> Result<(), TreeFault>
-    requires { i < length (cut.units units.now.info) }
-    ensures { (unit : DwarfUnit) (found : Option ModelEntry) → slice_get (cut.units units.now.info) i ≡ Some unit → IsNext next entry.old found → Keeps units.now unit found result drafts.old drafts.new }
+    requires within { i < length (cut.units units.now.info) }
+    requires names { AreNames units.now names.old }
+    ensures names { AreNames units.now names.new }
+    ensures entry { (unit : DwarfUnit) (found : Option ModelEntry) → slice_get (cut.units units.now.info) i ≡ Some unit → IsNext next entry.old found → Keeps units.now unit found result drafts.old drafts.new }
 {
     let depth = drafts.depth();
     match next {
@@ -124,7 +131,7 @@ pub(crate) fn keep<'a>(
         }
         Next::Function => {
             check_depth(depth)?;
-            add_function(alloc, units, i, drafts, entry)?;
+            add_function(alloc, units, i, drafts, entry, names)?;
             Ok(())
         }
     }

@@ -124,7 +124,8 @@ impl<'a> Tree<'a> {
         ensures { (sections : Sections) (unit : DwarfUnit) → IsTreeOf sections unit self.now → option_map (λ text. text.now) result ≡ option_and_then (λ node. name sections (record { unit = unit; entry = node.entry })) (function_at self.now.unit (nodes_of sections unit) id) }
     {
         let description = self.description(id)?;
-        description.name
+        let text = description.name?;
+        Some(text.bytes())
     }
 
     /// Where a function was called, as its entry tells it.

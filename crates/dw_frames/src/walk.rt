@@ -4,14 +4,17 @@ ghost use Rattle.std.specs.Prelude.{◌≡◌, ◌<◌, List, IfSome, Some, fals
 ghost use Rattle.dw_model.specs.Unit as cut;
 ghost use Rattle.dw_model.specs.Unit.{DwarfUnit, is_skipped};
 ghost use Rattle.dw_model.specs.Tree.{Node};
+ghost use Rattle.dw_frames.specs.Named.{AreNames};
 ghost use Rattle.dw_frames.specs.Placed.{Follows};
 ghost use Rattle.dw_frames.specs.Reader.{nodes_on, FollowsOn, FollowsAll};
 
 use crate::drafts::Drafts;
 use crate::fault::TreeFault;
+use crate::named::Names;
 use crate::reader::keep;
 use dw_units::{Entries, Entry, Next, Units};
 use std::alloc::Global;
+use std::collections::BTreeMap;
 
 /// Reads entries, each in place of the one before, until the list below the unit's first one has ended, or the unit has.
 fn read_below<'a>(
@@ -21,13 +24,15 @@ fn read_below<'a>(
     entries: &mut Entries<'_, 'a>,
     entry: &mut Entry<'a>,
     drafts: &mut Drafts<'a>,
+    names: &mut Names<'a>,
 ) -> Result<(), TreeFault>
-    requires { i < length (cut.units units.now.info) }
+    requires within { i < length (cut.units units.now.info) }
+    requires names { AreNames units.now names.old }
     ensures { (unit : DwarfUnit) (before : List Node) → slice_get (cut.units units.now.info) i ≡ Some unit → Follows units.now unit before drafts.old entries.old.place.at → FollowsOn units.now unit before (nodes_on units.now unit entries.old (length drafts.old.lists)) result drafts.new }
 {
     while drafts.depth() > 0 && !entries.is_done() {
         let next = entries.next_function(entry)?;
-        keep(alloc, units, i, next, entry, drafts)?;
+        keep(alloc, units, i, next, entry, drafts, names)?;
     }
     Ok(())
 }
@@ -47,11 +52,28 @@ pub(crate) fn read_all<'a>(
     };
     let mut drafts = Drafts::new(alloc);
     let mut entry = Entry::unread(alloc);
+    let mut names = BTreeMap::new(alloc);
     let first = entries.next_function(&mut entry)?;
     if let Next::Null = first {
         return Err(TreeFault::Entry);
     }
-    keep(alloc, units, i, first, &mut entry, &mut drafts)?;
-    read_below(alloc, units, i, &mut entries, &mut entry, &mut drafts)?;
+    keep(
+        alloc,
+        units,
+        i,
+        first,
+        &mut entry,
+        &mut drafts,
+        &mut names,
+    )?;
+    read_below(
+        alloc,
+        units,
+        i,
+        &mut entries,
+        &mut entry,
+        &mut drafts,
+        &mut names,
+    )?;
     Ok(drafts)
 }

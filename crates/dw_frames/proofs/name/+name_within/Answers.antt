@@ -6,6 +6,7 @@ use Rattle.dw_model.specs.Section.{Sections}
 use Rattle.dw_model.specs.Unit.{units}
 use Rattle.dw_model.specs.Name.{UnitEntry, referred, name_within}
 use Rattle.dw_forms.specs.Tables.{bases_shown, tables_shown}
+use Rattle.dw_forms.specs.Text.{text_shown}
 use Rattle.dw_units.specs.declared.entry.Entry.{Entry as CodeEntry}
 use Rattle.dw_units.specs.Unit.{unit_shown}
 use Rattle.dw_units.specs.Entry.{entry_shown}
@@ -16,7 +17,7 @@ use Rattle.dw_frames.proofs.name.+name_within.Goals as goal
 pub returns-in-Some : goal.returns-in-Some
 returns-in-Some t c here is =
     let own = own-is c.args.units.now here (tables_shown c.tables.result.now) (bases_shown c.unit.result.now.bases) (unit_shown c.unit.result.now) c.args.i c.args.entry.now is c.unit.ensures.header c.tables.ensures c.unit.ensures.bases in
-    sym (own-found c.args.units.now c.args.more here c.in-Some.name.now (sym (c.in-Some.ensures ∙ own)))
+    sym (own-found c.args.units.now c.args.more here (text_shown c.in-Some.name) (sym (c.in-Some.ensures ∙ own)))
 
 pub returns-then-more-eq0 : goal.returns-then-more-eq0
 returns-then-more-eq0 t c here is =
@@ -43,8 +44,8 @@ name_within-requires t c =
 pub returns : goal.returns
 returns t c =
     IfOk-weaker c.name_within.result
-    (λ name. (here : UnitEntry) → IsEntry c.args.units.now c.in-Some-2.unit c.read_referred.new.entry here → option_map (λ text. text.now) name ≡ name_within c.args.units.now (c.args.more - 1) here)
-    (λ name. (here : UnitEntry) → IsEntry c.args.units.now c.args.i c.args.entry.now here → option_map (λ text. text.now) name ≡ name_within c.args.units.now c.args.more here)
+    (λ name. (here : UnitEntry) → IsEntry c.args.units.now c.in-Some-2.unit c.read_referred.new.entry here → option_map text_shown name ≡ name_within c.args.units.now (c.args.more - 1) here)
+    (λ name. (here : UnitEntry) → IsEntry c.args.units.now c.args.i c.args.entry.now here → option_map text_shown name ≡ name_within c.args.units.now c.args.more here)
     (λ name later here is.
     let own = own-is c.args.units.now here (tables_shown c.tables.result.now) (bases_shown c.unit.result.now.bases) (unit_shown c.unit.result.now) c.args.i c.args.entry.now is c.unit.ensures.header c.tables.ensures c.unit.ensures.bases in
     let some : 0 < c.args.more = omega (arith, c.if-more-eq0.false) in
