@@ -69,6 +69,7 @@ impl<'a> Cursor<'a> {
     }
 
     /// An unsigned number of one byte. `None` where no byte is left.
+    #[inline(always)]
     pub fn u8(&mut self) -> Option<u8>
         ensures { Reads (λ x. x) result (number_at 1 self.old) self.old self.new }
     {
@@ -77,6 +78,7 @@ impl<'a> Cursor<'a> {
     }
 
     /// An unsigned number of two bytes, the lowest first. `None` where fewer are left.
+    #[inline(always)]
     pub fn u16(&mut self) -> Option<u16>
         ensures { Reads (λ x. x) result (number_at 2 self.old) self.old self.new }
     {
@@ -85,6 +87,7 @@ impl<'a> Cursor<'a> {
     }
 
     /// An unsigned number of three bytes, the lowest first. `None` where fewer are left.
+    #[inline(always)]
     pub fn u24(&mut self) -> Option<u32>
         ensures { Reads (λ x. x) result (number_at 3 self.old) self.old self.new }
     {
@@ -93,6 +96,7 @@ impl<'a> Cursor<'a> {
     }
 
     /// An unsigned number of four bytes, the lowest first. `None` where fewer are left.
+    #[inline(always)]
     pub fn u32(&mut self) -> Option<u32>
         ensures { Reads (λ x. x) result (number_at 4 self.old) self.old self.new }
     {
@@ -101,6 +105,7 @@ impl<'a> Cursor<'a> {
     }
 
     /// An unsigned number of eight bytes, the lowest first. `None` where fewer are left.
+    #[inline(always)]
     pub fn u64(&mut self) -> Option<u64>
         ensures { Reads (λ x. x) result (number_at 8 self.old) self.old self.new }
     {
@@ -109,6 +114,7 @@ impl<'a> Cursor<'a> {
     }
 
     /// The next `n` bytes, as a slice of those that `new` was given. `None` where fewer are left.
+    #[inline(always)]
     pub fn take(&mut self, n: usize) -> Option<&'a [u8]>
         ensures { Reads (λ bytes. bytes.now) result (bytes_at n self.old) self.old self.new }
     {
@@ -134,6 +140,7 @@ impl<'a> Cursor<'a> {
     /// An unsigned LEB128 number (section 7.6), in any spelling. `End` where the bytes stop before
     /// it does, else `Wide` where it doesn't fit 64 bits.
     #[tactic(auto, unfolding(dw_model::specs::Leb::uleb_at))]
+    #[inline(always)]
     pub fn uleb(&mut self) -> Result<u64, Leb>
         ensures { ReadsOrTells (λ x. x) leb_fault result (uleb_at self.old) self.old self.new }
     {

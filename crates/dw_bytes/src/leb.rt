@@ -14,6 +14,7 @@ pub enum Leb {
 }
 
 /// The place of the first byte whose top bit isn't set: the last of a number.
+#[inline(always)]
 pub(crate) fn last_byte(bytes: &[u8]) -> Option<usize>
     ensures { result ≡ position (λ byte. nat_lt byte 128) bytes.now }
 {
@@ -21,6 +22,7 @@ pub(crate) fn last_byte(bytes: &[u8]) -> Option<usize>
 }
 
 /// The number of these groups, where it fits 64 bits.
+#[inline(always)]
 pub(crate) fn unsigned(bytes: &[u8]) -> Option<u64>
     ensures { result ≡ fits_u64 (groups bytes.now) }
 {

@@ -1,3 +1,4 @@
 pub mod IndirectLemmas
 pub mod FindLemmas
+pub mod SizeLemmas
 pub mod TextLemmas

@@ -2,6 +2,8 @@ pub mod Abbrevs
 pub mod AbbrevsInside
 pub mod Declaration
 pub mod Fault
+pub mod Size
+pub mod Spec
 pub mod Spelling
 pub mod Tables
 pub mod Text

@@ -116,6 +116,7 @@ impl Abbrevs {
     }
 
     /// The first declaration of a code, where there is one.
+    #[inline(always)]
     pub fn get(&self, code: u64) -> Option<&Decl>
         ensures { option_map (λ declaration. declaration_shown declaration.now) result ≡ declared self.now code }
     {

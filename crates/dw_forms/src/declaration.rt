@@ -1,17 +1,15 @@
-//! Abbreviation declarations, by section 7.5.3 of DWARF 5.
+//! What abbreviations stand for, by section 7.5.3 of DWARF 5.
 
-ghost use Rattle.std.specs.Prelude.{◌≡◌, map, option_map};
-ghost use Rattle.dw_model.specs.Reading.{items};
-ghost use Rattle.dw_model.specs.Abbrev.{next_specification, declaration_behind, next_declaration};
-ghost use Rattle.dw_model.specs.Answers.{ReadsOn, ReadsUnlessMemory};
-ghost use Rattle.dw_forms.specs.Fault.{form_fault};
-ghost use Rattle.dw_forms.specs.Declaration.{spec_shown, declaration_shown};
+ghost use Rattle.std.specs.Prelude.{◌≡◌, Some, map};
+ghost use Rattle.std.specs.Option.{ForSome};
+ghost use Rattle.dw_forms.specs.Spec.{spec_shown};
+ghost use Rattle.dw_forms.specs.Size.{values_size};
 
-use crate::fault::FormFault;
-use dw_bytes::Cursor;
-use dw_model::dwarf::DW_FORM_implicit_const;
+mod reading;
+
+pub(crate) use reading::next_decl;
+
 use smallvec::SmallVec;
-use std::alloc::Global;
 
 /// An attribute's name and form, and its number where that stands in the declaration.
 #[derive(Clone, Copy, Debug, Default, PartialEq, Eq)]
@@ -34,74 +32,7 @@ pub struct Decl {
     pub tag: u64,
     pub children: bool,
     pub specs: SmallVec<Spec, 8>,
-}
-
-/// The next pair of a declaration; `None` for the pair 0, 0, which ends them.
-#[tactic(auto, unfolding(dw_model::specs::Abbrev::next_specification))]
-fn next_spec(cursor: &mut Cursor<'_>) -> Result<Option<Spec>, FormFault>
-    ensures { ReadsOn (option_map spec_shown) form_fault result (next_specification cursor.old) cursor.new }
-{
-    let name = cursor.uleb()?;
-    let form = cursor.uleb()?;
-    if name == 0 && form == 0 {
-        return Ok(None);
-    }
-    if form == DW_FORM_implicit_const {
-        let number = cursor.sleb()?;
-        return Ok(Some(Spec {
-            name,
-            form,
-            implicit: Some(number),
-        }));
-    }
-    Ok(Some(Spec {
-        name,
-        form,
-        implicit: None,
-    }))
-}
-
-/// The pairs of a declaration.
-fn specs_of(alloc: Global, cursor: &mut Cursor<'_>) -> Result<SmallVec<Spec, 8>, FormFault>
-    ensures { ReadsUnlessMemory (λ specs. map spec_shown specs.items) form_fault result (items (λ p. p.left) next_specification cursor.old) cursor.new }
-{
-    let mut specs = SmallVec::new(alloc);
-    loop {
-        let Some(spec) = next_spec(cursor)? else {
-            return Ok(specs);
-        };
-        specs.push(spec)?;
-    }
-}
-
-/// The declaration of a code.
-#[tactic(auto, unfolding(dw_model::specs::Abbrev::declaration_behind))]
-fn declaration_of(alloc: Global, cursor: &mut Cursor<'_>, code: u64) -> Result<Decl, FormFault>
-    ensures { ReadsUnlessMemory declaration_shown form_fault result (declaration_behind code cursor.old) cursor.new }
-{
-    let tag = cursor.uleb()?;
-    let children = cursor.u8().ok_or(FormFault::End)?;
-    let specs = specs_of(alloc, cursor)?;
-    Ok(Decl {
-        code,
-        tag,
-        children: children != 0,
-        specs,
-    })
-}
-
-/// The next declaration of a table; `None` at the code 0 and at the section's end, which end it.
-#[tactic(auto, unfolding(dw_model::specs::Abbrev::next_declaration))]
-pub(crate) fn next_decl(alloc: Global, cursor: &mut Cursor<'_>) -> Result<Option<Decl>, FormFault>
-    ensures { ReadsUnlessMemory (option_map declaration_shown) form_fault result (next_declaration cursor.old) cursor.new }
-{
-    if cursor.left() == 0 {
-        return Ok(None);
-    }
-    let code = cursor.uleb()?;
-    if code == 0 {
-        return Ok(None);
-    }
-    let declaration = declaration_of(alloc, cursor, code)?;
-    Ok(Some(declaration))
+    /// How many bytes the values of an entry take, where the forms tell it.
+    size: Option<usize>,
+    ghost size_is: { ForSome size (λ n. values_size (map spec_shown specs.items) ≡ Some n) },
 }

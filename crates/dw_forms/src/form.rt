@@ -70,6 +70,7 @@ pub(crate) enum Spelling {
 
 /// The spelling of a form's values; `None` for DW_FORM_indirect, which only names another form, and
 /// for forms that aren't known.
+#[inline(always)]
 pub(crate) fn spelling_of(form: u64) -> Option<Spelling>
     ensures { option_map spelling_shown result ≡ lookup (nat_eq form) forms }
 {

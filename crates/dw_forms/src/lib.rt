@@ -5,6 +5,7 @@ mod abbrevs;
 mod declaration;
 mod fault;
 mod form;
+mod size;
 mod tables;
 mod text;
 mod value;

@@ -52,6 +52,7 @@ impl Default for Value<'_> {
 }
 
 /// The value that a number of this class is.
+#[inline(always)]
 fn value_of<'a>(class: Class, n: u64) -> Value<'a>
     ensures { value_shown result ≡ made class n }
 {
@@ -72,6 +73,7 @@ fn value_of<'a>(class: Class, n: u64) -> Value<'a>
 }
 
 /// A number of a size.
+#[inline(always)]
 fn number(cursor: &mut Cursor<'_>, size: Size) -> Option<u64>
     ensures { Reads (λ x. x) result (number_at (size_shown size) cursor.old) cursor.old cursor.new }
 {
@@ -86,6 +88,7 @@ fn number(cursor: &mut Cursor<'_>, size: Size) -> Option<u64>
 
 /// A value in its spelling. After a refusal the cursor may stand anywhere.
 #[tactic(auto, unfolding(dw_model::specs::Form::spelled_at))]
+#[inline(always)]
 fn spelled<'a>(
     cursor: &mut Cursor<'a>,
     spelling: Spelling,
@@ -141,6 +144,7 @@ fn spelled<'a>(
 /// its number in no declaration; `Wide` where a LEB128 number doesn't fit 64 bits; else `End` where
 /// the bytes end too early. A refusal leaves the cursor where it was.
 #[tactic(auto, unfolding(dw_model::specs::Form::value_at))]
+#[inline(always)]
 pub fn read_value<'a>(
     cursor: &mut Cursor<'a>,
     form: u64,
@@ -155,6 +159,7 @@ pub fn read_value<'a>(
 }
 
 /// The same, but after a refusal the cursor may stand anywhere.
+#[inline(always)]
 fn value_ahead<'a>(
     cursor: &mut Cursor<'a>,
     form: u64,

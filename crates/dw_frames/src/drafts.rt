@@ -213,7 +213,7 @@ impl<'a> Drafts<'a> {
     pub(crate) fn functions(&self, alloc: Global) -> Result<Vec<Function<'a>>, AllocError>
         ensures { IfOk result (λ functions. AllZip IsBuilt self.now.functions functions.items) }
     {
-        let mut functions = Vec::new(alloc);
+        let mut functions = Vec::with_capacity(alloc, self.functions.len())?;
         for draft in &self.functions {
             functions.push(draft.function(alloc)?)?;
         }

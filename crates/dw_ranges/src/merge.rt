@@ -70,7 +70,7 @@ pub(crate) fn merge(
     requires second { AreSegments 0 None second.now }
     ensures { IfOk result (λ merged. IsMerged first.now second.now merged.items) }
 {
-    let mut merged = Vec::new(alloc);
+    let mut merged = Vec::with_capacity(alloc, first.len().saturating_add(second.len()))?;
     let mut left = Side {
         owner: None,
         rest: first,

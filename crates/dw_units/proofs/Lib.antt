@@ -7,3 +7,4 @@ pub mod HeaderLemmas
 pub mod AttrLemmas
 pub mod SharedLemmas
 pub mod PlaceLemmas
+pub mod SkipLemmas

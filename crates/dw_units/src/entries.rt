@@ -8,7 +8,7 @@ ghost use Rattle.dw_units.specs.Entries.{ReadsNext, IsBefore, Passes};
 
 use crate::entry::{Entry, read_attributes};
 use dw_bytes::Cursor;
-use dw_forms::{Abbrevs, FormFault, Spec, read_value};
+use dw_forms::{Abbrevs, Decl, FormFault, Spec, read_value};
 use dw_model::dwarf::{DW_TAG_inlined_subroutine, DW_TAG_subprogram};
 use std::alloc::Global;
 use std::marker::Model;
@@ -53,6 +53,7 @@ fn is_function(tag: u64) -> bool
 }
 
 /// Passes over the values that a declaration asks for.
+#[inline(always)]
 fn pass_attributes(cursor: &mut Cursor<'_>, specs: &[Spec]) -> Result<(), FormFault>
     ensures { Passes result (attributes_at OFFSET_SIZE_32 (map spec_shown specs.now) cursor.old) cursor.new }
 {
@@ -62,9 +63,22 @@ fn pass_attributes(cursor: &mut Cursor<'_>, specs: &[Spec]) -> Result<(), FormFa
     Ok(())
 }
 
+/// Passes over the values of an entry, in one step where its declaration tells how far.
+#[inline(always)]
+fn pass_values(cursor: &mut Cursor<'_>, declaration: &Decl) -> Result<(), FormFault>
+    ensures { Passes result (attributes_at OFFSET_SIZE_32 (map spec_shown declaration.now.specs.items) cursor.old) cursor.new }
+{
+    let Some(size) = declaration.size() else {
+        return pass_attributes(cursor, declaration.specs.as_slice());
+    };
+    let _values = cursor.take(size).ok_or(FormFault::End)?;
+    Ok(())
+}
+
 /// Reads the entry at the cursor, which goes just past it; a function in place of the one that was
 /// kept. After a refusal the cursor may stand anywhere.
 #[tactic(auto, unfolding(dw_model::specs::Entry::entry_at))]
+#[inline(always)]
 fn next_of<'a>(
     cursor: &mut Cursor<'a>,
     abbrevs: &Abbrevs,
@@ -81,7 +95,7 @@ fn next_of<'a>(
     let declaration = abbrevs.get(code).ok_or(FormFault::Code)?;
     let children = declaration.children;
     if !is_function(declaration.tag) {
-        pass_attributes(cursor, declaration.specs.as_slice())?;
+        pass_values(cursor, declaration)?;
         return Ok(Next::Passed { children });
     }
     read_attributes(&mut kept.attrs, cursor, declaration.specs.as_slice())?;
@@ -110,6 +124,7 @@ impl<'b, 'a> Entries<'b, 'a> {
 
     /// Reads the next entry: a function in place of the one that was kept, which stays where the entry is
     /// none. The error is its first fault, or `Memory`; then the walk may stand anywhere.
+    #[inline(always)]
     pub fn next_function(&mut self, kept: &mut Entry<'a>) -> Result<Next, FormFault>
         ensures declarations { self.new.declarations ≡ self.old.declarations }
         ensures next { ReadsNext result kept.new (entry_at OFFSET_SIZE_32 self.old.declarations self.old.place) self.new.place }

@@ -108,6 +108,7 @@ impl<'a> Entry<'a> {
     /// The value of the first attribute of a name, where it is of a kind that counts for the name;
     /// else the attribute is absent.
     #[tactic(auto, unfolding(dw_model::specs::Entry::attribute))]
+    #[inline(always)]
     pub fn attr(&self, name: u64) -> Option<&Value<'a>>
         ensures { option_map (λ value. value_shown value.now) result ≡ model.attribute name (entry_shown self.now) }
     {
@@ -120,6 +121,7 @@ impl<'a> Entry<'a> {
 }
 
 /// The first attribute of a name.
+#[inline(always)]
 fn first_of<'b, 'a>(attributes: &'b [Attribute<'a>], name: u64) -> Option<&'b Attribute<'a>>
     ensures { option_map (λ found. found.now) result ≡ find (λ found. found.name == name) attributes.now }
 {

@@ -1,0 +1,55 @@
+//! How many bytes the values of an entry take, where their forms tell it.
+
+ghost use Rattle.std.specs.Prelude.{◌≡◌, Some, IfSome, map};
+ghost use Rattle.dw_forms.specs.Declaration.{spec_shown};
+ghost use Rattle.dw_forms.specs.Size.{value_size, values_size};
+ghost use Rattle.dw_forms.specs.Spelling.{size_shown};
+
+use crate::declaration::Spec;
+use crate::form::{Size, Spelling, spelling_of};
+use dw_model::dwarf::OFFSET_SIZE_32;
+
+/// How many bytes a number of a size has.
+fn bytes_of(size: Size) -> usize
+    ensures { result ≡ size_shown size }
+{
+    match size {
+        Size::One => 1,
+        Size::Two => 2,
+        Size::Three => 3,
+        Size::Four => 4,
+        Size::Eight => 8,
+    }
+}
+
+/// How many bytes the values of an attribute take; `None` where they differ, or can't be read.
+fn size_of(spec: &Spec) -> Option<usize>
+    ensures { result ≡ value_size (spec_shown spec.now) }
+{
+    match spelling_of(spec.form)? {
+        Spelling::Fixed(size, _) => Some(bytes_of(size)),
+        Spelling::Offset(_) => Some(OFFSET_SIZE_32 as usize),
+        Spelling::Block(size) => Some(size),
+        Spelling::Implicit => {
+            spec.implicit?;
+            Some(0)
+        }
+        Spelling::Present => Some(0),
+        Spelling::Uleb(_)
+        | Spelling::Sleb
+        | Spelling::Counted(_)
+        | Spelling::UlebCounted
+        | Spelling::Text => None,
+    }
+}
+
+/// How many bytes the values that a declaration asks for take in all; `None` where entries differ.
+pub(crate) fn size_of_all(specs: &[Spec]) -> Option<usize>
+    ensures { IfSome result (λ n. values_size (map spec_shown specs.now) ≡ Some n) }
+{
+    let mut size: usize = 0;
+    for spec in specs {
+        size = size.checked_add(size_of(spec)?)?;
+    }
+    Some(size)
+}

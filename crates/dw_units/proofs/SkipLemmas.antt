@@ -1,0 +1,21 @@
+-- Values that are passed over in one step.
+use Rattle.std.proofs.Common.{◌≡◌, ◌∙◌, ℕ, List, Option, Some, None, Result, Ok, Err, refl, sym, ap}
+use Rattle.std.specs.Prelude.{ok_or}
+use Rattle.dw_model.specs.Faults.{Fault, ends_early}
+use Rattle.dw_model.specs.Reading.{Place, bytes_at}
+use Rattle.dw_model.proofs.StepLemmas.{ok_is}
+use Rattle.dw_forms.specs.Size.{place_behind, Skips}
+
+found-at : {A : Type 0} (read : Result (A × Place) Fault) (q : Place) → place_behind read ≡ Ok (tt, q) → (found : A) × (read ≡ Ok (found, q))
+found-at (Ok found) q e = (found.0, ap (λ (x : Unit {0} × Place). Ok (found.0, x.1)) (ok_is (tt, found.1) (tt, q) e))
+found-at (Err fault) q e = absurd cc
+
+faults-at : {A : Type 0} (read : Result (A × Place) Fault) (fault : Fault) → place_behind read ≡ Err fault → read ≡ Err fault
+faults-at (Ok found) fault e = absurd cc
+faults-at (Err told) fault e = cc
+
+pub passed : {A : Type 0} (n : ℕ) (read : Place → Result (A × Place) Fault) (p q : Place) (bytes : List ℕ) → Skips n read → bytes_at n p ≡ Some (bytes, q) → (found : A) × (read p ≡ Ok (found, q))
+passed n read p q bytes h e = found-at (read p) q (h p ∙ ap (λ (taken : Option (List ℕ × Place)). place_behind (ok_or taken ends_early)) e)
+
+pub not-passed : {A : Type 0} (n : ℕ) (read : Place → Result (A × Place) Fault) (p : Place) → Skips n read → bytes_at n p ≡ None → read p ≡ Err ends_early
+not-passed n read p h e = faults-at (read p) ends_early (h p ∙ ap (λ (taken : Option (List ℕ × Place)). place_behind (ok_or taken ends_early)) e)
