@@ -38,6 +38,19 @@ impl<'a> Model for Lines<'a> {
     ghost invariant = { AreRead };
 }
 
+/// How many bytes a path of these parts takes at most, so that it grows once.
+fn room_for(top: &[u8], directory: Option<&[u8]>, name: &[u8]) -> usize {
+    let inner = match directory {
+        Some(directory) => directory.len(),
+        None => 0,
+    };
+    let slashes = 2;
+    top.len()
+        .saturating_add(inner)
+        .saturating_add(name.len())
+        .saturating_add(slashes)
+}
+
 impl<'a> Lines<'a> {
     /// Reads the table at an offset of .debug_line, of a unit with these bases that was compiled in
     /// a directory, in time linear in the table's length (section 6.2).
@@ -87,9 +100,11 @@ impl<'a> Lines<'a> {
         let Some(name) = self.header.text_of(file) else {
             return Ok(None);
         };
-        let mut path = Vec::new(alloc);
-        path.extend_from_slice(self.header.top(self.comp_dir))?;
-        join_some(&mut path, self.header.file_directory(file))?;
+        let top = self.header.top(self.comp_dir);
+        let directory = self.header.file_directory(file);
+        let mut path = Vec::with_capacity(alloc, room_for(top, directory, name))?;
+        path.extend_from_slice(top)?;
+        join_some(&mut path, directory)?;
         join(&mut path, name)?;
         Ok(Some(path))
     }

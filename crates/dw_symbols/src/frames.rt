@@ -37,7 +37,7 @@ pub(crate) fn frames_of<'a>(
         return Ok(frames);
     }
     let mut location = location;
-    let mut frames = Vec::new(alloc);
+    let mut frames = Vec::with_capacity(alloc, ids.len())?;
     for id in ids {
         let call = tree.call(*id);
         let next = call_location(alloc, lines, call.file, call.line, call.column)?;

@@ -6,6 +6,7 @@ ghost use Rattle.ticket_board.specs.Pool.{AreAnswers, PoolFits, RefusesPool};
 
 mod fault;
 mod gathering;
+mod idle;
 mod limits;
 mod maker;
 mod running;

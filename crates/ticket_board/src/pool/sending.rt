@@ -4,6 +4,7 @@ ghost use Rattle.std.specs.Prelude.{◌≡◌, ◌≤◌, ◌<◌, ◌++◌, tru
 ghost use Rattle.ticket_board.specs.Seats.{IsClientOf, HasEnded};
 ghost use Rattle.ticket_board.specs.Pool.{every, IsEnd, IsLane, IsNewSender};
 
+use super::idle::Idle;
 use super::stop::Stop;
 use super::task::{Lane, Task};
 use crate::board::Board;
@@ -12,7 +13,6 @@ use crate::outcome::Next;
 use std::alloc::{AllocError, Global};
 use std::collections::VecDeque;
 use std::sync::Wait;
-use std::thread;
 use ticket_core::{NoMemory, Solver};
 
 /// Asks every `step`-th query from the place `next` on, as far as the board takes them, and closes the
@@ -111,15 +111,16 @@ fn ask_all<S: Solver, R: Wait>(
     } = sending;
     let mut lane = VecDeque::new(alloc);
     let mut next = sender;
+    let mut idle = Idle::new();
     for _ in rt.forever() {
         next = ask_on(rt, board, &mut client, task.queries, next, task.senders);
         match receive(rt, board, &mut client, &mut lane)? {
-            Came::Answer => {}
+            Came::Answer => idle.end(),
             Came::Nothing => {
                 if stop.is_set() {
                     return Err(AllocError);
                 }
-                thread::yield_now();
+                idle.wait(rt);
             }
             Came::End => {
                 client.law_of_client();

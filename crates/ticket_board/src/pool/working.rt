@@ -3,6 +3,7 @@
 ghost use Rattle.std.specs.Prelude.{◌≡◌, OnOk};
 ghost use Rattle.ticket_board.specs.Seats.{IsWorkerOf};
 
+use super::idle::Idle;
 use super::maker::Maker;
 use super::stop::Stop;
 use crate::board::Board;
@@ -11,7 +12,6 @@ use crate::outcome::Turn;
 use crate::worker::Worker;
 use std::alloc::Global;
 use std::sync::Wait;
-use std::thread;
 use ticket_core::{NoMemory, Solver};
 
 /// Takes turns until the pool stops. The error is the solver's want of memory.
@@ -27,13 +27,14 @@ fn work<'a, S: Solver, R: Wait, G: Gate>(
     requires key { S.key solver.old ≡ board.now.key }
     ensures refused { OnOk result (S.refused solver.new ≡ S.refused solver.old) }
 {
+    let mut idle = Idle::new();
     for _ in rt.forever() {
         if stop.is_set() {
             break;
         }
         match worker.turn(rt, board, solver, gate)? {
-            Turn::Answered(_, _) => {}
-            Turn::Idle => thread::yield_now(),
+            Turn::Answered(_, _) => idle.end(),
+            Turn::Idle => idle.wait(rt),
         }
     }
     Ok(())
