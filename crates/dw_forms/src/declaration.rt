@@ -8,7 +8,6 @@ ghost use Rattle.dw_forms.specs.Size.{values_size};
 mod reading;
 
 pub(crate) use reading::next_decl;
-
 use smallvec::SmallVec;
 
 /// An attribute's name and form, and its number where that stands in the declaration.

@@ -35,7 +35,11 @@ fn attribute_text<'a>(
 }
 
 /// The name that an entry has itself: the one for the linker, else the one of the source.
-pub(crate) fn own_name<'a>(tables: &Tables<'a>, bases: &Bases, entry: &Entry<'a>) -> Option<Text<'a>>
+pub(crate) fn own_name<'a>(
+    tables: &Tables<'a>,
+    bases: &Bases,
+    entry: &Entry<'a>,
+) -> Option<Text<'a>>
     ensures { option_map text_shown result ≡ own_name_in (tables_shown tables.now) (bases_shown bases.now) (entry_shown entry.now) }
 {
     let linkage = attribute_text(tables, bases, entry, DW_AT_linkage_name);

@@ -57,15 +57,7 @@ pub(crate) fn read_all<'a>(
     if let Next::Null = first {
         return Err(TreeFault::Entry);
     }
-    keep(
-        alloc,
-        units,
-        i,
-        first,
-        &mut entry,
-        &mut drafts,
-        &mut names,
-    )?;
+    keep(alloc, units, i, first, &mut entry, &mut drafts, &mut names)?;
     read_below(
         alloc,
         units,

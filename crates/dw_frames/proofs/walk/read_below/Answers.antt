@@ -31,11 +31,14 @@ loop-entries-smaller c =
     entry-onward OFFSET_SIZE_32 c.loop-entries.entries.declarations c.loop-entries.entries.place (read.0, c.next_function.new.self.place) read.1
 
 pub loop-entries-preserved : goal.loop-entries-preserved
-loop-entries-preserved c = (c.in_ok-keep.ensures.names, λ unit before e f.
-    let open_still = more c.depth.result (length c.loop-entries.drafts.lists) (length c.loop-entries.entries.place.left) c.is_done.result c.depth.ensures c.loop-entries-test.true c.is_done.ensures c.if-not-is_done.true in
-    let read = c.in_ok-next.ensures.next in
-    let kept = c.in_ok-keep.ensures.entry unit read.0 e read.2 in
-    goes-on c.args.units.now unit before c.args.entries.now (length c.args.drafts.now.lists) c.loop-entries.drafts c.keep.new.drafts c.loop-entries.entries c.next_function.new.self read.0 open_still c.in_ok-next.ensures.declarations read.1 kept.0 kept.1 (c.loop-entries.invariant.1 unit before e f))
+loop-entries-preserved c = (
+  c.in_ok-keep.ensures.names,
+  λ unit before e f.
+      let open_still = more c.depth.result (length c.loop-entries.drafts.lists) (length c.loop-entries.entries.place.left) c.is_done.result c.depth.ensures c.loop-entries-test.true c.is_done.ensures c.if-not-is_done.true in
+      let read = c.in_ok-next.ensures.next in
+      let kept = c.in_ok-keep.ensures.entry unit read.0 e read.2 in
+      goes-on c.args.units.now unit before c.args.entries.now (length c.args.drafts.now.lists) c.loop-entries.drafts c.keep.new.drafts c.loop-entries.entries c.next_function.new.self read.0 open_still c.in_ok-next.ensures.declarations read.1 kept.0 kept.1 (c.loop-entries.invariant.1 unit before e f),
+)
 
 pub returns-in_err-keep : goal.returns-in_err-keep
 returns-in_err-keep c unit before e f =

@@ -1,4 +1,4 @@
-use Rattle.std.proofs.Common.{◌≡◌, List, Option, Some, map, subst, Bor}
+use Rattle.std.proofs.Common.{◌≡◌, Some, map, subst}
 use Rattle.dw_model.specs.declared.dwarf.TheConstants.{OFFSET_SIZE_32}
 use Rattle.dw_model.specs.Reading.{bytes_at}
 use Rattle.dw_model.specs.Entry.{attributes_at}
