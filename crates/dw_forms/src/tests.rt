@@ -216,6 +216,31 @@ fn tables_of_declarations(rt: HostRuntime) {
     assert!(rt; table.get(0).is_none() && table.get(3).is_none() && table.get(u64::MAX).is_none());
 }
 
+/// How many bytes the values of entries take: forms of one size, one of a length of its own, no pair, and one
+/// that names another.
+#[test]
+fn sizes_of_declarations(rt: HostRuntime) {
+    let bytes = &[
+        1, 0x05, 0, 0x03, 0x0e, 0x3a, 0x21, 1, 0x3b, 0x05, 0x49, 0x13, 0x3f, 0x19, 0, 0, // 1
+        2, 0x34, 0, 0x3b, 0x05, 0x02, 0x18, 0, 0, // 2
+        3, 0x18, 0, 0, 0, // 3
+        4, 0x34, 0, 0x3b, 0x16, 0, 0, // 4
+        0,
+    ];
+    let Ok(table) = Abbrevs::read(rt.alloc(), bytes, 0) else {
+        assert!(rt; false, "not read");
+        return;
+    };
+    let rows: &[(u64, Option<usize>)] = &[(1, Some(10)), (2, None), (3, Some(0)), (4, None)];
+    for (code, size) in rows {
+        let Some(declaration) = table.get(*code) else {
+            assert!(rt; false, "not found");
+            return;
+        };
+        assert_eq!(rt; declaration.size(), *size, "of {code}");
+    }
+}
+
 #[test]
 fn tables_that_end(rt: HostRuntime) {
     let alloc = rt.alloc();
