@@ -1,9 +1,9 @@
 -- Values of fixed sizes, one behind the other.
-use Rattle.std.proofs.Common.{◌≡◌, ◌∙◌, ℕ, ℤ, ◌+◌, ◌-◌, Bool, true, false, List, [], ◌∷◌, length, drop, Option, Some, None, Result, Ok, Err, refl, sym, ap, subst, arith}
-use Rattle.std.specs.Prelude.{ok_or, nat_eq, nat_le, option_map, option_and_then}
+use Rattle.std.proofs.Common.{◌≡◌, ◌∙◌, ℕ, ℤ, ◌+◌, ◌-◌, ◌^◌, ◌<◌, ◌≤◌, Bool, true, false, List, [], ◌∷◌, length, drop, Option, Some, None, Result, Ok, Err, refl, sym, ap, subst, arith}
+use Rattle.std.specs.Prelude.{ok_or, nat_eq, nat_le, nat_lt, option_map, option_and_then, IfSome}
 use Rattle.std.proofs.lemmas.Option.{same_Some}
 use Rattle.std.specs.Map.{lookup}
-use Rattle.std.proofs.lemmas.Bool.{leb-true, leb-false, lt-leb, le-leb}
+use Rattle.std.proofs.lemmas.Bool.{leb-true, leb-false, lt-leb, le-leb, lt-ltb, le-ltb}
 use Rattle.std.proofs.lemmas.List.{drop-drop, length-drop}
 use Rattle.dw_model.specs.declared.dwarf.TheConstants.{OFFSET_SIZE_32}
 use Rattle.dw_model.specs.Faults.{Fault, ends_early}
@@ -13,7 +13,8 @@ use Rattle.dw_model.specs.Form.{Value, bytes, Spelling, fixed, offset, uleb, sle
 use Rattle.dw_model.specs.Abbrev.{Specification}
 use Rattle.dw_model.specs.Entry.{Attribute, attributes_at}
 use Rattle.dw_model.proofs.ValueLemmas.{value-here, has_spelling}
-use Rattle.dw_forms.specs.Size.{spelling_size, value_size, values_size, place_behind, Skips}
+use Rattle.dw_bytes.specs.Leb.{fits_u64}
+use Rattle.dw_forms.specs.Size.{spelling_size, value_size, values_size, size_in, place_behind, Skips}
 
 -- ---- bytes, and then further bytes
 
@@ -146,7 +147,7 @@ summed None others n e = absurd cc
 summed (Some m) None n e = absurd cc
 summed (Some m) (Some k) n e = (m, k, refl, refl, same_Some (m + k) n e)
 
-pub values-skip : (specifications : List Specification) (n : ℕ) → values_size specifications ≡ Some n → Skips n (attributes_at OFFSET_SIZE_32 specifications)
+values-skip : (specifications : List Specification) (n : ℕ) → values_size specifications ≡ Some n → Skips n (attributes_at OFFSET_SIZE_32 specifications)
 values-skip [] n e = subst (λ n. Skips n (attributes_at OFFSET_SIZE_32 [])) (same_Some 0 n e) skips-none
 values-skip (one ∷ others) n e =
     let s = summed (value_size one) (values_size others) n e in
@@ -154,5 +155,55 @@ values-skip (one ∷ others) n e =
 
 -- ---- one after the other
 
-pub size-more : (m n : ℕ) (one : Specification) (others : List Specification) → value_size one ≡ Some m → values_size others ≡ Some n → values_size (one ∷ others) ≡ Some (m + n)
-size-more m n one others e f = rw (e, f) refl
+-- what was counted, with the sizes of those behind, is all
+abbrev pub Counts : ℕ → List Specification → Option ℕ → Type 0
+Counts size others all = all ≡ option_map (λ n. size + n) (values_size others)
+
+pub counts-none : (specifications : List Specification) → Counts 0 specifications (values_size specifications)
+counts-none specifications = from_zero (values_size specifications)
+  where
+    from_zero : (all : Option ℕ) → all ≡ option_map (λ n. 0 + n) all
+    from_zero None = refl
+    from_zero (Some n) = ap Some (omega arith)
+
+twice : (size m : ℕ) (rest : Option ℕ) → option_map (λ n. size + n) (option_map (λ n. m + n) rest) ≡ option_map (λ n. size + m + n) rest
+twice size m None = refl
+twice size m (Some n) = ap Some (omega arith)
+
+pub counts-more : (size m : ℕ) (one : Specification) (others : List Specification) (all : Option ℕ) → value_size one ≡ Some m → Counts size (one ∷ others) all → Counts (size + m) others all
+counts-more size m one others all e so_far =
+    let step : option_map (λ n. size + n) (values_size (one ∷ others)) ≡ option_map (λ n. size + n) (option_map (λ n. m + n) (values_size others)) = rw e refl in
+    so_far ∙ step ∙ twice size m (values_size others)
+
+pub counts-not : (size : ℕ) (one : Specification) (others : List Specification) (all : Option ℕ) → value_size one ≡ None → Counts size (one ∷ others) all → option_and_then fits_u64 all ≡ None
+counts-not size one others all e so_far =
+    let step : option_map (λ n. size + n) (values_size (one ∷ others)) ≡ None = rw e refl in
+    ap (option_and_then fits_u64) (so_far ∙ step)
+
+too-many : (size : ℕ) (rest : Option ℕ) → 2 ^ 64 ≤ size → option_and_then fits_u64 (option_map (λ n. size + n) rest) ≡ None
+too-many size None h = refl
+too-many size (Some n) h = rw (le-ltb (size + n) (2 ^ 64) (omega (arith, h))) refl
+
+pub counts-past : (size : ℕ) (others : List Specification) (all : Option ℕ) → 2 ^ 64 ≤ size → Counts size others all → option_and_then fits_u64 all ≡ None
+counts-past size others all h so_far = ap (option_and_then fits_u64) so_far ∙ too-many size (values_size others) h
+
+pub counts-all : (size : ℕ) (all : Option ℕ) → size < 2 ^ 64 → Counts size [] all → option_and_then fits_u64 all ≡ Some size
+counts-all size all h so_far =
+    let sum : size + 0 ≡ size = omega arith in
+    ap (option_and_then fits_u64) (so_far ∙ ap Some sum) ∙ rw (lt-ltb size (2 ^ 64) h) refl
+
+-- ---- what is told
+
+fitted : (all : Option ℕ) (n : ℕ) → option_and_then fits_u64 all ≡ Some n → all ≡ Some n
+fitted None n e = absurd cc
+fitted (Some m) n e = by_test (nat_lt m (2 ^ 64)) refl
+  where
+    by_test : (fits : Bool) → nat_lt m (2 ^ 64) ≡ fits → Some m ≡ Some n
+    by_test true f = sym (rw f refl) ∙ e
+    by_test false f =
+        let none : None ≡ Some n = rw f at e in
+        absurd cc
+
+pub told-skip : (specifications : List Specification) (told : Option ℕ) → told ≡ size_in specifications → IfSome told (λ n. Skips n (attributes_at OFFSET_SIZE_32 specifications))
+told-skip specifications None e = tt
+told-skip specifications (Some n) e = values-skip specifications n (fitted (values_size specifications) n (sym e))

@@ -6,6 +6,7 @@ use Rattle.dw_model.specs.Faults.{Fault, ends_early}
 use Rattle.dw_model.specs.Reading.{Place, made, bytes_at}
 use Rattle.dw_model.specs.Form.{Spelling, fixed, offset, block, implicit, present, forms}
 use Rattle.dw_model.specs.Abbrev.{Specification}
+use Rattle.dw_bytes.specs.Leb.{fits_u64}
 
 abbrev pub spelling_size : Option ℤ → Spelling → Option ℕ
 spelling_size constant (fixed n make) = Some n
@@ -24,6 +25,10 @@ abbrev pub values_size : List Specification → Option ℕ
 values_size [] = Some 0
 values_size (specification ∷ specifications) =
     option_and_then (λ m. option_map (λ n. m + n) (values_size specifications)) (value_size specification)
+
+-- the same, where it fits 64 bits
+abbrev pub size_in : List Specification → Option ℕ
+size_in specifications = option_and_then fits_u64 (values_size specifications)
 
 -- where reading goes, and its fault
 abbrev pub place_behind : {A : Type 0} → Result (A × Place) Fault → Result (Unit {0} × Place) Fault

@@ -1,9 +1,8 @@
 //! What abbreviations stand for, by section 7.5.3 of DWARF 5.
 
-ghost use Rattle.std.specs.Prelude.{◌≡◌, Some, map};
-ghost use Rattle.std.specs.Option.{ForSome};
+ghost use Rattle.std.specs.Prelude.{◌≡◌, map};
 ghost use Rattle.dw_forms.specs.Spec.{spec_shown};
-ghost use Rattle.dw_forms.specs.Size.{values_size};
+ghost use Rattle.dw_forms.specs.Size.{size_in};
 
 mod reading;
 
@@ -33,5 +32,5 @@ pub struct Decl {
     pub specs: SmallVec<Spec, 8>,
     /// How many bytes the values of an entry take, where the forms tell it.
     size: Option<usize>,
-    ghost size_is: { ForSome size (λ n. values_size (map spec_shown specs.items) ≡ Some n) },
+    ghost size_is: { size ≡ size_in (map spec_shown specs.items) },
 }

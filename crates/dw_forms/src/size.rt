@@ -1,8 +1,8 @@
 //! How many bytes the values of an entry take, where their forms tell it.
 
-ghost use Rattle.std.specs.Prelude.{◌≡◌, Some, IfSome, map};
+ghost use Rattle.std.specs.Prelude.{◌≡◌, map};
 ghost use Rattle.dw_forms.specs.Declaration.{spec_shown};
-ghost use Rattle.dw_forms.specs.Size.{value_size, values_size};
+ghost use Rattle.dw_forms.specs.Size.{value_size, size_in};
 ghost use Rattle.dw_forms.specs.Spelling.{size_shown};
 
 use crate::declaration::Spec;
@@ -43,9 +43,10 @@ fn size_of(spec: &Spec) -> Option<usize>
     }
 }
 
-/// How many bytes the values that a declaration asks for take in all; `None` where entries differ.
+/// How many bytes the values that a declaration asks for take in all; `None` where entries differ, or the sum
+/// doesn't fit 64 bits.
 pub(crate) fn size_of_all(specs: &[Spec]) -> Option<usize>
-    ensures { IfSome result (λ n. values_size (map spec_shown specs.now) ≡ Some n) }
+    ensures { result ≡ size_in (map spec_shown specs.now) }
 {
     let mut size: usize = 0;
     for spec in specs {

@@ -8,7 +8,7 @@ ghost use Rattle.dw_model.specs.Abbrev.{next_specification, declaration_behind, 
 ghost use Rattle.dw_model.specs.Answers.{ReadsOn, ReadsUnlessMemory};
 ghost use Rattle.dw_forms.specs.Fault.{form_fault};
 ghost use Rattle.dw_forms.specs.Declaration.{spec_shown, declaration_shown};
-ghost use Rattle.dw_forms.specs.Size.{Skips};
+ghost use Rattle.dw_forms.specs.Size.{size_in, Skips};
 
 use crate::declaration::{Decl, Spec};
 use crate::fault::FormFault;
@@ -19,10 +19,11 @@ use smallvec::SmallVec;
 use std::alloc::Global;
 
 impl Decl {
-    /// How many bytes the values of an entry take, where they take as many in every entry: then each
-    /// entry is read over in one step.
+    /// How many bytes the values of an entry take, where the form of each has one size: then each entry
+    /// is read over in one step. `None` where a form has no one size, or the sum doesn't fit 64 bits.
     pub fn size(&self) -> Option<usize>
-        ensures { IfSome result (λ n. Skips n (attributes_at OFFSET_SIZE_32 (map spec_shown self.now.specs.items))) }
+        ensures size { result ≡ size_in (map spec_shown self.now.specs.items) }
+        ensures skips { IfSome result (λ n. Skips n (attributes_at OFFSET_SIZE_32 (map spec_shown self.now.specs.items))) }
     {
         self.size
     }

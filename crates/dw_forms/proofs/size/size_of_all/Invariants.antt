@@ -1,9 +1,9 @@
-use Rattle.std.proofs.Common.{◌≡◌, ℕ, ◌+◌, Some, drop, map}
+use Rattle.std.proofs.Common.{◌<◌, ◌^◌, drop, map}
 use Rattle.dw_forms.specs.Declaration.{spec_shown}
 use Rattle.dw_forms.specs.Size.{values_size}
+use Rattle.dw_forms.proofs.SizeLemmas.{Counts}
 use Rattle.dw_forms.proofs.size.size_of_all.Given as goal
 
--- whatever the values behind those so far take
+-- the sizes so far fit, and with those behind they are all
 abbrev pub invariant-loop-spec : goal.invariant-loop-spec
-invariant-loop-spec l =
-    (n : ℕ) → values_size (map spec_shown (drop l.spec-index l.specs)) ≡ Some n → values_size (map spec_shown l.specs) ≡ Some (l.size + n)
+invariant-loop-spec l = (l.size < 2 ^ 64) × Counts l.size (map spec_shown (drop l.spec-index l.specs)) (values_size (map spec_shown l.specs))

@@ -11,4 +11,4 @@ pub returns : goal.returns
 returns c =
     let taken : c.take.result ≡ Some c.in_ok-_values._values = c.in_ok-_values.ensures.ok_part in
     let read = subst (λ found. Reads (λ bytes. bytes.now) found (bytes_at c.in-Some.size c.args.cursor.now) c.args.cursor.now c.take.new.self) taken c.take.ensures in
-    passed c.in-Some.size (attributes_at OFFSET_SIZE_32 (map spec_shown c.args.declaration.now.specs.items)) c.args.cursor.now c.take.new.self c.in_ok-_values._values.now c.in-Some.ensures read
+    passed c.in-Some.size (attributes_at OFFSET_SIZE_32 (map spec_shown c.args.declaration.now.specs.items)) c.args.cursor.now c.take.new.self c.in_ok-_values._values.now c.in-Some.ensures.skips read
