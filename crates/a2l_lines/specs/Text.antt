@@ -54,6 +54,6 @@ line_text None None = codes ":0"
 abbrev pub name_shown : Option (Bor (List ℕ)) → Option (List ℕ)
 name_shown name = option_map (λ name. name.now) name
 
--- the first of some things
+-- the path, or `??`
 abbrev pub path_text : Option (List ℕ) → List ℕ
 path_text path = unwrap_or path (codes "??")

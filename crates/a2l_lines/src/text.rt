@@ -1,6 +1,6 @@
 //! The lines that are written for inputs.
 
-ghost use Rattle.std.specs.Prelude.{◌≡◌, ◌≤◌, ◌++◌, length, drop, if◌then◌else◌, [], OnOk, IfOk, map, flat_map, string_bytes, option_map};
+ghost use Rattle.std.specs.Prelude.{◌≡◌, ◌≤◌, ◌++◌, length, drop, if◌then◌else◌, [], OnOk, IfOk, map, flat_map, string_bytes, option_map, decimal};
 ghost use Rattle.dw_model.specs.Output.{newline, name_text, location_text, frame_lines, unknown_frame, shown, fault_line, address_line, address_lines, answer_lines, bad_address_line};
 ghost use Rattle.dw_symbols.specs.Answer.{answer_shown, frame_shown, code_shown, location_shown};
 ghost use Rattle.a2l_lines.specs.Input.{input_shown};
@@ -9,19 +9,30 @@ ghost use Rattle.a2l_lines.specs.Text.{options_shown, lines_of, line_text, path_
 use crate::input::Input;
 use crate::options::Options;
 use dw_symbols::{Answer, Frame, Location, UnitFault};
+use itoa::Buffer;
 use std::alloc::{AllocError, Global};
 
-/// The line of a location as it stands behind the path.
-fn line_text(alloc: Global, location: &Location) -> Result<String, AllocError>
-    ensures { IfOk result (λ text. string_bytes text ≡ line_text (location_shown location.now).path (location_shown location.now).line ++ newline) }
+/// Adds a number in decimal digits.
+fn push_number(text: &mut Vec<u8>, number: u64) -> Result<(), AllocError>
+    ensures { OnOk result (text.new.items ≡ text.old.items ++ decimal number) }
+{
+    let mut digits = Buffer::new();
+    text.extend_from_slice(digits.format(number).as_bytes())
+}
+
+/// Adds the line of a location as it stands behind the path.
+fn push_line(text: &mut Vec<u8>, location: &Location) -> Result<(), AllocError>
+    ensures { OnOk result (text.new.items ≡ text.old.items ++ (line_text (location_shown location.now).path (location_shown location.now).line ++ newline)) }
 {
     let Some(line) = location.line else {
         return match location.path {
-            Some(_) => format!(in alloc; ":?\n"),
-            None => format!(in alloc; ":0\n"),
+            Some(_) => text.extend_from_slice(b":?\n"),
+            None => text.extend_from_slice(b":0\n"),
         };
     };
-    format!(in alloc; ":{line}\n")
+    text.extend_from_slice(b":")?;
+    push_number(text, line)?;
+    text.extend_from_slice(b"\n")
 }
 
 /// Adds the path of a source file, or `??`.
@@ -36,12 +47,11 @@ fn push_path(text: &mut Vec<u8>, path: &Option<Vec<u8>>) -> Result<(), AllocErro
 
 /// Adds where an address comes from: `PATH:LINE`, with `??` for a path and `?` for a line that isn't
 /// known, and `??:0` where neither is.
-fn push_location(alloc: Global, text: &mut Vec<u8>, location: &Location) -> Result<(), AllocError>
+fn push_location(text: &mut Vec<u8>, location: &Location) -> Result<(), AllocError>
     ensures { OnOk result (text.new.items ≡ text.old.items ++ (location_text (location_shown location.now).path (location_shown location.now).line ++ newline)) }
 {
-    let line = line_text(alloc, location)?;
     push_path(text, &location.path)?;
-    text.extend_from_slice(line.as_bytes())
+    push_line(text, location)
 }
 
 /// Adds the name of a function, or `??`.
@@ -57,7 +67,6 @@ fn push_name(text: &mut Vec<u8>, name: Option<&[u8]>) -> Result<(), AllocError>
 
 /// Adds the lines of a frame: with `-f` its name, and where in it the address comes from.
 fn push_frame(
-    alloc: Global,
     text: &mut Vec<u8>,
     options: &Options<'_>,
     frame: &Frame<'_>,
@@ -67,12 +76,11 @@ fn push_frame(
     if options.functions {
         push_name(text, frame.name)?;
     }
-    push_location(alloc, text, &frame.location)
+    push_location(text, &frame.location)
 }
 
 /// Adds the lines of frames.
 fn push_frames(
-    alloc: Global,
     text: &mut Vec<u8>,
     options: &Options<'_>,
     frames: &[Frame<'_>],
@@ -80,7 +88,7 @@ fn push_frames(
     ensures { OnOk result (text.new.items ≡ text.old.items ++ flat_map (frame_lines (options_shown options.now)) (map frame_shown frames.now)) }
 {
     for frame in frames {
-        push_frame(alloc, text, options, frame)?;
+        push_frame(text, options, frame)?;
     }
     Ok(())
 }
@@ -110,7 +118,7 @@ fn push_fault(
 }
 
 /// Adds the lines of a frame of which nothing is known.
-fn push_unknown(alloc: Global, text: &mut Vec<u8>, options: &Options<'_>) -> Result<(), AllocError>
+fn push_unknown(text: &mut Vec<u8>, options: &Options<'_>) -> Result<(), AllocError>
     ensures { OnOk result (text.new.items ≡ text.old.items ++ frame_lines (options_shown options.now) unknown_frame) }
 {
     let location = Location {
@@ -119,7 +127,6 @@ fn push_unknown(alloc: Global, text: &mut Vec<u8>, options: &Options<'_>) -> Res
         column: None,
     };
     push_frame(
-        alloc,
         text,
         options,
         &Frame {
@@ -139,9 +146,9 @@ fn push_answer(
     ensures { OnOk result (text.new.items ≡ text.old.items ++ answer_lines (options_shown options.now) (answer_shown answer.now)) }
 {
     match answer {
-        Answer::NotCovered => push_unknown(alloc, text, options),
+        Answer::NotCovered => push_unknown(text, options),
         Answer::Fault { unit, code } => push_fault(alloc, text, *unit, *code),
-        Answer::Found { frames, .. } => push_frames(alloc, text, options, shown(options, frames)),
+        Answer::Found { frames, .. } => push_frames(text, options, shown(options, frames)),
     }
 }
 

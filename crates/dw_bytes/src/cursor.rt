@@ -8,6 +8,7 @@ ghost use Rattle.dw_bytes.specs.Leb.{leb_fault};
 
 use crate::leb::{Leb, last_byte, signed, unsigned};
 use byteorder::{ByteOrder, LittleEndian};
+use memchr::memchr;
 use std::marker::Model;
 
 /// A place in a piece of bytes. Contracts see it as a `Place`: how many bytes it has passed, and
@@ -169,9 +170,11 @@ impl<'a> Cursor<'a> {
     }
 }
 
-/// The place of the first zero byte.
+/// The place of the first zero byte. It isn't inlined, so that the reads of other values stay small.
+#[tactic(auto, using(crate::proofs::ZeroLemmas::first_zero))]
+#[inline(never)]
 fn zero_position(bytes: &[u8]) -> Option<usize>
     ensures { result ≡ position (λ byte. byte == 0) bytes.now }
 {
-    bytes.iter().position(|byte| *byte == 0)
+    memchr(0, bytes)
 }

@@ -1,10 +1,13 @@
 -- The functions of a unit, while its entries are read.
-use Rattle.std.proofs.Common.{◌≡◌, ℕ, zero, suc, ◌+◌, ◌≤◌, ◌<◌, true, false, List, [], ◌∷◌, ◌++◌, length, get_or, set, take, Option, Some, None, refl, sym, ap, ◌∙◌, arith}
+use Rattle.std.proofs.Common.{◌≡◌, ℕ, zero, suc, ◌+◌, ◌≤◌, ◌<◌, true, false, List, [], ◌∷◌, ◌++◌, length, get_or, set, drop, map, Option, Some, None, refl, sym, ap, subst, ◌∙◌, arith}
 use Rattle.std.specs.Prelude.{IsSome}
 use Rattle.std.specs.Option.{option_to_list}
 use Rattle.std.specs.List.{AllZip}
-use Rattle.std.proofs.lemmas.List.{append-nil, take_more}
+use Rattle.std.proofs.lemmas.List.{append-nil, length-map, get_or-map, map-set}
 use Rattle.dw_model.specs.Ranges.{Range}
+use Rattle.dw_frames.specs.declared.function.Function.{Function}
+use Rattle.dw_frames.specs.DraftInside.{draft_of}
+use Rattle.dw_frames.specs.Built.{IsBuilt}
 use Rattle.dw_frames.specs.Drafts.{Draft, Drafts, innermost, inlined_into, with_inlined, with_inlined_in, with_ranges, without_last}
 
 pub last-left-out : {X : Type 0} (xs : List X) (x : X) → without_last (xs ++ x ∷ []) ≡ xs
@@ -38,12 +41,44 @@ kept-in drafts number pairs draft new e within is same =
     ap (λ (functions : List Draft). record { functions = functions; outermost = drafts.outermost; lists = drafts.lists })
     (ap (set drafts.functions number) same ∙ sym (ap (λ (k : Option ℕ). inlined_into k pairs drafts.functions) (sym e) ∙ inlined-at number pairs drafts.functions draft within is))
 
-zip-push : {A B : Type 0} (R : A → B → Type 0) (xs : List A) (ys : List B) (x : A) (y : B) → AllZip R xs ys → R x y → AllZip R (xs ++ x ∷ []) (ys ++ y ∷ [])
-zip-push R [] [] x y h r = (r, tt)
-zip-push R [] (z ∷ ys) x y h r = absurd h
-zip-push R (w ∷ xs) [] x y h r = absurd h
-zip-push R (w ∷ xs) (z ∷ ys) x y h r = (h.0, zip-push R xs ys x y h.1 r)
+-- the same of functions as the code has them
+pub kept-in-code : (functions : List Function) (outermost : List (Range × ℕ)) (lists : List (Option ℕ)) (number : ℕ) (pairs : List (Range × ℕ)) (old new : Function)
+    → Some number ≡ innermost (record { functions = map draft_of functions; outermost = outermost; lists = lists }) → number < length functions → old ≡ get_or functions number old → draft_of new ≡ with_inlined (draft_of old) pairs
+    → record { functions = map draft_of (set functions number new); outermost = outermost; lists = lists } ≡ with_ranges false pairs (record { functions = map draft_of functions; outermost = outermost; lists = lists })
+kept-in-code functions outermost lists number pairs old new e within is same =
+    let drafts : Drafts = record { functions = map draft_of functions; outermost = outermost; lists = lists } in
+    ap (λ (ds : List Draft). record { functions = ds; outermost = outermost; lists = lists }) (map-set draft_of functions number new)
+    ∙ kept-in drafts number pairs (draft_of old) (draft_of new) e (omega (arith, within, length-map functions draft_of)) (ap draft_of is ∙ sym (get_or-map draft_of functions number old (draft_of old) within)) same
 
-pub zip-more : {A B : Type 0} (R : A → B → Type 0) (xs : List A) (ys : List B) (i : ℕ) (x : A) (y : B) → i < length xs → x ≡ get_or xs i x → AllZip R (take i xs) ys → R x y → AllZip R (take (i + 1) xs) (ys ++ y ∷ [])
-zip-more R xs ys i x y within is h r =
-    rw (take_more xs i x within, ← is) (zip-push R (take i xs) ys x y h r)
+-- ---- functions of which the first were built
+
+abbrev pub BuiltTo : ℕ → List Draft → List Function → Type 0
+BuiltTo zero drafts functions = drafts ≡ map draft_of functions
+BuiltTo (suc i) [] [] = Unit {0}
+BuiltTo (suc i) [] (x ∷ functions) = ⊥
+BuiltTo (suc i) (draft ∷ drafts) [] = ⊥
+BuiltTo (suc i) (draft ∷ drafts) (x ∷ functions) = IsBuilt draft x × BuiltTo i drafts functions
+
+next-built : (i : ℕ) (drafts : List Draft) (functions : List Function) (old new : Function) → BuiltTo i drafts functions → i < length functions → old ≡ get_or functions i old → IsBuilt (draft_of old) new → BuiltTo (suc i) drafts (set functions i new)
+next-built zero drafts [] old new b within is built = absurd (omega arith)
+next-built zero [] (x ∷ functions) old new b within is built = absurd cc
+next-built zero (draft ∷ drafts) (x ∷ functions) old new b within is built =
+    (subst (λ (d : Draft). IsBuilt d new) (ap draft_of is ∙ sym (ap (λ (ds : List Draft). get_or ds 0 draft) b)) built, ap (λ (ds : List Draft). drop 1 ds) b)
+next-built (suc i) drafts [] old new b within is built = absurd (omega arith)
+next-built (suc i) [] (x ∷ functions) old new b within is built = absurd b
+next-built (suc i) (draft ∷ drafts) (x ∷ functions) old new b within is built =
+    (b.0, next-built i drafts functions old new b.1 (omega arith) is built)
+
+pub one-more-built : (i : ℕ) (drafts : List Draft) (functions : List Function) (old new : Function) → BuiltTo i drafts functions → i < length functions → old ≡ get_or functions i old → IsBuilt (draft_of old) new → BuiltTo (i + 1) drafts (set functions i new)
+one-more-built i drafts functions old new b within is built =
+    let same : suc i ≡ i + 1 = omega arith in
+    subst (λ (n : ℕ). BuiltTo n drafts (set functions i new)) same (next-built i drafts functions old new b within is built)
+
+pub all-built : (i : ℕ) (drafts : List Draft) (functions : List Function) → BuiltTo i drafts functions → length functions ≤ i → AllZip IsBuilt drafts functions
+all-built zero [] [] b h = tt
+all-built zero (draft ∷ drafts) [] b h = absurd cc
+all-built zero drafts (x ∷ functions) b h = absurd (omega arith)
+all-built (suc i) [] [] b h = tt
+all-built (suc i) [] (x ∷ functions) b h = absurd b
+all-built (suc i) (draft ∷ drafts) [] b h = absurd b
+all-built (suc i) (draft ∷ drafts) (x ∷ functions) b h = (b.0, all-built i drafts functions b.1 (omega arith))

@@ -8,8 +8,11 @@ pub mod Fault
 pub mod Function
 pub mod Name
 pub mod Named
+pub mod NamesInside
 pub mod Placed
 pub mod Reader
+pub mod ReaderInside
+pub mod Reading
 pub mod Rising
 pub mod Tree
 pub mod TreeInside

@@ -1,6 +1,6 @@
 //! The functions of a unit, while its entries are read.
 
-ghost use Rattle.std.specs.Prelude.{◌≡◌, ◌++◌, ℕ, [], false, OnOk, IfOk, length, map};
+ghost use Rattle.std.specs.Prelude.{◌≡◌, ◌++◌, ℕ, false, OnOk, IfOk, length, map};
 ghost use Rattle.std.specs.List.{AllZip};
 ghost use Rattle.dw_ranges.specs.Owners.{least_owner};
 ghost use Rattle.dw_ranges.specs.Segments.{owner_at};
@@ -16,26 +16,6 @@ use dw_ranges::{Index, Range};
 use std::alloc::{AllocError, Global};
 use std::marker::Model;
 
-/// A function, and the ranges of those that are inlined directly in it, each with the number of its
-/// function.
-#[derive(Drop)]
-pub(crate) struct Draft<'a> {
-    description: Description<'a>,
-    inlined: Vec<(Range, usize)>,
-}
-
-impl<'a> Model for Draft<'a> {
-    ghost use Rattle.dw_frames.specs.Drafts as model;
-
-    ghost Value = { model.Draft };
-
-    ghost use Rattle.dw_frames.specs.DraftInside.{draft_of};
-
-    ghost view = { draft_of };
-
-    ghost invariant = { λ draft. Unit {0} };
-}
-
 /// Adds ranges to others, each with the number of its function.
 fn push_ranges(
     pairs: &mut Vec<(Range, usize)>,
@@ -50,41 +30,10 @@ fn push_ranges(
     Ok(())
 }
 
-impl<'a> Draft<'a> {
-    /// A function in which none is inlined.
-    fn new(alloc: Global, description: Description<'a>) -> Self
-        ensures description { result.description ≡ description_shown description.entry }
-        ensures inlined { result.inlined ≡ [] }
-    {
-        Draft {
-            description,
-            inlined: Vec::new(alloc),
-        }
-    }
-
-    /// The function with the index of those that are inlined in it.
-    fn function(&self, alloc: Global) -> Result<Function<'a>, AllocError>
-        ensures { IfOk result (λ function. IsBuilt self.now function) }
-    {
-        let inlined = Index::build(alloc, &self.inlined)?;
-        Ok(Function {
-            description: self.description,
-            inlined,
-        })
-    }
-
-    /// Keeps the ranges of a function that is inlined in it.
-    fn push(&mut self, ranges: &[Range], number: usize) -> Result<(), AllocError>
-        ensures { OnOk result (self.new ≡ model.with_inlined self.old (owned (map range_shown ranges.now) number)) }
-    {
-        push_ranges(&mut self.inlined, ranges, number)
-    }
-}
-
 /// The functions of a unit, while its entries are read.
 #[derive(Drop)]
 pub(crate) struct Drafts<'a> {
-    functions: Vec<Draft<'a>>,
+    functions: Vec<Function<'a>>,
     /// The ranges of all subprograms, each with the number of its function.
     outermost: Vec<(Range, usize)>,
     /// The lists of children that are open, the outermost first: each has the number of the function in
@@ -167,10 +116,10 @@ impl<'a> Drafts<'a> {
         let Some(outer) = self.innermost() else {
             return Ok(());
         };
-        let Some(draft) = self.functions.get_mut(outer) else {
+        let Some(function) = self.functions.get_mut(outer) else {
             return Ok(());
         };
-        draft.push(ranges, number)
+        push_ranges(&mut function.pairs, ranges, number)
     }
 
     /// Keeps the ranges of a function.
@@ -196,7 +145,7 @@ impl<'a> Drafts<'a> {
     ) -> Result<(), AllocError>
         ensures { OnOk result (self.new ≡ model.with_function (description_shown description.entry) self.old) }
     {
-        self.functions.push(Draft::new(alloc, description))?;
+        self.functions.push(Function::new(alloc, description)?)?;
         Ok(())
     }
 }
@@ -210,12 +159,12 @@ impl<'a> Drafts<'a> {
     }
 
     /// The functions, each with the index of those that are inlined directly in it.
-    pub(crate) fn functions(&self, alloc: Global) -> Result<Vec<Function<'a>>, AllocError>
-        ensures { IfOk result (λ functions. AllZip IsBuilt self.now.functions functions.items) }
+    pub(crate) fn functions(self, alloc: Global) -> Result<Vec<Function<'a>>, AllocError>
+        ensures { IfOk result (λ functions. AllZip IsBuilt self.entry.functions functions.items) }
     {
-        let mut functions = Vec::with_capacity(alloc, self.functions.len())?;
-        for draft in &self.functions {
-            functions.push(draft.function(alloc)?)?;
+        let Drafts { mut functions, .. } = self;
+        for function in functions.iter_mut() {
+            function.build(alloc)?;
         }
         Ok(functions)
     }

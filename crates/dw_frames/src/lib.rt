@@ -10,6 +10,7 @@ mod fault;
 mod function;
 mod name;
 mod named;
+mod names;
 mod reader;
 mod tree;
 mod walk;

@@ -1,4 +1,4 @@
-//! The names of functions. Many functions refer to one entry, whose name is read once.
+//! The names of functions. Many functions refer to one entry, whose name is read once as a rule.
 
 ghost use Rattle.std.specs.Prelude.{◌≡◌, ◌<◌, IfOk, length, option_map};
 ghost use Rattle.dw_model.specs.Unit as cut;
@@ -9,14 +9,10 @@ ghost use Rattle.dw_frames.specs.Name.{IsEntry};
 ghost use Rattle.dw_frames.specs.Named.{named_at, AreNames};
 
 use crate::name::{name_within, own_name, read_at, referred_offset};
+use crate::names::Names;
 use dw_forms::Text;
 use dw_units::{Entry, Units};
 use std::alloc::AllocError;
-use std::collections::BTreeMap;
-
-/// The names of entries to which functions refer, by their offsets, which count from the first byte of
-/// .debug_info.
-pub(crate) type Names<'a> = BTreeMap<u64, Option<Text<'a>>>;
 
 /// How many references are followed to a name.
 const REFERENCES: usize = 16;
@@ -36,7 +32,7 @@ fn read_name<'a>(
     name_within(units, i, kept, REFERENCES - 1)
 }
 
-/// The same, among the names that are known, or else read and kept among them.
+/// The same, where it is found among the names that are known; or else read, and kept among them.
 fn name_at<'a>(
     units: &Units<'a>,
     offset: u64,
@@ -47,11 +43,11 @@ fn name_at<'a>(
     ensures name { IfOk result (λ name. option_map text_shown name ≡ named_at units.now offset) }
     ensures names { AreNames units.now names.new }
 {
-    if let Some(name) = names.get(&offset) {
-        return Ok(*name);
+    if let Some(name) = names.get(offset) {
+        return Ok(name);
     }
     let name = read_name(units, offset, kept)?;
-    names.insert(offset, name)?;
+    names.keep(offset, name)?;
     Ok(name)
 }
 

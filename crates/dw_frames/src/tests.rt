@@ -2,6 +2,7 @@
 
 mod file;
 
+use crate::names::Names;
 use crate::{Call, EntryId, Tree, TreeFault};
 use dw_elf::Elf;
 use dw_units::{Kind, Units};
@@ -256,6 +257,24 @@ fn faults(rt: HostRuntime) -> Result<(), Fail> {
         ),
         (1, 2, 3, 5)
     );
+    Ok(())
+}
+
+/// No clause says that a name that was kept is found again: it would be read each time.
+#[test]
+fn names_are_found_again(rt: HostRuntime) -> Result<(), Fail> {
+    let mut names = Names::new(rt.alloc());
+    let mut lost = 0u32;
+    for i in 0..1000u64 {
+        assert!(rt; names.get(24 * i).is_none());
+        names.keep(24 * i, None)?;
+    }
+    for i in 0..1000u64 {
+        if names.get(24 * i).is_none() {
+            lost = lost.saturating_add(1);
+        }
+    }
+    assert!(rt; lost < 50, "{lost}");
     Ok(())
 }
 

@@ -4,35 +4,27 @@ ghost use Rattle.std.specs.Prelude.{◌≡◌, ◌<◌, List, IfSome, Some, fals
 ghost use Rattle.dw_model.specs.Unit as cut;
 ghost use Rattle.dw_model.specs.Unit.{DwarfUnit, is_skipped};
 ghost use Rattle.dw_model.specs.Tree.{Node};
-ghost use Rattle.dw_frames.specs.Named.{AreNames};
 ghost use Rattle.dw_frames.specs.Placed.{Follows};
 ghost use Rattle.dw_frames.specs.Reader.{nodes_on, FollowsOn, FollowsAll};
 
 use crate::drafts::Drafts;
 use crate::fault::TreeFault;
-use crate::named::Names;
-use crate::reader::keep;
+use crate::reader::Reader;
 use dw_units::{Entries, Entry, Next, Units};
 use std::alloc::Global;
-use std::collections::BTreeMap;
 
 /// Reads entries, each in place of the one before, until the list below the unit's first one has ended, or the unit has.
 fn read_below<'a>(
-    alloc: Global,
-    units: &Units<'a>,
-    i: usize,
+    reader: &mut Reader<'_, 'a>,
     entries: &mut Entries<'_, 'a>,
     entry: &mut Entry<'a>,
     drafts: &mut Drafts<'a>,
-    names: &mut Names<'a>,
 ) -> Result<(), TreeFault>
-    requires within { i < length (cut.units units.now.info) }
-    requires names { AreNames units.now names.old }
-    ensures { (unit : DwarfUnit) (before : List Node) → slice_get (cut.units units.now.info) i ≡ Some unit → Follows units.now unit before drafts.old entries.old.place.at → FollowsOn units.now unit before (nodes_on units.now unit entries.old (length drafts.old.lists)) result drafts.new }
+    ensures { (unit : DwarfUnit) (before : List Node) → slice_get (cut.units reader.old.of.sections.info) reader.old.of.place ≡ Some unit → Follows reader.old.of.sections unit before drafts.old entries.old.place.at → FollowsOn reader.old.of.sections unit before (nodes_on reader.old.of.sections unit entries.old (length drafts.old.lists)) result drafts.new }
 {
     while drafts.depth() > 0 && !entries.is_done() {
         let next = entries.next_function(entry)?;
-        keep(alloc, units, i, next, entry, drafts, names)?;
+        reader.keep(next, entry, drafts)?;
     }
     Ok(())
 }
@@ -50,22 +42,14 @@ pub(crate) fn read_all<'a>(
     let Some(mut entries) = units.entries(i) else {
         return Err(TreeFault::Entry);
     };
+    let mut reader = Reader::new(alloc, units, i);
     let mut drafts = Drafts::new(alloc);
     let mut entry = Entry::unread(alloc);
-    let mut names = BTreeMap::new(alloc);
     let first = entries.next_function(&mut entry)?;
     if let Next::Null = first {
         return Err(TreeFault::Entry);
     }
-    keep(alloc, units, i, first, &mut entry, &mut drafts, &mut names)?;
-    read_below(
-        alloc,
-        units,
-        i,
-        &mut entries,
-        &mut entry,
-        &mut drafts,
-        &mut names,
-    )?;
+    reader.keep(first, &mut entry, &mut drafts)?;
+    read_below(&mut reader, &mut entries, &mut entry, &mut drafts)?;
     Ok(drafts)
 }

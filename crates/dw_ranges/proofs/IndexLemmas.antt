@@ -16,24 +16,24 @@ index_of_none = record { owners = λ a. refl; segments = tt; size = omega arith 
 -- ---- one range
 
 module _ (begin end owner : ℕ) where
-  abbrev pair : model.Range × ℕ
+  abbrev pub pair : model.Range × ℕ
   pair = (model.range begin end, owner)
 
-  only : (a : ℕ) → least_owner (pair ∷ []) a ≡ owner_in a pair
+  pub only : (a : ℕ) → least_owner (pair ∷ []) a ≡ owner_in a pair
   unfolding least_owner
   only a = least-none (owner_in a pair)
 
-  held : (a : ℕ) → begin ≤ a → a < end → owner_in a pair ≡ Some owner
+  pub held : (a : ℕ) → begin ≤ a → a < end → owner_in a pair ≡ Some owner
   held a h b = rw (le-leb begin a h, lt-ltb a end b) refl
 
-  below : (a : ℕ) → a < begin → owner_in a pair ≡ None
+  pub below : (a : ℕ) → a < begin → owner_in a pair ≡ None
   below a h = rw (lt-leb begin a h) refl
 
   behind_test : (test : Bool) → cond (test && false) (Some owner) None ≡ None
   behind_test true = refl
   behind_test false = refl
 
-  behind : (a : ℕ) → end ≤ a → owner_in a pair ≡ None
+  pub behind : (a : ℕ) → end ≤ a → owner_in a pair ≡ None
   behind a h = rw (le-ltb a end h) (behind_test (nat_le begin a))
 
   pub index_of_empty : end ≤ begin → AreIndexOf (pair ∷ []) []

@@ -6,8 +6,8 @@ use Rattle.std.proofs.lemmas.Bool.{eqb-true, eqb-false, cases_lt, le-leb, lt-leb
 use Rattle.std.proofs.lemmas.Option.{same_Some}
 use Rattle.dw_ranges.specs.declared.segment.Segment.{Segment}
 use Rattle.dw_ranges.specs.Owners.{least}
-use Rattle.dw_ranges.specs.Segments.{owner_from, owner_at, AreSegments, border, past_owner, past_rest, IsMerged}
-use Rattle.dw_ranges.proofs.SegmentLemmas.{Below, behind_border, below_all, below_more, below_push, owner-push, push}
+use Rattle.dw_ranges.specs.Segments.{owner_from, owner_at, AreSegments, Below, border, past_owner, past_rest, IsMerged}
+use Rattle.dw_ranges.proofs.SegmentLemmas.{behind_border, below_all, below_more, below_push, owner-push, push}
 
 -- ---- one side, behind a border that is at most its first one
 

@@ -1,9 +1,8 @@
 -- Segments in order, and the owner that they have at an address.
 use Rattle.std.proofs.Common.{◌≡◌, ◌≢◌, ◌≤◌, ◌<◌, ℕ, zero, suc, ◌+◌, List, [], ◌∷◌, ◌++◌, length, get_or, Option, None, refl, sym, ◌∙◌, arith}
-use Rattle.std.specs.List.{AllByRecursion}
 use Rattle.std.proofs.lemmas.Bool.{le-leb, lt-leb}
 use Rattle.dw_ranges.specs.declared.segment.Segment.{Segment}
-use Rattle.dw_ranges.specs.Segments.{passed, owner_from, AreSegments, begin_at}
+use Rattle.dw_ranges.specs.Segments.{passed, owner_from, AreSegments, begin_at, Below}
 
 pub begin_at-get : (segments : List Segment) (k : ℕ) (d : Segment) → k < length segments → begin_at segments k ≡ (get_or segments k d).begin
 begin_at-get [] k d h = absurd (omega arith)
@@ -57,10 +56,6 @@ last_passed (segment ∷ segments) before a (suc n) d h below behind =
     ∙ last_passed segments segment.owner a n d (omega arith) (λ k b. below (suc k) (omega arith)) (λ k b e. behind (suc k) (omega arith) (omega arith))
 
 -- ---- a segment more
-
--- all segments begin below a bound
-abbrev pub Below : ℕ → List Segment → Type 0
-Below bound segments = AllByRecursion (λ segment. segment.begin < bound) segments
 
 pub below_more : (bound higher : ℕ) (segments : List Segment) → bound ≤ higher → Below bound segments → Below higher segments
 below_more bound higher [] h b = tt

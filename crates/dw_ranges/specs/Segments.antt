@@ -1,6 +1,6 @@
 -- Segments of addresses, each with one owner.
-use Rattle.std.specs.Prelude.{◌≡◌, ◌≢◌, ◌≤◌, ℕ, zero, suc, ◌+◌, ◌*◌, List, [], ◌∷◌, length, Option, Some, None, nat_le, ◌==◌, if◌then◌else◌}
-use Rattle.std.specs.List.{fold}
+use Rattle.std.specs.Prelude.{◌≡◌, ◌≢◌, ◌≤◌, ◌<◌, ℕ, zero, suc, ◌+◌, ◌*◌, List, [], ◌∷◌, length, Option, Some, None, nat_le, ◌==◌, if◌then◌else◌}
+use Rattle.std.specs.List.{AllByRecursion, fold}
 use Rattle.dw_ranges.specs.declared.segment.Segment.{Segment}
 use Rattle.dw_model.specs.Ranges.{Range}
 use Rattle.dw_ranges.specs.Owners.{least, least_owner}
@@ -22,6 +22,10 @@ abbrev pub AreSegments : (bound : ℕ) → (before : Option ℕ) → List Segmen
 AreSegments bound before [] = Unit {0}
 AreSegments bound before (segment ∷ segments) =
     (bound ≤ segment.begin) × (segment.owner ≢ before) × AreSegments (segment.begin + 1) segment.owner segments
+
+-- all segments begin below a bound
+abbrev pub Below : ℕ → List Segment → Type 0
+Below bound segments = AllByRecursion (λ segment. segment.begin < bound) segments
 
 -- ---- two lists of segments in one
 

@@ -7,6 +7,7 @@ ghost use Rattle.dw_ranges.specs.Segments.{AreIndexOf, owner_at};
 
 use crate::merge::merge;
 use crate::range::Range;
+use crate::run::run_of;
 use crate::search::owner_of;
 use crate::segment::Segment;
 use std::alloc::{AllocError, Global};
@@ -32,8 +33,9 @@ fn lone(alloc: Global, range: Range, owner: usize) -> Result<Vec<Segment>, Alloc
     Ok(segments)
 }
 
-/// The segments of all ranges: those of each half, merged. So it takes n log n steps for n ranges,
-/// however they overlap.
+/// The segments of all ranges: one after the other where they stand in order of address, as those
+/// inlined in one function often do, else those of each half, merged. So it takes n log n steps for n
+/// ranges, however they overlap.
 fn gather(alloc: Global, pairs: &[(Range, usize)]) -> Result<Vec<Segment>, AllocError>
     ensures { IfOk result (λ segments. AreIndexOf (map pair_shown pairs.now) segments.items) }
 {
@@ -43,6 +45,9 @@ fn gather(alloc: Global, pairs: &[(Range, usize)]) -> Result<Vec<Segment>, Alloc
     if pairs.len() == 1 {
         let (range, owner) = pairs[0];
         return lone(alloc, range, owner);
+    }
+    if let Some(segments) = run_of(alloc, pairs)? {
+        return Ok(segments);
     }
     let (front, back) = pairs.split_at(pairs.len() / 2);
     let first = gather(alloc, front)?;

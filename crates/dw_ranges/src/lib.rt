@@ -9,6 +9,7 @@ mod merge;
 mod range;
 mod range_entry;
 mod ranges;
+mod run;
 mod search;
 mod segment;
 mod step;
@@ -17,7 +18,7 @@ pub use fault::RangeFault;
 pub use index::Index;
 pub use laws::law_of_least_owner;
 pub use range::Range;
-pub use ranges::ranges_of;
+pub use ranges::{ranges_of, read_ranges};
 
 #[cfg(test)]
 mod tests;

@@ -19,7 +19,7 @@ use crate::step::step;
 use dw_bytes::Cursor;
 use dw_forms::{Bases, Tables, Value};
 use dw_model::dwarf::OFFSET_SIZE_32;
-use std::alloc::{AllocError, Global};
+use std::alloc::AllocError;
 
 /// The offset that stands at an index behind the unit's base in .debug_rnglists.
 fn offset_at(section: &[u8], base: u64, index: u64) -> Option<u32>
@@ -76,38 +76,39 @@ fn push_some(ranges: &mut Vec<Range>, range: Option<Range>) -> Result<(), AllocE
     Ok(())
 }
 
-/// The ranges of the list at the cursor that count, where the base before any entry is this one.
+/// Reads the ranges of the list at the cursor that count, in place of those that were kept, where the
+/// base before any entry is this one.
 fn ranges_at(
-    alloc: Global,
+    ranges: &mut Vec<Range>,
     tables: &Tables<'_>,
     bases: &Bases,
     first: Option<u64>,
     cursor: &mut Cursor<'_>,
-) -> Result<Vec<Range>, RangeFault>
-    ensures { GivesUnlessMemory (λ ranges. map range_shown ranges.items) range_fault result (ranges_from (tables_shown tables.now) (bases_shown bases.now) (base_shown first) cursor.old) }
+) -> Result<(), RangeFault>
+    ensures { GivesUnlessMemory (λ _. map range_shown ranges.new.items) range_fault result (ranges_from (tables_shown tables.now) (bases_shown bases.now) (base_shown first) cursor.old) }
 {
-    let mut ranges = Vec::new(alloc);
+    ranges.clear();
     let mut base = first;
     loop {
         let Some(entry) = next_range_entry(cursor)? else {
-            return Ok(ranges);
+            return Ok(());
         };
         let outcome = step(tables, bases, base, entry)?;
-        push_some(&mut ranges, outcome.range)?;
+        push_some(ranges, outcome.range)?;
         base = outcome.base;
     }
 }
 
-/// The ranges of the list that a value names, those that count.
+/// Reads the ranges of the list that a value names, those that count, in place of those that were kept.
 pub(crate) fn list_ranges<'a>(
-    alloc: Global,
+    ranges: &mut Vec<Range>,
     tables: &Tables<'a>,
     bases: &Bases,
     first: Option<u64>,
     value: &Value<'a>,
-) -> Result<Vec<Range>, RangeFault>
-    ensures { GivesUnlessMemory (λ ranges. map range_shown ranges.items) range_fault result (all_kept (list_ranges (tables_shown tables.now) (bases_shown bases.now) (base_shown first) (value_shown value.now))) }
+) -> Result<(), RangeFault>
+    ensures { GivesUnlessMemory (λ _. map range_shown ranges.new.items) range_fault result (all_kept (list_ranges (tables_shown tables.now) (bases_shown bases.now) (base_shown first) (value_shown value.now))) }
 {
     let mut cursor = list_place(tables, bases, value)?;
-    ranges_at(alloc, tables, bases, first, &mut cursor)
+    ranges_at(ranges, tables, bases, first, &mut cursor)
 }

@@ -1,6 +1,6 @@
 //! The ranges of an entry, by section 2.17 of DWARF 5.
 
-ghost use Rattle.std.specs.Prelude.{◌≡◌, IfOk, map, option_map, option_to_list};
+ghost use Rattle.std.specs.Prelude.{◌≡◌, OnOk, map, option_map, option_to_list};
 ghost use Rattle.dw_model.specs.Ranges.{first_base, pc_ranges};
 ghost use Rattle.dw_model.specs.Ranges as model;
 ghost use Rattle.dw_model.specs.Answers.{Gives, GivesUnlessMemory};
@@ -79,15 +79,15 @@ fn first_base<'a>(tables: &Tables<'a>, bases: &Bases, root: Option<&Entry<'a>>) 
     tables.address(low, bases)
 }
 
-/// A list of one range, or of none.
-fn one_or_none(alloc: Global, range: Option<Range>) -> Result<Vec<Range>, AllocError>
-    ensures { IfOk result (λ ranges. ranges.items ≡ option_to_list range) }
+/// Keeps one range, or none, in place of those that were kept.
+fn keep_one(ranges: &mut Vec<Range>, range: Option<Range>) -> Result<(), AllocError>
+    ensures { OnOk result (ranges.new.items ≡ option_to_list range) }
 {
-    let mut ranges = Vec::new(alloc);
+    ranges.clear();
     if let Some(range) = range {
         ranges.push(range)?;
     }
-    Ok(ranges)
+    Ok(())
 }
 
 /// The ranges of an entry of a unit that count, in order (sections 2.17 and 7.25): those of the list
@@ -104,25 +104,43 @@ pub fn ranges_of<'a>(
 ) -> Result<Vec<Range>, RangeFault>
     ensures { GivesUnlessMemory (λ ranges. map range_shown ranges.items) range_fault result (model.ranges_of (tables_shown tables.now) (bases_shown unit.now.bases) (option_map entry_shown unit.now.root) (entry_shown entry.now)) }
 {
-    entry_ranges_of(alloc, entry, &unit.bases, unit.root.as_ref(), tables)
+    let mut ranges = Vec::new(alloc);
+    match read_ranges(&mut ranges, entry, unit, tables) {
+        Ok(()) => Ok(ranges),
+        Err(fault) => Err(fault),
+    }
 }
 
-/// The ranges of an entry of a unit with these bases and this first entry.
+/// Reads the same ranges in place of those that were kept, whose memory serves them. After an error
+/// any ranges may be kept.
+pub fn read_ranges<'a>(
+    ranges: &mut Vec<Range>,
+    entry: &Entry<'a>,
+    unit: &Unit<'a>,
+    tables: &Tables<'a>,
+) -> Result<(), RangeFault>
+    ensures { GivesUnlessMemory (λ _. map range_shown ranges.new.items) range_fault result (model.ranges_of (tables_shown tables.now) (bases_shown unit.now.bases) (option_map entry_shown unit.now.root) (entry_shown entry.now)) }
+{
+    read_entry_ranges(ranges, entry, &unit.bases, unit.root.as_ref(), tables)
+}
+
+/// Reads the ranges of an entry of a unit with these bases and this first entry, in place of those that
+/// were kept.
 #[tactic(auto, unfolding(dw_model::specs::Ranges::ranges_of))]
-pub(crate) fn entry_ranges_of<'a>(
-    alloc: Global,
+pub(crate) fn read_entry_ranges<'a>(
+    ranges: &mut Vec<Range>,
     entry: &Entry<'a>,
     bases: &Bases,
     root: Option<&Entry<'a>>,
     tables: &Tables<'a>,
-) -> Result<Vec<Range>, RangeFault>
-    ensures { GivesUnlessMemory (λ ranges. map range_shown ranges.items) range_fault result (model.ranges_of (tables_shown tables.now) (bases_shown bases.now) (option_map (λ first. entry_shown first.now) root.entry) (entry_shown entry.now)) }
+) -> Result<(), RangeFault>
+    ensures { GivesUnlessMemory (λ _. map range_shown ranges.new.items) range_fault result (model.ranges_of (tables_shown tables.now) (bases_shown bases.now) (option_map (λ first. entry_shown first.now) root.entry) (entry_shown entry.now)) }
 {
     if let Some(list) = entry.attr(DW_AT_ranges) {
         let base = first_base(tables, bases, root);
-        return list_ranges(alloc, tables, bases, base, list);
+        return list_ranges(ranges, tables, bases, base, list);
     }
     let range = pc_range(tables, bases, entry)?;
-    let ranges = one_or_none(alloc, range)?;
-    Ok(ranges)
+    keep_one(ranges, range)?;
+    Ok(())
 }

@@ -7,7 +7,7 @@ mod owners;
 
 use crate::fault::RangeFault;
 use crate::range::Range;
-use crate::ranges::entry_ranges_of;
+use crate::ranges::read_entry_ranges;
 use dw_forms::{Bases, Tables, Value};
 use dw_model::dwarf::{DW_AT_high_pc, DW_AT_low_pc, DW_AT_name, DW_AT_ranges, DW_TAG_subprogram};
 use dw_units::{Attribute, Attributes, Entry};
@@ -77,6 +77,19 @@ fn is_expected(found: &Result<Vec<Range>, RangeFault>, expected: Expected) -> bo
         }
         Err(fault) => *fault == RangeFault::Bad && expected.is_none(),
     }
+}
+
+/// The ranges of an entry, read in place of others.
+fn entry_ranges_of<'a>(
+    alloc: Global,
+    entry: &Entry<'a>,
+    bases: &Bases,
+    root: Option<&Entry<'a>>,
+    tables: &Tables<'a>,
+) -> Result<Vec<Range>, RangeFault> {
+    let mut ranges = vec![in alloc; Range { begin: 7, end: 8 }]?;
+    read_entry_ranges(&mut ranges, entry, bases, root, tables)?;
+    Ok(ranges)
 }
 
 /// The ranges of an entry whose list begins with the section, in a unit without a first entry.

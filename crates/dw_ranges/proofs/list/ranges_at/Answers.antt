@@ -17,29 +17,29 @@ pub returns-in_err-entry : goal.returns-in_err-entry
 returns-in_err-entry c =
     let p = err_from_is_err_and c.from_residual.result c.from_residual.ensures.1 in
     let all = ranges_from (tables_shown c.args.tables.now) (bases_shown c.args.bases.now) (base_shown c.args.first) c.args.cursor.now in
-    rw (p.1) (tells (range_fault c.in_err-entry.field-0.0) (range_fault p.0) (next_range_entry c.loop-ranges.cursor) all (ap range_fault p.2) c.in_err-entry.ensures
-    (entry_bad (tables_shown c.args.tables.now) (bases_shown c.args.bases.now) c.loop-ranges.ranges.items (base_shown c.loop-ranges.base) c.loop-ranges.cursor all c.loop-ranges.invariant))
+    rw (p.1) (tells (range_fault c.in_err-entry.field-0.0) (range_fault p.0) (next_range_entry c.loop-entry.cursor) all (ap range_fault p.2) c.in_err-entry.ensures
+    (entry_bad (tables_shown c.args.tables.now) (bases_shown c.args.bases.now) c.loop-entry.ranges.items (base_shown c.loop-entry.base) c.loop-entry.cursor all c.loop-entry.invariant))
 
 pub returns-in_default : goal.returns-in_default
 returns-in_default c =
     let all = ranges_from (tables_shown c.args.tables.now) (bases_shown c.args.bases.now) (base_shown c.args.first) c.args.cursor.now in
-    ends (tables_shown c.args.tables.now) (bases_shown c.args.bases.now) c.loop-ranges.ranges.items (base_shown c.loop-ranges.base) c.loop-ranges.cursor all c.loop-ranges.invariant c.next_range_entry.new.cursor
+    ends (tables_shown c.args.tables.now) (bases_shown c.args.bases.now) c.loop-entry.ranges.items (base_shown c.loop-entry.base) c.loop-entry.cursor all c.loop-entry.invariant c.next_range_entry.new.cursor
     (c.in_ok-entry.ensures ∙ ap (λ (found : Option RangeEntry). Ok (option_map range_entry_shown found, c.next_range_entry.new.cursor)) c.in_default.is)
 
 pub returns-in_err-outcome : goal.returns-in_err-outcome
 returns-in_err-outcome c =
     let p = err_from_is_err_and c.from_residual-in_err-outcome.result c.from_residual-in_err-outcome.ensures.1 in
     let all = ranges_from (tables_shown c.args.tables.now) (bases_shown c.args.bases.now) (base_shown c.args.first) c.args.cursor.now in
-    let read = smaller range_entry_shown next_range_entry (λ p. p.left) range_entries_advance c.in_ok-entry.field-0 c.in-Some.entry c.loop-ranges.cursor c.next_range_entry.new.cursor c.in-Some.is c.in_ok-entry.ensures in
-    rw (p.1) (tells (range_fault c.in_err-outcome.field-0.0) (range_fault p.0) (step (tables_shown c.args.tables.now) (bases_shown c.args.bases.now) (base_shown c.loop-ranges.base) (range_entry_shown c.in-Some.entry)) all (ap range_fault p.2) c.in_err-outcome.ensures
-    (λ f. step_bad (tables_shown c.args.tables.now) (bases_shown c.args.bases.now) c.loop-ranges.ranges.items (base_shown c.loop-ranges.base) c.loop-ranges.cursor all c.loop-ranges.invariant (range_entry_shown c.in-Some.entry) c.next_range_entry.new.cursor f read))
+    let read = smaller range_entry_shown next_range_entry (λ p. p.left) range_entries_advance c.in_ok-entry.field-0 c.in-Some.entry c.loop-entry.cursor c.next_range_entry.new.cursor c.in-Some.is c.in_ok-entry.ensures in
+    rw (p.1) (tells (range_fault c.in_err-outcome.field-0.0) (range_fault p.0) (step (tables_shown c.args.tables.now) (bases_shown c.args.bases.now) (base_shown c.loop-entry.base) (range_entry_shown c.in-Some.entry)) all (ap range_fault p.2) c.in_err-outcome.ensures
+    (λ f. step_bad (tables_shown c.args.tables.now) (bases_shown c.args.bases.now) c.loop-entry.ranges.items (base_shown c.loop-entry.base) c.loop-entry.cursor all c.loop-entry.invariant (range_entry_shown c.in-Some.entry) c.next_range_entry.new.cursor f read))
 
-pub loop-ranges-smaller : goal.loop-ranges-smaller
-loop-ranges-smaller c =
-    range_entries_advance c.loop-ranges.cursor (range_entry_shown c.in-Some.entry) c.next_range_entry.new.cursor (smaller range_entry_shown next_range_entry (λ p. p.left) range_entries_advance c.in_ok-entry.field-0 c.in-Some.entry c.loop-ranges.cursor c.next_range_entry.new.cursor c.in-Some.is c.in_ok-entry.ensures)
+pub loop-entry-smaller : goal.loop-entry-smaller
+loop-entry-smaller c =
+    range_entries_advance c.loop-entry.cursor (range_entry_shown c.in-Some.entry) c.next_range_entry.new.cursor (smaller range_entry_shown next_range_entry (λ p. p.left) range_entries_advance c.in_ok-entry.field-0 c.in-Some.entry c.loop-entry.cursor c.next_range_entry.new.cursor c.in-Some.is c.in_ok-entry.ensures)
 
-pub loop-ranges-preserved : goal.loop-ranges-preserved
-loop-ranges-preserved c =
+pub loop-entry-preserved : goal.loop-entry-preserved
+loop-entry-preserved c =
     let all = ranges_from (tables_shown c.args.tables.now) (bases_shown c.args.bases.now) (base_shown c.args.first) c.args.cursor.now in
-    let read = smaller range_entry_shown next_range_entry (λ p. p.left) range_entries_advance c.in_ok-entry.field-0 c.in-Some.entry c.loop-ranges.cursor c.next_range_entry.new.cursor c.in-Some.is c.in_ok-entry.ensures in
-    rw (c.in_ok-push_some.ensures) (goes_on (tables_shown c.args.tables.now) (bases_shown c.args.bases.now) c.loop-ranges.ranges.items (base_shown c.loop-ranges.base) c.loop-ranges.cursor all c.loop-ranges.invariant (range_entry_shown c.in-Some.entry) c.next_range_entry.new.cursor (base_shown c.in_ok-outcome.outcome.base) c.in_ok-outcome.outcome.range read c.in_ok-outcome.ensures)
+    let read = smaller range_entry_shown next_range_entry (λ p. p.left) range_entries_advance c.in_ok-entry.field-0 c.in-Some.entry c.loop-entry.cursor c.next_range_entry.new.cursor c.in-Some.is c.in_ok-entry.ensures in
+    rw (c.in_ok-push_some.ensures) (goes_on (tables_shown c.args.tables.now) (bases_shown c.args.bases.now) c.loop-entry.ranges.items (base_shown c.loop-entry.base) c.loop-entry.cursor all c.loop-entry.invariant (range_entry_shown c.in-Some.entry) c.next_range_entry.new.cursor (base_shown c.in_ok-outcome.outcome.base) c.in_ok-outcome.outcome.range read c.in_ok-outcome.ensures)

@@ -1,7 +1,7 @@
-use Rattle.std.proofs.Common.{take}
-use Rattle.std.specs.List.{AllZip}
-use Rattle.dw_frames.specs.Built.{IsBuilt}
+use Rattle.std.proofs.Common.{map}
+use Rattle.dw_frames.specs.DraftInside.{draft_of}
+use Rattle.dw_frames.proofs.DraftLemmas.{BuiltTo}
 use Rattle.dw_frames.proofs.drafts.Drafts.functions.Given as goal
 
-abbrev pub invariant-loop-draft : goal.invariant-loop-draft
-invariant-loop-draft l = AllZip IsBuilt (take l.draft-index l.self.functions) l.functions.items
+abbrev pub invariant-loop-function : goal.invariant-loop-function
+invariant-loop-function l = BuiltTo l.function-index (map draft_of l.initial.function-items) l.function-items
