@@ -1,7 +1,7 @@
 //! The lines that are written for inputs.
 
 ghost use Rattle.std.specs.Prelude.{◌≡◌, ◌≤◌, ◌++◌, length, drop, if◌then◌else◌, [], OnOk, IfOk, map, flat_map, string_bytes, option_map, decimal};
-ghost use Rattle.dw_model.specs.Output.{newline, name_text, location_text, frame_lines, unknown_frame, shown, fault_line, address_line, address_lines, answer_lines, bad_address_line};
+ghost use Rattle.dw_model.specs.Output.{newline, name_text, location_text, frame_lines, unknown_frame, shown, fault_line, address_line, address_lines, answer_lines};
 ghost use Rattle.dw_symbols.specs.Answer.{answer_shown, frame_shown, code_shown, location_shown};
 ghost use Rattle.a2l_lines.specs.Input.{input_shown};
 ghost use Rattle.a2l_lines.specs.Text.{options_shown, lines_of, line_text, path_text, name_shown, input_text, left_after};
@@ -20,7 +20,7 @@ fn push_number(text: &mut Vec<u8>, number: u64) -> Result<(), AllocError>
     text.extend_from_slice(digits.format(number).as_bytes())
 }
 
-/// Adds the line of a location as it stands behind the path.
+/// Adds the line of a location as it stands behind the path, and the end of the text's line.
 fn push_line(text: &mut Vec<u8>, location: &Location) -> Result<(), AllocError>
     ensures { OnOk result (text.new.items ≡ text.old.items ++ (line_text (location_shown location.now).path (location_shown location.now).line ++ newline)) }
 {
@@ -45,8 +45,8 @@ fn push_path(text: &mut Vec<u8>, path: &Option<Vec<u8>>) -> Result<(), AllocErro
     }
 }
 
-/// Adds where an address comes from: `PATH:LINE`, with `??` for a path and `?` for a line that isn't
-/// known, and `??:0` where neither is.
+/// Adds where an address comes from, and the end of the text's line: `PATH:LINE`, with `??` for a path
+/// and `?` for a line that isn't known, and `??:0` where neither is.
 fn push_location(text: &mut Vec<u8>, location: &Location) -> Result<(), AllocError>
     ensures { OnOk result (text.new.items ≡ text.old.items ++ (location_text (location_shown location.now).path (location_shown location.now).line ++ newline)) }
 {
@@ -54,7 +54,7 @@ fn push_location(text: &mut Vec<u8>, location: &Location) -> Result<(), AllocErr
     push_line(text, location)
 }
 
-/// Adds the name of a function, or `??`.
+/// Adds the name of a function, or `??`, and the end of the text's line.
 fn push_name(text: &mut Vec<u8>, name: Option<&[u8]>) -> Result<(), AllocError>
     ensures { OnOk result (text.new.items ≡ text.old.items ++ (name_text (name_shown name.entry) ++ newline)) }
 {

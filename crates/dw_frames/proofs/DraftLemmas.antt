@@ -6,7 +6,7 @@ use Rattle.std.specs.List.{AllZip}
 use Rattle.std.proofs.lemmas.List.{append-nil, length-map, get_or-map, map-set}
 use Rattle.dw_model.specs.Ranges.{Range}
 use Rattle.dw_frames.specs.declared.function.Function.{Function}
-use Rattle.dw_frames.specs.DraftInside.{draft_of}
+use Rattle.dw_frames.specs.Function.{draft_of}
 use Rattle.dw_frames.specs.Built.{IsBuilt}
 use Rattle.dw_frames.specs.Drafts.{Draft, Drafts, innermost, inlined_into, with_inlined, with_inlined_in, with_ranges, without_last}
 

@@ -2,7 +2,7 @@
 use Rattle.std.specs.Prelude.{map}
 use Rattle.dw_ranges.specs.Range.{pair_shown}
 use Rattle.dw_frames.specs.Drafts.{Drafts}
-use Rattle.dw_frames.specs.DraftInside.{draft_of}
+use Rattle.dw_frames.specs.Function.{draft_of}
 use Rattle.dw_frames.specs.declared.drafts.Drafts.TheInside.{Inside}
 
 abbrev pub drafts_of : Inside → Drafts

@@ -1,7 +1,6 @@
 pub mod Built
 pub mod Call
 pub mod Description
-pub mod DraftInside
 pub mod Drafts
 pub mod DraftsInside
 pub mod Fault

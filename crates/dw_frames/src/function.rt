@@ -3,7 +3,7 @@
 ghost use Rattle.std.specs.Prelude.{◌≡◌, ◌≤◌, IfOk, OnOk, [], length, nat_lt, true, false};
 ghost use Rattle.std.specs.List.Sorted.{IsNonDecreasingBy, IsPartitionPoint};
 ghost use Rattle.dw_frames.specs.Description.{description_shown};
-ghost use Rattle.dw_frames.specs.DraftInside.{draft_of};
+ghost use Rattle.dw_frames.specs.Function.{draft_of};
 ghost use Rattle.dw_frames.specs.Built.{IsBuilt};
 
 use crate::description::Description;

@@ -1,7 +1,6 @@
 //! Names of functions, across units, by sections 2.15 and 3.3.8 of DWARF 5.
 
-ghost use Rattle.std.specs.Prelude.{◌≡◌, ◌<◌, ◌≤◌, ◌+◌, IfOk, length, option_map, option_and_then, slice_get, Some};
-ghost use Rattle.dw_model.specs.Section as model;
+ghost use Rattle.std.specs.Prelude.{◌≡◌, ◌<◌, ◌+◌, IfOk, length, option_map, option_and_then, slice_get, Some};
 ghost use Rattle.dw_model.specs.Faults.{Fault};
 ghost use Rattle.dw_model.specs.Unit as cut;
 ghost use Rattle.dw_model.specs.Name as names;
@@ -13,7 +12,6 @@ ghost use Rattle.dw_forms.specs.Tables.{bases_shown, tables_shown};
 ghost use Rattle.dw_forms.specs.Text.{text_shown};
 ghost use Rattle.dw_forms.specs.Value.{value_shown};
 ghost use Rattle.dw_units.specs.Entry.{entry_shown};
-ghost use Rattle.dw_units.specs.Unit.{unit_shown};
 ghost use Rattle.dw_frames.specs.Name.{own_name_in, read_of, IsEntry, Leads, IsTarget};
 
 use dw_forms::{Bases, FormFault, Tables, Text, Value};

@@ -1,6 +1,6 @@
 //! Names that are known already, by the offsets of their entries.
 
-ghost use Rattle.std.specs.Prelude.{◌≡◌, IfOk, IfSome, option_map};
+ghost use Rattle.std.specs.Prelude.{◌≡◌, IfSome, option_map};
 ghost use Rattle.dw_model.specs.Section.{Sections};
 ghost use Rattle.dw_forms.specs.Text.{text_shown};
 ghost use Rattle.dw_frames.specs.Named.{named_at, AreNames};

@@ -1,6 +1,6 @@
 //! Numbers and values of a line table, each of whose faults makes the table bad.
 
-ghost use Rattle.std.specs.Prelude.{◌≡◌, None};
+ghost use Rattle.std.specs.Prelude.{None};
 ghost use Rattle.dw_model.specs.declared.dwarf.TheConstants.{OFFSET_SIZE_32};
 ghost use Rattle.dw_model.specs.Results.{or_fault};
 ghost use Rattle.dw_model.specs.Leb.{uleb_at, sleb_at};

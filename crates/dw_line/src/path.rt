@@ -1,6 +1,6 @@
 //! Paths of source files, by section 6.2.4 of DWARF 5.
 
-ghost use Rattle.std.specs.Prelude.{◌≡◌, ◌==◌, [], OnOk, option_map, option_and_then, unwrap_or, slice_index, nat_lt, if◌then◌else◌, None};
+ghost use Rattle.std.specs.Prelude.{◌≡◌, ◌==◌, [], OnOk, option_map, option_and_then, unwrap_or, None};
 ghost use Rattle.std.specs.Option.{option_or};
 ghost use Rattle.dw_model.specs.Path.{ends_in_slash, joined};
 ghost use Rattle.dw_model.specs.Path as model;

@@ -1,7 +1,7 @@
 //! The registers of the line number machine, by section 6.2.2 of DWARF 5, as far as they are kept.
 
 ghost use Rattle.std.specs.Prelude.{◌≡◌, ◌<◌, ◌%◌, ◌^◌};
-ghost use Rattle.dw_model.specs.Matrix.{special_advance, address_advance, line_advance, residue};
+ghost use Rattle.dw_model.specs.Matrix.{special_advance, address_advance, line_advance};
 ghost use Rattle.dw_model.specs.Registers.{next_address, next_line};
 ghost use Rattle.dw_model.specs.Registers as model;
 ghost use Rattle.dw_line.specs.Header.{header_shown};

@@ -1,10 +1,10 @@
 -- Segments of ranges that stand in order of address, one range after the other.
-use Rattle.std.proofs.Common.{◌≡◌, ◌≢◌, inl, inr, ◌≤◌, ◌<◌, ℕ, ◌+◌, List, [], ◌∷◌, ◌++◌, length, Option, Some, None, refl, sym, ap, ◌∙◌, arith, length-append}
+use Rattle.std.proofs.Common.{◌≡◌, ◌≢◌, inl, inr, ◌≤◌, ◌<◌, ℕ, ◌+◌, List, [], ◌∷◌, ◌++◌, Option, Some, None, refl, sym, ap, ◌∙◌, arith, length-append}
 use Rattle.std.proofs.lemmas.Bool.{cases_lt, le-leb, lt-leb}
 use Rattle.dw_model.specs.Ranges as model
 use Rattle.dw_ranges.specs.declared.segment.Segment.{Segment}
 use Rattle.dw_ranges.specs.Owners.{least, least_owner}
-use Rattle.dw_ranges.specs.Segments.{owner_at, AreIndexOf}
+use Rattle.dw_ranges.specs.Segments.{AreIndexOf}
 use Rattle.dw_ranges.specs.Run.{IsRun, IsClosed}
 use Rattle.dw_ranges.proofs.OwnerLemmas.{least-none, least_owner-append}
 use Rattle.dw_ranges.proofs.SegmentLemmas.{below_more, below_push, owner-push, push}

@@ -1,6 +1,6 @@
 //! The ranges of a range list, by sections 2.17.3 and 7.25 of DWARF 5.
 
-ghost use Rattle.std.specs.Prelude.{◌≡◌, ◌++◌, ◌+◌, ◌*◌, OnOk, map, option_map, option_to_list};
+ghost use Rattle.std.specs.Prelude.{◌≡◌, ◌++◌, ◌+◌, ◌*◌, OnOk, map, option_to_list};
 ghost use Rattle.dw_model.specs.declared.dwarf.TheConstants.{OFFSET_SIZE_32};
 ghost use Rattle.dw_model.specs.Text.{number_in};
 ghost use Rattle.dw_model.specs.Ranges.{list_offset, list_ranges};

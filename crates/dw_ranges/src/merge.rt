@@ -1,6 +1,6 @@
 //! The segments of two lists in one.
 
-ghost use Rattle.std.specs.Prelude.{◌≡◌, ◌≤◌, ℕ, None, IfOk};
+ghost use Rattle.std.specs.Prelude.{◌≡◌, None, IfOk};
 ghost use Rattle.dw_ranges.specs.Owners.{least};
 ghost use Rattle.dw_ranges.specs.Segments.{AreSegments, IsMerged, border, past_owner, past_rest};
 

@@ -1,6 +1,6 @@
 //! Entries of range lists, by section 7.25 of DWARF 5.
 
-ghost use Rattle.std.specs.Prelude.{◌≡◌, option_map};
+ghost use Rattle.std.specs.Prelude.{option_map};
 ghost use Rattle.dw_model.specs.Ranges as model;
 ghost use Rattle.dw_model.specs.Answers.{ReadsOn};
 ghost use Rattle.dw_ranges.specs.Fault.{range_fault};

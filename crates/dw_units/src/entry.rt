@@ -1,6 +1,6 @@
 //! Entries of units, by sections 7.5.2 to 7.5.6 of DWARF 5.
 
-ghost use Rattle.std.specs.Prelude.{◌≡◌, ◌==◌, ◌<◌, ℕ, true, Ok, IfOk, IfSome, find, length, map, option_map, take, MatchOption};
+ghost use Rattle.std.specs.Prelude.{◌≡◌, ◌==◌, ◌<◌, true, Ok, IfOk, find, length, map, option_map, take, MatchOption};
 ghost use Rattle.dw_model.specs.declared.dwarf.TheConstants.{OFFSET_SIZE_32};
 ghost use Rattle.dw_model.specs.Entry.{attributes_at, entry_at};
 ghost use Rattle.dw_model.specs.Entry as model;
@@ -54,13 +54,16 @@ pub(crate) fn read_attributes<'a>(
     ensures { ReadsUnlessMemory (λ _. map attribute_shown attributes.new.items) form_fault result (attributes_at OFFSET_SIZE_32 (map spec_shown specs.now) cursor.old) cursor.new }
 {
     attributes.clear();
+    // A cursor of its own stays in registers.
+    let mut place = cursor.fork();
     for spec in specs {
-        let value = read_value(cursor, spec.form, spec.implicit)?;
+        let value = read_value(&mut place, spec.form, spec.implicit)?;
         attributes.push(Attribute {
             name: spec.name,
             value,
         })?;
     }
+    *cursor = place;
     Ok(())
 }
 

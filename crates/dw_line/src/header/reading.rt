@@ -1,11 +1,10 @@
 //! Reading the header of a line table, by section 6.2.4 of DWARF 5.
 
-ghost use Rattle.std.specs.Prelude.{◌≡◌, ◌<◌, IfOk};
+ghost use Rattle.std.specs.Prelude.{◌<◌};
 ghost use Rattle.dw_model.specs.declared.dwarf.TheConstants.{OFFSET_SIZE_32};
-ghost use Rattle.dw_model.specs.Reading.{number_at};
 ghost use Rattle.dw_model.specs.LineHeader.{fields_at, table_behind, length_of, line_header};
 ghost use Rattle.dw_model.specs.InitialLength.{initial_length_of};
-ghost use Rattle.dw_model.specs.Answers.{Gives, ReadsOn, GivesUnlessMemory};
+ghost use Rattle.dw_model.specs.Answers.{Gives, GivesUnlessMemory};
 ghost use Rattle.dw_forms.specs.Tables.{tables_shown, bases_shown};
 ghost use Rattle.dw_line.specs.Fault.{line_fault};
 ghost use Rattle.dw_line.specs.Header.{header_shown};

@@ -16,13 +16,13 @@ none = record { name = 0; form = 0; implicit = None }
 pub returns-in_err-value : goal.returns-in_err-value
 returns-in_err-value c =
     let p = err_from_is_err_and c.from_residual.result c.from_residual.ensures.1 in
-    rw (p.1) (stops c.loop-spec.attributes.items c.args.specs.now c.loop-spec.spec-index none (get_or c.args.specs.now c.loop-spec.spec-index none) c.loop-spec.cursor (attributes_at OFFSET_SIZE_32 (map spec_shown c.args.specs.now) c.args.cursor.now) (form_fault c.in_err-value.field-0.0) (form_fault p.0) (ap form_fault p.2) c.loop-spec-test.true refl c.in_err-value.ensures.0 c.loop-spec.invariant)
+    rw (p.1) (stops c.loop-spec.attributes.items c.args.specs.now c.loop-spec.spec-index none (get_or c.args.specs.now c.loop-spec.spec-index none) c.loop-spec.place (attributes_at OFFSET_SIZE_32 (map spec_shown c.args.specs.now) c.args.cursor.now) (form_fault c.in_err-value.field-0.0) (form_fault p.0) (ap form_fault p.2) c.loop-spec-test.true refl c.in_err-value.ensures.0 c.loop-spec.invariant)
 
 pub loop-spec-preserved : goal.loop-spec-preserved
 loop-spec-preserved c =
     let spec = get_or c.args.specs.now c.loop-spec.spec-index none in
-    rw (c.in_ok-push.ensures.items) (goes_on c.loop-spec.attributes.items c.args.specs.now c.loop-spec.spec-index none spec (record { name = spec.name; value = c.in_ok-value.value }) (value_shown c.in_ok-value.value) c.loop-spec.cursor c.read_value.new.cursor (attributes_at OFFSET_SIZE_32 (map spec_shown c.args.specs.now) c.args.cursor.now) c.loop-spec-test.true refl c.in_ok-value.ensures refl c.loop-spec.invariant)
+    rw (c.in_ok-push.ensures.items) (goes_on c.loop-spec.attributes.items c.args.specs.now c.loop-spec.spec-index none spec (record { name = spec.name; value = c.in_ok-value.value }) (value_shown c.in_ok-value.value) c.loop-spec.place c.read_value.new.cursor (attributes_at OFFSET_SIZE_32 (map spec_shown c.args.specs.now) c.args.cursor.now) c.loop-spec-test.true refl c.in_ok-value.ensures refl c.loop-spec.invariant)
 
 pub returns : goal.returns
 returns c =
-    ends c.loop-spec.attributes.items c.args.specs.now c.loop-spec.spec-index c.loop-spec.cursor (attributes_at OFFSET_SIZE_32 (map spec_shown c.args.specs.now) c.args.cursor.now) c.loop-spec-test.false c.loop-spec.invariant
+    ends c.loop-spec.attributes.items c.args.specs.now c.loop-spec.spec-index c.loop-spec.place (attributes_at OFFSET_SIZE_32 (map spec_shown c.args.specs.now) c.args.cursor.now) c.loop-spec-test.false c.loop-spec.invariant

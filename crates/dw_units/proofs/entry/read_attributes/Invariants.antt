@@ -7,4 +7,4 @@ use Rattle.dw_units.proofs.entry.read_attributes.Given as goal
 
 abbrev pub invariant-loop-spec : goal.invariant-loop-spec
 invariant-loop-spec l =
-    SoFar l.attributes.items l.specs l.spec-index l.cursor (attributes_at OFFSET_SIZE_32 (map spec_shown l.specs) l.fn.cursor)
+    SoFar l.attributes.items l.specs l.spec-index l.place (attributes_at OFFSET_SIZE_32 (map spec_shown l.specs) l.fn.cursor)

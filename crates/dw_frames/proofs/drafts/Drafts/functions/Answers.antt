@@ -1,9 +1,9 @@
-use Rattle.std.proofs.Common.{◌≡◌, refl, sym, ap, ◌∙◌, List, length, map, drop, get_or, arith, subst}
+use Rattle.std.proofs.Common.{◌≡◌, refl, ap, ◌∙◌, List, length, map, drop, get_or, arith, subst}
 use Rattle.std.specs.List.{AllZip}
 use Rattle.std.proofs.lemmas.List.{take_at}
 use Rattle.dw_frames.specs.Built.{IsBuilt}
 use Rattle.dw_frames.specs.Drafts.{Draft, Drafts}
-use Rattle.dw_frames.specs.DraftInside.{draft_of}
+use Rattle.dw_frames.specs.Function.{draft_of}
 use Rattle.dw_frames.proofs.DraftLemmas.{one-more-built, all-built}
 use Rattle.dw_frames.proofs.drafts.Drafts.functions.Goals as goal
 

@@ -1,5 +1,5 @@
 use Rattle.std.proofs.Common.{map}
-use Rattle.dw_frames.specs.DraftInside.{draft_of}
+use Rattle.dw_frames.specs.Function.{draft_of}
 use Rattle.dw_frames.proofs.DraftLemmas.{BuiltTo}
 use Rattle.dw_frames.proofs.drafts.Drafts.functions.Given as goal
 

@@ -3,7 +3,7 @@ use Rattle.std.proofs.lemmas.List.{length-map}
 use Rattle.std.proofs.lemmas.Result.{on_ok_weaker}
 use Rattle.dw_ranges.specs.Range.{pair_shown, range_shown}
 use Rattle.dw_model.specs.Ranges.{Range}
-use Rattle.dw_frames.specs.DraftInside.{draft_of}
+use Rattle.dw_frames.specs.Function.{draft_of}
 use Rattle.dw_frames.specs.Drafts.{Drafts, innermost, owned, with_ranges}
 use Rattle.dw_frames.specs.DraftsInside.{drafts_of}
 use Rattle.dw_frames.proofs.DraftLemmas.{kept-past, kept-in-code}
