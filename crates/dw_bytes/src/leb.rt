@@ -26,6 +26,10 @@ pub(crate) fn last_byte(bytes: &[u8]) -> Option<usize>
 pub(crate) fn unsigned(bytes: &[u8]) -> Option<u64>
     ensures { result ≡ fits_u64 (groups bytes.now) }
 {
+    // Most numbers have one byte.
+    if bytes.len() == 1 {
+        return Some((bytes[0] % 128) as u64);
+    }
     let mut value: u64 = 0;
     for i in 0..bytes.len() {
         if value > u64::MAX >> 7 {

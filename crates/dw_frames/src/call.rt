@@ -25,6 +25,13 @@ pub struct Call {
     pub column: Option<u64>,
 }
 
+/// What is told of a function: its name, and where it was called that was inlined.
+#[derive(Clone, Copy, Debug, PartialEq, Eq)]
+pub struct Described<'a> {
+    pub name: Option<&'a [u8]>,
+    pub call: Call,
+}
+
 /// The value of an attribute as a number.
 pub(crate) fn number_of(entry: &Entry<'_>, name: u64) -> Option<u64>
     ensures { result ≡ number_of name (entry_shown entry.now) }

@@ -15,7 +15,7 @@ mod reader;
 mod tree;
 mod walk;
 
-pub use call::{Call, EntryId};
+pub use call::{Call, Described, EntryId};
 pub use fault::TreeFault;
 pub use tree::Tree;
 

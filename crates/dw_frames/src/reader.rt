@@ -102,6 +102,7 @@ impl<'b, 'a> Reader<'b, 'a> {
 
     /// Keeps a function, in place of whose entry others are read. The error is `Ranges` where its ranges
     /// can't be read, or `Memory`.
+    #[inline(never)]
     fn add_function(
         &mut self,
         drafts: &mut Drafts<'a>,

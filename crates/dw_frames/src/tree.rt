@@ -13,7 +13,7 @@ ghost use Rattle.dw_frames.specs.Tree.{inwards, description_of, function_at, nod
 ghost use Rattle.dw_frames.specs.Description.{description_shown};
 ghost use Rattle.dw_ranges.specs.Segments.{owner_at};
 
-use crate::call::{Call, EntryId};
+use crate::call::{Call, Described, EntryId};
 use crate::description::Description;
 use crate::fault::TreeFault;
 use crate::function::{Function, count_before};
@@ -140,5 +140,30 @@ impl<'a> Tree<'a> {
             };
         };
         description.call
+    }
+
+    /// What is told of a function: what `name` and `call` tell of it, found in one search.
+    pub fn describe(&self, id: EntryId) -> Described<'a>
+        ensures name { (sections : Sections) (unit : DwarfUnit) → IsTreeOf sections unit self.now → option_map (λ text. text.now) result.name ≡ option_and_then (λ node. name sections (record { unit = unit; entry = node.entry })) (function_at self.now.unit (nodes_of sections unit) id) }
+        ensures call { (sections : Sections) (unit : DwarfUnit) → IsTreeOf sections unit self.now → result.call ≡ option_map_or (λ node. call_of node.entry) (function_at self.now.unit (nodes_of sections unit) id) no_call }
+    {
+        let Some(found) = self.description(id) else {
+            return Described {
+                name: None,
+                call: Call {
+                    file: None,
+                    line: None,
+                    column: None,
+                },
+            };
+        };
+        let name = match found.name {
+            Some(text) => Some(text.bytes()),
+            None => None,
+        };
+        Described {
+            name,
+            call: found.call,
+        }
     }
 }

@@ -11,7 +11,7 @@ ghost use Rattle.dw_symbols.specs.Answer.{location_shown, frame_shown, answer_sh
 
 use crate::answer::{Answer, Frame, Location};
 use crate::location::{call_location, row_location};
-use dw_frames::{EntryId, Tree};
+use dw_frames::{Described, EntryId, Tree};
 use dw_line::Lines;
 use std::alloc::{AllocError, Global};
 use std::mem;
@@ -39,10 +39,10 @@ pub(crate) fn frames_of<'a>(
     let mut location = location;
     let mut frames = Vec::with_capacity(alloc, ids.len())?;
     for id in ids {
-        let call = tree.call(*id);
+        let Described { name, call } = tree.describe(*id);
         let next = call_location(alloc, lines, call.file, call.line, call.column)?;
         frames.push(Frame {
-            name: tree.name(*id),
+            name,
             location: mem::replace(&mut location, next),
         })?;
     }

@@ -18,11 +18,11 @@ returns-then-ids-eq0 c s unit nodes h e =
 pub loop-id-preserved : goal.loop-id-preserved
 loop-id-preserved c =
     let id = get_or c.args.ids.now c.loop-id.id-index none in
-    let frame : Frame = record { name = c.name.result; location = c.replace.result } in
+    let frame : Frame = record { name = c.describe.result.name; location = c.replace.result } in
     let pushed : map frame_shown c.push.new.self.items ≡ map frame_shown c.loop-id.frames.items ++ frame_shown frame ∷ [] = ap (λ frames. map frame_shown frames) c.in_ok-push.ensures.items ∙ map_push frame_shown c.loop-id.frames.items frame in
     let here : location_shown c.replace.result ≡ location_shown c.loop-id.location = ap location_shown c.replace.ensures.value in
-    let next : location_shown c.replace.new.dest ≡ called_at c.args.lines.now c.call-call.result = ap location_shown c.replace.ensures.after ∙ c.in_ok-next.ensures in
-    let more = goes_on c.args.tree.now c.args.lines.now c.args.ids.now c.loop-id.id-index none id (map frame_shown c.loop-id.frames.items) (location_shown c.loop-id.location) (location_shown c.args.location) (location_shown c.replace.new.dest) (option_map (λ name. name.now) c.name.result) c.call-call.result c.loop-id-test.true refl c.name.ensures c.call-call.ensures next c.loop-id.invariant in
+    let next : location_shown c.replace.new.dest ≡ called_at c.args.lines.now c.describe.result.call = ap location_shown c.replace.ensures.after ∙ c.in_ok-next.ensures in
+    let more = goes_on c.args.tree.now c.args.lines.now c.args.ids.now c.loop-id.id-index none id (map frame_shown c.loop-id.frames.items) (location_shown c.loop-id.location) (location_shown c.args.location) (location_shown c.replace.new.dest) (option_map (λ name. name.now) c.describe.result.name) c.describe.result.call c.loop-id-test.true refl c.describe.ensures.name c.describe.ensures.call next c.loop-id.invariant in
     λ s unit nodes h e. rw (pushed, here) (more s unit nodes h e)
 
 pub returns : goal.returns
