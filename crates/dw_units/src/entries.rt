@@ -130,6 +130,9 @@ impl<'b, 'a> Entries<'b, 'a> {
         ensures next { ReadsNext result kept.new (entry_at OFFSET_SIZE_32 self.old.declarations self.old.place) self.new.place }
         ensures past { IfOk result (λ next. IsBefore next kept.old kept.new self.new.place) }
     {
-        next_of(&mut self.cursor, self.abbrevs, kept)
+        let mut place = self.cursor.fork();
+        let next = next_of(&mut place, self.abbrevs, kept)?;
+        self.cursor = place;
+        Ok(next)
     }
 }
