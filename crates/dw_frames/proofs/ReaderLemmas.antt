@@ -1,7 +1,7 @@
 -- One entry of a unit after the other.
 use Rattle.std.proofs.Common.{◌≡◌, ℕ, true, Option, Some, None, Ok, Err, sym, ap}
 use Rattle.std.specs.Prelude.{MatchOption, is_err, nat_lt}
-use Rattle.dw_model.specs.Faults.{entry_fault, depth_fault, ranges_fault}
+use Rattle.dw_model.specs.Faults.{depth_fault, ranges_fault}
 use Rattle.dw_model.specs.Faults as faults
 use Rattle.dw_model.specs.Results.{refuse_if}
 use Rattle.dw_model.specs.Entry.{Entry}

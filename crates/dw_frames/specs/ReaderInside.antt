@@ -8,10 +8,10 @@ use Rattle.dw_frames.specs.declared.reader.Reader.TheInside.{Inside}
 
 abbrev pub reading_of : Inside → Reading
 reading_of reader = record {
-  of = record { sections = reader.units.now; place = reader.i };
+  of = record { sections = reader.units.now; place = reader.place };
   ranges = map range_shown reader.ranges.items;
 }
 
 -- the unit is there, and the names are those of their offsets
 abbrev pub CanRead : Inside → Type 0
-CanRead reader = (reader.i < length (units reader.units.now.info)) × AreNames reader.units.now reader.names
+CanRead reader = (reader.place < length (units reader.units.now.info)) × AreNames reader.units.now reader.names

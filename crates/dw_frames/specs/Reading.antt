@@ -1,4 +1,4 @@
--- What reads the functions of a unit is seen as.
+-- What a reader of a unit's functions is seen as.
 use Rattle.std.specs.Prelude.{ℕ, List}
 use Rattle.dw_model.specs.Section.{Sections}
 use Rattle.dw_model.specs.Ranges.{Range}

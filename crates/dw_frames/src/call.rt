@@ -25,7 +25,7 @@ pub struct Call {
     pub column: Option<u64>,
 }
 
-/// What is told of a function: its name, and where it was called that was inlined.
+/// What is told of a function by its id: its name, and where it was called that was inlined.
 #[derive(Clone, Copy, Debug, PartialEq, Eq)]
 pub struct Described<'a> {
     pub name: Option<&'a [u8]>,

@@ -9,7 +9,7 @@ use dw_forms::Text;
 use std::alloc::{AllocError, Global};
 use std::marker::Model;
 
-/// An odd number that spreads offsets over places: 2^64 by the golden ratio.
+/// An odd number that spreads offsets over places: 2^64 divided by the golden ratio.
 const SPREAD: u64 = 0x9e37_79b9_7f4a_7c15;
 
 /// Names that are known, of entries to which functions refer, by their offsets, which count from the
@@ -18,9 +18,8 @@ const SPREAD: u64 = 0x9e37_79b9_7f4a_7c15;
 pub(crate) struct Names<'a> {
     alloc: Global,
     known: Vec<(u64, Option<Text<'a>>)>,
-    /// For each place how many names were known when the last one of that place was kept, which stands
-    /// just before; 0 where there is none. An offset has two places, and others may take both: then its
-    /// name isn't found.
+    /// For each place one more than the number of the name that was noted there last; 0 where there is
+    /// none. An offset has two places, and others may take both: then its name isn't found.
     places: Vec<u32>,
 }
 
@@ -39,7 +38,8 @@ fn place_of(offset: u64, count: usize) -> usize {
     (offset.wrapping_mul(SPREAD) >> 32) as usize & count.wrapping_sub(1)
 }
 
-/// Notes at a place of an offset, the first where that is free, that its name is the last of so many.
+/// Notes at a place of an offset that its name is the last of so many: at the first where that is free,
+/// else at the other one, in place of what was noted there.
 fn note(places: &mut [u32], offset: u64, count: usize) {
     let first = place_of(offset, places.len());
     let place = match places.get(first) {
@@ -86,7 +86,7 @@ impl<'a> Names<'a> {
         self.at_place(first ^ 1, offset)
     }
 
-    /// Makes eight places for each name that is known.
+    /// Makes eight to sixteen places for each name that is known.
     fn make_places(&mut self) -> Result<(), AllocError>
         ensures { self.new ≡ self.old }
     {

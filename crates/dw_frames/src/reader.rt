@@ -37,7 +37,7 @@ const DEPTH: usize = 512;
 pub(crate) struct Reader<'b, 'a> {
     alloc: Global,
     units: &'b Units<'a>,
-    i: usize,
+    place: usize,
     /// The names behind references that were followed.
     names: Names<'a>,
     /// The ranges of the function that was read last.
@@ -67,14 +67,14 @@ fn check_depth(depth: usize) -> Result<(), TreeFault>
 
 impl<'b, 'a> Reader<'b, 'a> {
     /// What reads the functions of the unit at a place.
-    pub(crate) fn new(alloc: Global, units: &'b Units<'a>, i: usize) -> Self
-        requires { i < length (cut.units units.now.info) }
-        ensures unit { result.of ≡ unit_at units.now i }
+    pub(crate) fn new(alloc: Global, units: &'b Units<'a>, place: usize) -> Self
+        requires { place < length (cut.units units.now.info) }
+        ensures unit { result.of ≡ unit_at units.now place }
     {
         Reader {
             alloc,
             units,
-            i,
+            place,
             names: Names::new(alloc),
             ranges: Vec::new(alloc),
         }
@@ -87,7 +87,7 @@ impl<'b, 'a> Reader<'b, 'a> {
     {
         let offset = entry.offset;
         let call = call_of(entry);
-        let name = name_of(self.units, self.i, entry, &mut self.names)?;
+        let name = name_of(self.units, self.place, entry, &mut self.names)?;
         Ok(Description { offset, name, call })
     }
 
@@ -96,12 +96,13 @@ impl<'b, 'a> Reader<'b, 'a> {
         ensures same { self.new.of ≡ self.old.of }
         ensures ranges { IfSome (slice_get (cut.units self.old.of.sections.info) self.old.of.place) (λ unit. GivesUnlessMemory (λ _. self.new.ranges) range_fault result (entry_ranges_in self.old.of.sections unit (entry_shown entry.now))) }
     {
-        let unit = self.units.unit(self.i);
+        let unit = self.units.unit(self.place);
         read_ranges(&mut self.ranges, entry, unit, self.units.tables())
     }
 
     /// Keeps a function, in place of whose entry others are read. The error is `Ranges` where its ranges
     /// can't be read, or `Memory`.
+    // What keeps no function stays small.
     #[inline(never)]
     fn add_function(
         &mut self,

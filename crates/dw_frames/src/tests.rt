@@ -133,6 +133,12 @@ fn calls(rt: HostRuntime) -> Result<(), Fail> {
             column: *column,
         };
         assert_eq!(rt; call, wanted, "call of {offset:#x}");
+        let id = EntryId {
+            unit: 0,
+            offset: *offset,
+        };
+        let described = tree.describe(id);
+        assert_eq!(rt; (described.name, described.call), (tree.name(id), wanted));
     }
     Ok(())
 }
@@ -260,7 +266,7 @@ fn faults(rt: HostRuntime) -> Result<(), Fail> {
     Ok(())
 }
 
-/// No clause says that a name that was kept is found again: it would be read each time.
+/// No clause says that a name that was kept is found again: else it would be read each time.
 #[test]
 fn names_are_found_again(rt: HostRuntime) -> Result<(), Fail> {
     let mut names = Names::new(rt.alloc());

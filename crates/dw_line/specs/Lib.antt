@@ -4,6 +4,8 @@ pub mod Instruction
 pub mod Registers
 pub mod Rows
 pub mod RowsInside
+pub mod Sequences
+pub mod UsedInside
 pub mod Program
 pub mod ProgramShown
 pub mod Path

@@ -15,4 +15,4 @@ lines_in lines = record {
 
 -- the rows that are kept are those of the used sequences
 abbrev pub AreRead : Inside → Type 0
-AreRead lines = lines.rows.used ≡ used_rows (matrix_of (header_shown lines.header))
+AreRead lines = lines.rows ≡ used_rows (matrix_of (header_shown lines.header))

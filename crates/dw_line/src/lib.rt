@@ -11,6 +11,7 @@ mod path;
 mod program;
 mod registers;
 mod rows;
+mod used;
 
 pub use fault::LineFault;
 pub use lines::Lines;

@@ -13,7 +13,8 @@ use crate::fault::LineFault;
 use crate::header::{Header, header_at};
 use crate::path::{join, join_some};
 use crate::program::rows_of;
-use crate::rows::{Row, Rows};
+use crate::rows::Row;
+use crate::used::UsedRows;
 use dw_forms::{Bases, Tables};
 use std::alloc::{AllocError, Global};
 use std::marker::Model;
@@ -23,7 +24,7 @@ use std::marker::Model;
 #[derive(Drop)]
 pub struct Lines<'a> {
     header: Header<'a>,
-    rows: Rows,
+    rows: UsedRows,
     comp_dir: Option<&'a [u8]>,
 }
 
@@ -71,6 +72,7 @@ impl<'a> Lines<'a> {
     {
         let header = header_at(alloc, line_section, tables, bases, offset)?;
         let rows = rows_of(alloc, &header)?;
+        let rows = UsedRows::of(alloc, rows)?;
         Ok(Lines {
             header,
             rows,

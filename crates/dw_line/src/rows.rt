@@ -1,12 +1,16 @@
 //! The rows of the used sequences of a line program, in one list (section 6.2 of DWARF 5).
 
-ghost use Rattle.std.specs.Prelude.{◌≡◌, ◌≤◌, ◌<◌, ◌&&◌, true, map, option_map, find, nat_le, nat_lt, OnOk};
+ghost use Rattle.std.specs.Prelude.{◌≡◌, ◌≤◌, ◌<◌, ℕ, true, map, option_map, nat_le, Some, IfOk, OnOk};
 ghost use Rattle.dw_model.specs.Matrix.{first_address, last_address, row_in};
 ghost use Rattle.dw_model.specs.Matrix as model;
-ghost use Rattle.dw_line.specs.Rows.{nothing, pushed, closed, row_among};
+ghost use Rattle.dw_ranges.specs.Range.{pair_shown};
+ghost use Rattle.dw_ranges.specs.Segments.{owner_at};
+ghost use Rattle.dw_line.specs.Rows.{nothing, pushed, closed, row_among, number_among};
+ghost use Rattle.dw_line.specs.Sequences.{pairs_from};
 ghost use Rattle.dw_line.specs.RowsInside.{row_shown, row_told};
 
 use crate::registers::Registers;
+use dw_ranges::{Index, Range};
 use std::alloc::{AllocError, Global};
 use std::marker::Model;
 
@@ -74,11 +78,16 @@ fn is_used(rows: &[Registers]) -> bool
     never_falls(rows) && first.address < last.address
 }
 
-/// The first sequence that holds an address.
-fn sequence_at(sequences: &[Sequence], address: u64) -> Option<&Sequence>
-    ensures { option_map (λ found. found.now) result ≡ find (λ s. nat_le s.begin address && nat_lt address s.end) sequences.now }
+/// The ranges of sequences, each with the sequence's number.
+fn sequence_pairs(alloc: Global, sequences: &[Sequence]) -> Result<Vec<(Range, usize)>, AllocError>
+    ensures { IfOk result (λ pairs. map pair_shown pairs.items ≡ pairs_from 0 sequences.now) }
 {
-    sequences.iter().find(|sequence| sequence.begin <= address && address < sequence.end)
+    let mut pairs = Vec::with_capacity(alloc, sequences.len())?;
+    for number in 0..sequences.len() {
+        let Sequence { begin, end, .. } = sequences[number];
+        pairs.push((Range { begin, end }, number))?;
+    }
+    Ok(pairs)
 }
 
 /// The row at whose address or behind which an address of a used sequence lies, before the next
@@ -142,11 +151,20 @@ impl Rows {
         Ok(())
     }
 
-    /// The row of an address.
-    pub(crate) fn row(&self, address: u64) -> Option<Row>
+    /// An index of the sequences, which finds the number of the first one that holds an address.
+    pub(crate) fn index(&self, alloc: Global) -> Result<Index, AllocError>
+        ensures { IfOk result (λ index. (a : ℕ) → owner_at index a ≡ number_among self.now.used a) }
+    {
+        let pairs = sequence_pairs(alloc, &self.sequences)?;
+        Index::build(alloc, &pairs)
+    }
+
+    /// The row of an address, of which the first sequence is known that holds it.
+    pub(crate) fn row_in(&self, number: usize, address: u64) -> Option<Row>
+        requires { number_among self.now.used address ≡ Some number }
         ensures { result ≡ option_map row_told (row_among self.now.used address) }
     {
-        let sequence = sequence_at(self.sequences.as_slice(), address)?;
+        let sequence = self.sequences[number];
         let before_end = self.rows.split_at(sequence.end_row).0;
         row_at(before_end.split_at(sequence.first_row).1, address)
     }

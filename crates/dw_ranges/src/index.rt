@@ -33,8 +33,8 @@ fn lone(alloc: Global, range: Range, owner: usize) -> Result<Vec<Segment>, Alloc
     Ok(segments)
 }
 
-/// The segments of all ranges: one after the other where they stand in order of address, as those
-/// inlined in one function often do, else those of each half, merged. So it takes n log n steps for n
+/// The segments of all ranges: one after the other where they stand in order of address, none over
+/// another, as those inlined in one function often do; else those of each half, merged. So it takes n log n steps for n
 /// ranges, however they overlap.
 fn gather(alloc: Global, pairs: &[(Range, usize)]) -> Result<Vec<Segment>, AllocError>
     ensures { IfOk result (λ segments. AreIndexOf (map pair_shown pairs.now) segments.items) }

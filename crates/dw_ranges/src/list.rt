@@ -76,7 +76,7 @@ fn push_some(ranges: &mut Vec<Range>, range: Option<Range>) -> Result<(), AllocE
     Ok(())
 }
 
-/// Reads the ranges of the list at the cursor that count, in place of those that were kept, where the
+/// Reads those ranges that count of the list at the cursor, in place of those that were kept, where the
 /// base before any entry is this one.
 fn ranges_at(
     ranges: &mut Vec<Range>,

@@ -80,8 +80,9 @@ fn is_in_order(pairs: &[(Range, usize)]) -> bool {
     true
 }
 
-/// The segments of ranges that stand in order of address, none over another; else `None`, without
-/// taking memory.
+/// The segments of ranges that stand in order of address, none empty and none over another; else
+/// `None`. The order is looked at before memory is taken, and again range by range, where the
+/// segments rest on it.
 pub(crate) fn run_of(
     alloc: Global,
     pairs: &[(Range, usize)],

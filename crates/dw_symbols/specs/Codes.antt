@@ -3,7 +3,7 @@ use Rattle.std.specs.Prelude.{ℕ, List, Option, refl, ◌≡◌, ◌⊎◌}
 use mathlib.Core.Logic.{inl, inr}
 use base.Stored.{coded_unit}
 use Rattle.std.specs.Coded.{Coded, code_by, coded×, coded⊎, coded_ℕ, coded_list, coded_option}
-use Rattle.dw_model.specs.Faults.{TreeFault, entry_fault, depth_fault, ranges_fault}
+use Rattle.dw_model.specs.Faults.{entry_fault, depth_fault, ranges_fault}
 use Rattle.dw_model.specs.Answer.{Location, Frame, Code, tree_fault, line_fault, Answer, not_covered, fault, found}
 
 abbrev pub bytes_code : Coded (Option (List ℕ))

@@ -1,6 +1,6 @@
 //! The entries of a unit, one after the other.
 
-ghost use Rattle.std.specs.Prelude.{◌≡◌, ◌==◌, ◌||◌, IfOk, length, map};
+ghost use Rattle.std.specs.Prelude.{◌≡◌, ◌==◌, ◌||◌, IfOk, length, map, OnErr};
 ghost use Rattle.dw_model.specs.declared.dwarf.TheConstants.{OFFSET_SIZE_32};
 ghost use Rattle.dw_model.specs.Entry.{attributes_at, entry_at};
 ghost use Rattle.dw_forms.specs.Declaration.{spec_shown};
@@ -123,12 +123,13 @@ impl<'b, 'a> Entries<'b, 'a> {
     }
 
     /// Reads the next entry: a function in place of the one that was kept, which stays where the entry is
-    /// none. The error is its first fault, or `Memory`; then the walk may stand anywhere.
+    /// none. The error is its first fault, or `Memory`; then the walk stays where it was.
     #[inline(always)]
     pub fn next_function(&mut self, kept: &mut Entry<'a>) -> Result<Next, FormFault>
         ensures declarations { self.new.declarations ≡ self.old.declarations }
         ensures next { ReadsNext result kept.new (entry_at OFFSET_SIZE_32 self.old.declarations self.old.place) self.new.place }
         ensures past { IfOk result (λ next. IsBefore next kept.old kept.new self.new.place) }
+        ensures stays { OnErr result (self.new.place ≡ self.old.place) }
     {
         let mut place = self.cursor.fork();
         let next = next_of(&mut place, self.abbrevs, kept)?;

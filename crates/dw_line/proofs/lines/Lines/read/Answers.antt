@@ -1,4 +1,4 @@
-use Rattle.std.proofs.Common.{ℕ, List, Bor, ap, option_map}
+use Rattle.std.proofs.Common.{◌∙◌, ℕ, List, Bor, ap, option_map}
 use Rattle.std.proofs.lemmas.Result.{err_from_is_err_and}
 use Rattle.dw_model.specs.LineHeader.{line_header}
 use Rattle.dw_forms.specs.Tables.{tables_shown, bases_shown}
@@ -30,7 +30,7 @@ returns-in_err-rows c =
     (program_bad tables bases c.args.line_section.now comp_dir c.args.offset header c.in_ok-header.ensures))
 
 pub invariant_of-result : goal.invariant_of-result
-invariant_of-result c = used_are (header_shown c.in_ok-header.header) c.in_ok-rows.rows.used c.in_ok-rows.ensures
+invariant_of-result c = c.in_ok-rows-2.ensures ∙ used_are (header_shown c.in_ok-header.header) c.in_ok-rows.rows.used c.in_ok-rows.ensures
 
 pub returns : goal.returns
 returns c =
