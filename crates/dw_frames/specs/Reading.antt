@@ -12,6 +12,3 @@ pub record UnitAt : Type 0 where
 pub record Reading : Type 0 where
   pub of : UnitAt
   pub ranges : List Range
-
-abbrev pub unit_at : Sections → ℕ → UnitAt
-unit_at sections place = record { sections = sections; place = place }

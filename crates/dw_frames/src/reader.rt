@@ -15,7 +15,6 @@ ghost use Rattle.dw_frames.specs.Fault.{tree_fault};
 ghost use Rattle.dw_frames.specs.Drafts as model;
 ghost use Rattle.dw_frames.specs.Description.{description_shown};
 ghost use Rattle.dw_frames.specs.Reader.{AddsFunction, Keeps};
-ghost use Rattle.dw_frames.specs.Reading.{unit_at};
 
 use crate::call_of::call_of;
 use crate::description::Description;
@@ -35,13 +34,13 @@ const DEPTH: usize = 512;
 /// What reads the functions of a unit. Contracts see the unit, and the ranges that were read last.
 #[derive(Drop)]
 pub(crate) struct Reader<'b, 'a> {
-    alloc: Global,
-    units: &'b Units<'a>,
-    place: usize,
+    pub(crate) alloc: Global,
+    pub(crate) units: &'b Units<'a>,
+    pub(crate) place: usize,
     /// The names behind references that were followed.
-    names: Names<'a>,
+    pub(crate) names: Names<'a>,
     /// The ranges of the function that was read last.
-    ranges: Vec<Range>,
+    pub(crate) ranges: Vec<Range>,
 }
 
 impl<'b, 'a> Model for Reader<'b, 'a> {
@@ -66,20 +65,6 @@ fn check_depth(depth: usize) -> Result<(), TreeFault>
 }
 
 impl<'b, 'a> Reader<'b, 'a> {
-    /// What reads the functions of the unit at a place.
-    pub(crate) fn new(alloc: Global, units: &'b Units<'a>, place: usize) -> Self
-        requires { place < length (cut.units units.now.info) }
-        ensures unit { result.of ≡ unit_at units.now place }
-    {
-        Reader {
-            alloc,
-            units,
-            place,
-            names: Names::new(alloc),
-            ranges: Vec::new(alloc),
-        }
-    }
-
     /// What is told of a function. Entries to which it refers are read in place of it.
     fn describe(&mut self, entry: &mut Entry<'a>) -> Result<Description<'a>, AllocError>
         ensures same { self.new ≡ self.old }

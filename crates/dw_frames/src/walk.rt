@@ -9,6 +9,7 @@ ghost use Rattle.dw_frames.specs.Reader.{nodes_on, FollowsOn, FollowsAll};
 
 use crate::drafts::Drafts;
 use crate::fault::TreeFault;
+use crate::names::Names;
 use crate::reader::Reader;
 use dw_units::{Entries, Entry, Next, Units};
 use std::alloc::Global;
@@ -42,7 +43,13 @@ pub(crate) fn read_all<'a>(
     let Some(mut entries) = units.entries(i) else {
         return Err(TreeFault::Entry);
     };
-    let mut reader = Reader::new(alloc, units, i);
+    let mut reader = Reader {
+        alloc,
+        units,
+        place: i,
+        names: Names::new(alloc),
+        ranges: Vec::new(alloc),
+    };
     let mut drafts = Drafts::new(alloc);
     let mut entry = Entry::unread(alloc);
     let first = entries.next_function(&mut entry)?;

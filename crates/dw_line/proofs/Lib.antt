@@ -4,7 +4,6 @@ pub mod OperandLemmas
 pub mod RowLemmas
 pub mod KeptLemmas
 pub mod ProgramLemmas
-pub mod FoundLemmas
 pub mod SequenceLemmas
 pub mod PathLemmas
 pub mod LinesLemmas

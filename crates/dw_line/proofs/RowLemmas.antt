@@ -1,8 +1,8 @@
 -- The rows of a sequence, and the row of an address among them.
-use Rattle.std.proofs.Common.{◌≡◌, ℕ, zero, suc, ◌-◌, ◌<◌, ◌≤◌, Bool, true, false, List, [], ◌∷◌, length, drop, get_or, map, Some, refl, sym, ◌∙◌, arith, add-one}
+use Rattle.std.proofs.Common.{◌≡◌, ℕ, zero, suc, ◌-◌, ◌<◌, ◌≤◌, Bool, true, false, List, [], ◌∷◌, length, drop, get_or, map, None, Some, refl, ◌⊎◌, inl, inr, sym, ◌∙◌, arith, add-one}
 use Rattle.std.specs.Prelude.{nat_le, nat_lt}
 use Rattle.std.specs.List.Sorted.{IsNonDecreasingBy, IsPartitionPoint}
-use Rattle.std.proofs.lemmas.Bool.{ltb-true, ltb-false, leb-true, leb-false, lt-ltb, le-leb, le-ltb, and_parts}
+use Rattle.std.proofs.lemmas.Bool.{leb-true, leb-false, lt-ltb, le-leb, le-ltb, and_parts}
 use Rattle.std.proofs.lemmas.List.{length-drop}
 use Rattle.std.proofs.lemmas.List.Sorted.{IsNonDecreasingBy-from_all_adjacent}
 use Rattle.dw_model.specs.Matrix.{never_falls, first_address, last_address, is_used, row_in}
@@ -76,40 +76,31 @@ row_is rows d (suc p) a some h below above = rw (less_one p) (row_from rows d p 
 
 -- ---- the search by halves
 
-pub used_rises : (rows : List Registers) → is_used (map row_shown rows) ≡ true → IsNonDecreasingBy (λ row. row.address) rows
-used_rises rows used = rises rows (and_parts (never_falls (map row_shown rows)) (nat_lt (first_address (map row_shown rows)) (last_address (map row_shown rows))) used).0
-
 -- `next` rows lie at the address or before it
 abbrev pub Splits : List Registers → (a next : ℕ) → Type 0
 Splits rows a next = IsPartitionPoint (λ row. nat_le row.address a ≡ true) (λ row. nat_le row.address a ≡ false) rows next
 
-some_rows : (rows : List Registers) (a : ℕ) → a < last_address (map row_shown rows) → 0 < length rows
-some_rows [] a below = absurd (omega arith)
-some_rows (r ∷ rows) a below = omega arith
+-- no row lies at the address or before it
+none_before : (rows : List Registers) (d : Registers) (a : ℕ) → ((k : ℕ) → k < length rows → nat_le (get_or rows k d).address a ≡ false) → row_in a (map row_shown rows) ≡ None
+unfolding row_in
+none_before [] d a behind = refl
+none_before (r ∷ []) d a behind = refl
+none_before (r ∷ s ∷ rows) d a behind = rw (behind 0 (omega arith)) (none_before (s ∷ rows) d a (λ k l. behind (suc k) (omega (arith, l))))
 
-pub some_before : (rows : List Registers) (d : Registers) (a next : ℕ) → first_address (map row_shown rows) ≤ a → a < last_address (map row_shown rows) → Splits rows a next → 0 < next
-some_before rows d a next from below point = by (nat_lt 0 next) refl
-  where
-    by : (some : Bool) → nat_lt 0 next ≡ some → 0 < next
-    by true e = ltb-true 0 next e
-    by false e =
-        let none : next ≤ 0 = ltb-false 0 next e in
-        let behind = leb-false (get_or rows 0 d).address a (point.1 0 d none (some_rows rows a below)) in
-        absurd (omega (arith, first_is rows d (some_rows rows a below), behind, from))
+-- no row lies behind the address
+none_behind : (rows : List Registers) (d : Registers) (a : ℕ) → ((k : ℕ) → k < length rows → nat_le (get_or rows k d).address a ≡ true) → row_in a (map row_shown rows) ≡ None
+unfolding row_in
+none_behind [] d a before = refl
+none_behind (r ∷ []) d a before = refl
+none_behind (r ∷ s ∷ rows) d a before =
+    let next : nat_lt a s.address ≡ false = le-ltb a s.address (leb-true s.address a (before 1 (omega arith))) in
+    rw (before 0 (omega arith), next) (none_behind (s ∷ rows) d a (λ k l. before (suc k) (omega (arith, l))))
 
-pub some_behind : (rows : List Registers) (d : Registers) (a next : ℕ) → a < last_address (map row_shown rows) → next ≤ length rows → Splits rows a next → next < length rows
-some_behind rows d a next below bound point = by (nat_lt next (length rows)) refl
-  where
-    by : (some : Bool) → nat_lt next (length rows) ≡ some → next < length rows
-    by true e = ltb-true next (length rows) e
-    by false e =
-        let all : length rows ≤ next = ltb-false next (length rows) e in
-        let some = some_rows rows a below in
-        let before = leb-true (get_or rows (length rows - 1) d).address a (point.0 (length rows - 1) d (omega arith) (omega (arith, all, some))) in
-        absurd (omega (arith, last_is rows d some, before, below))
+pub no_row : (rows : List Registers) (d : Registers) (a next : ℕ) → Splits rows a next → (next ≡ 0) ⊎ (next ≡ length rows) → row_in a (map row_shown rows) ≡ None
+no_row rows d a next point (inl none) = none_before rows d a (λ k l. point.1 k d (omega (arith, none)) l)
+no_row rows d a next point (inr all) = none_behind rows d a (λ k l. point.0 k d (omega arith) (omega (arith, l, all)))
 
-pub row_by_halves : (rows : List Registers) (d : Registers) (a next : ℕ) → first_address (map row_shown rows) ≤ a → a < last_address (map row_shown rows) → next ≤ length rows → Splits rows a next → row_in a (map row_shown rows) ≡ Some (row_shown (get_or rows (next - 1) d))
-row_by_halves rows d a next from below bound point =
-    let within = some_behind rows d a next below bound point in
-    row_is rows d next a (some_before rows d a next from below point) within
+pub row_by_halves : (rows : List Registers) (d : Registers) (a next : ℕ) → 0 < next → next < length rows → Splits rows a next → row_in a (map row_shown rows) ≡ Some (row_shown (get_or rows (next - 1) d))
+row_by_halves rows d a next some within point =
+    row_is rows d next a some within
     (λ k h. leb-true (get_or rows k d).address a (point.0 k d (omega arith) h)) (leb-false (get_or rows next d).address a (point.1 next d (omega arith) within))

@@ -1,7 +1,7 @@
 -- The first sequence that holds an address, by its number.
 use Rattle.std.proofs.Common.{◌≡◌, ◌∙◌, ℕ, suc, ◌+◌, ◌-◌, ◌<◌, ◌≤◌, Bool, true, false, cond, List, [], ◌∷◌, ◌++◌, length, map, drop, get_or, Option, Some, None, refl, sym, ap, append_assoc, arith}
 use Rattle.std.specs.Prelude.{◌&&◌, nat_le, nat_lt, min, find, slice_get, option_and_then}
-use Rattle.std.specs.List.{AllByRecursion}
+use Rattle.std.specs.List.{AllByRecursion, position_from}
 use Rattle.std.proofs.lemmas.List.{append-nil, drop_more, drop_all}
 use Rattle.std.proofs.lemmas.Option.{same_Some}
 use Rattle.dw_model.specs.Matrix.{Row, first_address, last_address, row_in}
@@ -9,10 +9,9 @@ use Rattle.dw_model.specs.Ranges.{Range}
 use Rattle.dw_ranges.specs.Owners.{least, least_owner}
 use Rattle.dw_line.specs.declared.registers.Registers.{Registers}
 use Rattle.dw_line.specs.declared.rows.Sequence.{Sequence}
-use Rattle.dw_line.specs.Rows.{row_among, number_from, number_among}
+use Rattle.dw_line.specs.Rows.{row_among, number_among}
 use Rattle.dw_line.specs.RowsInside.{rows_in, IsSequence}
 use Rattle.dw_line.specs.Sequences.{pairs_from}
-use Rattle.dw_line.proofs.FoundLemmas.{Holds}
 
 abbrev pub pair_of : Sequence → ℕ → Range × ℕ
 pair_of s n = (record { begin = s.begin; end = s.end }, n)
@@ -28,21 +27,25 @@ pairs-all ss n front all past so_far =
     let none : drop n ss ≡ [] = drop_all n ss past in
     sym (append-nil front) ∙ ap (λ (rest : List Sequence). front ++ pairs_from n rest) (sym none) ∙ so_far
 
+-- the sequence holds the address
+abbrev Holds : ℕ → Sequence → Bool
+Holds a s = nat_le s.begin a && nat_lt a s.end
+
 -- ---- numbers
 
-number-bound : {X : Type 0} (test : X → Bool) (n : ℕ) (xs : List X) (k : ℕ) → number_from test n xs ≡ Some k → n ≤ k
+number-bound : {X : Type 0} (test : X → Bool) (n : ℕ) (xs : List X) (k : ℕ) → position_from test n xs ≡ Some k → n ≤ k
 number-bound test n [] k e = absurd cc
 number-bound test n (x ∷ xs) k e = by (test x) e (λ later. number-bound test (n + 1) xs k later)
   where
-    by : (here : Bool) → cond here (Some n) (number_from test (n + 1) xs) ≡ Some k → (number_from test (n + 1) xs ≡ Some k → n + 1 ≤ k) → n ≤ k
+    by : (here : Bool) → cond here (Some n) (position_from test (n + 1) xs) ≡ Some k → (position_from test (n + 1) xs ≡ Some k → n + 1 ≤ k) → n ≤ k
     by true e rest = let same = same_Some n k e in omega (arith, same)
     by false e rest = let later = rest e in omega (arith, later)
 
-pub number-there : {X : Type 0} (test : X → Bool) (n : ℕ) (xs : List X) (k : ℕ) → number_from test n xs ≡ Some k → find test xs ≡ slice_get xs (k - n)
+pub number-there : {X : Type 0} (test : X → Bool) (n : ℕ) (xs : List X) (k : ℕ) → position_from test n xs ≡ Some k → find test xs ≡ slice_get xs (k - n)
 number-there test n [] k e = absurd cc
 number-there test n (x ∷ xs) k e = by (test x) e (λ later. number-there test (n + 1) xs k later)
   where
-    by : (here : Bool) → cond here (Some n) (number_from test (n + 1) xs) ≡ Some k → (number_from test (n + 1) xs ≡ Some k → find test xs ≡ slice_get xs (k - (n + 1))) → cond here (Some x) (find test xs) ≡ slice_get (x ∷ xs) (k - n)
+    by : (here : Bool) → cond here (Some n) (position_from test (n + 1) xs) ≡ Some k → (position_from test (n + 1) xs ≡ Some k → find test xs ≡ slice_get xs (k - (n + 1))) → cond here (Some x) (find test xs) ≡ slice_get (x ∷ xs) (k - n)
     by true e rest =
         let place : k - n ≡ 0 = let same = same_Some n k e in omega (arith, same) in
         rw place refl
@@ -51,19 +54,11 @@ number-there test n (x ∷ xs) k e = by (test x) e (λ later. number-there test 
         let place : k - n ≡ suc (k - (n + 1)) = omega (arith, bound) in
         rw place (rest e)
 
-pub number-within : {X : Type 0} (test : X → Bool) (n : ℕ) (xs : List X) (k : ℕ) → number_from test n xs ≡ Some k → k < n + length xs
-number-within test n [] k e = absurd cc
-number-within test n (x ∷ xs) k e = by (test x) e (λ later. number-within test (n + 1) xs k later)
-  where
-    by : (here : Bool) → cond here (Some n) (number_from test (n + 1) xs) ≡ Some k → (number_from test (n + 1) xs ≡ Some k → k < n + 1 + length xs) → k < n + length (x ∷ xs)
-    by true e rest = let same = same_Some n k e in omega (arith, same)
-    by false e rest = let later = rest e in omega (arith, later)
-
-pub number-nowhere : {X : Type 0} (test : X → Bool) (n : ℕ) (xs : List X) → number_from test n xs ≡ None → find test xs ≡ None
+pub number-nowhere : {X : Type 0} (test : X → Bool) (n : ℕ) (xs : List X) → position_from test n xs ≡ None → find test xs ≡ None
 number-nowhere test n [] e = refl
 number-nowhere test n (x ∷ xs) e = by (test x) e (λ later. number-nowhere test (n + 1) xs later)
   where
-    by : (here : Bool) → cond here (Some n) (number_from test (n + 1) xs) ≡ None → (number_from test (n + 1) xs ≡ None → find test xs ≡ None) → cond here (Some x) (find test xs) ≡ None
+    by : (here : Bool) → cond here (Some n) (position_from test (n + 1) xs) ≡ None → (position_from test (n + 1) xs ≡ None → find test xs ≡ None) → cond here (Some x) (find test xs) ≡ None
     by true e rest = absurd cc
     by false e rest = rest e
 
@@ -75,12 +70,12 @@ least-first n (Some k) bound =
     let less : min n k ≡ n = let h = bound k refl in omega (arith, h) in
     ap Some less
 
-pub least-is-first : (a n : ℕ) (ss : List Sequence) → least_owner (pairs_from n ss) a ≡ number_from (Holds a) n ss
+pub least-is-first : (a n : ℕ) (ss : List Sequence) → least_owner (pairs_from n ss) a ≡ position_from (Holds a) n ss
 unfolding least_owner
 least-is-first a n [] = refl
 least-is-first a n (s ∷ ss) = by (nat_le s.begin a && nat_lt a s.end) (least-is-first a (n + 1) ss)
   where
-    by : (here : Bool) → least_owner (pairs_from (n + 1) ss) a ≡ number_from (Holds a) (n + 1) ss → least (cond here (Some n) None) (least_owner (pairs_from (n + 1) ss) a) ≡ cond here (Some n) (number_from (Holds a) (n + 1) ss)
+    by : (here : Bool) → least_owner (pairs_from (n + 1) ss) a ≡ position_from (Holds a) (n + 1) ss → least (cond here (Some n) None) (least_owner (pairs_from (n + 1) ss) a) ≡ cond here (Some n) (position_from (Holds a) (n + 1) ss)
     by true e = least-first n (least_owner (pairs_from (n + 1) ss) a) (λ k f. let later = number-bound (Holds a) (n + 1) ss k (sym e ∙ f) in omega (arith, later))
     by false e = e
 
@@ -89,29 +84,24 @@ least-is-first a n (s ∷ ss) = by (nat_le s.begin a && nat_lt a s.end) (least-i
 abbrev HoldsByRows : ℕ → List Row → Bool
 HoldsByRows a s = nat_le (first_address s) a && nat_lt a (last_address s)
 
-pub number-by_rows : (rows : List Registers) (end a n : ℕ) (ss : List Sequence) → AllByRecursion (IsSequence rows end) ss → number_from (HoldsByRows a) n (map (rows_in rows) ss) ≡ number_from (Holds a) n ss
+pub number-by_rows : (rows : List Registers) (end a n : ℕ) (ss : List Sequence) → AllByRecursion (IsSequence rows end) ss → position_from (HoldsByRows a) n (map (rows_in rows) ss) ≡ position_from (Holds a) n ss
 number-by_rows rows end a n [] each = refl
 number-by_rows rows end a n (s ∷ ss) each =
     let same : HoldsByRows a (rows_in rows s) ≡ Holds a s = rw (each.0.begins, each.0.ends) refl in
     by (HoldsByRows a (rows_in rows s)) (Holds a s) same (number-by_rows rows end a (n + 1) ss each.1)
   where
-    by : (here there : Bool) → here ≡ there → number_from (HoldsByRows a) (n + 1) (map (rows_in rows) ss) ≡ number_from (Holds a) (n + 1) ss → cond here (Some n) (number_from (HoldsByRows a) (n + 1) (map (rows_in rows) ss)) ≡ cond there (Some n) (number_from (Holds a) (n + 1) ss)
+    by : (here there : Bool) → here ≡ there → position_from (HoldsByRows a) (n + 1) (map (rows_in rows) ss) ≡ position_from (Holds a) (n + 1) ss → cond here (Some n) (position_from (HoldsByRows a) (n + 1) (map (rows_in rows) ss)) ≡ cond there (Some n) (position_from (Holds a) (n + 1) ss)
     by true true e rest = refl
     by false false e rest = rest
     by true false e rest = absurd cc
     by false true e rest = absurd cc
 
--- the sequence of a number that was found
-pub is-found : (rows : List Registers) (end a k : ℕ) (ss : List Sequence) (s : Sequence) → AllByRecursion (IsSequence rows end) ss → number_among (map (rows_in rows) ss) a ≡ Some k → slice_get ss k ≡ Some s → find (Holds a) ss ≡ Some s
-is-found rows end a k ss s each numbered there =
-    let number : number_from (Holds a) 0 ss ≡ Some k = sym (number-by_rows rows end a 0 ss each) ∙ numbered in
+-- the row of the sequence that has a number
+pub is-there : (a k : ℕ) (used : List (List Row)) → number_among used a ≡ Some k → row_among used a ≡ option_and_then (row_in a) (slice_get used k)
+unfolding row_among
+is-there a k used numbered =
     let place : k - 0 ≡ k = omega arith in
-    number-there (Holds a) 0 ss k number ∙ ap (slice_get ss) place ∙ there
-
-pub is-within : (rows : List Registers) (end a k : ℕ) (ss : List Sequence) → AllByRecursion (IsSequence rows end) ss → number_among (map (rows_in rows) ss) a ≡ Some k → k < length ss
-is-within rows end a k ss each numbered =
-    let within = number-within (Holds a) 0 ss k (sym (number-by_rows rows end a 0 ss each) ∙ numbered) in
-    omega (arith, within)
+    ap (option_and_then (row_in a)) (number-there (HoldsByRows a) 0 used k numbered ∙ ap (slice_get used) place)
 
 -- no sequence has a number
 pub is-nowhere : (a : ℕ) (used : List (List Row)) → number_among used a ≡ None → row_among used a ≡ None

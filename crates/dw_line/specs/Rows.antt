@@ -1,5 +1,6 @@
 -- The rows that are kept of a matrix: those of its used sequences.
-use Rattle.std.specs.Prelude.{ℕ, ◌+◌, Bool, false, ◌&&◌, List, ◌∷◌, [], ◌++◌, map, filter, Option, Some, None, find, nat_le, nat_lt, if◌then◌else◌}
+use Rattle.std.specs.Prelude.{ℕ, false, ◌&&◌, List, ◌∷◌, [], ◌++◌, map, filter, Option, find, nat_le, nat_lt, if◌then◌else◌}
+use Rattle.std.specs.List.{position_from}
 use Rattle.dw_model.specs.Options.{◌>>=◌}
 use Rattle.dw_model.specs.Matrix.{Row, sequences, is_used, first_address, last_address, row_in}
 
@@ -27,14 +28,9 @@ unended row = record { address = row.address; file = row.file; line = row.line; 
 abbrev pub used_rows : List Row → List (List Row)
 used_rows rows = map (map unended) (filter is_used (sequences rows))
 
--- the number of the first sequence that passes a test, counted from a first one
-abbrev pub number_from : {X : Type 0} → (X → Bool) → ℕ → List X → Option ℕ
-number_from test first [] = None
-number_from test first (sequence ∷ sequences) = if test sequence then Some first else number_from test (first + 1) sequences
-
 -- the number of the first sequence that holds an address
 abbrev pub number_among : List (List Row) → ℕ → Option ℕ
-number_among used a = number_from (λ s. nat_le (first_address s) a && nat_lt a (last_address s)) 0 used
+number_among used a = position_from (λ s. nat_le (first_address s) a && nat_lt a (last_address s)) 0 used
 
 -- the row of an address, among the rows of used sequences
 unfoldable pub row_among : List (List Row) → ℕ → Option Row

@@ -1,11 +1,11 @@
 //! The rows of the used sequences of a line program, in one list (section 6.2 of DWARF 5).
 
-ghost use Rattle.std.specs.Prelude.{◌≡◌, ◌≤◌, ◌<◌, ℕ, true, map, option_map, nat_le, Some, IfOk, OnOk};
-ghost use Rattle.dw_model.specs.Matrix.{first_address, last_address, row_in};
+ghost use Rattle.std.specs.Prelude.{◌≡◌, ℕ, true, map, option_map, option_and_then, slice_get, nat_le, IfOk, OnOk};
+ghost use Rattle.dw_model.specs.Matrix.{row_in};
 ghost use Rattle.dw_model.specs.Matrix as model;
 ghost use Rattle.dw_ranges.specs.Range.{pair_shown};
 ghost use Rattle.dw_ranges.specs.Segments.{owner_at};
-ghost use Rattle.dw_line.specs.Rows.{nothing, pushed, closed, row_among, number_among};
+ghost use Rattle.dw_line.specs.Rows.{nothing, pushed, closed, number_among};
 ghost use Rattle.dw_line.specs.Sequences.{pairs_from};
 ghost use Rattle.dw_line.specs.RowsInside.{row_shown, row_told};
 
@@ -90,12 +90,10 @@ fn sequence_pairs(alloc: Global, sequences: &[Sequence]) -> Result<Vec<(Range, u
     Ok(pairs)
 }
 
-/// The row at whose address or behind which an address of a used sequence lies, before the next
-/// row's. The search takes as many steps as the number of rows has binary digits.
+/// The row at whose address or behind which an address lies, before the next row's. The search takes
+/// as many steps as the number of rows has binary digits.
 fn row_at(rows: &[Registers], address: u64) -> Option<Row>
-    requires used { model.is_used (map row_shown rows.now) ≡ true }
-    requires from { first_address (map row_shown rows.now) ≤ address }
-    requires below { address < last_address (map row_shown rows.now) }
+    requires rising { model.never_falls (map row_shown rows.now) ≡ true }
     ensures { result ≡ option_map row_told (row_in address (map row_shown rows.now)) }
 {
     let next = rows.partition_point(
@@ -103,6 +101,9 @@ fn row_at(rows: &[Registers], address: u64) -> Option<Row>
             ensures { result ≡ nat_le row.now.address address }
         { row.address <= address },
     );
+    if next == 0 || next == rows.len() {
+        return None;
+    }
     let row = rows[next - 1];
     Some(Row {
         file: row.file,
@@ -159,12 +160,13 @@ impl Rows {
         Index::build(alloc, &pairs)
     }
 
-    /// The row of an address, of which the first sequence is known that holds it.
+    /// The row of an address among those of the sequence with a number.
     pub(crate) fn row_in(&self, number: usize, address: u64) -> Option<Row>
-        requires { number_among self.now.used address ≡ Some number }
-        ensures { result ≡ option_map row_told (row_among self.now.used address) }
+        ensures { result ≡ option_map row_told (option_and_then (row_in address) (slice_get self.now.used number)) }
     {
-        let sequence = self.sequences[number];
+        let Some(sequence) = self.sequences.get(number) else {
+            return None;
+        };
         let before_end = self.rows.split_at(sequence.end_row).0;
         row_at(before_end.split_at(sequence.first_row).1, address)
     }

@@ -33,7 +33,7 @@ returns-in_err-keep c unit e =
     let p = err_from_is_err_and c.from_residual-in_err-keep.result c.from_residual-in_err-keep.ensures.1 in
     let walk = walks c.args.units.now c.args.i unit c.in-Some.entries e c.in-Some.ensures in
     let read = c.in_ok-first.ensures.next in
-    let told = subst (λ fault. MatchOption (tree_fault fault) (Unit {0}) (λ told. can_be_used c.args.units.now unit (length c.new-drafts.result.lists) read.0 ≡ Err told)) (sym p.2) ((rw (c.new-reader.ensures.unit) at c.in_err-keep.ensures.entry) unit read.0 e read.2) in
+    let told = subst (λ fault. MatchOption (tree_fault fault) (Unit {0}) (λ told. can_be_used c.args.units.now unit (length c.new-drafts.result.lists) read.0 ≡ Err told)) (sym p.2) (c.in_err-keep.ensures.entry unit read.0 e read.2) in
     rw (p.1) (root-unused c.args.units.now unit c.in-Some.entries (small c.args.units.now c.args.i unit e) walk.0 walk.1 c.new-drafts.result read.0 c.next_function.new.self.place (tree_fault p.0) c.new-drafts.ensures read.1 told)
 
 pub returns-in_err-read_below : goal.returns-in_err-read_below
@@ -42,9 +42,9 @@ returns-in_err-read_below c unit e =
     let walk = walks c.args.units.now c.args.i unit c.in-Some.entries e c.in-Some.ensures in
     let read = c.in_ok-first.ensures.next in
     let first = found-some c.in_ok-first.first c.next_function.new.kept read.0 read.2 c.in_default-first.not-Null in
-    let kept = (rw (c.new-reader.ensures.unit) at c.in_ok-keep.ensures.entry) unit read.0 e read.2 in
+    let kept = c.in_ok-keep.ensures.entry unit read.0 e read.2 in
     let b = began c.args.units.now unit c.in-Some.entries (small c.args.units.now c.args.i unit e) walk.0 walk.1 c.new-drafts.result c.keep.new.drafts read.0 first.0 c.next_function.new.self c.new-drafts.ensures c.in_ok-first.ensures.declarations read.1 first.1 kept.0 kept.1 in
-    let told = subst (λ fault. MatchOption (tree_fault fault) (Unit {0}) (λ told. nodes_on c.args.units.now unit c.next_function.new.self (length c.keep.new.drafts.lists) ≡ Err told)) (sym p.2) ((rw (c.in_ok-keep.ensures.same, c.new-reader.ensures.unit) at c.in_err-read_below.ensures) unit (record { depth = 0; entry = b.entry } ∷ []) e b.follows) in
+    let told = subst (λ fault. MatchOption (tree_fault fault) (Unit {0}) (λ told. nodes_on c.args.units.now unit c.next_function.new.self (length c.keep.new.drafts.lists) ≡ Err told)) (sym p.2) ((rw (c.in_ok-keep.ensures.same) at c.in_err-read_below.ensures) unit (record { depth = 0; entry = b.entry } ∷ []) e b.follows) in
     rw (p.1) (below-faults c.args.units.now unit c.in-Some.entries (small c.args.units.now c.args.i unit e) walk.0 walk.1 c.new-drafts.result c.keep.new.drafts c.next_function.new.self (tree_fault p.0) b told)
 
 pub returns : goal.returns
@@ -52,6 +52,6 @@ returns c unit e =
     let walk = walks c.args.units.now c.args.i unit c.in-Some.entries e c.in-Some.ensures in
     let read = c.in_ok-first.ensures.next in
     let first = found-some c.in_ok-first.first c.next_function.new.kept read.0 read.2 c.in_default-first.not-Null in
-    let kept = (rw (c.new-reader.ensures.unit) at c.in_ok-keep.ensures.entry) unit read.0 e read.2 in
+    let kept = c.in_ok-keep.ensures.entry unit read.0 e read.2 in
     let b = began c.args.units.now unit c.in-Some.entries (small c.args.units.now c.args.i unit e) walk.0 walk.1 c.new-drafts.result c.keep.new.drafts read.0 first.0 c.next_function.new.self c.new-drafts.ensures c.in_ok-first.ensures.declarations read.1 first.1 kept.0 kept.1 in
-    below-follows c.args.units.now unit c.in-Some.entries (small c.args.units.now c.args.i unit e) walk.0 walk.1 c.new-drafts.result c.keep.new.drafts c.read_below.new.drafts c.next_function.new.self b ((rw (c.in_ok-keep.ensures.same, c.new-reader.ensures.unit) at c.in_ok-read_below.ensures) unit (record { depth = 0; entry = b.entry } ∷ []) e b.follows)
+    below-follows c.args.units.now unit c.in-Some.entries (small c.args.units.now c.args.i unit e) walk.0 walk.1 c.new-drafts.result c.keep.new.drafts c.read_below.new.drafts c.next_function.new.self b ((rw (c.in_ok-keep.ensures.same) at c.in_ok-read_below.ensures) unit (record { depth = 0; entry = b.entry } ∷ []) e b.follows)
