@@ -2,13 +2,12 @@
 # How long the functions of all units of a program are read (`Tree::read`), beside walks over the same entries:
 # this project's, which keeps functions alone, one that reads all values of each entry, and those of the Rust crate
 # gimli with and without values, all in one run. The first word is as for bench.sh. Each walk goes over the program
-# five times, and is run as often as the second word says (3 without); the least time counts, without that of a run
-# which opens the file alone. gimli is built from Debian's packages (librust-gimli-dev, librust-object-dev). Run it
-# after `rt run` in crates/a2l has built the crates. It prints a table.
+# several times, over 300 MB of entries in all, and is run as often as the second word says (3 without); the least time
+# counts, without that of a run which opens the file alone. gimli is built from Debian's packages (librust-gimli-dev,
+# librust-object-dev). Run it after `rt run` in crates/a2l has built the crates. It prints a table.
 . "$(dirname "$0")/programs.sh"
 large=${1:-60}
 times=${2:-3}
-rounds=5
 [ -x /usr/bin/time ] || { echo "no /usr/bin/time here, which measures"; exit 1; }
 if [ -e "$large" ]; then
     program=$(realpath "$large")
@@ -16,6 +15,9 @@ else
     build_large "$large" large
     program=$work/large
 fi
+
+info=$((16#$(objdump -h "$program" | awk '$2 == ".debug_info" { print $3 }')))
+rounds=$((300000000 / info + 1))
 
 # with what was proved of them already
 mkdir -p copy/crates/walk/src
@@ -222,9 +224,8 @@ for n in $(seq "$times"); do
 done
 show() {
     awk -v what="$1" -v a="${least[$2]}" -v open="${least[${2%%.*}.open]}" -v trees="${least[walk.trees]}" -v opened="${least[walk.open]}" -v rounds=$rounds \
-        'BEGIN { printf "%-58s %8.3f %8.2f\n", what, (a - open) / rounds, (trees - opened) / (a - open) }'
+        'BEGIN { printf "%-58s %8.4f %8.2f\n", what, (a - open) / rounds, (trees - opened) / (a - open) }'
 }
-info=$((16#$(objdump -h "$program" | awk '$2 == ".debug_info" { print $3 }')))
 echo "$((info / 1000000)) MB of .debug_info; the least of $times times"
 printf '%-58s %8s %8s\n' what seconds ratio
 show 'the functions of all units read' walk.trees

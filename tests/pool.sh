@@ -1,0 +1,136 @@
+#!/usr/bin/env bash
+# How much sooner four workers of the pool answer than one, on a large C++ program with addresses in order, and how much
+# sooner four processes of one worker each, which is what the machine gives at most. The first word is as for bench.sh;
+# the others are numbers of addresses, which are spread evenly over .text (100,000, a million and eight million without:
+# the last take 8 GB). What is timed is the pool alone: its threads, with the solvers that they make. Run it after `rt run`
+# in crates/a2l has built the crates. It prints a table, and tests that no run fails.
+. "$(dirname "$0")/programs.sh"
+large=${1:-60}
+[ $# -gt 0 ] && shift
+[ $# -gt 0 ] || set -- 100000 1000000 8000000
+if [ -e "$large" ]; then
+    program=$(realpath "$large")
+else
+    build_large "$large" large
+    program=$work/large
+fi
+
+# with what was proved of them already
+mkdir -p copy/crates/pool_time/src
+cp "$here/HANDLES" copy/
+for crate in dw_model dw_bytes ticket_core ticket_board dw_elf dw_forms dw_units dw_ranges dw_line dw_frames dw_symbols a2l_lines; do
+    grep "^$crate:" "$here/crates.txt" >> copy/crates.txt
+    cp -r "$here/crates/$crate" copy/crates/
+done
+echo 'pool_time: dw_symbols ticket_core ticket_board a2l_lines' >> copy/crates.txt
+cat > copy/crates/pool_time/src/main.rt <<'END'
+//! Answers addresses of a file by a pool: so many workers and addresses, spread from one address to another. It says
+//! when the pool begins and when it has ended.
+#![tactic(auto)]
+
+use a2l_lines::run_pool;
+use dw_symbols::Image;
+use std::alloc::{AllocError, Global};
+use std::io::Write;
+use std::process::ExitCode;
+use std::sync::Wait;
+use std::thread::Threads;
+use std::{env, fs, io};
+use ticket_board::Gate;
+use ticket_core::Shape;
+
+/// A gate that stands open.
+struct Open;
+
+impl Gate for Open {
+    fn enter(&self, _sender: usize, _number: u64, _a: u64) {}
+}
+
+/// So many addresses, in order.
+fn addresses(alloc: Global, count: u64, begin: u64, end: u64) -> Result<Vec<u64>, AllocError> {
+    let mut queries = Vec::new(alloc);
+    let size = end.wrapping_sub(begin);
+    for i in 0..count {
+        let distance = size.wrapping_mul(i).checked_div(count).unwrap_or(0);
+        queries.push(begin.wrapping_add(distance))?;
+    }
+    Ok(queries)
+}
+
+fn say(rt: &HostRuntime, word: &str) -> Option<()> {
+    let mut out = io::writer(rt);
+    writeln!(out, "{word}").ok()?;
+    out.flush().ok()?;
+    Some(())
+}
+
+fn answered<T: Threads + Wait + Sync>(rt: &HostRuntime, threads: &T, words: &[String]) -> Option<()> {
+    let file = fs::read(rt, words.first()?).ok()?;
+    let image = Image::open(rt.alloc(), &file).ok()?;
+    let workers = words.get(1)?.parse::<u64>().ok()?;
+    let count = words.get(2)?.parse::<u64>().ok()?;
+    let begin = words.get(3)?.parse::<u64>().ok()?;
+    let end = words.get(4)?.parse::<u64>().ok()?;
+    let queries = addresses(rt.alloc(), count, begin, end).ok()?;
+    let shape = Shape {
+        senders: 1,
+        workers: workers as usize,
+        window: 16,
+        most: 1 << 60,
+    };
+    say(rt, "begun")?;
+    let answers = run_pool(threads, rt.alloc(), &image, shape, &queries, &Open).ok()?;
+    say(rt, "ended")?;
+    if answers.len() != queries.len() {
+        return None;
+    }
+    Some(())
+}
+
+fn main(rt: HostRuntime) -> ExitCode {
+    let Ok(words) = env::args(&rt) else {
+        return ExitCode::from(2);
+    };
+    let Ok(words) = words.skip(1).collect::<Vec<String>>(rt.alloc()) else {
+        return ExitCode::from(2);
+    };
+    let Some(()) = answered(&rt, &rt, words.as_slice()) else {
+        return ExitCode::from(1);
+    };
+    ExitCode::from(0)
+}
+END
+(cd copy/crates/pool_time && rt run -- "$program" 1 1 0 1) > log 2>&1 || { tail -20 log; exit 1; }
+
+cat > time.py <<'END_PY'
+import subprocess, sys, time
+tool, program, begin, end, *counts = sys.argv[1:]
+
+def begin_run(workers, count):
+    run = subprocess.Popen([tool, program, str(workers), count, begin, end], stdout=subprocess.PIPE, text=True)
+    assert run.stdout.readline() == 'begun\n'
+    return run, time.monotonic()
+
+def end_run(run, began):
+    assert run.stdout.readline() == 'ended\n'
+    seconds = time.monotonic() - began
+    assert run.wait() == 0
+    return seconds
+
+def timed(workers, count):
+    return min(end_run(*begin_run(workers, count)) for _ in range(2))
+
+print(f"{'addresses':>10} {'one worker':>12} {'four workers':>13} {'times as fast':>14}")
+for count in counts:
+    one, four = timed(1, count), timed(4, count)
+    print(f'{count:>10} {one:10.2f} s {four:11.2f} s {one / four:14.2f}', flush=True)
+count = counts[0]
+one = timed(1, count)
+runs = [begin_run(1, count) for _ in range(4)]
+each = [end_run(*run) for run in runs]
+print(f'four processes of one worker each, {count} addresses: {4 * one / max(each):.2f} times the answers of one process')
+END_PY
+read -r begin end < <(objdump -h "$program" | awk '$2 == ".text" { print $4, $3 }')
+begin=$((16#$begin))
+end=$((begin + 16#$end))
+python3 time.py copy/crates/pool_time/out/pool_time "$program" "$begin" "$end" "$@"
