@@ -1,9 +1,10 @@
 #!/usr/bin/env bash
-# How much sooner four workers of the pool answer than one, on a large C++ program with addresses in order, and how much
-# sooner four processes of one worker each, which is what the machine gives at most. The first word is as for bench.sh;
-# the others are numbers of addresses, which are spread evenly over .text (100,000, a million and eight million without:
-# the last take 8 GB). What is timed is the pool alone: its threads, with the solvers that they make. Run it after `rt run`
-# in crates/a2l has built the crates. It prints a table, and tests that no run fails.
+# How long a pool takes to answer with one worker and with four, and one context without a pool, on a large C++ program
+# with addresses in order; and four processes of one context each, which is what the machine gives at most. The first word
+# is as for bench.sh; the others are numbers of addresses, which are spread evenly over .text (100,000, a million and eight
+# million without: the last take 8 GB). What is timed is answering alone, with the threads and the contexts that are made
+# for it. The least of two times counts. Run it after `rt run` in crates/a2l has built the crates. It prints a table, and
+# tests that no run fails.
 . "$(dirname "$0")/programs.sh"
 large=${1:-60}
 [ $# -gt 0 ] && shift
@@ -24,14 +25,15 @@ for crate in dw_model dw_bytes ticket_core ticket_board dw_elf dw_forms dw_units
 done
 echo 'pool_time: dw_symbols ticket_core ticket_board a2l_lines' >> copy/crates.txt
 cat > copy/crates/pool_time/src/main.rt <<'END'
-//! Answers addresses of a file by a pool: so many workers and addresses, spread from one address to another. It says
-//! when the pool begins and when it has ended.
+//! Answers addresses of a file by a pool of so many workers, or by one context for 0: so many addresses, spread from one to
+//! another. It says when it begins and when it has ended.
 #![tactic(auto)]
 
 use a2l_lines::run_pool;
-use dw_symbols::Image;
+use dw_symbols::{Answer, Context, Image};
 use std::alloc::{AllocError, Global};
 use std::io::Write;
+use std::num::NonZeroUsize;
 use std::process::ExitCode;
 use std::sync::Wait;
 use std::thread::Threads;
@@ -64,6 +66,17 @@ fn say(rt: &HostRuntime, word: &str) -> Option<()> {
     Some(())
 }
 
+/// Without a pool.
+fn direct<'a>(alloc: Global, image: &Image<'a>, queries: &[u64]) -> Option<Vec<Answer<'a>>> {
+    let capacity = NonZeroUsize::MIN.saturating_add(15);
+    let mut context = Context::new(alloc, image, capacity).ok()?;
+    let mut answers = Vec::new(alloc);
+    for a in queries {
+        answers.push(context.find_frames(*a).ok()?).ok()?;
+    }
+    Some(answers)
+}
+
 fn answered<T: Threads + Wait + Sync>(rt: &HostRuntime, threads: &T, words: &[String]) -> Option<()> {
     let file = fs::read(rt, words.first()?).ok()?;
     let image = Image::open(rt.alloc(), &file).ok()?;
@@ -79,7 +92,11 @@ fn answered<T: Threads + Wait + Sync>(rt: &HostRuntime, threads: &T, words: &[St
         most: 1 << 60,
     };
     say(rt, "begun")?;
-    let answers = run_pool(threads, rt.alloc(), &image, shape, &queries, &Open).ok()?;
+    let answers = if workers == 0 {
+        direct(rt.alloc(), &image, &queries)?
+    } else {
+        run_pool(threads, rt.alloc(), &image, shape, &queries, &Open).ok()?
+    };
     say(rt, "ended")?;
     if answers.len() != queries.len() {
         return None;
@@ -120,15 +137,15 @@ def end_run(run, began):
 def timed(workers, count):
     return min(end_run(*begin_run(workers, count)) for _ in range(2))
 
-print(f"{'addresses':>10} {'one worker':>12} {'four workers':>13} {'times as fast':>14}")
+print(f"{'addresses':>10} {'no pool':>10} {'one worker':>12} {'four workers':>14}   four beside one")
 for count in counts:
-    one, four = timed(1, count), timed(4, count)
-    print(f'{count:>10} {one:10.2f} s {four:11.2f} s {one / four:14.2f}', flush=True)
-count = counts[0]
-one = timed(1, count)
-runs = [begin_run(1, count) for _ in range(4)]
-each = [end_run(*run) for run in runs]
-print(f'four processes of one worker each, {count} addresses: {4 * one / max(each):.2f} times the answers of one process')
+    none, one, four = timed(0, count), timed(1, count), timed(4, count)
+    print(f'{count:>10} {none:8.2f} s {one:10.2f} s {four:12.2f} s {one / four:10.2f} times', flush=True)
+count = counts[len(counts) // 2]
+alone = timed(0, count)
+runs = [begin_run(0, count) for _ in range(4)]
+together = max(end_run(*run) for run in runs)
+print(f'four processes without a pool, {count} addresses each: {4 * alone / together:.2f} times the answers of one')
 END_PY
 read -r begin end < <(objdump -h "$program" | awk '$2 == ".text" { print $4, $3 }')
 begin=$((16#$begin))

@@ -1,5 +1,6 @@
 //! What no clause says: that calls succeed, and that contexts go to threads.
 
+mod faults;
 mod sample;
 
 ghost use Rattle.std.specs.Prelude.{◌≡◌, IfOk};

@@ -102,8 +102,10 @@ impl Lesson<Job, Part> for GivingBack {
     ghost fact = { λ v jobs. Unit {0} };
 }
 
+/// The queue of jobs, under its rule.
 pub type JobQueue = RuledArrayQueue<Job, Part, Jobs>;
 
+/// What lets one thread at the queue of jobs.
 pub type JobPass = Pass<Job, Part>;
 
 /// A queue without jobs, and the pass that makes all others.

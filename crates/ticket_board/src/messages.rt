@@ -104,8 +104,10 @@ impl<'a, S: Solver> Lesson<Message<'a, S::Answer>, Known> for Hearing<S> {
     ghost fact = { λ v messages. Unit {0} };
 }
 
+/// The queue of the messages to one sender, under its rule.
 pub type Line<'a, S> = RuledArrayQueue<Message<'a, <S as Solver>::Answer>, Known, Messages<S>>;
 
+/// What lets one thread at a queue of messages.
 pub type LinePass<'a, S> = Pass<Message<'a, <S as Solver>::Answer>, Known>;
 
 /// A queue of messages, and a pass that knows the key.
