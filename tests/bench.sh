@@ -11,30 +11,15 @@ need_a2l
 large=${1:-60}
 times=${2:-3}
 [ -x /usr/bin/time ] || { echo "no /usr/bin/time here, which measures memory"; exit 1; }
-if [ -e "$large" ]; then
-    program=$(realpath "$large")
-else
-    build_large "$large" large
-    program=$work/large
-fi
+need_large "$large"
 
+tools=(a2l)
+if has "GNU addr2line" addr2line; then tools+=(gnu); fi
+if has "llvm-symbolizer" llvm-symbolizer; then tools+=(llvm); fi
+needs='addr2line = { version = "*", default-features = false, features = ["std-object"] }
+object = "*"'
 # the crate's own example, for raw names and without columns
-build_crate() {
-    local registry=/usr/share/cargo/registry
-    has "the Rust crate addr2line" cargo || return 1
-    ls -d $registry/addr2line-* > /dev/null 2>&1 || { echo "skipped, librust-addr2line-dev isn't installed: the Rust crate addr2line"; return 1; }
-    mkdir -p crate/src crate/.cargo
-    printf '[source.crates-io]\nreplace-with = "debian"\n[source.debian]\ndirectory = "%s"\n' $registry > crate/.cargo/config.toml
-    cat > crate/Cargo.toml <<'END_TOML'
-[package]
-name = "crate_addr2line"
-version = "0.1.0"
-edition = "2021"
-[dependencies]
-addr2line = { version = "*", default-features = false, features = ["std-object"] }
-object = "*"
-END_TOML
-    cat > crate/src/main.rs <<'END_RS'
+if build_peer addr2line "$needs" << 'END_RS'
 use std::io::{BufRead, BufWriter, Write};
 fn main() -> Result<(), Box<dyn std::error::Error>> {
     let bytes = std::fs::read(std::env::args().nth(1).ok_or("no file")?)?;
@@ -63,20 +48,16 @@ fn main() -> Result<(), Box<dyn std::error::Error>> {
     Ok(())
 }
 END_RS
-    (cd crate && cargo build --release --offline) > log 2>&1 || { echo "skipped, it can't be built here: the Rust crate addr2line"; tail -3 log; return 1; }
-}
-
-tools=(a2l)
-if has "GNU addr2line" addr2line; then tools+=(gnu); fi
-if has "llvm-symbolizer" llvm-symbolizer; then tools+=(llvm); fi
-if build_crate; then tools+=(crate); fi
+then
+    tools+=(crate)
+fi
 command_of() {
     case $1 in
         a2l) echo "$a2l -e $program -a -f -i --workers 1" ;;
         a2l-4) echo "$a2l -e $program -a -f -i --workers 4" ;;
         gnu) echo "addr2line -e $program -a -f -i" ;;
         llvm) echo "llvm-symbolizer -e $program --output-style=GNU --addresses --functions=linkage --no-demangle" ;;
-        crate) echo "crate/target/release/crate_addr2line $program" ;;
+        crate) echo "addr2line/target/release/peer $program" ;;
     esac
 }
 

@@ -9,20 +9,10 @@
 large=${1:-60}
 [ $# -gt 0 ] && shift
 [ $# -gt 0 ] || set -- 100000 1000000 8000000
-if [ -e "$large" ]; then
-    program=$(realpath "$large")
-else
-    build_large "$large" large
-    program=$work/large
-fi
+need_large "$large"
 
-# with what was proved of them already
+copy_proved dw_model dw_bytes ticket_core ticket_board dw_elf dw_forms dw_units dw_ranges dw_line dw_frames dw_symbols a2l_lines
 mkdir -p copy/crates/pool_time/src
-cp "$here/HANDLES" copy/
-for crate in dw_model dw_bytes ticket_core ticket_board dw_elf dw_forms dw_units dw_ranges dw_line dw_frames dw_symbols a2l_lines; do
-    grep "^$crate:" "$here/crates.txt" >> copy/crates.txt
-    cp -r "$here/crates/$crate" copy/crates/
-done
 echo 'pool_time: dw_symbols ticket_core ticket_board a2l_lines' >> copy/crates.txt
 cat > copy/crates/pool_time/src/main.rt <<'END'
 //! Answers addresses of a file by a pool of so many workers, or by one context for 0: so many addresses, spread from one to

@@ -166,3 +166,34 @@ copy_crates() {
         done
     done
 }
+
+# The same with what was proved of them already.
+copy_proved() {
+    local crate
+    copy_crates "$@"
+    for crate in "$@"; do
+        [ -d "$here/crates/$crate/out" ] || { echo "build the crates first: cd crates/a2l && rt run"; exit 1; }
+        cp -r "$here/crates/$crate/out" copy/crates/$crate/
+    done
+}
+
+# A large program, as `program`: the one whose path is the word, where it is there, else one that is built of as
+# many units as the word says.
+need_large() {
+    program=$work/large
+    if [ -e "$1" ]; then program=$(realpath "$1"); else build_large "$1" large; fi
+}
+
+# Builds a program over the Rust crate of a name, from Debian's packages, in the folder of that name. Its source comes
+# from the input, and what Cargo.toml has to say of the crates that it stands on is the second word. What is missing
+# is said.
+build_peer() {
+    local registry=/usr/share/cargo/registry what="the Rust crate $1"
+    has "$what" cargo || return 1
+    ls -d $registry/"$1"-* > /dev/null 2>&1 || { echo "skipped, librust-$1-dev isn't installed: $what"; return 1; }
+    mkdir -p "$1/src" "$1/.cargo"
+    printf '[source.crates-io]\nreplace-with = "debian"\n[source.debian]\ndirectory = "%s"\n' $registry > "$1/.cargo/config.toml"
+    printf '[package]\nname = "peer"\nversion = "0.1.0"\nedition = "2021"\n[dependencies]\n%s\n' "$2" > "$1/Cargo.toml"
+    cat > "$1/src/main.rs"
+    (cd "$1" && cargo build --release --offline) > log 2>&1 || { echo "skipped, it can't be built here: $what"; tail -3 log; return 1; }
+}

@@ -9,23 +9,13 @@
 large=${1:-60}
 times=${2:-3}
 [ -x /usr/bin/time ] || { echo "no /usr/bin/time here, which measures"; exit 1; }
-if [ -e "$large" ]; then
-    program=$(realpath "$large")
-else
-    build_large "$large" large
-    program=$work/large
-fi
+need_large "$large"
 
 info=$((16#$(objdump -h "$program" | awk '$2 == ".debug_info" { print $3 }')))
 rounds=$((300000000 / info + 1))
 
-# with what was proved of them already
+copy_proved dw_model dw_bytes dw_elf dw_forms dw_units dw_ranges dw_frames
 mkdir -p copy/crates/walk/src
-cp "$here/HANDLES" copy/
-for crate in dw_model dw_bytes dw_elf dw_forms dw_units dw_ranges dw_frames; do
-    grep "^$crate:" "$here/crates.txt" >> copy/crates.txt
-    cp -r "$here/crates/$crate" copy/crates/
-done
 echo 'walk: dw_model dw_elf dw_units dw_frames' >> copy/crates.txt
 cat > copy/crates/walk/src/main.rt <<'END'
 //! Reads all units of a file in one way, so many times over: `open`, `functions`, `entries` or `trees`.
@@ -143,22 +133,10 @@ END
 (cd copy/crates/walk && rt run -- open 1 "$program") > log 2>&1 || { tail -20 log; exit 1; }
 walk=$work/copy/crates/walk/out/walk
 
-build_gimli() {
-    local registry=/usr/share/cargo/registry
-    has "the Rust crate gimli" cargo || return 1
-    ls -d $registry/gimli-* > /dev/null 2>&1 || { echo "skipped, librust-gimli-dev isn't installed: the Rust crate gimli"; return 1; }
-    mkdir -p gimli/src gimli/.cargo
-    printf '[source.crates-io]\nreplace-with = "debian"\n[source.debian]\ndirectory = "%s"\n' $registry > gimli/.cargo/config.toml
-    cat > gimli/Cargo.toml <<'END_TOML'
-[package]
-name = "gimli_walk"
-version = "0.1.0"
-edition = "2021"
-[dependencies]
-gimli = { version = "*", default-features = false, features = ["std", "read"] }
-object = { version = "*", default-features = false, features = ["std", "read_core", "elf"] }
-END_TOML
-    cat > gimli/src/main.rs <<'END_RS'
+tools=(walk)
+needs='gimli = { version = "*", default-features = false, features = ["std", "read"] }
+object = { version = "*", default-features = false, features = ["std", "read_core", "elf"] }'
+if build_peer gimli "$needs" << 'END_RS'
 use gimli::{EndianSlice, LittleEndian};
 use object::{Object, ObjectSection};
 fn main() -> Result<(), Box<dyn std::error::Error>> {
@@ -192,15 +170,13 @@ fn main() -> Result<(), Box<dyn std::error::Error>> {
     Ok(())
 }
 END_RS
-    (cd gimli && cargo build --release --offline) > log 2>&1 || { echo "skipped, it can't be built here: the Rust crate gimli"; tail -3 log; return 1; }
-}
-
-tools=(walk)
-if build_gimli; then tools+=(gimli); fi
+then
+    tools+=(gimli)
+fi
 command_of() {
     case $1 in
         walk) echo "$walk" ;;
-        gimli) echo gimli/target/release/gimli_walk ;;
+        gimli) echo gimli/target/release/peer ;;
     esac
 }
 
