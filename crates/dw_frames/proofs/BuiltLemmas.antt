@@ -1,9 +1,7 @@
 -- A tree that was built of what was kept of a unit's functions is the unit's.
 use Rattle.std.proofs.Common.{◌≡◌, ◌⊎◌, inl, inr, ℕ, zero, suc, Bool, true, false, cond, List, [], ◌∷◌, ◌++◌, length, map, reverse, Option, Some, None, Ok, refl, sym, ap, subst, ◌∙◌, arith}
 use Rattle.std.specs.Prelude.{option_map, slice_get, find, ◌==◌, ◌&&◌}
-use Rattle.std.specs.Option.{option_map_or}
-use Rattle.std.specs.List.{AllZip}
-use Rattle.std.proofs.lemmas.List.{length-map, map-append}
+use Rattle.std.proofs.lemmas.List.{length-map}
 use Rattle.std.proofs.lemmas.Bool.{eq-eqb, cases_lt}
 use Rattle.std.proofs.lemmas.Option.{same_Some, slice_get_within, slice_get_past}
 use Rattle.dw_model.specs.Entry.{Entry}
@@ -16,34 +14,16 @@ use Rattle.dw_ranges.specs.Owners.{least_owner}
 use Rattle.dw_ranges.specs.Segments.{owner_at}
 use Rattle.dw_frames.specs.Rising.{Rises}
 use Rattle.dw_frames.specs.declared.call.EntryId.{EntryId}
-use Rattle.dw_frames.specs.declared.function.Function.{Function as CodeFunction}
-use Rattle.dw_frames.specs.Function.{function_shown}
-use Rattle.dw_frames.specs.Drafts.{Description, described, Draft, Drafts}
-use Rattle.dw_frames.specs.Built.{IsBuilt}
-use Rattle.dw_frames.specs.Placed.{Placed, placed, offset_of, first, lies_in, described_in, Follows}
-use Rattle.dw_frames.specs.Tree.{Tree, Function, id_of, inwards, chain_at, description_of, function_at, nodes_of, IsTreeOf}
+use Rattle.dw_frames.specs.declared.description.Description.{Description as CodeDescription}
+use Rattle.dw_frames.specs.Description.{description_shown}
+use Rattle.dw_frames.specs.Inlined.{InlinedRange, inlined_in}
+use Rattle.dw_frames.specs.Drafts.{Description, described, Drafts}
+use Rattle.dw_frames.specs.Placed.{Placed, placed, offset_of, described_in, Follows}
+use Rattle.dw_frames.specs.Tree.{Tree, id_of, inwards, chain_at, description_of, function_at, nodes_of, IsTreeOf}
 use Rattle.dw_frames.proofs.GetLemmas.{get-mapped, get-unmapped, get-there, get-pushed}
-use Rattle.dw_frames.proofs.PlacedLemmas.{find_node-placed, find-alone, reverse-cons}
+use Rattle.dw_frames.proofs.PlacedLemmas.{find_node-placed, find-alone, map-reverse}
 use Rattle.dw_frames.proofs.ChainLemmas.{Found, climb, chain-climbs}
 use Rattle.dw_frames.proofs.InwardsLemmas.{find-shown, find-there}
-
--- ---- functions as they were kept and as they were built
-
-built-descriptions : (drafts : List Draft) (items : List CodeFunction) → AllZip IsBuilt drafts items → map (λ function. function.description) (map function_shown items) ≡ map (λ draft. draft.description) drafts
-built-descriptions [] [] h = refl
-built-descriptions [] (x ∷ items) h = absurd h
-built-descriptions (draft ∷ drafts) [] h = absurd h
-built-descriptions (draft ∷ drafts) (x ∷ items) h =
-    ap (λ (d : Description). d ∷ map (λ function. function.description) (map function_shown items)) h.0.0 ∙ ap (λ (ds : List Description). draft.description ∷ ds) (built-descriptions drafts items h.1)
-
-built-owners : (drafts : List Draft) (items : List CodeFunction) (k a : ℕ) (function : Function) → AllZip IsBuilt drafts items → slice_get (map function_shown items) k ≡ Some function → (draft : Draft) × (slice_get drafts k ≡ Some draft) × (owner_at function.inlined a ≡ least_owner draft.inlined a) × (function.description ≡ draft.description)
-built-owners [] [] k a function h e = absurd cc
-built-owners [] (x ∷ items) k a function h e = absurd h
-built-owners (draft ∷ drafts) [] k a function h e = absurd h
-built-owners (draft ∷ drafts) (x ∷ items) zero a function h e =
-    let same = same_Some (function_shown x) function e in
-    (draft, refl, ap (λ (f : Function). owner_at f.inlined a) (sym same) ∙ h.0.1 a, ap (λ (f : Function). f.description) (sym same) ∙ h.0.0)
-built-owners (draft ∷ drafts) (x ∷ items) (suc k) a function h e = built-owners drafts items k a function h.1 e
 
 -- all that are placed are functions
 placed-functions : (before : List Node) (k : ℕ) (p : Placed) → slice_get (placed before) k ≡ Some p → is_function p.0.entry ≡ true
@@ -61,29 +41,24 @@ placed-functions (node ∷ before) k p e = by_kind (λ e. placed-functions befor
       | inr new ↦ subst (λ (p : Placed). is_function p.0.entry ≡ true) new.1 is
     ]
 
-map-reverse : {X Y : Type 0} (f : X → Y) (xs : List X) → map f (reverse xs) ≡ reverse (map f xs)
-map-reverse f [] = refl
-map-reverse f (x ∷ xs) =
-    ap (map f) (reverse-cons x xs) ∙ map-append f (reverse xs) (x ∷ []) ∙ ap (λ (ys : List _). ys ++ f x ∷ []) (map-reverse f xs) ∙ sym (reverse-cons (f x) (map f xs))
-
-module _ (s : Sections) (unit : DwarfUnit) (after : List Node) (drafts : Drafts) (bound : ℕ) (items : List CodeFunction) (outermost : List Segment) (place : ℕ)
-    (whole : model.tree s unit ≡ Ok (reverse after)) (follows : Follows s unit after drafts bound) (built : AllZip IsBuilt drafts.functions items) (index : (a : ℕ) → owner_at outermost a ≡ least_owner drafts.outermost a) where
+module _ (s : Sections) (unit : DwarfUnit) (after : List Node) (drafts : Drafts) (bound : ℕ) (items : List CodeDescription) (outermost : List Segment) (inlined : List InlinedRange) (place : ℕ)
+    (whole : model.tree s unit ≡ Ok (reverse after)) (follows : Follows s unit after drafts bound) (kept : map description_shown items ≡ drafts.functions) (kept_inlined : inlined ≡ drafts.inlined) (index : (a : ℕ) → owner_at outermost a ≡ least_owner drafts.outermost a) where
   abbrev tree : Tree
-  tree = record { unit = place; outermost = outermost; functions = map function_shown items }
+  tree = record { unit = place; outermost = outermost; functions = map description_shown items; inlined = inlined }
 
   nodes-are : nodes_of s unit ≡ reverse after
   nodes-are = rw whole refl
 
-  descriptions-are : map (λ (function : Function). function.description) tree.functions ≡ map (described_in s unit) (placed after)
-  descriptions-are = built-descriptions drafts.functions items built ∙ follows.descriptions
+  descriptions-are : tree.functions ≡ map (described_in s unit) (placed after)
+  descriptions-are = kept ∙ follows.descriptions
 
   size : length tree.functions ≡ length (placed after)
-  size = sym (length-map tree.functions (λ (function : Function). function.description)) ∙ ap (λ (ds : List Description). length ds) descriptions-are ∙ length-map (placed after) (described_in s unit)
+  size = ap (λ (ds : List Description). length ds) descriptions-are ∙ length-map (placed after) (described_in s unit)
 
   -- the function and the node of a number
-  pair : (k : ℕ) (function : Function) (p : Placed) → slice_get tree.functions k ≡ Some function → slice_get (placed after) k ≡ Some p → function.description ≡ described_in s unit p
+  pair : (k : ℕ) (function : Description) (p : Placed) → slice_get tree.functions k ≡ Some function → slice_get (placed after) k ≡ Some p → function ≡ described_in s unit p
   pair k function p f e =
-      same_Some function.description (described_in s unit p) (sym (get-mapped (λ (function : Function). function.description) tree.functions k function f) ∙ ap (λ (ds : List Description). slice_get ds k) descriptions-are ∙ get-mapped (described_in s unit) (placed after) k p e)
+      same_Some function (described_in s unit p) (sym f ∙ ap (λ (ds : List Description). slice_get ds k) descriptions-are ∙ get-mapped (described_in s unit) (placed after) k p e)
 
   -- ---- the function of an offset among the nodes
 
@@ -101,19 +76,18 @@ module _ (s : Sections) (unit : DwarfUnit) (after : List Node) (drafts : Drafts)
       ∙ find_node-placed (λ _ node. is_function node.entry && node.entry.offset == o) (λ p. is_function p.0.entry && offset_of p == o) (λ node _ e. rw e refl) (λ node _. refl) after
       ∙ ap (option_map (λ (p : Placed). p.0)) (find-same (λ p. is_function p.0.entry && offset_of p == o) (at_offset o) (placed after) (λ k p e. rw (placed-functions after k p e) refl))
 
-  id-of-number : (k : ℕ) (function : Function) (p : Placed) → slice_get tree.functions k ≡ Some function → slice_get (placed after) k ≡ Some p → function_at place (nodes_of s unit) (id_of tree function) ≡ Some p.0
+  id-of-number : (k : ℕ) (function : Description) (p : Placed) → slice_get tree.functions k ≡ Some function → slice_get (placed after) k ≡ Some p → function_at place (nodes_of s unit) (id_of tree function) ≡ Some p.0
   id-of-number k function p f e =
-      let offset : function.description.offset ≡ offset_of p = ap (λ (d : Description). d.offset) (pair k function p f e) in
+      let offset : function.offset ≡ offset_of p = ap (λ (d : Description). d.offset) (pair k function p f e) in
       let found = find-there offset_of (offset_of p) (placed after) k p e refl (λ j q below g.
       follows.rises j k (offset_of q) (offset_of p) below (get-mapped offset_of (placed after) j q g) (get-mapped offset_of (placed after) k p e)) in
       rw (eq-eqb place place refl, offset, node-of-offset (offset_of p), found) refl
 
   -- ---- what is told of it
 
-  told-same : (o : ℕ) → option_map (λ (function : Function). function.description) (find (λ function. function.description.offset == o) tree.functions) ≡ option_map (λ (p : Placed). described_in s unit p) (find (at_offset o) (placed after))
+  told-same : (o : ℕ) → find (λ (function : Description). function.offset == o) tree.functions ≡ option_map (λ (p : Placed). described_in s unit p) (find (at_offset o) (placed after))
   told-same o =
-      sym (find-shown (λ (function : Function). function.description) (λ d. d.offset == o) tree.functions)
-      ∙ ap (find (λ d. d.offset == o)) descriptions-are
+      ap (find (λ (d : Description). d.offset == o)) descriptions-are
       ∙ find-shown (described_in s unit) (λ d. d.offset == o) (placed after)
 
   map-map : (found : Option Placed) → option_map (λ (p : Placed). described_in s unit p) found ≡ option_map (λ (node : Node). described s unit node.entry) (option_map (λ (p : Placed). p.0) found)
@@ -123,7 +97,7 @@ module _ (s : Sections) (unit : DwarfUnit) (after : List Node) (drafts : Drafts)
   descriptions-told : (id : EntryId) → description_of tree id ≡ option_map (λ node. described s unit node.entry) (function_at place (nodes_of s unit) id)
   descriptions-told id = by_unit (id.unit == place)
     where
-      by_unit : (b : Bool) → cond b (option_map (λ (function : Function). function.description) (find (λ function. function.description.offset == id.offset) tree.functions)) None ≡ option_map (λ node. described s unit node.entry) (cond b (find (λ node. is_function node.entry && node.entry.offset == id.offset) (nodes_of s unit)) None)
+      by_unit : (b : Bool) → cond b (find (λ (function : Description). function.offset == id.offset) tree.functions) None ≡ option_map (λ node. described s unit node.entry) (cond b (find (λ node. is_function node.entry && node.entry.offset == id.offset) (nodes_of s unit)) None)
       by_unit false = refl
       by_unit true = told-same id.offset ∙ map-map (find (at_offset id.offset) (placed after)) ∙ ap (option_map (λ node. described s unit node.entry)) (sym (node-of-offset id.offset))
 
@@ -135,21 +109,16 @@ module _ (s : Sections) (unit : DwarfUnit) (after : List Node) (drafts : Drafts)
 
     -- the number of the first function further inwards
     abbrev inner : ℕ → Option ℕ
-    inner k = option_map_or (λ (function : Function). owner_at function.inlined a) (slice_get tree.functions k) None
+    inner k = least_owner (inlined_in k inlined) a
 
     found : Found holds after (owner_at outermost a) inner
     found = record {
       rises = follows.rises;
       outermost = index a ∙ follows.outermost a;
-      inwards = λ k p e.
-          let w = slice_get_within (placed after) k p e in
-          let function = get-there tree.functions k (omega (arith, w, size)) in
-          let b = built-owners drafts.functions items k a function.0 built function.1 in
-          let offset : b.0.description.offset ≡ offset_of p = ap (λ (d : Description). d.offset) (sym b.3 ∙ pair k function.0 p function.1 e) in
-          rw (function.1) (b.2 ∙ follows.inlined k a b.0 b.1 ∙ ap (λ (o : ℕ). first (lies_in holds o) (placed after)) offset);
+      inwards = λ k p e. ap (λ (ranges : List InlinedRange). least_owner (inlined_in k ranges) a) kept_inlined ∙ follows.inlined k a p e;
     }
 
-    both : (k : ℕ) → ((slice_get tree.functions k ≡ None) × (slice_get (placed after) k ≡ None)) ⊎ ((function : Function) × (p : Placed) × (slice_get tree.functions k ≡ Some function) × (slice_get (placed after) k ≡ Some p))
+    both : (k : ℕ) → ((slice_get tree.functions k ≡ None) × (slice_get (placed after) k ≡ None)) ⊎ ((function : Description) × (p : Placed) × (slice_get tree.functions k ≡ Some function) × (slice_get (placed after) k ≡ Some p))
     both k = elim (cases_lt k (length (placed after))) [
       | inl within ↦ (
           let function = get-there tree.functions k (omega (arith, within, size)) in
@@ -164,7 +133,7 @@ module _ (s : Sections) (unit : DwarfUnit) (after : List Node) (drafts : Drafts)
     climbs-same (suc most) None = refl
     climbs-same (suc most) (Some k) = elim (both k) [
       | inl none ↦ rw (none.0, none.1) refl
-      | inr h ↦ rw (h.2, h.3, id-of-number k h.0 h.1 h.2 h.3) (ap (λ (rest : List (Option Node)). Some h.1.0 ∷ rest) (climbs-same most (owner_at h.0.inlined a)))
+      | inr h ↦ rw (h.2, h.3, id-of-number k h.0 h.1 h.2 h.3) (ap (λ (rest : List (Option Node)). Some h.1.0 ∷ rest) (climbs-same most (inner k)))
     ]
 
     chain-same : map (function_at place (nodes_of s unit)) (chain_at tree a) ≡ map Some (chain s unit (nodes_of s unit) a)
@@ -182,18 +151,18 @@ module _ (s : Sections) (unit : DwarfUnit) (after : List Node) (drafts : Drafts)
     descriptions = descriptions-told;
   }
 
-  pub in-order : Rises (map (λ (function : CodeFunction). function.description.offset) items)
+  pub in-order : Rises (map (λ (function : CodeDescription). function.offset) items)
   in-order i j x y below e f =
-      let one = get-unmapped (λ (function : CodeFunction). function.description.offset) items i x e in
-      let two = get-unmapped (λ (function : CodeFunction). function.description.offset) items j y f in
-      let first_shown = get-mapped function_shown items i one.0 one.1 in
-      let second_shown = get-mapped function_shown items j two.0 two.1 in
-      let w = slice_get_within tree.functions i (function_shown one.0) first_shown in
-      let v = slice_get_within tree.functions j (function_shown two.0) second_shown in
+      let one = get-unmapped (λ (function : CodeDescription). function.offset) items i x e in
+      let two = get-unmapped (λ (function : CodeDescription). function.offset) items j y f in
+      let first_shown = get-mapped description_shown items i one.0 one.1 in
+      let second_shown = get-mapped description_shown items j two.0 two.1 in
+      let w = slice_get_within tree.functions i (description_shown one.0) first_shown in
+      let v = slice_get_within tree.functions j (description_shown two.0) second_shown in
       let p = get-there (placed after) i (omega (arith, w, size)) in
       let q = get-there (placed after) j (omega (arith, v, size)) in
-      let at : one.0.description.offset ≡ offset_of p.0 = ap (λ (d : Description). d.offset) (pair i (function_shown one.0) p.0 first_shown p.1) in
-      let there : two.0.description.offset ≡ offset_of q.0 = ap (λ (d : Description). d.offset) (pair j (function_shown two.0) q.0 second_shown q.1) in
+      let at : one.0.offset ≡ offset_of p.0 = ap (λ (d : Description). d.offset) (pair i (description_shown one.0) p.0 first_shown p.1) in
+      let there : two.0.offset ≡ offset_of q.0 = ap (λ (d : Description). d.offset) (pair j (description_shown two.0) q.0 second_shown q.1) in
       let less = follows.rises i j (offset_of p.0) (offset_of q.0) below (get-mapped offset_of (placed after) i p.0 p.1) (get-mapped offset_of (placed after) j q.0 q.1) in
       let is = one.2 in
       let is_too = two.2 in

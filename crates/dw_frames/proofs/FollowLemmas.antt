@@ -2,8 +2,8 @@
 use Rattle.std.proofs.Common.{◌≡◌, ◌⊎◌, inl, inr, ℕ, zero, suc, ◌+◌, ◌-◌, ◌<◌, ◌≤◌, min, Bool, true, false, cond, List, [], ◌∷◌, ◌++◌, length, map, Option, Some, None, refl, sym, ap, subst, ◌∙◌, arith, length-append}
 use Rattle.std.specs.Prelude.{option_and_then, slice_get, ◌&&◌, nat_lt}
 use Rattle.std.specs.Option.{option_or}
-use Rattle.std.proofs.lemmas.List.{map_push, length-map}
-use Rattle.std.proofs.lemmas.Bool.{and_parts, and_left, and_right, eq-eqb, ne_eqb, eqb-true, lt-ltb, le-ltb}
+use Rattle.std.proofs.lemmas.List.{append-nil, map_push, length-map}
+use Rattle.std.proofs.lemmas.Bool.{cases_order, and_parts, and_left, and_right, eq-eqb, ne_eqb, eqb-true, lt-ltb, le-ltb}
 use Rattle.std.proofs.lemmas.Option.{same_Some, slice_get_within}
 use Rattle.dw_model.specs.declared.dwarf.TheConstants.{DW_TAG_subprogram}
 use Rattle.dw_model.specs.Entry.{Entry}
@@ -13,12 +13,23 @@ use Rattle.dw_model.specs.Ranges.{Range, covers}
 use Rattle.dw_model.specs.Tree.{Node, is_function, is_subprogram, is_inlined, enclosing, is_at, holds_address}
 use Rattle.dw_ranges.specs.Owners.{least_owner}
 use Rattle.dw_frames.specs.Rising.{Rises}
-use Rattle.dw_frames.specs.Drafts.{Description, described, Draft, Drafts, innermost, owned, with_inlined, with_inlined_in, inlined_into, with_ranges, with_list, without_last, without_list, known_ranges, behind_function}
+use Rattle.dw_frames.specs.Inlined.{InlinedRange, inlined_in, all_in_some}
+use Rattle.dw_frames.specs.Drafts.{Description, described, Drafts, innermost, owned, with_list, without_last, without_list, known_ranges, behind_function}
 use Rattle.dw_frames.specs.Placed.{Placed, placed, offset_of, near, first, is_outermost, lies_in, Names, described_in, Follows}
 use Rattle.dw_frames.proofs.NearLemmas.{enclosing-one}
 use Rattle.dw_frames.proofs.GetLemmas.{get-kept, get-last, get-pushed, get-there, get-mapped, get-unmapped, rises-once, rises-push}
 use Rattle.dw_frames.proofs.FirstLemmas.{first-push, first-is, first-within, owner-push}
 use Rattle.dw_frames.proofs.ChainLemmas.{lies-behind}
+use Rattle.dw_frames.proofs.InlinedLemmas.{inlined-here, inlined-elsewhere}
+
+same_or_apart : (m k : ℕ) → (m ≡ k) ⊎ (m ≡ k → ⊥)
+same_or_apart m k = elim (cases_order m k) [
+  | inl same ↦ inl same
+  | inr order ↦ elim order [
+    | inl less ↦ inr (λ same. absurd (omega (arith, less, same)))
+    | inr more ↦ inr (λ same. absurd (omega (arith, more, same)))
+  ]
+]
 
 names-kept : (all : List Placed) (x : Placed) (k : Option ℕ) (found : Option Node) → Names all k found → Names (all ++ x ∷ []) k found
 names-kept all x None found h = h
@@ -40,6 +51,7 @@ module _ (s : Sections) (unit : DwarfUnit) where
     below = λ k p e. let b = f.below k p e in omega (arith, b, h);
     outermost = f.outermost;
     inlined = f.inlined;
+    unowned = f.unowned;
     lists = λ i number e. f.lists i number (get-of-front drafts.lists i number e);
   }
 
@@ -106,7 +118,8 @@ module _ (s : Sections) (unit : DwarfUnit) where
         rises = rw same f.rises;
         below = λ k p g. let b = f.below k p (rw same at g) in omega (arith, b, h);
         outermost = λ a. rw same (f.outermost a);
-        inlined = λ k a draft g. rw same (f.inlined k a draft g);
+        inlined = λ k a p g. rw same (f.inlined k a p (rw same at g));
+        unowned = λ k past. f.unowned k (rw same at past);
         lists = λ i number g. elim (get-children entry.children drafts.lists (innermost drafts) i number g) [
           | inl old ↦ (let within = slice_get_within drafts.lists i number old in rw (same, near-past (i + 1) node before (omega (arith, within))) (f.lists i number old))
           | inr new ↦ rw (same, new.0, near-other node before e, ← new.1) (innermost-names before drafts bound f)
@@ -117,7 +130,7 @@ module _ (s : Sections) (unit : DwarfUnit) where
 
   sizes : (before : List Node) (drafts : Drafts) (bound : ℕ) → Follows s unit before drafts bound → length drafts.functions ≡ length (placed before)
   sizes before drafts bound f =
-      sym (length-map drafts.functions (λ (draft : Draft). draft.description)) ∙ ap (λ (ds : List Description). length ds) f.descriptions ∙ length-map (placed before) (described_in s unit)
+      ap (λ (ds : List Description). length ds) f.descriptions ∙ length-map (placed before) (described_in s unit)
 
   or-none : (found : Option ℕ) → option_or found None ≡ found
   or-none None = refl
@@ -161,33 +174,6 @@ module _ (s : Sections) (unit : DwarfUnit) where
           let less = x.2 in
           absurd (omega (arith, same, less, within, size))
 
-  get-inlined-in : (m : ℕ) (pairs : List (Range × ℕ)) (drafts : List Draft) (k : ℕ) (draft : Draft) → slice_get (with_inlined_in m pairs drafts) k ≡ Some draft
-      → ((k ≡ m) × (old : Draft) × (slice_get drafts k ≡ Some old) × (with_inlined old pairs ≡ draft)) ⊎ ((k ≡ m → ⊥) × (slice_get drafts k ≡ Some draft))
-  get-inlined-in m pairs [] k draft e = absurd cc
-  get-inlined-in zero pairs (first ∷ drafts) zero draft e = inl (refl, first, refl, same_Some (with_inlined first pairs) draft e)
-  get-inlined-in zero pairs (first ∷ drafts) (suc k) draft e = inr (λ h. absurd (omega (arith, h)), e)
-  get-inlined-in (suc m) pairs (first ∷ drafts) zero draft e = inr (λ h. absurd (omega (arith, h)), e)
-  get-inlined-in (suc m) pairs (first ∷ drafts) (suc k) draft e = elim (get-inlined-in m pairs drafts k draft e) [
-    | inl h ↦ inl (ap suc h.0, h.1, h.2, h.3)
-    | inr h ↦ inr (λ g. h.0 (omega (arith, g)), h.1)
-  ]
-
-  descriptions-kept : (number : Option ℕ) (pairs : List (Range × ℕ)) (drafts : List Draft) → map (λ draft. draft.description) (inlined_into number pairs drafts) ≡ map (λ draft. draft.description) drafts
-  descriptions-kept None pairs drafts = refl
-  descriptions-kept (Some m) pairs drafts = kept m drafts
-    where
-      kept : (m : ℕ) (drafts : List Draft) → map (λ draft. draft.description) (with_inlined_in m pairs drafts) ≡ map (λ draft. draft.description) drafts
-      kept m [] = refl
-      kept zero (draft ∷ drafts) = refl
-      kept (suc m) (draft ∷ drafts) = ap (λ (rest : List Description). draft.description ∷ rest) (kept m drafts)
-
-  -- the offset that is kept of a function is that of its node
-  kept-offset : (before : List Node) (drafts : Drafts) (bound k : ℕ) (draft : Draft) (p : Placed) → Follows s unit before drafts bound → slice_get drafts.functions k ≡ Some draft → slice_get (placed before) k ≡ Some p → draft.description.offset ≡ offset_of p
-  kept-offset before drafts bound k draft p f d e =
-      let one = get-mapped (λ (draft : Draft). draft.description) drafts.functions k draft d in
-      let two = get-mapped (described_in s unit) (placed before) k p e in
-      ap (λ (d : Description). d.offset) (same_Some draft.description (described_in s unit p) (sym one ∙ ap (λ (ds : List Description). slice_get ds k) f.descriptions ∙ two))
-
   subprogram-only : (entry : Entry) → is_subprogram entry ≡ true → is_inlined entry ≡ false
   subprogram-only entry e = rw (eqb-true entry.tag DW_TAG_subprogram e) refl
 
@@ -220,42 +206,49 @@ module _ (s : Sections) (unit : DwarfUnit) where
     by_subprogram false e a =
         f.outermost a ∙ sym (push-false (is_outermost (holds_address s unit a)) (placed before) here (and_left (is_subprogram entry) (holds_address s unit a entry) e))
 
-    unchanged : (k a : ℕ) (draft : Draft) → slice_get drafts.functions k ≡ Some draft → lies_in (holds_address s unit a) draft.description.offset here ≡ false → least_owner draft.inlined a ≡ first (lies_in (holds_address s unit a) draft.description.offset) (placed before ++ here ∷ [])
-    unchanged k a draft e out =
-        f.inlined k a draft e ∙ sym (push-false (lies_in (holds_address s unit a) draft.description.offset) (placed before) here out)
+    unchanged : (k a : ℕ) (p : Placed) → slice_get (placed before) k ≡ Some p → lies_in (holds_address s unit a) (offset_of p) here ≡ false → least_owner (inlined_in k drafts.inlined) a ≡ first (lies_in (holds_address s unit a) (offset_of p)) (placed before ++ here ∷ [])
+    unchanged k a p e out =
+        f.inlined k a p e ∙ sym (push-false (lies_in (holds_address s unit a) (offset_of p)) (placed before) here out)
+
+    -- functions of one offset have one number
+    one-number : (k m : ℕ) (p q : Placed) → slice_get (placed before) k ≡ Some p → slice_get (placed before) m ≡ Some q → offset_of q ≡ offset_of p → m ≡ k
+    one-number k m p q e g same =
+        rises-once (map offset_of (placed before)) m k (offset_of p) f.rises (get-mapped offset_of (placed before) m q g ∙ ap Some same) (get-mapped offset_of (placed before) k p e)
 
     -- what is inlined in each function of before
-    by_outer : is_inlined entry ≡ true → (outer : Option ℕ) → Names (placed before) outer here.1 → (k a : ℕ) (draft : Draft) → slice_get (inlined_into outer pairs drafts.functions) k ≡ Some draft → least_owner draft.inlined a ≡ first (lies_in (holds_address s unit a) draft.description.offset) (placed before ++ here ∷ [])
-    by_outer inlined None h k a draft e =
-        unchanged k a draft e (and_right (is_inlined entry && holds_address s unit a entry) (is_at here.1 draft.description.offset) (ap (λ (o : Option Node). is_at o draft.description.offset) h))
-    by_outer inlined (Some m) h k a draft e = elim (get-inlined-in m pairs drafts.functions k draft e) [
-      | inl old ↦ (
-          let p = h.0 in
-          let there : slice_get drafts.functions m ≡ Some old.1 = ap (slice_get drafts.functions) (sym old.0) ∙ old.2 in
-          let offset = kept-offset before drafts bound m old.1 p f there h.1 in
-          let inside : lies_in (holds_address s unit a) old.1.description.offset here ≡ covers a (known_ranges s unit entry) =
-          rw (inlined, h.2, eq-eqb (offset_of p) old.1.description.offset (sym offset)) (and-true (covers a (known_ranges s unit entry))) in
-          let more = owner-more (lies_in (holds_address s unit a) old.1.description.offset) (placed before) here old.1.inlined (known_ranges s unit entry) number a (sizes before drafts bound f) (f.inlined m a old.1 there) inside in
-          subst (λ (draft : Draft). least_owner draft.inlined a ≡ first (lies_in (holds_address s unit a) draft.description.offset) (placed before ++ here ∷ [])) old.3 more)
-      | inr other ↦ (
-          let p = h.0 in
-          let w = slice_get_within drafts.functions k draft other.1 in
-          let size = sizes before drafts bound f in
-          let q = get-there (placed before) k (omega (arith, w, size)) in
-          let offset = kept-offset before drafts bound k draft q.0 f other.1 q.1 in
-          let apart : offset_of p ≡ draft.description.offset → ⊥ = λ same.
-          other.0 (rises-once (map offset_of (placed before)) k m (offset_of p) f.rises (get-mapped offset_of (placed before) k q.0 q.1 ∙ ap Some (sym (same ∙ offset))) (get-mapped offset_of (placed before) m p h.1)) in
-          unchanged k a draft other.1 (and_right (is_inlined entry && holds_address s unit a entry) (is_at here.1 draft.description.offset) (rw (h.2) (ne_eqb (offset_of p) draft.description.offset apart))))
+    by_outer : is_inlined entry ≡ true → (outer : Option ℕ) → Names (placed before) outer here.1 → (k a : ℕ) (p : Placed) → slice_get (placed before) k ≡ Some p → least_owner (inlined_in k (drafts.inlined ++ all_in_some outer pairs)) a ≡ first (lies_in (holds_address s unit a) (offset_of p)) (placed before ++ here ∷ [])
+    by_outer inlined None h k a p e =
+        ap (λ (ranges : List InlinedRange). least_owner (inlined_in k ranges) a) (append-nil drafts.inlined)
+        ∙ unchanged k a p e (and_right (is_inlined entry && holds_address s unit a entry) (is_at here.1 (offset_of p)) (ap (λ (o : Option Node). is_at o (offset_of p)) h))
+    by_outer inlined (Some m) h k a p e = elim (same_or_apart m k) [
+      | inl same ↦ (
+          let q = h.0 in
+          let at : offset_of q ≡ offset_of p = ap offset_of (same_Some q p (sym h.1 ∙ ap (slice_get (placed before)) same ∙ e)) in
+          let inside : lies_in (holds_address s unit a) (offset_of p) here ≡ covers a (known_ranges s unit entry) =
+          rw (inlined, h.2, eq-eqb (offset_of q) (offset_of p) at) (and-true (covers a (known_ranges s unit entry))) in
+          ap (λ (found : List (Range × ℕ)). least_owner found a) (inlined-here k m drafts.inlined pairs same)
+          ∙ owner-more (lies_in (holds_address s unit a) (offset_of p)) (placed before) here (inlined_in k drafts.inlined) (known_ranges s unit entry) number a (sizes before drafts bound f) (f.inlined k a p e) inside)
+      | inr apart ↦ (
+          let q = h.0 in
+          let other : offset_of q ≡ offset_of p → ⊥ = λ at. apart (one-number k m p q e h.1 at) in
+          ap (λ (found : List (Range × ℕ)). least_owner found a) (inlined-elsewhere k m drafts.inlined pairs apart)
+          ∙ unchanged k a p e (and_right (is_inlined entry && holds_address s unit a entry) (is_at here.1 (offset_of p)) (rw (h.2) (ne_eqb (offset_of q) (offset_of p) other))))
     ]
 
-    inlined-before : (b : Bool) → is_subprogram entry ≡ b → (k a : ℕ) (draft : Draft) → slice_get (cond b drafts.functions (inlined_into (innermost drafts) pairs drafts.functions)) k ≡ Some draft → least_owner draft.inlined a ≡ first (lies_in (holds_address s unit a) draft.description.offset) (placed before ++ here ∷ [])
-    inlined-before true e k a draft g =
-        unchanged k a draft g (and_left (is_inlined entry && holds_address s unit a entry) (is_at here.1 draft.description.offset) (and_left (is_inlined entry) (holds_address s unit a entry) (subprogram-only entry e)))
-    inlined-before false e k a draft g = by_outer (inlined-only entry function e) (innermost drafts) lies k a draft g
+    inlined-before : (b : Bool) → is_subprogram entry ≡ b → (k a : ℕ) (p : Placed) → slice_get (placed before) k ≡ Some p → least_owner (inlined_in k (cond b drafts.inlined (drafts.inlined ++ all_in_some (innermost drafts) pairs))) a ≡ first (lies_in (holds_address s unit a) (offset_of p)) (placed before ++ here ∷ [])
+    inlined-before true e k a p g =
+        unchanged k a p g (and_left (is_inlined entry && holds_address s unit a entry) (is_at here.1 (offset_of p)) (and_left (is_inlined entry) (holds_address s unit a entry) (subprogram-only entry e)))
+    inlined-before false e k a p g = by_outer (inlined-only entry function e) (innermost drafts) lies k a p g
 
-    described-before : (b : Bool) → map (λ draft. draft.description) (cond b drafts.functions (inlined_into (innermost drafts) pairs drafts.functions)) ≡ map (described_in s unit) (placed before)
-    described-before true = f.descriptions
-    described-before false = descriptions-kept (innermost drafts) pairs drafts.functions ∙ f.descriptions
+    none-owned : (b : Bool) (k : ℕ) → length (placed before) ≤ k → inlined_in k (cond b drafts.inlined (drafts.inlined ++ all_in_some (innermost drafts) pairs)) ≡ []
+    none-owned true k past = f.unowned k past
+    none-owned false k past = by_list (innermost drafts) lies
+      where
+        by_list : (outer : Option ℕ) → Names (placed before) outer here.1 → inlined_in k (drafts.inlined ++ all_in_some outer pairs) ≡ []
+        by_list None h = ap (inlined_in k) (append-nil drafts.inlined) ∙ f.unowned k past
+        by_list (Some m) h =
+            let w = slice_get_within (placed before) m h.0 h.1 in
+            inlined-elsewhere k m drafts.inlined pairs (λ same. absurd (omega (arith, same, w, past))) ∙ f.unowned k past
 
     offsets-push : map offset_of (placed before ++ here ∷ []) ≡ map offset_of (placed before) ++ entry.offset ∷ []
     offsets-push = map_push offset_of (placed before) here
@@ -270,23 +263,24 @@ module _ (s : Sections) (unit : DwarfUnit) where
     pub follows-function : bound ≤ entry.offset → entry.offset < next → Follows s unit (node ∷ before) (behind_function s unit entry drafts) next
     follows-function low high =
         let same = placed-here node before function in
-        let old : List Draft = (with_ranges (is_subprogram entry) pairs drafts).functions in
-        let new : Draft = record { description = described s unit entry; inlined = [] } in
-        let count : length old ≡ length (placed before) = sym (length-map old (λ (draft : Draft). draft.description)) ∙ ap (λ (ds : List Description). length ds) (described-before (is_subprogram entry)) ∙ length-map (placed before) (described_in s unit) in
         let rising = rises-here low in
         let last-number : slice_get (placed before ++ here ∷ []) number ≡ Some here = ap (slice_get (placed before ++ here ∷ [])) (sizes before drafts bound f) ∙ get-last (placed before) here in
         record {
-          descriptions = rw same (map_push (λ (draft : Draft). draft.description) old new ∙ ap (λ (ds : List Description). ds ++ new.description ∷ []) (described-before (is_subprogram entry)) ∙ sym (map_push (described_in s unit) (placed before) here));
+          descriptions = rw same (ap (λ (ds : List Description). ds ++ described s unit entry ∷ []) f.descriptions ∙ sym (map_push (described_in s unit) (placed before) here));
           rises = rw same rising;
           below = λ k p g. elim (get-pushed (placed before) here k p (rw same at g)) [
             | inl before ↦ (let b = f.below k p before in omega (arith, b, low, high))
             | inr last ↦ (let is : entry.offset ≡ offset_of p = ap offset_of last.1 in omega (arith, is, high))
           ];
           outermost = λ a. rw same (by_subprogram (is_subprogram entry) refl a);
-          inlined = λ k a draft g. elim (get-pushed old new k draft g) [
-            | inl before ↦ rw same (inlined-before (is_subprogram entry) refl k a draft before)
-            | inr last ↦ subst (λ (draft : Draft). least_owner draft.inlined a ≡ first (lies_in (holds_address s unit a) draft.description.offset) (placed (node ∷ before))) last.1 (unowned a ∙ sym (none-in-last a (node ∷ before) (length (placed before)) here (rw same rising) (rw same (get-last (placed before) here)) (rw same (let l = length-append (placed before) (here ∷ []) in omega (arith, l)))))
+          inlined = λ k a p g. elim (get-pushed (placed before) here k p (rw same at g)) [
+            | inl before ↦ rw same (inlined-before (is_subprogram entry) refl k a p before)
+            | inr last ↦ (
+                let none = none-owned (is_subprogram entry) k (omega (arith, last.0)) in
+                let alone = none-in-last a (node ∷ before) (length (placed before)) here (rw same rising) (rw same (get-last (placed before) here)) (rw same (let l = length-append (placed before) (here ∷ []) in omega (arith, l))) in
+                ap (λ (found : List (Range × ℕ)). least_owner found a) none ∙ unowned a ∙ sym (subst (λ (p : Placed). first (lies_in (holds_address s unit a) (offset_of p)) (placed (node ∷ before)) ≡ None) last.1 alone))
           ];
+          unowned = λ k past. none-owned (is_subprogram entry) k (let l = length-append (placed before) (here ∷ []) in let more = rw same at past in omega (arith, l, more));
           lists = λ i list g. elim (get-children entry.children drafts.lists (Some number) i list g) [
             | inl old_list ↦ (let within = slice_get_within drafts.lists i list old_list in rw (same, near-past (i + 1) node before (omega (arith, within))) (names-kept (placed before) here list (near (i + 1) before) (f.lists i list old_list)))
             | inr new_list ↦ rw (same, new_list.0, near-here node before function, ← new_list.1) (here, last-number, refl)

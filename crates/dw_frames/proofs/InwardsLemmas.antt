@@ -4,12 +4,14 @@ use Rattle.std.specs.Prelude.{option_map, slice_get, find, ◌==◌}
 use Rattle.std.proofs.lemmas.List.{append-nil, append_assoc, length-map}
 use Rattle.std.proofs.lemmas.Bool.{eq-eqb, ne_eqb}
 use Rattle.std.proofs.lemmas.Option.{same_Some, slice_get_read, slice_get_past}
-use Rattle.dw_ranges.specs.Segments.{owner_at}
+use Rattle.dw_ranges.specs.Owners.{least_owner}
 use Rattle.dw_frames.specs.declared.call.EntryId.{EntryId}
-use Rattle.dw_frames.specs.declared.function.Function.{Function as CodeFunction}
-use Rattle.dw_frames.specs.Function.{function_shown}
+use Rattle.dw_frames.specs.declared.description.Description.{Description as CodeDescription}
+use Rattle.dw_frames.specs.Description.{description_shown}
+use Rattle.dw_frames.specs.Inlined.{inlined_in}
+use Rattle.dw_frames.specs.Drafts.{Description}
 use Rattle.dw_frames.proofs.GetLemmas.{get-mapped}
-use Rattle.dw_frames.specs.Tree.{Tree, Function, id_of, inwards}
+use Rattle.dw_frames.specs.Tree.{Tree, id_of, inwards}
 
 pub inwards-zero : (tree : Tree) (a : ℕ) (number : Option ℕ) → inwards tree a 0 number ≡ []
 unfolding inwards
@@ -25,7 +27,7 @@ unfolding inwards
 inwards-nowhere tree a zero k e = refl
 inwards-nowhere tree a (suc most) k e = rw e refl
 
-pub inwards-on : (tree : Tree) (a n i k : ℕ) (function : Function) → i < n → slice_get tree.functions k ≡ Some function → inwards tree a (n - i) (Some k) ≡ id_of tree function ∷ inwards tree a (n - (i + 1)) (owner_at function.inlined a)
+pub inwards-on : (tree : Tree) (a n i k : ℕ) (function : Description) → i < n → slice_get tree.functions k ≡ Some function → inwards tree a (n - i) (Some k) ≡ id_of tree function ∷ inwards tree a (n - (i + 1)) (least_owner (inlined_in k tree.inlined) a)
 unfolding inwards
 inwards-on tree a n i k function h e =
     let step : n - i ≡ suc (n - (i + 1)) = omega (arith, h) in
@@ -38,9 +40,9 @@ Found tree a ids most number all = ids ++ inwards tree a most number ≡ all
 pub found-all : (tree : Tree) (a most : ℕ) (number : Option ℕ) (ids all : List EntryId) → inwards tree a most number ≡ [] → Found tree a ids most number all → ids ≡ all
 found-all tree a most number ids all e h = sym (append-nil ids) ∙ ap (λ (rest : List EntryId). ids ++ rest) (sym e) ∙ h
 
-pub found-more : (tree : Tree) (a n i k : ℕ) (function : Function) (ids all : List EntryId) → i < n → slice_get tree.functions k ≡ Some function → Found tree a ids (n - i) (Some k) all → Found tree a (ids ++ id_of tree function ∷ []) (n - (i + 1)) (owner_at function.inlined a) all
+pub found-more : (tree : Tree) (a n i k : ℕ) (function : Description) (ids all : List EntryId) → i < n → slice_get tree.functions k ≡ Some function → Found tree a ids (n - i) (Some k) all → Found tree a (ids ++ id_of tree function ∷ []) (n - (i + 1)) (least_owner (inlined_in k tree.inlined) a) all
 found-more tree a n i k function ids all h e f =
-    append_assoc ids (id_of tree function ∷ []) (inwards tree a (n - (i + 1)) (owner_at function.inlined a))
+    append_assoc ids (id_of tree function ∷ []) (inwards tree a (n - (i + 1)) (least_owner (inlined_in k tree.inlined) a))
     ∙ ap (λ (rest : List EntryId). ids ++ rest) (sym (inwards-on tree a n i k function h e)) ∙ f
 
 -- ---- an element by a number that it has
@@ -70,10 +72,10 @@ find-shown show test (x ∷ xs) = rw (find-shown show test xs) (by_test (test (s
 
 -- ---- functions as the code keeps them
 
-pub kept-there : (tree : Tree) (items read : List CodeFunction) (k : ℕ) (function : CodeFunction) → map function_shown items ≡ tree.functions → read ≡ items → k < length read → function ≡ get_or read k function → slice_get tree.functions k ≡ Some (function_shown function)
+pub kept-there : (tree : Tree) (items read : List CodeDescription) (k : ℕ) (function : CodeDescription) → map description_shown items ≡ tree.functions → read ≡ items → k < length read → function ≡ get_or read k function → slice_get tree.functions k ≡ Some (description_shown function)
 kept-there tree items read k function shown same within is =
-    sym (ap (λ (fs : List Function). slice_get fs k) shown) ∙ get-mapped function_shown items k function (ap (λ (fs : List CodeFunction). slice_get fs k) (sym same) ∙ slice_get_read read (length read) k function refl within is)
+    sym (ap (λ (fs : List Description). slice_get fs k) shown) ∙ get-mapped description_shown items k function (ap (λ (fs : List CodeDescription). slice_get fs k) (sym same) ∙ slice_get_read read (length read) k function refl within is)
 
-pub kept-nowhere : (tree : Tree) (items read : List CodeFunction) (k : ℕ) → map function_shown items ≡ tree.functions → read ≡ items → length read ≤ k → slice_get tree.functions k ≡ None
+pub kept-nowhere : (tree : Tree) (items read : List CodeDescription) (k : ℕ) → map description_shown items ≡ tree.functions → read ≡ items → length read ≤ k → slice_get tree.functions k ≡ None
 kept-nowhere tree items read k shown same past =
-    sym (ap (λ (fs : List Function). slice_get fs k) shown) ∙ slice_get_past (map function_shown items) k (let l = length-map items function_shown in let r = ap (λ (fs : List CodeFunction). length fs) same in omega (arith, l, r, past))
+    sym (ap (λ (fs : List Description). slice_get fs k) shown) ∙ slice_get_past (map description_shown items) k (let l = length-map items description_shown in let r = ap (λ (fs : List CodeDescription). length fs) same in omega (arith, l, r, past))

@@ -14,3 +14,5 @@ pub mod TreeLemmas
 pub mod InwardsLemmas
 pub mod SearchLemmas
 pub mod BuiltLemmas
+pub mod InlinedLemmas
+pub mod LinkLemmas

@@ -37,7 +37,8 @@ follows-none s unit bound = record {
   rises = λ i j x y h e f. absurd cc;
   below = λ k p e. absurd cc;
   outermost = λ a. refl;
-  inlined = λ k a draft e. absurd cc;
+  inlined = λ k a p e. absurd cc;
+  unowned = λ k past. refl;
   lists = λ i number e. absurd cc;
 }
 

@@ -1,5 +1,5 @@
 -- What is kept of the functions of a unit while its entries are read.
-use Rattle.std.specs.Prelude.{ℕ, zero, suc, ◌-◌, Bool, cond, List, [], ◌∷◌, ◌++◌, length, map, Option, Some, None, option_and_then, slice_get}
+use Rattle.std.specs.Prelude.{ℕ, ◌-◌, Bool, cond, List, [], ◌∷◌, ◌++◌, length, map, Option, Some, None, option_and_then, slice_get}
 use Rattle.std.specs.Result.{result_unwrap_or}
 use Rattle.dw_model.specs.Entry.{Entry}
 use Rattle.dw_model.specs.Section.{Sections}
@@ -9,6 +9,7 @@ use Rattle.dw_model.specs.Tree.{is_function, is_subprogram, entry_ranges_in}
 use Rattle.dw_model.specs.Name.{name}
 use Rattle.dw_frames.specs.declared.call.Call.{Call}
 use Rattle.dw_frames.specs.Call.{call_of}
+use Rattle.dw_frames.specs.Inlined.{InlinedRange, all_in_some}
 
 -- what is told of a function
 pub record Description : Type 0 where
@@ -24,19 +25,15 @@ described sections unit entry = record {
   call = call_of entry;
 }
 
--- a function, and the ranges of those that are inlined directly in it, each with the number of its function
-pub record Draft : Type 0 where
-  pub description : Description
-  pub inlined : List (Range × ℕ)
-
--- The functions in order; the ranges of all subprograms; and the lists of children that are open, the outermost first, each with the number of the function in which its entries lie.
+-- The functions in order; the ranges of all subprograms; those of all inlined functions, each in the function in which it lies; and the lists of children that are open, the outermost first, each with the number of the function in which its entries lie.
 pub record Drafts : Type 0 where
-  pub functions : List Draft
+  pub functions : List Description
   pub outermost : List (Range × ℕ)
+  pub inlined : List InlinedRange
   pub lists : List (Option ℕ)
 
 abbrev pub no_drafts : Drafts
-no_drafts = record { functions = []; outermost = []; lists = [] }
+no_drafts = record { functions = []; outermost = []; inlined = []; lists = [] }
 
 -- the number of the function in which the next entry lies
 abbrev pub innermost : Drafts → Option ℕ
@@ -45,32 +42,21 @@ innermost drafts = option_and_then (λ number. number) (slice_get drafts.lists (
 abbrev pub owned : List Range → ℕ → List (Range × ℕ)
 owned ranges number = map (λ range. (range, number)) ranges
 
-abbrev pub with_inlined : Draft → List (Range × ℕ) → Draft
-with_inlined draft pairs = record { description = draft.description; inlined = draft.inlined ++ pairs }
-
--- the function of a number with further ranges inlined in it
-abbrev pub with_inlined_in : ℕ → List (Range × ℕ) → List Draft → List Draft
-with_inlined_in number pairs [] = []
-with_inlined_in zero pairs (draft ∷ drafts) = with_inlined draft pairs ∷ drafts
-with_inlined_in (suc number) pairs (draft ∷ drafts) = draft ∷ with_inlined_in number pairs drafts
-
-abbrev pub inlined_into : Option ℕ → List (Range × ℕ) → List Draft → List Draft
-inlined_into None pairs drafts = drafts
-inlined_into (Some number) pairs drafts = with_inlined_in number pairs drafts
-
 -- The ranges of a subprogram are kept among those of all, and those of an inlined function in the function in which it lies.
 abbrev pub with_ranges : Bool → List (Range × ℕ) → Drafts → Drafts
 with_ranges subprogram pairs drafts = record {
-  functions = cond subprogram drafts.functions (inlined_into (innermost drafts) pairs drafts.functions);
+  functions = drafts.functions;
   outermost = cond subprogram (drafts.outermost ++ pairs) drafts.outermost;
+  inlined = cond subprogram drafts.inlined (drafts.inlined ++ all_in_some (innermost drafts) pairs);
   lists = drafts.lists;
 }
 
 -- one more function
 abbrev pub with_function : Description → Drafts → Drafts
 with_function description drafts = record {
-  functions = drafts.functions ++ record { description = description; inlined = [] } ∷ [];
+  functions = drafts.functions ++ description ∷ [];
   outermost = drafts.outermost;
+  inlined = drafts.inlined;
   lists = drafts.lists;
 }
 
@@ -79,6 +65,7 @@ abbrev pub with_list : Bool → Option ℕ → Drafts → Drafts
 with_list children number drafts = record {
   functions = drafts.functions;
   outermost = drafts.outermost;
+  inlined = drafts.inlined;
   lists = cond children (drafts.lists ++ number ∷ []) drafts.lists;
 }
 
@@ -89,7 +76,7 @@ without_last (x ∷ []) = []
 without_last (x ∷ y ∷ xs) = x ∷ without_last (y ∷ xs)
 
 abbrev pub without_list : Drafts → Drafts
-without_list drafts = record { functions = drafts.functions; outermost = drafts.outermost; lists = without_last drafts.lists }
+without_list drafts = record { functions = drafts.functions; outermost = drafts.outermost; inlined = drafts.inlined; lists = without_last drafts.lists }
 
 abbrev pub known_ranges : Sections → DwarfUnit → Entry → List Range
 known_ranges sections unit entry = result_unwrap_or (entry_ranges_in sections unit entry) []

@@ -2,8 +2,13 @@
 use Rattle.std.specs.Prelude.{map}
 use Rattle.dw_ranges.specs.Range.{pair_shown}
 use Rattle.dw_frames.specs.Drafts.{Drafts}
-use Rattle.dw_frames.specs.Function.{draft_of}
+use Rattle.dw_frames.specs.Description.{description_shown}
 use Rattle.dw_frames.specs.declared.drafts.Drafts.TheInside.{Inside}
 
 abbrev pub drafts_of : Inside → Drafts
-drafts_of drafts = record { functions = map draft_of drafts.functions.items; outermost = map pair_shown drafts.outermost.items; lists = drafts.lists.items }
+drafts_of drafts = record {
+  functions = map description_shown drafts.functions.items;
+  outermost = map pair_shown drafts.outermost.items;
+  inlined = drafts.inlined;
+  lists = drafts.lists.items;
+}

@@ -1,10 +1,11 @@
-pub mod Built
 pub mod Call
 pub mod Description
 pub mod Drafts
 pub mod DraftsInside
 pub mod Fault
-pub mod Function
+pub mod Inlined
+pub mod InlinedInside
+pub mod LinksInside
 pub mod Name
 pub mod Named
 pub mod NamesInside

@@ -1,12 +1,13 @@
 -- The functions of a tree in order, each with the function in which it lies.
-use Rattle.std.specs.Prelude.{◌≡◌, ◌<◌, ℕ, suc, ◌+◌, min, Bool, cond, List, [], ◌∷◌, ◌++◌, map, Option, Some, None, option_map, slice_get, nat_lt, ◌&&◌}
+use Rattle.std.specs.Prelude.{◌≡◌, ◌<◌, ◌≤◌, ℕ, suc, ◌+◌, length, min, Bool, cond, List, [], ◌∷◌, ◌++◌, map, Option, Some, None, option_map, slice_get, nat_lt, ◌&&◌}
 use Rattle.dw_model.specs.Entry.{Entry}
 use Rattle.dw_model.specs.Section.{Sections}
 use Rattle.dw_model.specs.Unit.{DwarfUnit}
 use Rattle.dw_model.specs.Tree.{Node, is_function, is_subprogram, is_inlined, enclosing, is_at, holds_address}
 use Rattle.dw_ranges.specs.Owners.{least_owner}
 use Rattle.dw_frames.specs.Rising.{Rises}
-use Rattle.dw_frames.specs.Drafts.{Description, described, Draft, Drafts}
+use Rattle.dw_frames.specs.Inlined.{inlined_in}
+use Rattle.dw_frames.specs.Drafts.{Description, described, Drafts}
 
 -- a function, and the one in which it lies
 abbrev pub Placed : Type 0
@@ -51,9 +52,10 @@ described_in s unit p = described s unit p.0.entry
 
 -- The functions among the nodes so far are kept, with all that was inlined in them, and each open list names the function in which its entries lie. Offsets are below a bound.
 pub record Follows (s : Sections) (unit : DwarfUnit) (before : List Node) (drafts : Drafts) (bound : ℕ) : Type 0 where
-  pub descriptions : map (λ draft. draft.description) drafts.functions ≡ map (described_in s unit) (placed before)
+  pub descriptions : drafts.functions ≡ map (described_in s unit) (placed before)
   pub rises : Rises (map offset_of (placed before))
   pub below : (k : ℕ) (p : Placed) → slice_get (placed before) k ≡ Some p → offset_of p < bound
   pub outermost : (a : ℕ) → least_owner drafts.outermost a ≡ first (is_outermost (holds_address s unit a)) (placed before)
-  pub inlined : (k a : ℕ) (draft : Draft) → slice_get drafts.functions k ≡ Some draft → least_owner draft.inlined a ≡ first (lies_in (holds_address s unit a) draft.description.offset) (placed before)
+  pub inlined : (k a : ℕ) (p : Placed) → slice_get (placed before) k ≡ Some p → least_owner (inlined_in k drafts.inlined) a ≡ first (lies_in (holds_address s unit a) (offset_of p)) (placed before)
+  pub unowned : (k : ℕ) → length (placed before) ≤ k → inlined_in k drafts.inlined ≡ []
   pub lists : (i : ℕ) (number : Option ℕ) → slice_get drafts.lists i ≡ Some number → Names (placed before) number (near (i + 1) before)

@@ -7,32 +7,30 @@ use Rattle.dw_model.specs.Unit.{DwarfUnit}
 use Rattle.dw_model.specs.Tree.{Node, is_function, chain}
 use Rattle.dw_model.specs.Tree as model
 use Rattle.dw_ranges.specs.declared.segment.Segment.{Segment}
+use Rattle.dw_ranges.specs.Owners.{least_owner}
 use Rattle.dw_ranges.specs.Segments.{owner_at}
 use Rattle.dw_frames.specs.declared.call.EntryId.{EntryId}
+use Rattle.dw_frames.specs.Inlined.{InlinedRange, inlined_in}
 use Rattle.dw_frames.specs.Drafts.{Description, described}
 
--- a function, and the index of those that are inlined directly in it, each by its number
-pub record Function : Type 0 where
-  pub description : Description
-  pub inlined : List Segment
-
--- The place of a unit, the index of its subprograms, each by its number, and its functions in order.
+-- The place of a unit, the index of its subprograms, each by its number, its functions in order, and the ranges of those that were inlined in others.
 pub record Tree : Type 0 where
   pub unit : ℕ
   pub outermost : List Segment
-  pub functions : List Function
+  pub functions : List Description
+  pub inlined : List InlinedRange
 
 -- ---- what it tells
 
-abbrev pub id_of : Tree → Function → EntryId
-id_of tree function = record { unit = tree.unit; offset = function.description.offset }
+abbrev pub id_of : Tree → Description → EntryId
+id_of tree function = record { unit = tree.unit; offset = function.offset }
 
 -- the functions at an address from a number on inwards, at most so many
 unfoldable pub inwards : Tree → (a most : ℕ) → Option ℕ → List EntryId
 inwards tree a zero number = []
 inwards tree a (suc most) None = []
 inwards tree a (suc most) (Some number) =
-    option_map_or (λ function. id_of tree function ∷ inwards tree a most (owner_at function.inlined a)) (slice_get tree.functions number) []
+    option_map_or (λ function. id_of tree function ∷ inwards tree a most (least_owner (inlined_in number tree.inlined) a)) (slice_get tree.functions number) []
 
 -- the functions at an address, innermost first
 abbrev pub chain_at : Tree → ℕ → List EntryId
@@ -41,7 +39,7 @@ chain_at tree a = reverse (inwards tree a (length tree.functions) (owner_at tree
 -- what is told of the function of an id, where it has one of that id
 abbrev pub description_of : Tree → EntryId → Option Description
 description_of tree id =
-    if id.unit == tree.unit then option_map (λ function. function.description) (find (λ function. function.description.offset == id.offset) tree.functions) else None
+    if id.unit == tree.unit then find (λ function. function.offset == id.offset) tree.functions else None
 
 -- ---- the definitions
 

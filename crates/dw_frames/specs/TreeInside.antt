@@ -2,12 +2,12 @@
 use Rattle.std.specs.Prelude.{map}
 use Rattle.dw_frames.specs.Tree.{Tree}
 use Rattle.dw_frames.specs.Rising.{Rises}
-use Rattle.dw_frames.specs.Function.{function_shown}
+use Rattle.dw_frames.specs.Description.{description_shown}
 use Rattle.dw_frames.specs.declared.tree.Tree.TheInside.{Inside}
 
 abbrev pub tree_of : Inside → Tree
-tree_of tree = record { unit = tree.unit; outermost = tree.outermost; functions = map function_shown tree.functions.items }
+tree_of tree = record { unit = tree.unit; outermost = tree.outermost; functions = map description_shown tree.functions.items; inlined = tree.inlined }
 
 -- functions stand in order of offset
 abbrev pub IsOrdered : Inside → Type 0
-IsOrdered tree = Rises (map (λ function. function.description.offset) tree.functions.items)
+IsOrdered tree = Rises (map (λ function. function.offset) tree.functions.items)

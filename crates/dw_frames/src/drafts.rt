@@ -1,17 +1,16 @@
 //! The functions of a unit, while its entries are read.
 
 ghost use Rattle.std.specs.Prelude.{◌≡◌, ◌++◌, ℕ, false, OnOk, IfOk, length, map};
-ghost use Rattle.std.specs.List.{AllZip};
 ghost use Rattle.dw_ranges.specs.Owners.{least_owner};
 ghost use Rattle.dw_ranges.specs.Segments.{owner_at};
-ghost use Rattle.dw_frames.specs.Built.{IsBuilt};
 ghost use Rattle.dw_ranges.specs.Range.{pair_shown, range_shown};
 ghost use Rattle.dw_frames.specs.Description.{description_shown};
 ghost use Rattle.dw_frames.specs.Drafts as model;
 ghost use Rattle.dw_frames.specs.Drafts.{owned};
 
 use crate::description::Description;
-use crate::function::Function;
+use crate::inlined::Inlined;
+use crate::links::Links;
 use dw_ranges::{Index, Range};
 use std::alloc::{AllocError, Global};
 use std::marker::Model;
@@ -33,9 +32,11 @@ fn push_ranges(
 /// The functions of a unit, while its entries are read.
 #[derive(Drop)]
 pub(crate) struct Drafts<'a> {
-    functions: Vec<Function<'a>>,
+    functions: Vec<Description<'a>>,
     /// The ranges of all subprograms, each with the number of its function.
     outermost: Vec<(Range, usize)>,
+    /// The ranges of all functions that are inlined in others.
+    inlined: Links,
     /// The lists of children that are open, the outermost first: each has the number of the function in
     /// which its entries lie.
     lists: Vec<Option<usize>>,
@@ -61,6 +62,7 @@ impl<'a> Drafts<'a> {
         Drafts {
             functions: Vec::new(alloc),
             outermost: Vec::new(alloc),
+            inlined: Links::new(alloc),
             lists: Vec::new(alloc),
         }
     }
@@ -116,10 +118,7 @@ impl<'a> Drafts<'a> {
         let Some(outer) = self.innermost() else {
             return Ok(());
         };
-        let Some(function) = self.functions.get_mut(outer) else {
-            return Ok(());
-        };
-        push_ranges(&mut function.pairs, ranges, number)
+        self.inlined.push(outer, ranges, number)
     }
 
     /// Keeps the ranges of a function.
@@ -138,14 +137,10 @@ impl<'a> Drafts<'a> {
     }
 
     /// One more function.
-    pub(crate) fn push_function(
-        &mut self,
-        alloc: Global,
-        description: Description<'a>,
-    ) -> Result<(), AllocError>
+    pub(crate) fn push_function(&mut self, description: Description<'a>) -> Result<(), AllocError>
         ensures { OnOk result (self.new ≡ model.with_function (description_shown description.entry) self.old) }
     {
-        self.functions.push(Function::new(alloc, description)?)?;
+        self.functions.push(description)?;
         Ok(())
     }
 }
@@ -158,14 +153,20 @@ impl<'a> Drafts<'a> {
         Index::build(alloc, &self.outermost)
     }
 
-    /// The functions, each with the index of those that are inlined directly in it.
-    pub(crate) fn functions(self, alloc: Global) -> Result<Vec<Function<'a>>, AllocError>
-        ensures { IfOk result (λ functions. AllZip IsBuilt self.entry.functions functions.items) }
+    /// The functions, and those that are inlined in them.
+    pub(crate) fn functions(
+        self,
+        alloc: Global,
+    ) -> Result<(Vec<Description<'a>>, Inlined), AllocError>
+        ensures functions { IfOk result (λ parts. map description_shown parts.0.items ≡ self.entry.functions) }
+        ensures inlined { IfOk result (λ parts. parts.1 ≡ self.entry.inlined) }
     {
-        let Drafts { mut functions, .. } = self;
-        for function in functions.iter_mut() {
-            function.build(alloc)?;
-        }
-        Ok(functions)
+        let Drafts {
+            functions,
+            inlined,
+            ..
+        } = self;
+        let inlined = Inlined::new(alloc, inlined)?;
+        Ok((functions, inlined))
     }
 }

@@ -25,7 +25,7 @@ use crate::names::Names;
 use dw_model::dwarf::DW_TAG_subprogram;
 use dw_ranges::{Range, RangeFault, read_ranges};
 use dw_units::{Entry, Next, Units};
-use std::alloc::{AllocError, Global};
+use std::alloc::AllocError;
 use std::marker::Model;
 
 /// Below how many entries one may stand.
@@ -34,7 +34,6 @@ const DEPTH: usize = 512;
 /// What reads the functions of a unit. Contracts see the unit, and the ranges that were read last.
 #[derive(Drop)]
 pub(crate) struct Reader<'b, 'a> {
-    pub(crate) alloc: Global,
     pub(crate) units: &'b Units<'a>,
     pub(crate) place: usize,
     /// The names behind references that were followed.
@@ -102,7 +101,7 @@ impl<'b, 'a> Reader<'b, 'a> {
         drafts.push_ranges(entry.tag == DW_TAG_subprogram, &self.ranges, number)?;
         let children = entry.children;
         let description = self.describe(entry)?;
-        drafts.push_function(self.alloc, description)?;
+        drafts.push_function(description)?;
         drafts.begin_list(children, Some(number))?;
         Ok(())
     }

@@ -14,22 +14,23 @@ ghost use Rattle.dw_frames.specs.Description.{description_shown};
 ghost use Rattle.dw_ranges.specs.Segments.{owner_at};
 
 use crate::call::{Call, Described, EntryId};
-use crate::description::Description;
+use crate::description::{Description, count_before};
 use crate::fault::TreeFault;
-use crate::function::{Function, count_before};
+use crate::inlined::Inlined;
 use crate::walk::read_all;
 use dw_ranges::Index;
 use dw_units::Units;
 use std::alloc::{AllocError, Global};
 use std::marker::Model;
 
-/// The functions of a unit. Contracts see the place of the unit, the index of its subprograms and the
-/// functions in order.
+/// The functions of a unit. Contracts see the place of the unit, the index of its subprograms, the
+/// functions in order and the ranges of those that are inlined in others.
 #[derive(Drop)]
 pub struct Tree<'a> {
     unit: usize,
     outermost: Index,
-    functions: Vec<Function<'a>>,
+    functions: Vec<Description<'a>>,
+    inlined: Inlined,
 }
 
 impl<'a> Model for Tree<'a> {
@@ -60,11 +61,12 @@ impl<'a> Tree<'a> {
     {
         let drafts = read_all(alloc, units, i)?;
         let outermost = drafts.index(alloc)?;
-        let functions = drafts.functions(alloc)?;
+        let (functions, inlined) = drafts.functions(alloc)?;
         Ok(Tree {
             unit: i,
             outermost,
             functions,
+            inlined,
         })
     }
 
@@ -83,9 +85,9 @@ impl<'a> Tree<'a> {
             };
             ids.push(EntryId {
                 unit: self.unit,
-                offset: function.description.offset,
+                offset: function.offset,
             })?;
-            number = function.inlined.find(a);
+            number = self.inlined.find(k, a);
         }
         Ok(ids)
     }
@@ -99,10 +101,10 @@ impl<'a> Tree<'a> {
         }
         let place = count_before(&self.functions, id.offset);
         let function = self.functions.get(place)?;
-        if function.description.offset != id.offset {
+        if function.offset != id.offset {
             return None;
         }
-        Some(&function.description)
+        Some(function)
     }
 
     /// The functions at an address, innermost first: the outermost is the first subprogram with a range

@@ -44,7 +44,6 @@ pub(crate) fn read_all<'a>(
         return Err(TreeFault::Entry);
     };
     let mut reader = Reader {
-        alloc,
         units,
         place: i,
         names: Names::new(alloc),

@@ -3,19 +3,19 @@ use Rattle.std.specs.Prelude.{slice_get}
 use Rattle.std.specs.List.Sorted.{IsNonDecreasingBy}
 use Rattle.std.proofs.lemmas.Option.{slice_get_read}
 use Rattle.dw_frames.specs.Rising.{Rises}
-use Rattle.dw_frames.specs.declared.function.Function.{Function as CodeFunction}
+use Rattle.dw_frames.specs.declared.description.Description.{Description as CodeDescription}
 use Rattle.dw_frames.specs.Tree.{Tree}
 use Rattle.dw_frames.proofs.SearchLemmas.{offset_in, ordered, Begun, told-past, told-other, told-there}
 use Rattle.dw_frames.proofs.tree.Tree.description.Goals as goal
 
 -- what halves say of the functions that are kept
-begun : (items read : List CodeFunction) (o n : ℕ) → read ≡ items → Rises (map offset_in items) → (IsNonDecreasingBy offset_in read → Begun o read n) → Begun o items n
+begun : (items read : List CodeDescription) (o n : ℕ) → read ≡ items → Rises (map offset_in items) → (IsNonDecreasingBy offset_in read → Begun o read n) → Begun o items n
 begun items read o n same rises h =
     subst (λ fs. Begun o fs n) same (h (ordered read (subst (λ fs. Rises (map offset_in fs)) (sym same) rises)))
 
 -- the function that was read is the one that is kept
-there : (items read : List CodeFunction) (n : ℕ) (x : CodeFunction) → read ≡ items → n < length read → x ≡ get_or read n x → slice_get items n ≡ Some x
-there items read n x same within is = ap (λ (fs : List CodeFunction). slice_get fs n) (sym same) ∙ slice_get_read read (length read) n x refl within is
+there : (items read : List CodeDescription) (n : ℕ) (x : CodeDescription) → read ≡ items → n < length read → x ≡ get_or read n x → slice_get items n ≡ Some x
+there items read n x same within is = ap (λ (fs : List CodeDescription). slice_get fs n) (sym same) ∙ slice_get_read read (length read) n x refl within is
 
 pub returns-in_err-function : goal.returns-in_err-function
 returns-in_err-function c =

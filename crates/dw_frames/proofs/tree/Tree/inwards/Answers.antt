@@ -3,16 +3,16 @@ use Rattle.std.specs.Vec.{vec_len}
 use Rattle.std.proofs.lemmas.List.{length-map}
 use Rattle.dw_ranges.specs.Segments.{owner_at}
 use Rattle.dw_frames.specs.declared.call.EntryId.{EntryId}
-use Rattle.dw_frames.specs.declared.function.Function.{Function as CodeFunction}
-use Rattle.dw_frames.specs.Function.{function_shown}
+use Rattle.dw_frames.specs.declared.description.Description.{Description as CodeDescription}
+use Rattle.dw_frames.specs.Description.{description_shown}
 use Rattle.dw_frames.specs.Tree.{Tree, inwards}
 use Rattle.dw_frames.proofs.InwardsLemmas.{Found, inwards-zero, inwards-none, inwards-nowhere, found-all, found-more, kept-there, kept-nowhere}
 use Rattle.dw_frames.proofs.tree.Tree.inwards.Goals as goal
 
 -- as many steps as there are functions
-all-steps : (tree : Tree) (a end len : ℕ) (items : List CodeFunction) (ids : List EntryId) → map function_shown items ≡ tree.functions → end ≡ len → len ≡ length items → ids ≡ inwards tree a end (owner_at tree.outermost a) → ids ≡ inwards tree a (length tree.functions) (owner_at tree.outermost a)
+all-steps : (tree : Tree) (a end len : ℕ) (items : List CodeDescription) (ids : List EntryId) → map description_shown items ≡ tree.functions → end ≡ len → len ≡ length items → ids ≡ inwards tree a end (owner_at tree.outermost a) → ids ≡ inwards tree a (length tree.functions) (owner_at tree.outermost a)
 all-steps tree a end len items ids shown counted size is =
-    is ∙ ap (λ (n : ℕ). inwards tree a n (owner_at tree.outermost a)) (counted ∙ size ∙ sym (length-map items function_shown) ∙ ap (λ fs. length fs) shown)
+    is ∙ ap (λ (n : ℕ). inwards tree a n (owner_at tree.outermost a)) (counted ∙ size ∙ sym (length-map items description_shown) ∙ ap (λ fs. length fs) shown)
 
 pub returns-in_default : goal.returns-in_default
 returns-in_default c =
@@ -37,7 +37,8 @@ loop-preserved c =
     let there = kept-there c.args.self.now c.self.inside.functions.items c.deref.result.now c.in-Some.k c.in-Some-get.function.now shown c.deref.ensures.value item.3.0 item.1 in
     let before = subst (λ number. Found c.args.self.now c.args.a c.loop.ids.items (c.len-end.result - c.loop.counter) number (inwards c.args.self.now c.args.a c.len-end.result (owner_at c.args.self.now.outermost c.args.a))) c.in-Some.is c.loop.invariant in
     let same : c.self.inside.unit ≡ c.args.self.now.unit = ap (λ (tree : Tree). tree.unit) c.self.view_is in
-    rw (c.in_ok-push.ensures.items, c.find-number-in-loop.ensures, same) (found-more c.args.self.now c.args.a c.len-end.result c.loop.counter c.in-Some.k (function_shown c.in-Some-get.function.now) c.loop.ids.items (inwards c.args.self.now c.args.a c.len-end.result (owner_at c.args.self.now.outermost c.args.a)) c.loop-test.true there before)
+    let inlined = ap (λ (tree : Tree). tree.inlined) c.self.view_is in
+    rw (c.in_ok-push.ensures.items, c.find-number-in-loop.ensures, same, inlined) (found-more c.args.self.now c.args.a c.len-end.result c.loop.counter c.in-Some.k (description_shown c.in-Some-get.function.now) c.loop.ids.items (inwards c.args.self.now c.args.a c.len-end.result (owner_at c.args.self.now.outermost c.args.a)) c.loop-test.true there before)
 
 pub returns : goal.returns
 returns c =

@@ -7,9 +7,9 @@ pub invariant_of-result : goal.invariant_of-result
 invariant_of-result c =
     let unit = get-there (units c.args.units.now.info) c.args.i c.requires.within in
     let read = c.in_ok-drafts.ensures unit.0 unit.1 in
-    in-order c.args.units.now unit.0 read.0 c.in_ok-drafts.drafts read.1 c.in_ok-functions.functions.items c.in_ok-outermost.outermost c.args.i read.2 read.3 c.in_ok-functions.ensures c.in_ok-outermost.ensures
+    in-order c.args.units.now unit.0 read.0 c.in_ok-drafts.drafts read.1 c.in_ok-functions.functions.items c.in_ok-outermost.outermost c.in_ok-functions.inlined c.args.i read.2 read.3 c.in_ok-functions.ensures.functions c.in_ok-functions.ensures.inlined c.in_ok-outermost.ensures
 
 pub returns-clause-tree : goal.returns-clause-tree
 returns-clause-tree c unit e =
     let read = c.in_ok-drafts.ensures unit e in
-    is-tree c.args.units.now unit read.0 c.in_ok-drafts.drafts read.1 c.in_ok-functions.functions.items c.in_ok-outermost.outermost c.args.i read.2 read.3 c.in_ok-functions.ensures c.in_ok-outermost.ensures
+    is-tree c.args.units.now unit read.0 c.in_ok-drafts.drafts read.1 c.in_ok-functions.functions.items c.in_ok-outermost.outermost c.in_ok-functions.inlined c.args.i read.2 read.3 c.in_ok-functions.ensures.functions c.in_ok-functions.ensures.inlined c.in_ok-outermost.ensures
