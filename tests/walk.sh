@@ -2,23 +2,21 @@
 # How long the functions of all units of a program are read (`Tree::read`), beside walks over the same entries:
 # this project's, which keeps functions alone, one that reads all values of each entry, and those of the Rust crate
 # gimli with and without values, all in one run. The first word is as for bench.sh. Each walk goes over the program
-# several times, over 300 MB of entries in all, and is run as often as the second word says (3 without); the least time
-# counts, without that of a run which opens the file alone. gimli is built from Debian's packages (librust-gimli-dev,
+# once, in a process of its own, as a user's does, and is run as often as the second word says (15 without); the least
+# time counts, without that of a run which opens the file alone. gimli is built from Debian's packages (librust-gimli-dev,
 # librust-object-dev). Run it after `rt run` in crates/a2l has built the crates. It prints a table.
 . "$(dirname "$0")/programs.sh"
 large=${1:-60}
-times=${2:-3}
-[ -x /usr/bin/time ] || { echo "no /usr/bin/time here, which measures"; exit 1; }
+times=${2:-15}
 need_large "$large"
 
 info=$((16#$(objdump -h "$program" | awk '$2 == ".debug_info" { print $3 }')))
-rounds=$((300000000 / info + 1))
 
 copy_proved dw_model dw_bytes dw_elf dw_forms dw_units dw_ranges dw_frames
 mkdir -p copy/crates/walk/src
 echo 'walk: dw_model dw_elf dw_units dw_frames' >> copy/crates.txt
 cat > copy/crates/walk/src/main.rt <<'END'
-//! Reads all units of a file in one way, so many times over: `open`, `functions`, `entries` or `trees`.
+//! Reads all units of a file in one way: `open`, `functions`, `entries` or `trees`.
 #![tactic(auto)]
 
 ghost use Rattle.std.specs.Prelude.{◌<◌, length};
@@ -88,16 +86,14 @@ fn one(rt: &HostRuntime, how: &str, units: &Units<'_>, i: usize) -> Option<usize
     }
 }
 
-fn read(rt: &HostRuntime, how: &str, times: usize, path: &str) -> Option<usize> {
+fn read(rt: &HostRuntime, how: &str, path: &str) -> Option<usize> {
     let file = fs::read(rt, path).ok()?;
     let elf = Elf::open(&file).ok()?;
     let units = Units::read(rt.alloc(), &elf).ok()?;
     let mut count: usize = 0;
-    for _ in 0..times {
-        for i in 0..units.len() {
-            if !units.unit(i).kind.is_skipped() {
-                count = count.wrapping_add(one(rt, how, &units, i)?);
-            }
+    for i in 0..units.len() {
+        if !units.unit(i).kind.is_skipped() {
+            count = count.wrapping_add(one(rt, how, &units, i)?);
         }
     }
     Some(count)
@@ -112,16 +108,10 @@ fn main(rt: HostRuntime) -> ExitCode {
     let Some(how) = words.next() else {
         return ExitCode::from(2);
     };
-    let Some(times) = words.next() else {
-        return ExitCode::from(2);
-    };
     let Some(path) = words.next() else {
         return ExitCode::from(2);
     };
-    let Ok(times) = times.parse::<usize>() else {
-        return ExitCode::from(2);
-    };
-    let Some(count) = read(&rt, &how, times, &path) else {
+    let Some(count) = read(&rt, &how, &path) else {
         return ExitCode::from(1);
     };
     if writeln!(out, "{count}").is_err() {
@@ -130,7 +120,7 @@ fn main(rt: HostRuntime) -> ExitCode {
     ExitCode::from(0)
 }
 END
-(cd copy/crates/walk && rt run -- open 1 "$program") > log 2>&1 || { tail -20 log; exit 1; }
+(cd copy/crates/walk && rt run -- open "$program") > log 2>&1 || { tail -20 log; exit 1; }
 walk=$work/copy/crates/walk/out/walk
 
 tools=(walk)
@@ -142,7 +132,6 @@ use object::{Object, ObjectSection};
 fn main() -> Result<(), Box<dyn std::error::Error>> {
     let mut args = std::env::args().skip(1);
     let how = args.next().ok_or("no way")?;
-    let times: usize = args.next().ok_or("no times")?.parse()?;
     let bytes = std::fs::read(args.next().ok_or("no file")?)?;
     let file = object::File::parse(&*bytes)?;
     let dwarf = gimli::Dwarf::load(|id: gimli::SectionId| -> Result<_, gimli::Error> {
@@ -150,19 +139,17 @@ fn main() -> Result<(), Box<dyn std::error::Error>> {
         Ok(EndianSlice::new(data, LittleEndian))
     })?;
     let (mut entries, mut names) = (0u64, 0u64);
-    for _ in 0..times {
-        let mut headers = dwarf.units();
-        while let Some(header) = headers.next()? {
-            let unit = dwarf.unit(header)?;
-            let mut cursor = unit.entries();
-            while how != "open" {
-                let Some((_, entry)) = cursor.next_dfs()? else { break };
-                entries += 1;
-                let mut attributes = entry.attrs();
-                while how == "values" {
-                    let Some(attribute) = attributes.next()? else { break };
-                    names = names.wrapping_add(attribute.name().0.into());
-                }
+    let mut headers = dwarf.units();
+    while let Some(header) = headers.next()? {
+        let unit = dwarf.unit(header)?;
+        let mut cursor = unit.entries();
+        while how != "open" {
+            let Some((_, entry)) = cursor.next_dfs()? else { break };
+            entries += 1;
+            let mut attributes = entry.attrs();
+            while how == "values" {
+                let Some(attribute) = attributes.next()? else { break };
+                names = names.wrapping_add(attribute.name().0.into());
             }
         }
     }
@@ -182,9 +169,9 @@ command_of() {
 
 declare -A least
 measure() {
-    local seconds
-    /usr/bin/time -o measured -f %e $(command_of "$1") "$2" $rounds "$program" > counted || { echo "$1 $2 fails"; exit 1; }
-    seconds=$(cat measured)
+    local begin=$EPOCHREALTIME seconds
+    $(command_of "$1") "$2" "$program" > counted || { echo "$1 $2 fails"; exit 1; }
+    seconds=$(awk -v begin="$begin" -v end="$EPOCHREALTIME" 'BEGIN { printf "%.6f", end - begin }')
     least[$1.$2]=$(printf '%s\n%s\n' "${least[$1.$2]:-$seconds}" "$seconds" | sort -n | head -1)
 }
 ways_of() {
@@ -199,8 +186,8 @@ for n in $(seq "$times"); do
     done
 done
 show() {
-    awk -v what="$1" -v a="${least[$2]}" -v open="${least[${2%%.*}.open]}" -v trees="${least[walk.trees]}" -v opened="${least[walk.open]}" -v rounds=$rounds \
-        'BEGIN { printf "%-58s %8.4f %8.2f\n", what, (a - open) / rounds, (trees - opened) / (a - open) }'
+    awk -v what="$1" -v a="${least[$2]}" -v open="${least[${2%%.*}.open]}" -v trees="${least[walk.trees]}" -v opened="${least[walk.open]}" \
+        'BEGIN { printf "%-58s %8.4f %8.2f\n", what, a - open, (trees - opened) / (a - open) }'
 }
 echo "$((info / 1000000)) MB of .debug_info; the least of $times times"
 printf '%-58s %8s %8s\n' what seconds ratio

@@ -2,3 +2,4 @@ pub mod IndirectLemmas
 pub mod FindLemmas
 pub mod SizeLemmas
 pub mod TextLemmas
+pub mod FirstsLemmas

@@ -2,6 +2,7 @@ pub mod Abbrevs
 pub mod AbbrevsInside
 pub mod Declaration
 pub mod Fault
+pub mod Firsts
 pub mod Size
 pub mod Spec
 pub mod Spelling

@@ -7,13 +7,12 @@ use Rattle.dw_forms.specs.declared.form.Class.TheVariants as class
 use Rattle.dw_forms.specs.declared.form.Size.{Size}
 use Rattle.dw_forms.specs.declared.form.Size.TheVariants as size
 use Rattle.dw_forms.specs.declared.form.Spelling.{Spelling}
-use Rattle.dw_forms.specs.declared.form.Spelling.TheVariants.{Fixed, Offset, Uleb, Sleb, Block, Counted, UlebCounted, Text, Implicit, Present}
+use Rattle.dw_forms.specs.declared.form.Spelling.TheVariants.{Fixed, Offset, Uleb, Sleb, Flag, Block, Counted, UlebCounted, Text, Implicit, Present}
 
 -- the value that a number of this class is
 abbrev pub made : Class → ℕ → Value
 made class.Address n = model.address n
 made class.Unsigned n = model.unsigned n
-made class.Flag n = model.flag (not (n == 0))
 made class.Str n = model.str n
 made class.LineStr n = model.line_str n
 made class.StrIndex n = model.str_index n
@@ -36,6 +35,7 @@ spelling_shown (Fixed size class) = model.fixed (size_shown size) (made class)
 spelling_shown (Offset class) = model.offset (made class)
 spelling_shown (Uleb class) = model.uleb (made class)
 spelling_shown Sleb = model.sleb
+spelling_shown Flag = model.fixed 1 (λ n. model.flag (not (n == 0)))
 spelling_shown (Block size) = model.block size
 spelling_shown (Counted size) = model.counted (size_shown size)
 spelling_shown UlebCounted = model.uleb_counted

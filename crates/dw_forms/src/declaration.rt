@@ -3,9 +3,11 @@
 ghost use Rattle.std.specs.Prelude.{◌≡◌, map};
 ghost use Rattle.dw_forms.specs.Spec.{spec_shown};
 ghost use Rattle.dw_forms.specs.Size.{size_in};
+ghost use Rattle.dw_forms.specs.Firsts.{known_of, AreFirsts};
 
 mod reading;
 
+use crate::firsts::Firsts;
 pub(crate) use reading::next_decl;
 use smallvec::SmallVec;
 
@@ -33,4 +35,7 @@ pub struct Decl {
     /// How many bytes the values of an entry take, where the forms tell it.
     size: Option<usize>,
     ghost size_is: { size ≡ size_in (map spec_shown specs.items) },
+    /// Where the first attribute of each name that tells of a function stands.
+    firsts: Firsts,
+    ghost firsts_are: { AreFirsts (known_of firsts) (map (λ spec. spec.name) specs.items) },
 }

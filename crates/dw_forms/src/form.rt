@@ -21,7 +21,6 @@ use dw_model::dwarf::{
 pub(crate) enum Class {
     Address,
     Unsigned,
-    Flag,
     Str,
     LineStr,
     StrIndex,
@@ -54,6 +53,8 @@ pub(crate) enum Spelling {
     Uleb(Class),
     /// A signed LEB128 number.
     Sleb,
+    /// A byte that isn't 0 where the flag is set.
+    Flag,
     /// So many bytes.
     Block(usize),
     /// A length of a size, and as many bytes.
@@ -85,7 +86,7 @@ pub(crate) fn spelling_of(form: u64) -> Option<Spelling>
         DW_FORM_block => Some(Spelling::UlebCounted),
         DW_FORM_block1 => Some(Spelling::Counted(Size::One)),
         DW_FORM_data1 => Some(Spelling::Fixed(Size::One, Class::Unsigned)),
-        DW_FORM_flag => Some(Spelling::Fixed(Size::One, Class::Flag)),
+        DW_FORM_flag => Some(Spelling::Flag),
         DW_FORM_sdata => Some(Spelling::Sleb),
         DW_FORM_strp => Some(Spelling::Offset(Class::Str)),
         DW_FORM_udata => Some(Spelling::Uleb(Class::Unsigned)),

@@ -4,6 +4,7 @@
 mod abbrevs;
 mod declaration;
 mod fault;
+mod firsts;
 mod form;
 mod size;
 mod tables;
@@ -13,6 +14,7 @@ mod value;
 pub use abbrevs::Abbrevs;
 pub use declaration::{Decl, Spec};
 pub use fault::FormFault;
+pub use firsts::Firsts;
 pub use tables::{Bases, Tables};
 pub use text::Text;
 pub use value::{Value, read_value};

@@ -29,6 +29,7 @@ fn size_of(spec: &Spec) -> Option<usize>
     match spelling_of(spec.form)? {
         Spelling::Fixed(size, _) => Some(bytes_of(size)),
         Spelling::Offset(_) => Some(OFFSET_SIZE_32 as usize),
+        Spelling::Flag => Some(1),
         Spelling::Block(size) => Some(size),
         Spelling::Implicit => {
             spec.implicit?;

@@ -59,7 +59,6 @@ fn value_of<'a>(class: Class, n: u64) -> Value<'a>
     match class {
         Class::Address => Value::Address(n),
         Class::Unsigned => Value::Unsigned(n),
-        Class::Flag => Value::Flag(n != 0),
         Class::Str => Value::Str(n),
         Class::LineStr => Value::LineStr(n),
         Class::StrIndex => Value::StrIndex(n),
@@ -112,6 +111,10 @@ fn spelled<'a>(
         Spelling::Sleb => {
             let n = cursor.sleb()?;
             Ok(Value::Signed(n))
+        }
+        Spelling::Flag => {
+            let n = cursor.u8().ok_or(FormFault::End)?;
+            Ok(Value::Flag(n != 0))
         }
         Spelling::Block(size) => {
             let bytes = cursor.take(size).ok_or(FormFault::End)?;

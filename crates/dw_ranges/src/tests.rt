@@ -46,7 +46,7 @@ fn tables(rnglists: &[u8]) -> Tables<'_> {
 }
 
 fn entry<'a>(alloc: Global, pairs: &[(u64, Value<'a>)]) -> Result<Entry<'a>, Fail> {
-    let mut attrs: Attributes<'a> = Attributes::new(alloc);
+    let mut attrs: Vec<Attribute<'a>> = Vec::new(alloc);
     for (name, value) in pairs {
         attrs.push(Attribute {
             name: *name,
@@ -58,7 +58,7 @@ fn entry<'a>(alloc: Global, pairs: &[(u64, Value<'a>)]) -> Result<Entry<'a>, Fai
         next: 0,
         tag: DW_TAG_subprogram as u64,
         children: false,
-        attrs,
+        attrs: Attributes::from_vec(attrs),
     })
 }
 

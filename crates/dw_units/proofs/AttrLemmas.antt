@@ -7,7 +7,7 @@ use Rattle.dw_model.specs.Options.{◌>>=◌, only_if}
 use Rattle.dw_model.specs.Form.{Value}
 use Rattle.dw_model.specs.Entry.{classes, attribute}
 use Rattle.dw_forms.specs.Value.{value_shown}
-use Rattle.dw_units.specs.declared.entry.Attribute.{Attribute as CodeAttribute}
+use Rattle.dw_units.specs.declared.attributes.Attribute.{Attribute as CodeAttribute}
 use Rattle.dw_units.specs.declared.entry.Entry.{Entry}
 use Rattle.dw_units.specs.Entry.{attribute_shown, entry_shown}
 
@@ -40,21 +40,21 @@ through : (name : ℕ) (o : Option CodeAttribute) → (option_map attribute_show
 through name None = refl
 through name (Some found) = counted name (value_shown found.value) (lookup (nat_eq name) classes)
 
-pub attribute_is : (name : ℕ) (entry : Entry) (o : Option CodeAttribute) → o ≡ find (λ found. found.name == name) entry.attrs.items → attribute name (entry_shown entry) ≡ option_and_then (given name) o
+pub attribute_is : (name : ℕ) (entry : Entry) (o : Option CodeAttribute) → o ≡ find (λ found. found.name == name) entry.attrs → attribute name (entry_shown entry) ≡ option_and_then (given name) o
 unfolding attribute
 attribute_is name entry o e =
-    let shown : find (λ found. found.name == name) (map attribute_shown entry.attrs.items) ≡ option_map attribute_shown o = find-shown name entry.attrs.items ∙ ap (option_map attribute_shown) (sym e) in
+    let shown : find (λ found. found.name == name) (map attribute_shown entry.attrs) ≡ option_map attribute_shown o = find-shown name entry.attrs ∙ ap (option_map attribute_shown) (sym e) in
     rw shown (through name o)
 
-pub absent : (name : ℕ) (entry : Entry) → None ≡ find (λ found. found.name == name) entry.attrs.items → None ≡ attribute name (entry_shown entry)
+pub absent : (name : ℕ) (entry : Entry) → None ≡ find (λ found. found.name == name) entry.attrs → None ≡ attribute name (entry_shown entry)
 absent name entry e = sym (attribute_is name entry None e)
 
-pub not_counted : (name : ℕ) (entry : Entry) (found : CodeAttribute) → Some found ≡ find (λ found. found.name == name) entry.attrs.items → Counts name (value_shown found.value) ≡ false → None ≡ attribute name (entry_shown entry)
+pub not_counted : (name : ℕ) (entry : Entry) (found : CodeAttribute) → Some found ≡ find (λ found. found.name == name) entry.attrs → Counts name (value_shown found.value) ≡ false → None ≡ attribute name (entry_shown entry)
 not_counted name entry found e other =
     let none : given name found ≡ None = rw other refl in
     sym (attribute_is name entry (Some found) e ∙ none)
 
-pub is_given : (name : ℕ) (entry : Entry) (found : CodeAttribute) → Some found ≡ find (λ found. found.name == name) entry.attrs.items → Counts name (value_shown found.value) ≡ true → Some (value_shown found.value) ≡ attribute name (entry_shown entry)
+pub is_given : (name : ℕ) (entry : Entry) (found : CodeAttribute) → Some found ≡ find (λ found. found.name == name) entry.attrs → Counts name (value_shown found.value) ≡ true → Some (value_shown found.value) ≡ attribute name (entry_shown entry)
 is_given name entry found e counts =
     let some : given name found ≡ Some (value_shown found.value) = rw counts refl in
     sym (attribute_is name entry (Some found) e ∙ some)

@@ -8,3 +8,4 @@ pub mod AttrLemmas
 pub mod SharedLemmas
 pub mod PlaceLemmas
 pub mod SkipLemmas
+pub mod PlaceOfLemmas

@@ -3,21 +3,17 @@ use Rattle.std.specs.Prelude.{◌≡◌, map, Bool, true, false, cond, [], Optio
 use Rattle.dw_model.specs.Reading.{Place}
 use Rattle.dw_model.specs.Faults.{Fault}
 use Rattle.dw_model.specs.Entry as model
-use Rattle.dw_forms.specs.Value.{value_shown}
 use Rattle.dw_forms.specs.declared.fault.FormFault.{FormFault}
 use Rattle.dw_forms.specs.Fault.{form_fault}
-use Rattle.dw_units.specs.declared.entry.Attribute.{Attribute}
+pub use Rattle.dw_units.specs.Attribute.{attribute_shown}
 use Rattle.dw_units.specs.declared.entry.Entry.{Entry}
-
-abbrev pub attribute_shown : Attribute → model.Attribute
-attribute_shown attribute = record { name = attribute.name; value = value_shown attribute.value }
 
 abbrev pub entry_shown : Entry → model.Entry
 entry_shown entry = record {
   offset = entry.offset;
   tag = entry.tag;
   children = entry.children;
-  attributes = map attribute_shown entry.attrs.items;
+  attributes = map attribute_shown entry.attrs;
 }
 
 -- The entry is found as the definition has it, with the offset just past it; want of memory may be told in place of it.

@@ -1,3 +1,5 @@
+pub mod Attribute
+pub mod AttributesInside
 pub mod Entries
 pub mod Entry
 pub mod Header

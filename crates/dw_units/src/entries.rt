@@ -6,7 +6,7 @@ ghost use Rattle.dw_model.specs.Entry.{attributes_at, entry_at};
 ghost use Rattle.dw_forms.specs.Declaration.{spec_shown};
 ghost use Rattle.dw_units.specs.Entries.{ReadsNext, IsBefore, Passes};
 
-use crate::entry::{Entry, read_attributes};
+use crate::entry::Entry;
 use dw_bytes::Cursor;
 use dw_forms::{Abbrevs, Decl, FormFault, Spec, read_value};
 use dw_model::dwarf::{DW_TAG_inlined_subroutine, DW_TAG_subprogram};
@@ -53,7 +53,6 @@ fn is_function(tag: u64) -> bool
 }
 
 /// Passes over the values that a declaration asks for.
-#[inline(always)]
 fn pass_attributes(cursor: &mut Cursor<'_>, specs: &[Spec]) -> Result<(), FormFault>
     ensures { Passes result (attributes_at OFFSET_SIZE_32 (map spec_shown specs.now) cursor.old) cursor.new }
 {
@@ -98,7 +97,7 @@ fn next_of<'a>(
         pass_values(cursor, declaration)?;
         return Ok(Next::Passed { children });
     }
-    read_attributes(&mut kept.attrs, cursor, declaration.specs.as_slice())?;
+    kept.attrs.read(cursor, declaration)?;
     kept.offset = offset;
     kept.next = cursor.at() as u64;
     kept.tag = declaration.tag;

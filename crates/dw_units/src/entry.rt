@@ -1,36 +1,26 @@
 //! Entries of units, by sections 7.5.2 to 7.5.6 of DWARF 5.
 
-ghost use Rattle.std.specs.Prelude.{◌≡◌, ◌==◌, ◌<◌, true, Ok, IfOk, find, length, map, option_map, take, MatchOption};
+ghost use Rattle.std.specs.Prelude.{◌≡◌, ◌<◌, true, Ok, IfOk, length, option_map, take, MatchOption};
 ghost use Rattle.dw_model.specs.declared.dwarf.TheConstants.{OFFSET_SIZE_32};
-ghost use Rattle.dw_model.specs.Entry.{attributes_at, entry_at};
+ghost use Rattle.dw_model.specs.Entry.{entry_at};
 ghost use Rattle.dw_model.specs.Entry as model;
 ghost use Rattle.dw_model.specs.Abbrev.{abbreviations};
 ghost use Rattle.dw_model.specs.Root.{place_in, entry};
 ghost use Rattle.dw_model.specs.Answers.{ReadsUnlessMemory};
 ghost use Rattle.dw_forms.specs.Fault.{form_fault};
-ghost use Rattle.dw_forms.specs.Declaration.{spec_shown};
 ghost use Rattle.dw_forms.specs.Value.{value_shown};
-ghost use Rattle.dw_units.specs.Entry.{attribute_shown, entry_shown, shown_where, unread, FindsEntry, ReadsEntry};
+ghost use Rattle.dw_units.specs.Entry.{entry_shown, shown_where, unread, FindsEntry, ReadsEntry};
 ghost use Rattle.dw_units.specs.Header.{header_shown};
 ghost use Rattle.dw_units.specs.Sections.{sections_shown};
 ghost use Rattle.dw_units.specs.Null.{IsNull, IsPastNull};
 
+use crate::attributes::Attributes;
 use crate::class::counts;
 use crate::header::Header;
 use crate::sections::Sections;
 use dw_bytes::Cursor;
-use dw_forms::{Abbrevs, FormFault, Spec, Value, read_value};
+use dw_forms::{Abbrevs, FormFault, Value};
 use std::alloc::Global;
-
-/// An attribute: its name, a DW_AT code, and its value.
-#[derive(Clone, Copy, Debug, Default, PartialEq, Eq)]
-pub struct Attribute<'a> {
-    pub name: u64,
-    pub value: Value<'a>,
-}
-
-/// The attributes of an entry, in order.
-pub type Attributes<'a> = Vec<Attribute<'a>>;
 
 /// An entry. Offsets count from the first byte of .debug_info.
 #[derive(Drop)]
@@ -43,28 +33,6 @@ pub struct Entry<'a> {
     /// A list of children follows it.
     pub children: bool,
     pub attrs: Attributes<'a>,
-}
-
-/// Reads the values that a declaration asks for, in place of those that were kept.
-pub(crate) fn read_attributes<'a>(
-    attributes: &mut Attributes<'a>,
-    cursor: &mut Cursor<'a>,
-    specs: &[Spec],
-) -> Result<(), FormFault>
-    ensures { ReadsUnlessMemory (λ _. map attribute_shown attributes.new.items) form_fault result (attributes_at OFFSET_SIZE_32 (map spec_shown specs.now) cursor.old) cursor.new }
-{
-    attributes.clear();
-    // A cursor of its own stays in registers.
-    let mut place = cursor.fork();
-    for spec in specs {
-        let value = read_value(&mut place, spec.form, spec.implicit)?;
-        attributes.push(Attribute {
-            name: spec.name,
-            value,
-        })?;
-    }
-    *cursor = place;
-    Ok(())
 }
 
 /// Reads the entry at the cursor, which goes just past it, in place of the one that was kept; `false`
@@ -84,7 +52,7 @@ pub(crate) fn read_entry<'a>(
         return Ok(false);
     }
     let declaration = abbrevs.get(code).ok_or(FormFault::Code)?;
-    read_attributes(&mut kept.attrs, cursor, declaration.specs.as_slice())?;
+    kept.attrs.read(cursor, declaration)?;
     kept.offset = offset;
     kept.next = cursor.at() as u64;
     kept.tag = declaration.tag;
@@ -104,7 +72,7 @@ impl<'a> Entry<'a> {
             next: 0,
             tag: 0,
             children: false,
-            attrs: Vec::new(alloc),
+            attrs: Attributes::new(alloc),
         }
     }
 
@@ -115,20 +83,12 @@ impl<'a> Entry<'a> {
     pub fn attr(&self, name: u64) -> Option<&Value<'a>>
         ensures { option_map (λ value. value_shown value.now) result ≡ model.attribute name (entry_shown self.now) }
     {
-        let found = first_of(self.attrs.as_slice(), name)?;
+        let found = self.attrs.first(name)?;
         if !counts(name, &found.value) {
             return None;
         }
         Some(&found.value)
     }
-}
-
-/// The first attribute of a name.
-#[inline(always)]
-fn first_of<'b, 'a>(attributes: &'b [Attribute<'a>], name: u64) -> Option<&'b Attribute<'a>>
-    ensures { option_map (λ found. found.now) result ≡ find (λ found. found.name == name) attributes.now }
-{
-    attributes.iter().find(|attribute| attribute.name == name)
 }
 
 /// The bytes of .debug_info up to the end of a unit.

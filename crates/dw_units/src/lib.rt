@@ -1,6 +1,7 @@
 //! The units of .debug_info.
 #![tactic(auto)]
 
+mod attributes;
 mod bases;
 mod class;
 mod entries;
@@ -11,8 +12,9 @@ mod shared;
 mod unit;
 mod units;
 
+pub use attributes::{Attribute, Attributes};
 pub use entries::{Entries, Next};
-pub use entry::{Attribute, Attributes, Entry};
+pub use entry::Entry;
 pub use header::Kind;
 pub use sections::Sections;
 pub use unit::Unit;

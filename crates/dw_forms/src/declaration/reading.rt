@@ -9,9 +9,11 @@ ghost use Rattle.dw_model.specs.Answers.{ReadsOn, ReadsUnlessMemory};
 ghost use Rattle.dw_forms.specs.Fault.{form_fault};
 ghost use Rattle.dw_forms.specs.Declaration.{spec_shown, declaration_shown};
 ghost use Rattle.dw_forms.specs.Size.{size_in, Skips};
+ghost use Rattle.dw_forms.specs.Firsts.{known_of, AreFirsts};
 
 use crate::declaration::{Decl, Spec};
 use crate::fault::FormFault;
+use crate::firsts::Firsts;
 use crate::size::size_of_all;
 use dw_bytes::Cursor;
 use dw_model::dwarf::DW_FORM_implicit_const;
@@ -26,6 +28,13 @@ impl Decl {
         ensures skips { IfSome result (λ n. Skips n (attributes_at OFFSET_SIZE_32 (map spec_shown self.now.specs.items))) }
     {
         self.size
+    }
+
+    /// Where the first attribute of each name that tells of a function stands.
+    pub fn firsts(&self) -> Firsts
+        ensures { AreFirsts (known_of result) (map (λ spec. spec.name) self.now.specs.items) }
+    {
+        self.firsts
     }
 }
 
@@ -76,12 +85,14 @@ fn declaration_of(alloc: Global, cursor: &mut Cursor<'_>, code: u64) -> Result<D
     let children = cursor.u8().ok_or(FormFault::End)?;
     let specs = specs_of(alloc, cursor)?;
     let size = size_of_all(specs.as_slice());
+    let firsts = Firsts::of(specs.as_slice());
     Ok(Decl {
         code,
         tag,
         children: children != 0,
         specs,
         size,
+        firsts,
     })
 }
 

@@ -6,7 +6,7 @@ use Rattle.dw_forms.specs.Declaration.{spec_shown}
 use Rattle.dw_forms.specs.declared.declaration.Spec.{Spec}
 use Rattle.dw_forms.specs.Value.{value_shown}
 use Rattle.dw_forms.specs.Fault.{form_fault}
-use Rattle.dw_units.specs.declared.entry.Attribute.{Attribute}
+use Rattle.dw_units.specs.declared.attributes.Attribute.{Attribute}
 use Rattle.dw_units.specs.Entry.{attribute_shown}
 use Rattle.dw_units.proofs.EntryLemmas.{starts, goes_on, stops, ends}
 use Rattle.dw_units.proofs.entries.pass_attributes.Goals as goal

@@ -2,7 +2,7 @@ use Rattle.std.proofs.Common.{List, map}
 use Rattle.dw_model.specs.declared.dwarf.TheConstants.{OFFSET_SIZE_32}
 use Rattle.dw_model.specs.Entry.{attributes_at}
 use Rattle.dw_forms.specs.Declaration.{spec_shown}
-use Rattle.dw_units.specs.declared.entry.Attribute.{Attribute}
+use Rattle.dw_units.specs.declared.attributes.Attribute.{Attribute}
 use Rattle.dw_units.proofs.EntryLemmas.{SoFar}
 use Rattle.dw_units.proofs.entries.pass_attributes.Given as goal
 

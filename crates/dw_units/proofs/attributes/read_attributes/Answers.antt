@@ -7,7 +7,7 @@ use Rattle.dw_forms.specs.declared.declaration.Spec.{Spec}
 use Rattle.dw_forms.specs.Value.{value_shown}
 use Rattle.dw_forms.specs.Fault.{form_fault}
 use Rattle.dw_units.proofs.EntryLemmas.{goes_on, stops, ends}
-use Rattle.dw_units.proofs.entry.read_attributes.Goals as goal
+use Rattle.dw_units.proofs.attributes.read_attributes.Goals as goal
 
 -- what stands in the place of a specification behind the last one
 abbrev none : Spec

@@ -1,0 +1,36 @@
+-- Where the first attribute of a name stands among those of an entry.
+use Rattle.std.specs.Prelude.{◌≡◌, ℕ, suc, cond, List, [], ◌∷◌, Option, Some, option_and_then, nat_eq, ◌==◌}
+use Rattle.std.specs.Map.{lookup}
+use Rattle.dw_model.specs.declared.dwarf.TheConstants.{DW_AT_abstract_origin, DW_AT_call_column, DW_AT_call_file, DW_AT_call_line, DW_AT_high_pc, DW_AT_linkage_name, DW_AT_low_pc, DW_AT_name, DW_AT_ranges, DW_AT_specification}
+use Rattle.dw_forms.specs.declared.firsts.Firsts.{Firsts}
+
+-- how many names stand before the first that is this one, or in all
+unfoldable pub before : ℕ → List ℕ → ℕ
+before name [] = 0
+before name (x ∷ names) = cond (x == name) 0 (suc (before name names))
+
+-- what is known of some names: how many stand before the first one
+abbrev pub Known : Type 0
+Known = List (ℕ × Option ℕ)
+
+abbrev pub known_of : Firsts → Known
+known_of firsts =
+    (DW_AT_ranges, firsts.ranges)
+    ∷ (DW_AT_low_pc, firsts.low_pc)
+    ∷ (DW_AT_high_pc, firsts.high_pc)
+    ∷ (DW_AT_call_file, firsts.call_file)
+    ∷ (DW_AT_call_line, firsts.call_line)
+    ∷ (DW_AT_call_column, firsts.call_column)
+    ∷ (DW_AT_linkage_name, firsts.linkage_name)
+    ∷ (DW_AT_name, firsts.name)
+    ∷ (DW_AT_abstract_origin, firsts.abstract_origin)
+    ∷ (DW_AT_specification, firsts.specification)
+    ∷ []
+
+-- what is known of a name
+abbrev pub place_in : Known → ℕ → Option ℕ
+place_in known name = option_and_then (λ place. place) (lookup (nat_eq name) known)
+
+-- it is so among these names
+abbrev pub AreFirsts : Known → List ℕ → Type 0
+AreFirsts known names = (name place : ℕ) → place_in known name ≡ Some place → place ≡ before name names

@@ -1,0 +1,140 @@
+//! The attributes of entries, by section 7.5.3 of DWARF 5.
+
+ghost use Rattle.std.specs.Prelude.{◌≡◌, ◌==◌, [], find, length, map, option_map};
+ghost use Rattle.dw_model.specs.declared.dwarf.TheConstants.{OFFSET_SIZE_32};
+ghost use Rattle.dw_model.specs.Entry.{attributes_at};
+ghost use Rattle.dw_model.specs.Answers.{ReadsUnlessMemory};
+ghost use Rattle.dw_forms.specs.Fault.{form_fault};
+ghost use Rattle.dw_forms.specs.Declaration.{spec_shown};
+ghost use Rattle.dw_units.specs.Attribute.{attribute_shown};
+
+use dw_bytes::Cursor;
+use dw_forms::{Decl, Firsts, FormFault, Spec, Value, read_value};
+use std::alloc::Global;
+use std::marker::Model;
+
+/// An attribute: its name, a DW_AT code, and its value.
+#[derive(Clone, Copy, Debug, Default, PartialEq, Eq)]
+pub struct Attribute<'a> {
+    pub name: u64,
+    pub value: Value<'a>,
+}
+
+/// The attributes of an entry, in order. Contracts see them as a list.
+#[derive(Drop)]
+pub struct Attributes<'a> {
+    list: Vec<Attribute<'a>>,
+    /// Where the first one of each name stands that tells of a function.
+    firsts: Firsts,
+}
+
+impl<'a> Model for Attributes<'a> {
+    ghost use Rattle.std.specs.Prelude.{List};
+    ghost use Rattle.dw_units.specs.declared.attributes.Attribute.{Attribute};
+    ghost use Rattle.dw_units.specs.AttributesInside.{attributes_in, ArePlaced};
+
+    ghost Value = { List Attribute };
+
+    ghost view = { attributes_in };
+
+    ghost invariant = { ArePlaced };
+}
+
+/// Reads the values that a declaration asks for, in place of those that were kept.
+fn read_attributes<'a>(
+    attributes: &mut Vec<Attribute<'a>>,
+    cursor: &mut Cursor<'a>,
+    specs: &[Spec],
+) -> Result<(), FormFault>
+    ensures { ReadsUnlessMemory (λ _. map attribute_shown attributes.new.items) form_fault result (attributes_at OFFSET_SIZE_32 (map spec_shown specs.now) cursor.old) cursor.new }
+{
+    attributes.clear();
+    // A cursor of its own stays in registers.
+    let mut place = cursor.fork();
+    for spec in specs {
+        let value = read_value(&mut place, spec.form, spec.implicit)?;
+        attributes.push(Attribute {
+            name: spec.name,
+            value,
+        })?;
+    }
+    *cursor = place;
+    Ok(())
+}
+
+/// The first attribute of a name.
+fn first_of<'b, 'a>(attributes: &'b [Attribute<'a>], name: u64) -> Option<&'b Attribute<'a>>
+    ensures { option_map (λ found. found.now) result ≡ find (λ found. found.name == name) attributes.now }
+{
+    attributes.iter().find(|attribute| attribute.name == name)
+}
+
+impl<'a> Attributes<'a> {
+    /// No attribute.
+    pub fn new(alloc: Global) -> Self
+        ensures { result ≡ [] }
+    {
+        Attributes {
+            list: Vec::new(alloc),
+            firsts: Firsts::unknown(),
+        }
+    }
+
+    /// These attributes, in order.
+    pub fn from_vec(list: Vec<Attribute<'a>>) -> Self
+        ensures { result ≡ list.entry.items }
+    {
+        Attributes {
+            list,
+            firsts: Firsts::unknown(),
+        }
+    }
+
+    /// All of them, in order.
+    pub fn into_vec(self) -> Vec<Attribute<'a>>
+        ensures { result.items ≡ self.entry }
+    {
+        let Attributes { list, .. } = self;
+        list
+    }
+
+    /// All of them, in order.
+    pub fn as_slice(&self) -> &[Attribute<'a>]
+        ensures { result.now ≡ self.now }
+    {
+        self.list.as_slice()
+    }
+
+    /// How many there are.
+    pub fn len(&self) -> usize
+        ensures { result ≡ length self.now }
+    {
+        self.list.len()
+    }
+
+    /// Reads the values that a declaration asks for, in place of those that were kept. After a refusal any
+    /// may be kept, and the cursor may stand anywhere.
+    pub(crate) fn read(
+        &mut self,
+        cursor: &mut Cursor<'a>,
+        declaration: &Decl,
+    ) -> Result<(), FormFault>
+        ensures { ReadsUnlessMemory (λ _. map attribute_shown self.new) form_fault result (attributes_at OFFSET_SIZE_32 (map spec_shown declaration.now.specs.items) cursor.old) cursor.new }
+    {
+        self.firsts = Firsts::unknown();
+        read_attributes(&mut self.list, cursor, declaration.specs.as_slice())?;
+        self.firsts = declaration.firsts();
+        Ok(())
+    }
+
+    /// The first one of a name. Its place is known where the declaration has told it.
+    #[inline(always)]
+    pub fn first(&self, name: u64) -> Option<&Attribute<'a>>
+        ensures { option_map (λ found. found.now) result ≡ find (λ found. found.name == name) self.now }
+    {
+        if let Some(place) = self.firsts.place(name) {
+            return self.list.get(place);
+        }
+        first_of(self.list.as_slice(), name)
+    }
+}
