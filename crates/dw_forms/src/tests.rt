@@ -3,15 +3,15 @@
 use crate::{Abbrevs, Bases, FormFault, Tables, Value, read_value};
 use dw_bytes::Cursor;
 use dw_model::dwarf::{
-    DW_FORM_GNU_ref_alt, DW_FORM_GNU_strp_alt, DW_FORM_addr, DW_FORM_addrx, DW_FORM_addrx1,
-    DW_FORM_addrx2, DW_FORM_addrx3, DW_FORM_addrx4, DW_FORM_block, DW_FORM_block1, DW_FORM_block2,
-    DW_FORM_block4, DW_FORM_data1, DW_FORM_data2, DW_FORM_data4, DW_FORM_data8, DW_FORM_data16,
-    DW_FORM_exprloc, DW_FORM_flag, DW_FORM_flag_present, DW_FORM_implicit_const, DW_FORM_indirect,
-    DW_FORM_line_strp, DW_FORM_loclistx, DW_FORM_ref_addr, DW_FORM_ref_sig8, DW_FORM_ref_sup4,
-    DW_FORM_ref_sup8, DW_FORM_ref_udata, DW_FORM_ref1, DW_FORM_ref2, DW_FORM_ref4, DW_FORM_ref8,
-    DW_FORM_rnglistx, DW_FORM_sdata, DW_FORM_sec_offset, DW_FORM_string, DW_FORM_strp,
-    DW_FORM_strp_sup, DW_FORM_strx, DW_FORM_strx1, DW_FORM_strx2, DW_FORM_strx3, DW_FORM_strx4,
-    DW_FORM_udata,
+    DW_AT_high_pc, DW_AT_low_pc, DW_AT_name, DW_FORM_GNU_ref_alt, DW_FORM_GNU_strp_alt,
+    DW_FORM_addr, DW_FORM_addrx, DW_FORM_addrx1, DW_FORM_addrx2, DW_FORM_addrx3, DW_FORM_addrx4,
+    DW_FORM_block, DW_FORM_block1, DW_FORM_block2, DW_FORM_block4, DW_FORM_data1, DW_FORM_data2,
+    DW_FORM_data4, DW_FORM_data8, DW_FORM_data16, DW_FORM_exprloc, DW_FORM_flag,
+    DW_FORM_flag_present, DW_FORM_implicit_const, DW_FORM_indirect, DW_FORM_line_strp,
+    DW_FORM_loclistx, DW_FORM_ref_addr, DW_FORM_ref_sig8, DW_FORM_ref_sup4, DW_FORM_ref_sup8,
+    DW_FORM_ref_udata, DW_FORM_ref1, DW_FORM_ref2, DW_FORM_ref4, DW_FORM_ref8, DW_FORM_rnglistx,
+    DW_FORM_sdata, DW_FORM_sec_offset, DW_FORM_string, DW_FORM_strp, DW_FORM_strp_sup,
+    DW_FORM_strx, DW_FORM_strx1, DW_FORM_strx2, DW_FORM_strx3, DW_FORM_strx4, DW_FORM_udata,
 };
 
 /// The value of each form, of bytes that are one spelling of it.
@@ -238,6 +238,31 @@ fn sizes_of_declarations(rt: HostRuntime) {
             return;
         };
         assert_eq!(rt; declaration.size(), *size, "of {code}");
+    }
+}
+
+/// Where the first attribute of a name stands: DW_AT_external, DW_AT_name, DW_AT_low_pc, DW_AT_name again. What
+/// isn't there stands behind all; a name that tells of no function has no place.
+#[test]
+fn places_of_declarations(rt: HostRuntime) {
+    let bytes = &[1, 0x2e, 0, 0x3f, 0x19, 3, 8, 0x11, 1, 3, 8, 0, 0, 0];
+    let Ok(table) = Abbrevs::read(rt.alloc(), bytes, 0) else {
+        assert!(rt; false, "not read");
+        return;
+    };
+    let Some(declaration) = table.get(1) else {
+        assert!(rt; false, "not found");
+        return;
+    };
+    let firsts = declaration.firsts();
+    let rows: &[(u64, Option<usize>)] = &[
+        (DW_AT_name, Some(1)),
+        (DW_AT_low_pc, Some(2)),
+        (DW_AT_high_pc, Some(4)),
+        (0x3f, None),
+    ];
+    for (name, place) in rows {
+        assert_eq!(rt; firsts.place(*name), *place, "of {name}");
     }
 }
 
