@@ -1,11 +1,11 @@
 -- How many names stand before the first one that is equal.
 use Rattle.std.proofs.Common.{◌≡◌, Bool, true, false, ℕ, zero, suc, ◌+◌, ◌≤◌, ◌<◌, cond, List, [], ◌∷◌, length, map, drop, get_or, Option, Some, None, refl, sym, ap, subst, ◌∙◌, arith}
-use Rattle.std.specs.Prelude.{IfSome, nat_eq, option_and_then}
+use Rattle.std.specs.Prelude.{IfSome, nat_eq, nat_lt, option_and_then}
 use Rattle.std.specs.Map.{lookup}
-use Rattle.std.proofs.lemmas.Bool.{eq-eqb, ne_eqb, eqb-true}
+use Rattle.std.proofs.lemmas.Bool.{eq-eqb, ne_eqb, eqb-true, le-ltb, lt-ltb}
 use Rattle.std.proofs.lemmas.Option.{same_Some}
 use Rattle.dw_forms.specs.declared.declaration.Spec.{Spec}
-use Rattle.dw_forms.specs.Firsts.{before, Known, place_in, AreFirsts}
+use Rattle.dw_forms.specs.Firsts.{before, Known, function_names, in_byte, all_known, place_in, AreFirsts, AreAllFirsts}
 
 abbrev pub names_of : List Spec → List ℕ
 names_of specs = map (λ spec. spec.name) specs
@@ -52,3 +52,22 @@ are-firsts names (first ∷ known) right name place e = by_name (λ e. are-first
     by_name : (place_in known name ≡ Some place → place ≡ before name names) → (b : Bool) → nat_eq name first.0 ≡ b → option_and_then (λ place. place) (cond b (Some first.1) (lookup (nat_eq name) known)) ≡ Some place → place ≡ before name names
     by_name others true same e = at first.1 right.0 e ∙ ap (λ (n : ℕ). before n names) (sym (eqb-true name first.0 same))
     by_name others false same e = others e
+
+-- what a byte holds is so
+held-right : (n : ℕ) (held : Bool) → IfSome (cond {A = Option ℕ} held (Some n) None) (λ place. place ≡ n)
+held-right n true = refl
+held-right n false = tt
+
+those-right : (names some : List ℕ) → AllRight names (map (λ name. (name, in_byte (before name names))) some)
+those-right names [] = tt
+those-right names (name ∷ some) = (held-right (before name names) (nat_lt (before name names) 256), those-right names some)
+
+pub all-right : (names : List ℕ) (known : Known) → AreAllFirsts known names → AreFirsts known names
+all-right names known all name place e = are-firsts names (all_known names) (those-right names function_names) name place (sym (all name) ∙ e)
+
+-- a place that a byte holds
+pub told-place : (place n : ℕ) → n ≡ place → place < 256 → Some place ≡ in_byte n
+told-place place n same small = rw (same, lt-ltb place 256 small) refl
+
+pub untold-place : (n : ℕ) → 256 ≤ n → None ≡ in_byte n
+untold-place n large = rw (le-ltb n 256 large) refl

@@ -3,7 +3,7 @@
 ghost use Rattle.std.specs.Prelude.{◌≡◌, map};
 ghost use Rattle.dw_forms.specs.Spec.{spec_shown};
 ghost use Rattle.dw_forms.specs.Size.{size_in};
-ghost use Rattle.dw_forms.specs.Firsts.{known_of, AreFirsts};
+ghost use Rattle.dw_forms.specs.Firsts.{known_of, AreAllFirsts};
 
 mod reading;
 
@@ -37,5 +37,5 @@ pub struct Decl {
     ghost size_is: { size ≡ size_in (map spec_shown specs.items) },
     /// Where the first attribute of each name that tells of a function stands.
     firsts: Firsts,
-    ghost firsts_are: { AreFirsts (known_of firsts) (map (λ spec. spec.name) specs.items) },
+    ghost firsts_are: { AreAllFirsts (known_of firsts) (map (λ spec. spec.name) specs.items) },
 }

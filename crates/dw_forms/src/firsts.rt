@@ -1,7 +1,7 @@
 //! Where the first attribute of a name stands among those of an entry.
 
-ghost use Rattle.std.specs.Prelude.{◌≡◌, ℕ, List, IfSome, map};
-ghost use Rattle.dw_forms.specs.Firsts.{before, known_of, place_in, AreFirsts};
+ghost use Rattle.std.specs.Prelude.{◌≡◌, ℕ, List, map};
+ghost use Rattle.dw_forms.specs.Firsts.{before, in_byte, known_of, place_in, AreAllFirsts, AreFirsts};
 
 use crate::declaration::Spec;
 use dw_model::dwarf::{
@@ -27,7 +27,7 @@ pub struct Firsts {
 
 /// How many attributes stand before the first one of a name, where a byte holds that.
 fn count_before(specs: &[Spec], name: u64) -> Option<u8>
-    ensures { IfSome result (λ place. place ≡ before name (map (λ spec. spec.name) specs.now)) }
+    ensures { result ≡ in_byte (before name (map (λ spec. spec.name) specs.now)) }
 {
     let mut place: u8 = 0;
     for spec in specs {
@@ -60,7 +60,7 @@ impl Firsts {
 
     /// Those of the attributes for which a declaration asks.
     pub(crate) fn of(specs: &[Spec]) -> Self
-        ensures { AreFirsts (known_of result) (map (λ spec. spec.name) specs.now) }
+        ensures { AreAllFirsts (known_of result) (map (λ spec. spec.name) specs.now) }
     {
         Firsts {
             ranges: count_before(specs, DW_AT_ranges),

@@ -19,10 +19,15 @@ use dw_model::dwarf::DW_FORM_indirect;
 /// (`SectionRef`).
 #[derive(Clone, Copy, Debug, PartialEq, Eq)]
 pub enum Value<'a> {
+    /// An address.
     Address(u64),
+    /// A number without a sign.
     Unsigned(u64),
+    /// A number with a sign.
     Signed(i64),
+    /// The bytes of a block, an expression or DW_FORM_data16.
     Bytes(&'a [u8]),
+    /// Whether a flag is set.
     Flag(bool),
     /// A text that stands in the entry itself, without its zero byte.
     Inline(&'a [u8]),
@@ -34,7 +39,9 @@ pub enum Value<'a> {
     StrIndex(u64),
     /// An index of .debug_addr.
     AddressIndex(u64),
+    /// The offset of an entry, which counts from the first byte of the unit that refers to it.
     UnitRef(u64),
+    /// The offset of an entry, which counts from the first byte of .debug_info.
     SectionRef(u64),
     /// An offset of a section that the attribute names.
     SectionOffset(u64),

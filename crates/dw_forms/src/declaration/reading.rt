@@ -9,7 +9,7 @@ ghost use Rattle.dw_model.specs.Answers.{ReadsOn, ReadsUnlessMemory};
 ghost use Rattle.dw_forms.specs.Fault.{form_fault};
 ghost use Rattle.dw_forms.specs.Declaration.{spec_shown, declaration_shown};
 ghost use Rattle.dw_forms.specs.Size.{size_in, Skips};
-ghost use Rattle.dw_forms.specs.Firsts.{known_of, AreFirsts};
+ghost use Rattle.dw_forms.specs.Firsts.{known_of, AreAllFirsts, AreFirsts};
 
 use crate::declaration::{Decl, Spec};
 use crate::fault::FormFault;
@@ -30,9 +30,10 @@ impl Decl {
         self.size
     }
 
-    /// Where the first attribute of each name that tells of a function stands.
+    /// Where the first attribute of each name that tells of a function stands, where a byte holds that.
     pub fn firsts(&self) -> Firsts
-        ensures { AreFirsts (known_of result) (map (λ spec. spec.name) self.now.specs.items) }
+        ensures told { AreAllFirsts (known_of result) (map (λ spec. spec.name) self.now.specs.items) }
+        ensures right { AreFirsts (known_of result) (map (λ spec. spec.name) self.now.specs.items) }
     {
         self.firsts
     }

@@ -2,12 +2,12 @@ use Rattle.std.proofs.Common.{◌∙◌, List, map, ap, subst}
 use Rattle.dw_forms.specs.declared.declaration.Spec.{Spec}
 use Rattle.dw_forms.specs.Declaration.{spec_shown}
 use Rattle.dw_forms.specs.Size.{size_in}
-use Rattle.dw_forms.specs.Firsts.{known_of, AreFirsts}
+use Rattle.dw_forms.specs.Firsts.{known_of, AreAllFirsts}
 use Rattle.dw_forms.proofs.FirstsLemmas.{names_of}
 use Rattle.dw_forms.proofs.declaration.reading.declaration_of.Goals as goal
 
 pub invariant_of-result : goal.invariant_of-result
 invariant_of-result c = record {
   size_is = c.size_of_all-size.ensures ∙ ap (λ (specs : List Spec). size_in (map spec_shown specs)) c.as_slice.ensures;
-  firsts_are = subst (λ (specs : List Spec). AreFirsts (known_of c.of-firsts.result) (names_of specs)) c.as_slice-2.ensures c.of-firsts.ensures;
+  firsts_are = subst (λ (specs : List Spec). AreAllFirsts (known_of c.of-firsts.result) (names_of specs)) c.as_slice-2.ensures c.of-firsts.ensures;
 }
