@@ -277,6 +277,16 @@ fn tables_that_end(rt: HostRuntime) {
         (TABLE, u64::MAX, FormFault::End),
         (&[1, 0x11, 0, 0], 0, FormFault::End),
         (&[1, 0x11], 0, FormFault::End),
+        (&[1], 0, FormFault::End),
+        (&[1, 0x91], 0, FormFault::End),
+        (&[0x81], 0, FormFault::End),
+        (
+            &[
+                1, 0xff, 0xff, 0xff, 0xff, 0xff, 0xff, 0xff, 0xff, 0xff, 0xff, 0x7f,
+            ],
+            0,
+            FormFault::Wide,
+        ),
     ];
     for (bytes, offset, fault) in rows {
         match Abbrevs::read(alloc, bytes, *offset) {

@@ -1,6 +1,6 @@
 //! Names of functions, across units, by sections 2.15 and 3.3.8 of DWARF 5.
 
-ghost use Rattle.std.specs.Prelude.{◌≡◌, ◌<◌, ◌+◌, IfOk, length, option_map, option_and_then, slice_get, Some};
+ghost use Rattle.std.specs.Prelude.{◌≡◌, ◌<◌, ◌+◌, IfOk, OnErr, length, option_map, option_and_then, slice_get, Some, None};
 ghost use Rattle.dw_model.specs.Faults.{Fault};
 ghost use Rattle.dw_model.specs.Unit as cut;
 ghost use Rattle.dw_model.specs.Name as names;
@@ -80,7 +80,8 @@ fn target(units: &Units<'_>, i: usize, value: &Value<'_>) -> Option<u64>
 
 /// Want of memory, which is no fault of an entry.
 fn unless_memory(fault: FormFault) -> Result<(), AllocError>
-    ensures { IfOk result (λ _. (told : Fault) × (form_fault fault ≡ Some told)) }
+    ensures memory { OnErr result (form_fault fault ≡ None) }
+    ensures fault { IfOk result (λ _. (told : Fault) × (form_fault fault ≡ Some told)) }
 {
     match fault {
         FormFault::Memory => Err(AllocError),

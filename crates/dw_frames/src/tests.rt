@@ -169,10 +169,12 @@ fn unit_of_a_target(rt: HostRuntime) -> Result<(), Fail> {
 }
 
 /// A unit with children; an inlined subroutine of another, by an offset of the unit; a subprogram with a
-/// name; a block with children; a subprogram with a range list; a block with one.
+/// name; a block with children; a subprogram with a range list; a block with one; blocks with a name, with
+/// a value of no form, and with a number.
 const SHORT: &[u8] = &[
     1, 0x11, 1, 0, 0, 2, 0x1d, 0, 0x31, 0x13, 0, 0, 3, 0x2e, 0, 3, 8, 0, 0, 4, 0x0b, 1, 0, 0, 5,
-    0x2e, 0, 0x55, 0x17, 0, 0, 6, 0x0b, 0, 0x55, 0x17, 0, 0, 0,
+    0x2e, 0, 0x55, 0x17, 0, 0, 6, 0x0b, 0, 0x55, 0x17, 0, 0, 7, 0x0b, 0, 3, 8, 0, 0, 8, 0x0b, 0, 3,
+    0x7e, 0, 0, 9, 0x0b, 0, 3, 0x0f, 0, 0, 0,
 ];
 
 /// A unit with these bytes behind its header.
@@ -221,14 +223,49 @@ fn entries_behind_the_list_are_not_read(rt: HostRuntime) -> Result<(), Fail> {
     Ok(())
 }
 
-/// A unit with so many blocks, each in the one before it.
-fn nested(alloc: Global, blocks: usize) -> Result<Vec<u8>, Fail> {
+/// A unit with so many blocks, each in the one before it, and an entry in the last.
+fn nested(alloc: Global, blocks: usize, last: &[u8]) -> Result<Vec<u8>, Fail> {
     let mut entries = Vec::new(alloc);
     entries.push(1)?;
     for _ in 0..blocks {
         entries.push(4)?;
     }
+    entries.extend_from_slice(last)?;
     unit_of(alloc, &entries)
+}
+
+/// A unit whose function at 13 refers to the offset of what stands behind its list of entries.
+fn led_behind(alloc: Global, behind: &[u8]) -> Result<Vec<u8>, Fail> {
+    let mut entries = Vec::new(alloc);
+    entries.extend_from_slice(&[1, 2, 19, 0, 0, 0, 0])?;
+    entries.extend_from_slice(behind)?;
+    unit_of(alloc, &entries)
+}
+
+/// What can't be read is no name, and no want of memory.
+#[test]
+fn unreadable_targets(rt: HostRuntime) -> Result<(), Fail> {
+    let unread: &[&[u8]] = &[
+        &[],
+        &[0],
+        &[0x7f],
+        &[7, b'n'],
+        &[8],
+        &[
+            9, 0xff, 0xff, 0xff, 0xff, 0xff, 0xff, 0xff, 0xff, 0xff, 0xff, 0x7f,
+        ],
+    ];
+    for behind in unread {
+        let info = led_behind(rt.alloc(), behind)?;
+        expect_name(&rt, rt.alloc(), &info, SHORT, 13, None)?;
+    }
+    let read = led_behind(rt.alloc(), &[7, b'n', 0])?;
+    expect_name(&rt, rt.alloc(), &read, SHORT, 13, Some(b"n"))?;
+    let mut skipped = led_behind(rt.alloc(), &[])?;
+    let target = skipped.get_mut(14).ok_or("a reference")?;
+    *target = 30;
+    skipped.extend_from_slice(&[11, 0, 0, 0, 4, 0, 0, 0, 0, 0, 8, 7, b'n', 0, 0])?;
+    expect_name(&rt, rt.alloc(), &skipped, SHORT, 13, None)
 }
 
 #[test]
@@ -243,13 +280,21 @@ fn faults(rt: HostRuntime) -> Result<(), Fail> {
         fault_of(rt.alloc(), &short, SHORT)?,
         Some(TreeFault::Entry)
     );
-    let deep = nested(rt.alloc(), 512)?;
+    let cuts: &[&[u8]] = &[&[1, 6, 0, 0, 0], &[1, 7, b'n']];
+    for passed in cuts {
+        let cut = unit_of(rt.alloc(), passed)?;
+        assert_eq!(rt; fault_of(rt.alloc(), &cut, SHORT)?, Some(TreeFault::Entry));
+    }
+    let lasts: &[&[u8]] = &[&[3, b'n', 0], &[4], &[7, b'n', 0]];
+    let deep = nested(rt.alloc(), 511, &[3, b'n', 0, 4])?;
     assert_eq!(rt; fault_of(rt.alloc(), &deep, SHORT)?, None);
-    let deeper = nested(rt.alloc(), 513)?;
-    assert_eq!(rt;
-        fault_of(rt.alloc(), &deeper, SHORT)?,
-        Some(TreeFault::Depth)
-    );
+    for last in lasts {
+        let deeper = nested(rt.alloc(), 512, last)?;
+        assert_eq!(rt;
+            fault_of(rt.alloc(), &deeper, SHORT)?,
+            Some(TreeFault::Depth)
+        );
+    }
     let bad = unit_of(rt.alloc(), &[1, 5, 0, 0, 0, 0, 0x7f])?;
     assert_eq!(rt; fault_of(rt.alloc(), &bad, SHORT)?, Some(TreeFault::Ranges));
     let unused = unit_of(rt.alloc(), &[1, 6, 0, 0, 0, 0, 0])?;

@@ -54,7 +54,7 @@ fn room_for(top: &[u8], directory: Option<&[u8]>, name: &[u8]) -> usize {
 
 impl<'a> Lines<'a> {
     /// Reads the table at an offset of .debug_line, of a unit with these bases that was compiled in
-    /// a directory, in time linear in the table's length (section 6.2).
+    /// a directory, in time linear in the table's length but for the index of its sequences (section 6.2).
     ///
     /// `Bad` where its header or its program can't be read: the table, the header or a list runs
     /// past its end, the version isn't 5, addresses aren't of 8 bytes, an instruction has more than

@@ -21,7 +21,7 @@ pub(crate) struct Registers {
     pub(crate) column: u64,
 }
 
-/// The operation advance of a special opcode, which lies `n` above the first one, in bytes (section
+/// The address advance of a special opcode, which lies `n` above the first one, in bytes (section
 /// 6.2.5.1).
 fn special_advance_of(header: &Header<'_>, n: u8) -> u64
     ensures { result ≡ special_advance (header_shown header.now) n }

@@ -1,4 +1,4 @@
-//! Answers the addresses of a file, and keeps the units that were read last.
+//! Answers the addresses of a file, and keeps the units that were used last.
 
 ghost use Rattle.std.specs.Prelude.{◌≡◌, ◌+◌, IfOk, is_ok, if◌then◌else◌};
 ghost use Rattle.dw_model.specs.Answer as model;
@@ -21,7 +21,7 @@ use std::num::NonZeroUsize;
 pub struct Context<'b, 'a> {
     image: &'b Image<'a>,
     alloc: Global,
-    /// The units that were read last, by their places.
+    /// The units that were used last, by their places.
     units: Kept<'a>,
     refusals: Refusals,
 }

@@ -1,4 +1,4 @@
-//! The units that were read last, and what they answer.
+//! The units that were used last, and what they answer.
 
 ghost use Rattle.std.specs.Prelude.{◌≡◌, ◌<◌, false, IfSome, IfOk, length, slice_get};
 ghost use Rattle.dw_model.specs.Section.{Sections, sections};

@@ -66,6 +66,13 @@ stops front specs i d spec p all told own same within is fault so_far =
     let read = by_told front spec (map spec_shown (drop (i + 1) specs)) p all told fault (next front specs i d spec p all within is so_far) in
     subst (λ told. MatchOption told (Unit {0}) (λ fault. all ≡ Err fault)) (sym same) read
 
+-- the same where no memory was taken
+pub stops-exactly : (front : List CodeAttribute) (specs : List Spec) (i : ℕ) (d spec : Spec) (p : Place) (all : Read) (told own : Option Fault) → own ≡ told → i < length specs → get_or specs i d ≡ spec
+    → Tells told (value_at OFFSET_SIZE_32 spec.form spec.implicit p) → SoFar front specs i p all → Tells own all
+stops-exactly front specs i d spec p all None own same within is fault so_far = absurd fault
+stops-exactly front specs i d spec p all (Some told) own same within is fault so_far =
+    subst (λ told. Tells told all) (sym same) (stops front specs i d spec p all (Some told) (Some told) refl within is fault so_far)
+
 pub ends : (front : List CodeAttribute) (specs : List Spec) (i : ℕ) (p : Place) (all : Read) → length specs ≤ i → SoFar front specs i p all → all ≡ Ok (map attribute_shown front, p)
 unfolding attributes_at
 ends front specs i p all past so_far =

@@ -122,7 +122,8 @@ impl<'b, 'a> Entries<'b, 'a> {
     }
 
     /// Reads the next entry: a function in place of the one that was kept, which stays where the entry is
-    /// none. The error is its first fault, or `Memory`; then the walk stays where it was.
+    /// no function. The error is its first fault, or `Memory`; then the walk stays where it was, and any entry may
+    /// be kept.
     #[inline(always)]
     pub fn next_function(&mut self, kept: &mut Entry<'a>) -> Result<Next, FormFault>
         ensures declarations { self.new.declarations ≡ self.old.declarations }

@@ -1,6 +1,6 @@
 //! Entries of units, by sections 7.5.2 to 7.5.6 of DWARF 5.
 
-ghost use Rattle.std.specs.Prelude.{◌≡◌, ◌<◌, true, Ok, IfOk, length, option_map, take, MatchOption};
+ghost use Rattle.std.specs.Prelude.{◌≡◌, ◌<◌, true, false, Ok, IfOk, length, option_map, take, MatchOption};
 ghost use Rattle.dw_model.specs.declared.dwarf.TheConstants.{OFFSET_SIZE_32};
 ghost use Rattle.dw_model.specs.Entry.{entry_at};
 ghost use Rattle.dw_model.specs.Entry as model;
@@ -36,7 +36,7 @@ pub struct Entry<'a> {
 }
 
 /// Reads the entry at the cursor, which goes just past it, in place of the one that was kept; `false`
-/// for a null entry, which ends a list of children. After a refusal the cursor may stand anywhere.
+/// for a null entry, which ends a list of children, and then what was kept stays. After a refusal the cursor may stand anywhere.
 #[tactic(auto, unfolding(dw_model::specs::Entry::entry_at))]
 pub(crate) fn read_entry<'a>(
     kept: &mut Entry<'a>,
@@ -45,6 +45,7 @@ pub(crate) fn read_entry<'a>(
 ) -> Result<bool, FormFault>
     ensures entry { ReadsUnlessMemory (λ found. shown_where found kept.new) form_fault result (entry_at OFFSET_SIZE_32 abbrevs.now cursor.old) cursor.new }
     ensures next { IfOk result (λ found. found ≡ true → kept.new.next ≡ cursor.new.at) }
+    ensures stays { IfOk result (λ found. found ≡ false → kept.new ≡ kept.old) }
 {
     let offset = cursor.at() as u64;
     let code = cursor.uleb()?;
@@ -122,7 +123,8 @@ pub(crate) fn read_in<'a>(
     offset: u64,
 ) -> Result<bool, FormFault>
     requires { abbreviations sections.now.abbrevs.now unit.now.debug_abbrev_offset ≡ Ok abbrevs.now }
-    ensures { ReadsEntry result kept.new (entry (sections_shown sections.now) (header_shown unit.now) offset) }
+    ensures entry { ReadsEntry result kept.new (entry (sections_shown sections.now) (header_shown unit.now) offset) }
+    ensures stays { IfOk result (λ found. found ≡ false → kept.new ≡ kept.old) }
 {
     if offset < unit.first_entry || offset >= unit.end {
         return Err(FormFault::End);

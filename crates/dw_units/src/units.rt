@@ -152,10 +152,12 @@ impl<'a> Units<'a> {
     }
 
     /// Reads the entry at an offset of .debug_info, in the unit at a place, in place of the one that was
-    /// kept; `false` for a null entry. The error is that of `entry`; then any entry may be kept.
+    /// kept; `false` for a null entry, and then what was kept stays. The error is that of `entry`; then any
+    /// entry may be kept.
     pub fn read_entry(&self, i: usize, offset: u64, kept: &mut Entry<'a>) -> Result<bool, FormFault>
         requires { i < length (units self.now.info) }
-        ensures { IfSome (slice_get (units self.now.info) i) (λ unit. ReadsEntry result kept.new (model.entry self.now unit offset)) }
+        ensures stays { IfOk result (λ found. found ≡ false → kept.new ≡ kept.old) }
+        ensures entry { IfSome (slice_get (units self.now.info) i) (λ unit. ReadsEntry result kept.new (model.entry self.now unit offset)) }
     {
         let unit = &self.units[i];
         let Some(table) = unit.table else {

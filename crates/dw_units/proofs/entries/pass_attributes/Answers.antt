@@ -8,7 +8,7 @@ use Rattle.dw_forms.specs.Value.{value_shown}
 use Rattle.dw_forms.specs.Fault.{form_fault}
 use Rattle.dw_units.specs.declared.attributes.Attribute.{Attribute}
 use Rattle.dw_units.specs.Entry.{attribute_shown}
-use Rattle.dw_units.proofs.EntryLemmas.{starts, goes_on, stops, ends}
+use Rattle.dw_units.proofs.EntryLemmas.{starts, goes_on, stops-exactly, ends}
 use Rattle.dw_units.proofs.entries.pass_attributes.Goals as goal
 
 -- what stands in the place of a specification behind the last one
@@ -18,7 +18,7 @@ none = record { name = 0; form = 0; implicit = None }
 pub returns-in_err-read_value : goal.returns-in_err-read_value
 returns-in_err-read_value c =
     let p = err_from_is_err_and c.from_residual.result c.from_residual.ensures.1 in
-    rw (p.1) (stops c.loop-spec.invariant.0 c.args.specs.now c.loop-spec.spec-index none (get_or c.args.specs.now c.loop-spec.spec-index none) c.loop-spec.cursor (attributes_at OFFSET_SIZE_32 (map spec_shown c.args.specs.now) c.args.cursor.now) (form_fault c.in_err-read_value.field-0.0) (form_fault p.0) (ap form_fault p.2) c.loop-spec-test.true refl c.in_err-read_value.ensures.0 c.loop-spec.invariant.1)
+    rw (p.1) (stops-exactly c.loop-spec.invariant.0 c.args.specs.now c.loop-spec.spec-index none (get_or c.args.specs.now c.loop-spec.spec-index none) c.loop-spec.cursor (attributes_at OFFSET_SIZE_32 (map spec_shown c.args.specs.now) c.args.cursor.now) (form_fault c.in_err-read_value.field-0.0) (form_fault p.0) (ap form_fault p.2) c.loop-spec-test.true refl c.in_err-read_value.ensures.0 c.loop-spec.invariant.1)
 
 pub loop-spec-init : goal.loop-spec-init
 loop-spec-init c = ([], starts c.args.specs.now c.args.cursor.now)
