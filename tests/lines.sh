@@ -70,7 +70,7 @@ print(f'{counts[1]} rows and {counts[2]} paths of {counts[0]} tables agree with 
 END
 python3 wanted.py "${programs[@]}" > count
 
-copy_crates dw_model dw_bytes dw_elf dw_forms dw_units dw_ranges dw_line
+copy_crates dw_model dw_index dw_bytes dw_elf dw_forms dw_line
 echo 'line_rows: dw_forms dw_line' >> copy/crates.txt
 mkdir -p copy/crates/line_rows/src
 cat > copy/crates/line_rows/src/main.rt <<'END'

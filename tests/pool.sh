@@ -11,7 +11,7 @@ large=${1:-60}
 [ $# -gt 0 ] || set -- 100000 1000000 8000000
 need_large "$large"
 
-copy_proved dw_model dw_bytes ticket_core ticket_board dw_elf dw_forms dw_units dw_ranges dw_line dw_frames dw_symbols a2l_lines
+copy_proved dw_model dw_index dw_bytes ticket_core ticket_board dw_elf dw_forms dw_units dw_ranges dw_line dw_frames dw_symbols a2l_lines
 mkdir -p copy/crates/pool_time/src
 echo 'pool_time: dw_symbols ticket_core ticket_board a2l_lines' >> copy/crates.txt
 cat > copy/crates/pool_time/src/main.rt <<'END'

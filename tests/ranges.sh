@@ -16,7 +16,7 @@ clang++ -g -gdwarf-5 -O2 sizes.cc -o clang++
 # one unit of version 5, since readelf 2.40 looks up the bases of all units among the addresses of the first one
 rustc -g -O -C dwarf-version=5 -C codegen-units=1 words.rs -o rustc
 
-copy_crates dw_model dw_bytes dw_elf dw_forms dw_units dw_ranges
+copy_crates dw_model dw_index dw_bytes dw_elf dw_forms dw_units dw_ranges
 sed -i 's/^dw_ranges:/dw_ranges: dw_elf/' copy/crates.txt
 
 cat > rows.py <<'END'

@@ -12,7 +12,7 @@ need_large "$large"
 
 info=$((16#$(objdump -h "$program" | awk '$2 == ".debug_info" { print $3 }')))
 
-copy_proved dw_model dw_bytes dw_elf dw_forms dw_units dw_ranges dw_frames
+copy_proved dw_model dw_index dw_bytes dw_elf dw_forms dw_units dw_ranges dw_frames
 mkdir -p copy/crates/walk/src
 echo 'walk: dw_model dw_elf dw_units dw_frames' >> copy/crates.txt
 cat > copy/crates/walk/src/main.rt <<'END'

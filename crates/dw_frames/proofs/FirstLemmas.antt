@@ -4,8 +4,8 @@ use Rattle.std.specs.Prelude.{option_map, option_and_then, slice_get, find, ◌|
 use Rattle.std.specs.Option.{option_or}
 use Rattle.std.proofs.lemmas.Option.{same_Some}
 use Rattle.dw_model.specs.Ranges.{Range, holds, covers}
-use Rattle.dw_ranges.specs.Owners.{least, least_owner}
-use Rattle.dw_ranges.proofs.OwnerLemmas.{least_owner-append}
+use Rattle.dw_index.specs.Owners.{least, least_owner}
+use Rattle.dw_index.proofs.OwnerLemmas.{least_owner-append}
 use Rattle.dw_frames.specs.Placed.{first}
 
 module _ {X : Type 0} (test : X → Bool) where

@@ -11,7 +11,7 @@ use Rattle.dw_model.specs.Section.{Sections}
 use Rattle.dw_model.specs.Unit.{DwarfUnit}
 use Rattle.dw_model.specs.Ranges.{Range, covers}
 use Rattle.dw_model.specs.Tree.{Node, is_function, is_subprogram, is_inlined, enclosing, is_at, holds_address}
-use Rattle.dw_ranges.specs.Owners.{least_owner}
+use Rattle.dw_index.specs.Owners.{least_owner}
 use Rattle.dw_frames.specs.Rising.{Rises}
 use Rattle.dw_frames.specs.Inlined.{InlinedRange, inlined_in, all_in_some}
 use Rattle.dw_frames.specs.Drafts.{Description, described, Drafts, innermost, owned, with_list, without_last, without_list, known_ranges, behind_function}

@@ -4,7 +4,7 @@ use Rattle.std.specs.Prelude.{option_map, slice_get, find, ◌==◌}
 use Rattle.std.proofs.lemmas.List.{append-nil, append_assoc, length-map}
 use Rattle.std.proofs.lemmas.Bool.{eq-eqb, ne_eqb}
 use Rattle.std.proofs.lemmas.Option.{same_Some, slice_get_read, slice_get_past}
-use Rattle.dw_ranges.specs.Owners.{least_owner}
+use Rattle.dw_index.specs.Owners.{least_owner}
 use Rattle.dw_frames.specs.declared.call.EntryId.{EntryId}
 use Rattle.dw_frames.specs.declared.description.Description.{Description as CodeDescription}
 use Rattle.dw_frames.specs.Description.{description_shown}

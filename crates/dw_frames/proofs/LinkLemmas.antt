@@ -6,7 +6,7 @@ use Rattle.std.proofs.lemmas.List.{length-map, map_push, take-append-le, get_or-
 use Rattle.std.proofs.lemmas.Bool.{eq-eqb, eqb-true}
 use Rattle.std.proofs.lemmas.Option.{same_Some, slice_get_within}
 use Rattle.dw_model.specs.Ranges.{Range}
-use Rattle.dw_ranges.specs.Range.{pair_shown}
+use Rattle.dw_index.specs.Range.{pair_shown}
 use Rattle.dw_frames.specs.declared.links.Link.{Link}
 use Rattle.dw_frames.specs.Inlined.{InlinedRange}
 use Rattle.dw_frames.specs.LinksInside.{link_shown, last_of, noted, AreLinked, AreLasts}

@@ -13,7 +13,7 @@ use Rattle.dw_model.specs.Root.{place_in}
 use Rattle.dw_model.specs.Tree.{Node, depth_behind, nodes_from, nodes_below, tree, entry_ranges_in}
 use Rattle.dw_model.proofs.ItemsLemmas.{items-turn}
 use Rattle.dw_model.proofs.AdvanceLemmas.{nodes_advance}
-use Rattle.dw_ranges.specs.Owners.{least_owner}
+use Rattle.dw_index.specs.Owners.{least_owner}
 use Rattle.dw_units.specs.Entries.{Walk, IsNext}
 use Rattle.dw_units.specs.declared.entries.Next.{Next}
 use Rattle.dw_units.specs.declared.entries.Next.TheVariants.{Null, Function, Passed}

@@ -1,6 +1,6 @@
 -- What the functions of a unit are seen as, while its entries are read.
 use Rattle.std.specs.Prelude.{map}
-use Rattle.dw_ranges.specs.Range.{pair_shown}
+use Rattle.dw_index.specs.Range.{pair_shown}
 use Rattle.dw_frames.specs.Drafts.{Drafts}
 use Rattle.dw_frames.specs.Description.{description_shown}
 use Rattle.dw_frames.specs.declared.drafts.Drafts.TheInside.{Inside}

@@ -1,8 +1,8 @@
 -- What the inlined functions of a unit are seen as, and that their indexes are right.
 use Rattle.std.specs.Prelude.{◌≡◌, ℕ, List, Some, slice_get}
-use Rattle.dw_ranges.specs.declared.segment.Segment.{Segment}
-use Rattle.dw_ranges.specs.Owners.{least_owner}
-use Rattle.dw_ranges.specs.Segments.{owner_at}
+use Rattle.dw_index.specs.declared.segment.Segment.{Segment}
+use Rattle.dw_index.specs.Owners.{least_owner}
+use Rattle.dw_index.specs.Segments.{owner_at}
 use Rattle.dw_frames.specs.Inlined.{InlinedRange, inlined_in}
 use Rattle.dw_frames.specs.declared.inlined.Inlined.TheInside.{Inside}
 

@@ -1,7 +1,7 @@
 -- What linked ranges are seen as, and how they are linked.
 use Rattle.std.specs.Prelude.{◌≡◌, ℕ, suc, cond, List, [], ◌∷◌, map, get_or, Option, Some, None, option_map, slice_get, take, ◌==◌}
 use Rattle.std.specs.Option.{option_or}
-use Rattle.dw_ranges.specs.Range.{pair_shown}
+use Rattle.dw_index.specs.Range.{pair_shown}
 use Rattle.dw_frames.specs.Inlined.{InlinedRange}
 use Rattle.dw_frames.specs.declared.links.Link.{Link}
 use Rattle.dw_frames.specs.declared.links.Links.TheInside.{Inside}

@@ -4,7 +4,7 @@ use Rattle.dw_model.specs.Entry.{Entry}
 use Rattle.dw_model.specs.Section.{Sections}
 use Rattle.dw_model.specs.Unit.{DwarfUnit}
 use Rattle.dw_model.specs.Tree.{Node, is_function, is_subprogram, is_inlined, enclosing, is_at, holds_address}
-use Rattle.dw_ranges.specs.Owners.{least_owner}
+use Rattle.dw_index.specs.Owners.{least_owner}
 use Rattle.dw_frames.specs.Rising.{Rises}
 use Rattle.dw_frames.specs.Inlined.{inlined_in}
 use Rattle.dw_frames.specs.Drafts.{Description, described, Drafts}

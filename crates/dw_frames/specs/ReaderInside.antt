@@ -1,7 +1,7 @@
 -- What a reader of functions is seen as, and what it keeps.
 use Rattle.std.specs.Prelude.{◌<◌, length, map}
 use Rattle.dw_model.specs.Unit.{units}
-use Rattle.dw_ranges.specs.Range.{range_shown}
+use Rattle.dw_index.specs.Range.{range_shown}
 use Rattle.dw_frames.specs.Named.{AreNames}
 use Rattle.dw_frames.specs.Reading.{Reading}
 use Rattle.dw_frames.specs.declared.reader.Reader.TheInside.{Inside}

@@ -6,9 +6,9 @@ use Rattle.dw_model.specs.Section.{Sections}
 use Rattle.dw_model.specs.Unit.{DwarfUnit}
 use Rattle.dw_model.specs.Tree.{Node, is_function, chain}
 use Rattle.dw_model.specs.Tree as model
-use Rattle.dw_ranges.specs.declared.segment.Segment.{Segment}
-use Rattle.dw_ranges.specs.Owners.{least_owner}
-use Rattle.dw_ranges.specs.Segments.{owner_at}
+use Rattle.dw_index.specs.declared.segment.Segment.{Segment}
+use Rattle.dw_index.specs.Owners.{least_owner}
+use Rattle.dw_index.specs.Segments.{owner_at}
 use Rattle.dw_frames.specs.declared.call.EntryId.{EntryId}
 use Rattle.dw_frames.specs.Inlined.{InlinedRange, inlined_in}
 use Rattle.dw_frames.specs.Drafts.{Description, described}

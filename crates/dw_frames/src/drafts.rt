@@ -1,9 +1,9 @@
 //! The functions of a unit, while its entries are read.
 
 ghost use Rattle.std.specs.Prelude.{◌≡◌, ◌++◌, ℕ, false, OnOk, IfOk, length, map};
-ghost use Rattle.dw_ranges.specs.Owners.{least_owner};
-ghost use Rattle.dw_ranges.specs.Segments.{owner_at};
-ghost use Rattle.dw_ranges.specs.Range.{pair_shown, range_shown};
+ghost use Rattle.dw_index.specs.Owners.{least_owner};
+ghost use Rattle.dw_index.specs.Segments.{owner_at};
+ghost use Rattle.dw_index.specs.Range.{pair_shown, range_shown};
 ghost use Rattle.dw_frames.specs.Description.{description_shown};
 ghost use Rattle.dw_frames.specs.Drafts as model;
 ghost use Rattle.dw_frames.specs.Drafts.{owned};

@@ -1,7 +1,7 @@
 //! The functions that are inlined in those of a unit.
 
 ghost use Rattle.std.specs.Prelude.{◌≡◌, IfOk};
-ghost use Rattle.dw_ranges.specs.Owners.{least_owner};
+ghost use Rattle.dw_index.specs.Owners.{least_owner};
 ghost use Rattle.dw_frames.specs.Inlined.{inlined_in};
 ghost use Rattle.dw_frames.specs.InlinedInside.{AreIndexed};
 

@@ -1,8 +1,8 @@
 //! The ranges of inlined functions, linked by the function in which they lie.
 
 ghost use Rattle.std.specs.Prelude.{◌≡◌, ◌<◌, ◌++◌, ◌∷◌, ℕ, [], OnOk, IfOk, map, length};
-ghost use Rattle.dw_ranges.specs.Owners.{least, owner_in, least_owner};
-ghost use Rattle.dw_ranges.specs.Range.{pair_shown, range_shown};
+ghost use Rattle.dw_index.specs.Owners.{least, owner_in, least_owner};
+ghost use Rattle.dw_index.specs.Range.{pair_shown, range_shown};
 ghost use Rattle.dw_frames.specs.Drafts.{owned};
 ghost use Rattle.dw_frames.specs.Inlined.{inlined_in, all_in};
 ghost use Rattle.dw_frames.specs.LinksInside.{last_of, noted};

@@ -11,7 +11,7 @@ ghost use Rattle.dw_frames.specs.Call.{call_of, no_call};
 ghost use Rattle.dw_frames.specs.Fault.{tree_fault};
 ghost use Rattle.dw_frames.specs.Tree.{inwards, description_of, function_at, nodes_of, IsTreeOf};
 ghost use Rattle.dw_frames.specs.Description.{description_shown};
-ghost use Rattle.dw_ranges.specs.Segments.{owner_at};
+ghost use Rattle.dw_index.specs.Segments.{owner_at};
 
 use crate::call::{Call, Described, EntryId};
 use crate::description::{Description, count_before};

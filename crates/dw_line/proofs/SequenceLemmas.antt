@@ -6,7 +6,7 @@ use Rattle.std.proofs.lemmas.List.{append-nil, drop_more, drop_all}
 use Rattle.std.proofs.lemmas.Option.{same_Some}
 use Rattle.dw_model.specs.Matrix.{Row, first_address, last_address, row_in}
 use Rattle.dw_model.specs.Ranges.{Range}
-use Rattle.dw_ranges.specs.Owners.{least, least_owner}
+use Rattle.dw_index.specs.Owners.{least, least_owner}
 use Rattle.dw_line.specs.declared.registers.Registers.{Registers}
 use Rattle.dw_line.specs.declared.rows.Sequence.{Sequence}
 use Rattle.dw_line.specs.Rows.{row_among, number_among}

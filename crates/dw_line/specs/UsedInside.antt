@@ -1,7 +1,7 @@
 -- What the rows of used sequences are seen as, and how their sequences are found.
 use Rattle.std.specs.Prelude.{◌≡◌, ℕ, List}
 use Rattle.dw_model.specs.Matrix.{Row}
-use Rattle.dw_ranges.specs.Segments.{owner_at}
+use Rattle.dw_index.specs.Segments.{owner_at}
 use Rattle.dw_line.specs.Rows.{number_among}
 use Rattle.dw_line.specs.declared.used.UsedRows.TheInside.{Inside}
 

@@ -3,14 +3,14 @@
 ghost use Rattle.std.specs.Prelude.{◌≡◌, ℕ, true, map, option_map, option_and_then, slice_get, nat_le, IfOk, OnOk};
 ghost use Rattle.dw_model.specs.Matrix.{row_in};
 ghost use Rattle.dw_model.specs.Matrix as model;
-ghost use Rattle.dw_ranges.specs.Range.{pair_shown};
-ghost use Rattle.dw_ranges.specs.Segments.{owner_at};
+ghost use Rattle.dw_index.specs.Range.{pair_shown};
+ghost use Rattle.dw_index.specs.Segments.{owner_at};
 ghost use Rattle.dw_line.specs.Rows.{nothing, pushed, closed, number_among};
 ghost use Rattle.dw_line.specs.Sequences.{pairs_from};
 ghost use Rattle.dw_line.specs.RowsInside.{row_shown, row_told};
 
 use crate::registers::Registers;
-use dw_ranges::{Index, Range};
+use dw_index::{Index, Range};
 use std::alloc::{AllocError, Global};
 use std::marker::Model;
 

@@ -5,7 +5,7 @@ ghost use Rattle.dw_line.specs.Rows.{row_among};
 ghost use Rattle.dw_line.specs.RowsInside.{row_told};
 
 use crate::rows::{Row, Rows};
-use dw_ranges::Index;
+use dw_index::Index;
 use std::alloc::{AllocError, Global};
 use std::marker::Model;
 

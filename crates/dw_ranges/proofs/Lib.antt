@@ -1,7 +1,1 @@
-pub mod SegmentLemmas
-pub mod OwnerLemmas
-pub mod MergeLemmas
-pub mod IndexLemmas
-pub mod LawLemmas
 pub mod ListLemmas
-pub mod RunLemmas

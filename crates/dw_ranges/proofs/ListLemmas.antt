@@ -14,8 +14,8 @@ use Rattle.dw_model.specs.Ranges.{Range, range, is_kept, RangeEntry, base_addres
 use Rattle.dw_model.specs.Form.{Value}
 use Rattle.dw_model.proofs.ItemsLemmas.{items-turn}
 use Rattle.dw_model.proofs.AdvanceLemmas.{range_entries_advance}
-use Rattle.dw_ranges.specs.declared.range.Range.{Range as CodeRange}
-use Rattle.dw_ranges.specs.Range.{range_shown}
+use Rattle.dw_index.specs.declared.range.Range.{Range as CodeRange}
+use Rattle.dw_index.specs.Range.{range_shown}
 use Rattle.dw_ranges.specs.Step.{kept, all_kept, Outcome, step, ranges_from, list_place}
 
 abbrev Ranges : Type 0

@@ -2,7 +2,7 @@
 use Rattle.std.specs.Prelude.{ℕ, Option, Result, ok_or, option_map}
 use Rattle.dw_model.specs.Faults.{Bad, bad}
 use Rattle.dw_ranges.specs.declared.step.Outcome.{Outcome}
-use Rattle.dw_ranges.specs.Range.{range_shown}
+use Rattle.dw_index.specs.Range.{range_shown}
 use Rattle.dw_ranges.specs.Step as model
 
 -- a base that is needed only where it is used: bad where it can't be read

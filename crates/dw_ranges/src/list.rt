@@ -8,12 +8,12 @@ ghost use Rattle.dw_model.specs.Answers.{Gives, GivesUnlessMemory};
 ghost use Rattle.dw_forms.specs.Tables.{tables_shown, bases_shown};
 ghost use Rattle.dw_forms.specs.Value.{value_shown};
 ghost use Rattle.dw_ranges.specs.Fault.{range_fault};
-ghost use Rattle.dw_ranges.specs.Range.{range_shown};
+ghost use Rattle.dw_index.specs.Range.{range_shown};
 ghost use Rattle.dw_ranges.specs.Step.{all_kept, list_place, ranges_from};
 ghost use Rattle.dw_ranges.specs.OutcomeShown.{base_shown};
 
 use crate::fault::RangeFault;
-use crate::range::Range;
+use dw_index::Range;
 use crate::range_entry::next_range_entry;
 use crate::step::step;
 use dw_bytes::Cursor;

@@ -8,13 +8,13 @@ ghost use Rattle.dw_forms.specs.Tables.{tables_shown, bases_shown};
 ghost use Rattle.dw_forms.specs.Value.{value_shown};
 ghost use Rattle.dw_units.specs.Entry.{entry_shown};
 ghost use Rattle.dw_ranges.specs.Fault.{range_fault};
-ghost use Rattle.dw_ranges.specs.Range.{range_shown};
+ghost use Rattle.dw_index.specs.Range.{range_shown};
 ghost use Rattle.dw_ranges.specs.Step.{all_kept, high_range};
 ghost use Rattle.dw_ranges.specs.OutcomeShown.{base_shown};
 
 use crate::fault::RangeFault;
 use crate::list::list_ranges;
-use crate::range::Range;
+use dw_index::Range;
 use crate::step::{address_of, range_between, range_of_length};
 use dw_forms::{Bases, Tables, Value};
 use dw_model::dwarf::{DW_AT_high_pc, DW_AT_low_pc, DW_AT_ranges};

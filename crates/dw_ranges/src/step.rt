@@ -6,13 +6,13 @@ ghost use Rattle.dw_model.specs.Answers.{Gives};
 ghost use Rattle.dw_forms.specs.Tables.{tables_shown, bases_shown};
 ghost use Rattle.dw_forms.specs.Value.{value_shown};
 ghost use Rattle.dw_ranges.specs.Fault.{range_fault};
-ghost use Rattle.dw_ranges.specs.Range.{range_shown};
+ghost use Rattle.dw_index.specs.Range.{range_shown};
 ghost use Rattle.dw_ranges.specs.RangeEntry.{range_entry_shown};
 ghost use Rattle.dw_ranges.specs.Step as model;
 ghost use Rattle.dw_ranges.specs.OutcomeShown.{base_shown, outcome_shown};
 
 use crate::fault::RangeFault;
-use crate::range::Range;
+use dw_index::Range;
 use crate::range_entry::RangeEntry;
 use dw_forms::{Bases, Tables, Value};
 

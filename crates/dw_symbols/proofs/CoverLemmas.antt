@@ -8,8 +8,8 @@ use Rattle.dw_model.specs.Section.{Sections}
 use Rattle.dw_model.specs.Unit.{DwarfUnit}
 use Rattle.dw_model.specs.Unit as model
 use Rattle.dw_model.specs.Ranges.{Range}
-use Rattle.dw_ranges.specs.declared.range.Range.{Range as CodeRange}
-use Rattle.dw_ranges.specs.Range.{range_shown, pair_shown}
+use Rattle.dw_index.specs.declared.range.Range.{Range as CodeRange}
+use Rattle.dw_index.specs.Range.{range_shown, pair_shown}
 use Rattle.dw_symbols.specs.Cover.{checked_ranges, pairs_from}
 
 abbrev Pairs : Type 0

@@ -18,7 +18,7 @@ use Rattle.dw_model.specs.Refusal.{unit_ranges}
 use Rattle.dw_model.specs.Answer.{unit_of}
 use Rattle.dw_model.proofs.StepLemmas.{bind_ok, bind_err, ok_is}
 use Rattle.dw_model.proofs.InstructionLemmas.{or_fault-ok}
-use Rattle.dw_ranges.specs.Owners.{least_owner, numbered}
+use Rattle.dw_index.specs.Owners.{least_owner, numbered}
 use Rattle.dw_symbols.specs.Cover.{ranges_in, checked_ranges, pairs_from}
 
 -- the ranges of a unit that are there

@@ -3,7 +3,7 @@ use Rattle.std.specs.Prelude.{◌≡◌, ◌<◌, ℕ, List, IfSome, length, opt
 use Rattle.dw_model.specs.Section.{sections}
 use Rattle.dw_model.specs.Unit as model
 use Rattle.dw_model.specs.Answer.{unit_of}
-use Rattle.dw_ranges.specs.Segments.{owner_at}
+use Rattle.dw_index.specs.Segments.{owner_at}
 use Rattle.dw_symbols.specs.declared.image.Image.TheInside.{Inside}
 
 abbrev pub file_of : Inside → List ℕ

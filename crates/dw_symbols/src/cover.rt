@@ -8,7 +8,7 @@ ghost use Rattle.dw_forms.specs.Tables.{tables_shown, bases_shown};
 ghost use Rattle.dw_units.specs.Header.{kind_shown};
 ghost use Rattle.dw_units.specs.Entry.{entry_shown};
 ghost use Rattle.dw_ranges.specs.Fault.{range_fault};
-ghost use Rattle.dw_ranges.specs.Range.{range_shown, pair_shown};
+ghost use Rattle.dw_index.specs.Range.{range_shown, pair_shown};
 ghost use Rattle.dw_symbols.specs.Cover.{answering_ranges, checked_ranges, pairs_from};
 
 use dw_elf::OpenFault;

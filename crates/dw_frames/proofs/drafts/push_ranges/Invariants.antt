@@ -1,5 +1,5 @@
 use Rattle.std.proofs.Common.{◌≡◌, ◌++◌, map, take}
-use Rattle.dw_ranges.specs.Range.{pair_shown, range_shown}
+use Rattle.dw_index.specs.Range.{pair_shown, range_shown}
 use Rattle.dw_frames.specs.Drafts.{owned}
 use Rattle.dw_frames.proofs.drafts.push_ranges.Given as goal
 

@@ -1,5 +1,5 @@
 use Rattle.std.proofs.Common.{◌≡◌, ◌++◌, map, drop}
-use Rattle.dw_ranges.specs.Range.{pair_shown}
+use Rattle.dw_index.specs.Range.{pair_shown}
 use Rattle.dw_line.specs.Sequences.{pairs_from}
 use Rattle.dw_line.proofs.rows.sequence_pairs.Given as goal
 

@@ -3,7 +3,7 @@ use Rattle.std.specs.Prelude.{MatchOption}
 use Rattle.std.proofs.lemmas.Result.{err_from_is_err_and}
 use Rattle.dw_model.specs.Unit as model
 use Rattle.dw_elf.specs.OpenFault.{refusal_of}
-use Rattle.dw_ranges.specs.Range.{range_shown, pair_shown}
+use Rattle.dw_index.specs.Range.{range_shown, pair_shown}
 use Rattle.dw_symbols.specs.Cover.{checked_ranges}
 use Rattle.dw_symbols.proofs.CoverLemmas.{some-at, known, pushed, stops, ends}
 use Rattle.dw_symbols.proofs.cover.unit_pairs.Goals as goal

@@ -1,5 +1,5 @@
 use Rattle.std.proofs.Common.{map}
-use Rattle.dw_ranges.specs.Range.{pair_shown}
+use Rattle.dw_index.specs.Range.{pair_shown}
 use Rattle.dw_symbols.proofs.CoverLemmas.{SoFar}
 use Rattle.dw_symbols.proofs.cover.unit_pairs.Given as goal
 

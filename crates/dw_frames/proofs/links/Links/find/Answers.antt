@@ -1,7 +1,7 @@
 use Rattle.std.proofs.Common.{◌∙◌, ◌∷◌, [], length, refl, ap, subst, arith}
 use Rattle.std.proofs.lemmas.Option.{slice_get_read}
-use Rattle.dw_ranges.specs.Owners.{least, owner_in, least_owner}
-use Rattle.dw_ranges.specs.Range.{pair_shown}
+use Rattle.dw_index.specs.Owners.{least, owner_in, least_owner}
+use Rattle.dw_index.specs.Range.{pair_shown}
 use Rattle.dw_frames.proofs.InlinedLemmas.{Back, back-starts, back-ends}
 use Rattle.dw_frames.proofs.LinkLemmas.{link-within, link-on, link-less}
 use Rattle.dw_frames.proofs.links.Links.find.Goals as goal

@@ -1,7 +1,7 @@
 use Rattle.std.proofs.Common.{◌≡◌, ℕ, suc, List}
 use Rattle.std.specs.Option.{option_map_or}
 use Rattle.dw_model.specs.Ranges.{Range}
-use Rattle.dw_ranges.specs.Owners.{least_owner}
+use Rattle.dw_index.specs.Owners.{least_owner}
 use Rattle.dw_frames.proofs.InlinedLemmas.{Back}
 use Rattle.dw_frames.proofs.links.Links.find.Given as goal
 

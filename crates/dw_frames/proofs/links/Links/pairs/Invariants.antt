@@ -1,6 +1,6 @@
 use Rattle.std.proofs.Common.{suc, map, reverse}
 use Rattle.std.specs.Option.{option_map_or}
-use Rattle.dw_ranges.specs.Range.{pair_shown}
+use Rattle.dw_index.specs.Range.{pair_shown}
 use Rattle.dw_frames.proofs.InlinedLemmas.{Back}
 use Rattle.dw_frames.proofs.links.Links.pairs.Given as goal
 

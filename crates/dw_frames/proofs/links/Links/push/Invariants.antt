@@ -1,5 +1,5 @@
 use Rattle.std.proofs.Common.{◌≡◌, ◌++◌, map, take}
-use Rattle.dw_ranges.specs.Range.{range_shown}
+use Rattle.dw_index.specs.Range.{range_shown}
 use Rattle.dw_frames.specs.Drafts.{owned}
 use Rattle.dw_frames.specs.Inlined.{all_in}
 use Rattle.dw_frames.proofs.links.Links.push.Given as goal

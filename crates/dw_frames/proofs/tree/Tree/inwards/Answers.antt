@@ -1,7 +1,7 @@
 use Rattle.std.proofs.Common.{◌≡◌, ◌∙◌, ◌-◌, ℕ, List, length, map, ap, sym, subst, arith}
 use Rattle.std.specs.Vec.{vec_len}
 use Rattle.std.proofs.lemmas.List.{length-map}
-use Rattle.dw_ranges.specs.Segments.{owner_at}
+use Rattle.dw_index.specs.Segments.{owner_at}
 use Rattle.dw_frames.specs.declared.call.EntryId.{EntryId}
 use Rattle.dw_frames.specs.declared.description.Description.{Description as CodeDescription}
 use Rattle.dw_frames.specs.Description.{description_shown}

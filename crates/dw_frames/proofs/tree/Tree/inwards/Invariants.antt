@@ -1,5 +1,5 @@
 use Rattle.std.proofs.Common.{◌-◌}
-use Rattle.dw_ranges.specs.Segments.{owner_at}
+use Rattle.dw_index.specs.Segments.{owner_at}
 use Rattle.dw_frames.specs.Tree.{inwards}
 use Rattle.dw_frames.proofs.InwardsLemmas.{Found}
 use Rattle.dw_frames.proofs.tree.Tree.inwards.Given as goal

@@ -1,9 +1,9 @@
 use Rattle.std.proofs.Common.{◌≡◌, ◌∙◌, ℕ, List, map, sym, ap}
 use Rattle.std.proofs.lemmas.Result.{IfOk-weaker}
 use Rattle.dw_model.specs.Ranges.{Range}
-use Rattle.dw_ranges.specs.Owners.{least_owner}
-use Rattle.dw_ranges.specs.Range.{pair_shown}
-use Rattle.dw_ranges.specs.Segments.{owner_at}
+use Rattle.dw_index.specs.Owners.{least_owner}
+use Rattle.dw_index.specs.Range.{pair_shown}
+use Rattle.dw_index.specs.Segments.{owner_at}
 use Rattle.dw_line.specs.Rows.{Kept, number_among}
 use Rattle.dw_line.specs.Sequences.{pairs_from}
 use Rattle.dw_line.proofs.SequenceLemmas.{least-is-first, number-by_rows}

@@ -6,9 +6,9 @@ use Rattle.dw_model.specs.Unit as model
 use Rattle.dw_model.specs.Root.{unit_refusal}
 use Rattle.dw_elf.specs.OpenFault.{refusal_of}
 use Rattle.dw_model.specs.Faults.{root_ranges}
-use Rattle.dw_ranges.specs.Range.{pair_shown}
-use Rattle.dw_ranges.specs.Owners.{least_owner}
-use Rattle.dw_ranges.specs.Segments.{owner_at}
+use Rattle.dw_index.specs.Range.{pair_shown}
+use Rattle.dw_index.specs.Owners.{least_owner}
+use Rattle.dw_index.specs.Segments.{owner_at}
 use Rattle.dw_symbols.proofs.OwnerLemmas.{none-bad, told-bad, index-unit}
 use Rattle.dw_symbols.proofs.ImageLemmas.{by-ranges, told-by-ranges}
 use Rattle.dw_symbols.proofs.image.Image.open.Goals as goal

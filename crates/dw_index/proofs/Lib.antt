@@ -1,0 +1,6 @@
+pub mod SegmentLemmas
+pub mod OwnerLemmas
+pub mod MergeLemmas
+pub mod IndexLemmas
+pub mod LawLemmas
+pub mod RunLemmas

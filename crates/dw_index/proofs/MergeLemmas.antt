@@ -1,0 +1,191 @@
+-- Merging two lists of segments, border by border.
+use Rattle.std.proofs.Common.{◌≡◌, ◌≢◌, inl, inr, ◌≤◌, ◌<◌, ℕ, ◌+◌, Bool, true, false, cond, List, [], ◌∷◌, ◌++◌, length, Option, Some, None, min, refl, sym, ap, subst, ◌∙◌, arith, length-append}
+use Rattle.std.specs.Prelude.{◌==◌, nat_eq}
+use Rattle.std.specs.Option.{option_eq}
+use Rattle.std.proofs.lemmas.Bool.{eqb-true, eqb-false, cases_lt, le-leb, lt-leb}
+use Rattle.std.proofs.lemmas.Option.{same_Some}
+use Rattle.dw_index.specs.declared.segment.Segment.{Segment}
+use Rattle.dw_index.specs.Owners.{least}
+use Rattle.dw_index.specs.Segments.{owner_from, owner_at, AreSegments, Below, border, past_owner, past_rest, IsMerged}
+use Rattle.dw_index.proofs.SegmentLemmas.{behind_border, below_all, below_more, below_push, owner-push, push}
+
+-- ---- one side, behind a border that is at most its first one
+
+-- no segment begins below
+abbrev IsFrom : ℕ → List Segment → Type 0
+IsFrom at [] = Unit {0}
+IsFrom at (segment ∷ segments) = at ≤ segment.begin
+
+from_border : (bound at : ℕ) (owner : Option ℕ) (rest : List Segment) → AreSegments bound owner rest → IsFrom at rest → AreSegments at owner rest
+from_border bound at owner [] s h = tt
+from_border bound at owner (segment ∷ segments) s h = (h, s.1, s.2)
+
+past_rises : (bound at : ℕ) (owner : Option ℕ) (rest : List Segment) → AreSegments bound owner rest → IsFrom at rest → AreSegments (at + 1) (past_owner at owner rest) (past_rest at rest)
+past_rises bound at owner [] s h = tt
+past_rises bound at owner (segment ∷ segments) s h = by_test (segment.begin == at) refl
+  where
+    by_test : (test : Bool) → (segment.begin == at) ≡ test → AreSegments (at + 1) (cond test segment.owner owner) (cond test segments (segment ∷ segments))
+    by_test true e = subst (λ n. AreSegments (n + 1) segment.owner segments) (eqb-true segment.begin at e) s.2
+    by_test false e = (let other = eqb-false segment.begin at e in omega arith, s.1, s.2)
+
+past_behind : (at : ℕ) (owner : Option ℕ) (rest : List Segment) (a : ℕ) → at ≤ a → owner_from (past_owner at owner rest) (past_rest at rest) a ≡ owner_from owner rest a
+past_behind at owner [] a h = refl
+past_behind at owner (segment ∷ segments) a h = by_test (segment.begin == at) refl
+  where
+    by_test : (test : Bool) → (segment.begin == at) ≡ test → owner_from (cond test segment.owner owner) (cond test segments (segment ∷ segments)) a ≡ owner_from owner (segment ∷ segments) a
+    by_test true e =
+        sym (behind_border segment segments owner a (let same = eqb-true segment.begin at e in omega arith))
+    by_test false e = refl
+
+past_length : (at : ℕ) (rest : List Segment) → length (past_rest at rest) ≤ length rest
+past_length at [] = omega arith
+past_length at (segment ∷ segments) = by_test (segment.begin == at)
+  where
+    by_test : (test : Bool) → length (cond test segments (segment ∷ segments)) ≤ length (segment ∷ segments)
+    by_test true = omega arith
+    by_test false = omega arith
+
+-- ---- the next border
+
+abbrev Next : (at : ℕ) → (first second : List Segment) → Type 0
+Next at first second = IsFrom at first × IsFrom at second × (length (past_rest at first) + length (past_rest at second) + 1 ≤ length first + length second)
+
+past_shorter : (at : ℕ) (segment : Segment) (segments : List Segment) → segment.begin ≡ at → length (past_rest at (segment ∷ segments)) + 1 ≤ length (segment ∷ segments)
+past_shorter at segment segments e = by_test (segment.begin == at) refl
+  where
+    by_test : (test : Bool) → (segment.begin == at) ≡ test → length (cond test segments (segment ∷ segments)) + 1 ≤ length (segment ∷ segments)
+    by_test true t = omega arith
+    by_test false t = absurd (eqb-false segment.begin at t e)
+
+pub next : (at : ℕ) (first second : List Segment) → Some at ≡ least (border first) (border second) → Next at first second
+next at [] [] e = absurd cc
+next at [] (segment ∷ segments) e =
+    let same : at ≡ segment.begin = same_Some at segment.begin e in
+    (tt, omega arith, omega (arith, past_shorter at segment segments (sym same)))
+next at (segment ∷ segments) [] e =
+    let same : at ≡ segment.begin = same_Some at segment.begin e in
+    (omega arith, tt, omega (arith, past_shorter at segment segments (sym same)))
+next at (segment ∷ segments) (other ∷ others) e =
+    let same : at ≡ min segment.begin other.begin = same_Some at (min segment.begin other.begin) e in
+    elim (cases_lt other.begin segment.begin) [
+      | inl h ↦ (let lower : other.begin ≡ at = omega arith in
+          (omega arith, omega arith, omega (arith, past_shorter at other others lower, past_length at (segment ∷ segments))))
+      | inr h ↦ (let lower : segment.begin ≡ at = omega arith in
+          (omega arith, omega arith, omega (arith, past_shorter at segment segments lower, past_length at (other ∷ others))))
+    ]
+
+low_border : (bound at : ℕ) (left right : Option ℕ) (first second : List Segment) → AreSegments bound left first → AreSegments bound right second → Some at ≡ least (border first) (border second) → bound ≤ at
+low_border bound at left right [] [] s t e = absurd cc
+low_border bound at left right [] (segment ∷ segments) s t e =
+    omega (arith, same_Some at segment.begin e, t.0)
+low_border bound at left right (segment ∷ segments) [] s t e =
+    omega (arith, same_Some at segment.begin e, s.0)
+low_border bound at left right (segment ∷ segments) (other ∷ others) s t e =
+    omega (arith, same_Some at (min segment.begin other.begin) e, s.0, t.0)
+
+-- ---- the merge so far
+
+-- The addresses below the bound have their owners, and those from it on have the one that both sides have so far.
+pub record Merging (whole : ℕ → Option ℕ) (left right : Option ℕ) (first second merged : List Segment) (room : ℕ) : Type 0 where
+  pub bound : ℕ
+  pub before : (a : ℕ) → a < bound → owner_at merged a ≡ whole a
+  pub behind : (a : ℕ) → bound ≤ a → least (owner_from left first a) (owner_from right second a) ≡ whole a
+  pub settled : (a : ℕ) → bound ≤ a → owner_at merged a ≡ least left right
+  pub left_rises : AreSegments bound left first
+  pub right_rises : AreSegments bound right second
+  pub segments : AreSegments 0 None merged
+  pub below : Below bound merged
+  pub size : length merged + length first + length second ≤ room
+
+pub begins : (first second : List Segment) → AreSegments 0 None first → AreSegments 0 None second → Merging (λ a. least (owner_at first a) (owner_at second a)) None None first second [] (length first + length second)
+begins first second s t = record {
+  bound = 0;
+  before = λ a h. absurd (omega arith);
+  behind = λ a h. refl;
+  settled = λ a h. refl;
+  left_rises = s;
+  right_rises = t;
+  segments = tt;
+  below = tt;
+  size = omega arith;
+}
+
+pub is_merged : (first second merged : List Segment) (left right : Option ℕ) → Merging (λ a. least (owner_at first a) (owner_at second a)) left right [] [] merged (length first + length second) → IsMerged first second merged
+is_merged first second merged left right m = record {
+  owners = λ a. elim (cases_lt a m.bound) [ inl h ↦ m.before a h | inr h ↦ m.settled a h ∙ m.behind a h ];
+  segments = m.segments;
+  size = omega (arith, m.size);
+}
+
+-- the bound goes up to a border of either side
+module _ (whole : ℕ → Option ℕ) (left right : Option ℕ) (first second merged : List Segment) (room at : ℕ) (m : Merging whole left right first second merged room) (is_next : Some at ≡ least (border first) (border second)) where
+  low : m.bound ≤ at
+  low = low_border m.bound at left right first second m.left_rises m.right_rises is_next
+
+  n : Next at first second
+  n = next at first second is_next
+
+  abbrev owner : Option ℕ
+  owner = least (past_owner at left first) (past_owner at right second)
+
+  between : (a : ℕ) → m.bound ≤ a → a < at → least left right ≡ whole a
+  between a h b =
+      let x = below_all at left first left a (from_border m.bound at left first m.left_rises n.0) b in
+      let y = below_all at right second right a (from_border m.bound at right second m.right_rises n.1) b in
+      rw (x, y) at (m.behind a h)
+
+  behind_at : (a : ℕ) → at ≤ a → least (owner_from (past_owner at left first) (past_rest at first) a) (owner_from (past_owner at right second) (past_rest at second) a) ≡ whole a
+  behind_at a h = rw (past_behind at left first a h, past_behind at right second a h) (m.behind a (omega (arith, low)))
+
+  left_on : AreSegments (at + 1) (past_owner at left first) (past_rest at first)
+  left_on = past_rises m.bound at left first m.left_rises n.0
+
+  right_on : AreSegments (at + 1) (past_owner at right second) (past_rest at second)
+  right_on = past_rises m.bound at right second m.right_rises n.1
+
+  at_border : (a : ℕ) → a ≡ at → owner ≡ whole a
+  at_border a e =
+      let x = below_all (at + 1) (past_owner at left first) (past_rest at first) (past_owner at left first) a left_on (omega arith) in
+      let y = below_all (at + 1) (past_owner at right second) (past_rest at second) (past_owner at right second) a right_on (omega arith) in
+      rw (x, y) at (behind_at a (omega arith))
+
+  on : (all : List Segment) → ((a : ℕ) → a < at → owner_at all a ≡ owner_at merged a) → ((a : ℕ) → at ≤ a → owner_at all a ≡ owner) → AreSegments 0 None all → Below (at + 1) all → length all ≤ length merged + 1 → Merging whole (past_owner at left first) (past_owner at right second) (past_rest at first) (past_rest at second) all room
+  on all before behind segments below size = record {
+    bound = at + 1;
+    before = λ a h. elim (cases_lt a at) [
+      | inl b ↦ before a b ∙ elim (cases_lt a m.bound) [ inl e ↦ m.before a e | inr e ↦ m.settled a e ∙ between a e b ]
+      | inr b ↦ behind a b ∙ at_border a (omega arith)
+    ];
+    behind = λ a h. behind_at a (omega arith);
+    settled = λ a h. behind a (omega arith);
+    left_rises = left_on;
+    right_rises = right_on;
+    segments = segments;
+    below = below;
+    size = omega (arith, m.size, n.2);
+  }
+
+  pub stays : owner ≡ least left right → Merging whole (past_owner at left first) (past_owner at right second) (past_rest at first) (past_rest at second) merged room
+  stays same =
+      on merged (λ a h. refl) (λ a h. m.settled a (omega (arith, low)) ∙ sym same) m.segments (below_more m.bound (at + 1) merged (omega (arith, low)) m.below) (omega arith)
+
+  pub grows : (segment : Segment) → segment.begin ≡ at → segment.owner ≡ owner → owner ≢ least left right → Merging whole (past_owner at left first) (past_owner at right second) (past_rest at first) (past_rest at second) (merged ++ segment ∷ []) room
+  grows segment begins owned other =
+      on (merged ++ segment ∷ [])
+      (λ a h. owner-push merged segment None a ∙ rw (lt-leb segment.begin a (omega arith)) refl)
+      (λ a h. owner-push merged segment None a ∙ rw (le-leb segment.begin a (omega arith)) owned)
+      (push 0 None merged segment m.segments (below_more m.bound segment.begin merged (omega (arith, low)) m.below) (omega arith) (λ e. other (sym owned ∙ e ∙ m.settled segment.begin (omega (arith, low)))))
+      (below_push at (at + 1) merged segment (omega arith) (below_more m.bound (at + 1) merged (omega (arith, low)) m.below))
+      (omega (arith, length-append merged (segment ∷ [])))
+
+pub same_owner : (x y : Option ℕ) → true ≡ option_eq nat_eq x y → x ≡ y
+same_owner None None e = refl
+same_owner None (Some y) e = absurd cc
+same_owner (Some x) None e = absurd cc
+same_owner (Some x) (Some y) e = ap Some (eqb-true x y (sym e))
+
+pub other_owner : (x y : Option ℕ) → false ≡ option_eq nat_eq x y → x ≢ y
+other_owner None None e = absurd cc
+other_owner None (Some y) e = λ same. absurd cc
+other_owner (Some x) None e = λ same. absurd cc
+other_owner (Some x) (Some y) e = λ same. eqb-false x y (sym e) (same_Some x y same)

@@ -1,0 +1,95 @@
+//! An index of ranges that finds the least owner of an address.
+
+ghost use Rattle.std.specs.Prelude.{◌≡◌, ◌≤◌, ◌*◌, ℕ, List, [], ◌∷◌, None, IfOk, map, length};
+ghost use Rattle.dw_index.specs.Owners.{least_owner};
+ghost use Rattle.dw_index.specs.Range.{pair_shown};
+ghost use Rattle.dw_index.specs.Segments.{AreIndexOf, owner_at};
+
+use crate::merge::merge;
+use crate::range::Range;
+use crate::run::run_of;
+use crate::search::owner_of;
+use crate::segment::Segment;
+use std::alloc::{AllocError, Global};
+use std::marker::Model;
+
+/// The segments of one range: its own, and the gap behind it.
+fn lone(alloc: Global, range: Range, owner: usize) -> Result<Vec<Segment>, AllocError>
+    ensures { IfOk result (λ segments. AreIndexOf (pair_shown (range, owner) ∷ []) segments.items) }
+{
+    if range.begin >= range.end {
+        return Ok(Vec::new(alloc));
+    }
+    let segments = vec![in alloc;
+        Segment {
+            begin: range.begin,
+            owner: Some(owner),
+        },
+        Segment {
+            begin: range.end,
+            owner: None,
+        },
+    ]?;
+    Ok(segments)
+}
+
+/// The segments of all ranges: one after the other where they stand in order of address, none over
+/// another, as those inlined in one function often do; else those of each half, merged. So it takes n log n steps for n
+/// ranges, however they overlap.
+fn gather(alloc: Global, pairs: &[(Range, usize)]) -> Result<Vec<Segment>, AllocError>
+    ensures { IfOk result (λ segments. AreIndexOf (map pair_shown pairs.now) segments.items) }
+{
+    if pairs.len() == 0 {
+        return Ok(Vec::new(alloc));
+    }
+    if pairs.len() == 1 {
+        let (range, owner) = pairs[0];
+        return lone(alloc, range, owner);
+    }
+    if let Some(segments) = run_of(alloc, pairs)? {
+        return Ok(segments);
+    }
+    let (front, back) = pairs.split_at(pairs.len() / 2);
+    let first = gather(alloc, front)?;
+    let second = gather(alloc, back)?;
+    merge(alloc, &first, &second)
+}
+
+/// An index of ranges and their owners. Contracts see it as segments of addresses, each with the
+/// owner that `owner_at` finds.
+#[derive(Drop)]
+pub struct Index {
+    segments: Vec<Segment>,
+}
+
+impl Model for Index {
+    ghost use Rattle.std.specs.Prelude.{List};
+    ghost use Rattle.dw_index.specs.declared.segment.Segment.{Segment};
+    ghost use Rattle.dw_index.specs.IndexInside.{segments_of, IsIndex};
+
+    ghost Value = { List Segment };
+
+    ghost view = { segments_of };
+
+    ghost invariant = { IsIndex };
+}
+
+impl Index {
+    /// The index of ranges, each with its owner, in any order; a range whose begin isn't below its
+    /// end holds no address. It has at most twice as many segments as there are ranges. The error
+    /// comes only where a growth was refused.
+    pub fn build(alloc: Global, pairs: &[(Range, usize)]) -> Result<Self, AllocError>
+        ensures owners { IfOk result (λ index. (a : ℕ) → owner_at index a ≡ least_owner (map pair_shown pairs.now) a) }
+        ensures size { IfOk result (λ index. length index ≤ 2 * length pairs.now) }
+    {
+        let segments = gather(alloc, pairs)?;
+        Ok(Index { segments })
+    }
+
+    /// The least owner of the ranges that hold an address; `None` where none holds it.
+    pub fn find(&self, a: u64) -> Option<usize>
+        ensures { result ≡ owner_at self.now a }
+    {
+        owner_of(&self.segments, a)
+    }
+}
