@@ -20,34 +20,45 @@ use ticket_core::Shape;
 /// How long a worker waits at the gate for the other.
 const MOST_WAITS: u64 = 10_000_000;
 
-/// A gate at which each worker waits for the other.
+/// A gate at which each of two workers waits until the other has entered.
 #[derive(Drop)]
 struct Meeting {
-    /// How many entered.
-    entered: AtomicU64,
-    /// How many waited in vain.
+    /// How often number 0 entered.
+    first: AtomicU64,
+    /// How often any other number entered.
+    second: AtomicU64,
+    /// How many waited to the limit.
     alone: AtomicU64,
-    /// Which numbers entered: the sum of 1 for number 0 and 2 for number 1.
-    numbers: AtomicU64,
 }
 
 impl Meeting {
     fn new() -> Self {
         Meeting {
-            entered: AtomicU64::new(0),
+            first: AtomicU64::new(0),
+            second: AtomicU64::new(0),
             alone: AtomicU64::new(0),
-            numbers: AtomicU64::new(0),
         }
+    }
+
+    /// How often number 0 entered, how often any other, and how many waited to the limit.
+    fn counts(&self) -> (u64, u64, u64) {
+        (
+            self.first.load(Ordering::SeqCst),
+            self.second.load(Ordering::SeqCst),
+            self.alone.load(Ordering::SeqCst),
+        )
     }
 }
 
 impl Gate for Meeting {
     fn enter(&self, _sender: usize, number: u64, _a: u64) {
-        let bit = if number == 0 { 1 } else { 2 };
-        self.numbers.fetch_add(bit, Ordering::SeqCst);
-        self.entered.fetch_add(1, Ordering::SeqCst);
+        let (own, other) = match number {
+            0 => (&self.first, &self.second),
+            _ => (&self.second, &self.first),
+        };
+        own.fetch_add(1, Ordering::SeqCst);
         for _ in 0..MOST_WAITS {
-            if self.entered.load(Ordering::SeqCst) >= 2 {
+            if other.load(Ordering::SeqCst) > 0 {
                 return;
             }
             thread::yield_now();
@@ -55,6 +66,9 @@ impl Gate for Meeting {
         self.alone.fetch_add(1, Ordering::SeqCst);
     }
 }
+
+/// Each number entered once, and the limit wasn't reached.
+const BOTH_ENTERED: (u64, u64, u64) = (1, 1, 0);
 
 /// How many frames an answer has.
 fn frames_of(answer: &Answer<'_>) -> usize {
@@ -64,23 +78,33 @@ fn frames_of(answer: &Answer<'_>) -> usize {
     }
 }
 
-#[test]
-fn two_workers_at_once(rt: HostRuntime) -> Result<(), Fail> {
-    let file = hex::decode(rt.alloc(), INLINED)?;
-    let image = Image::open(rt.alloc(), &file).ok().ok_or("an image")?;
-    let gate = Meeting::new();
+/// How many frames the answers of two addresses have, asked by one sender and answered by two workers.
+fn frames_of_two<T: Threads + Wait + Sync>(
+    rt: &T,
+    alloc: Global,
+    image: &Image<'_>,
+    gate: &Meeting,
+) -> Option<(usize, usize)> {
     let shape = Shape {
         senders: 1,
         workers: 2,
         window: 2,
         most: 1 << 60,
     };
-    let answers = run_pool(&rt, rt.alloc(), &image, shape, &[0x401000, 0x401004], &gate);
-    let answers = answers.ok().ok_or("answers")?;
-    assert_eq!(rt; answers.len(), 2);
-    assert_eq!(rt; (frames_of(&answers[0]), frames_of(&answers[1])), (1, 3));
-    assert_eq!(rt; gate.numbers.load(Ordering::SeqCst), 3);
-    assert_eq!(rt; gate.alone.load(Ordering::SeqCst), 0);
+    let answers = run_pool(rt, alloc, image, shape, &[0x401000, 0x401004], gate).ok()?;
+    match answers.as_slice() {
+        [first, second] => Some((frames_of(first), frames_of(second))),
+        _ => None,
+    }
+}
+
+#[test]
+fn two_workers_at_once(rt: HostRuntime) -> Result<(), Fail> {
+    let file = hex::decode(rt.alloc(), INLINED)?;
+    let image = Image::open(rt.alloc(), &file).ok().ok_or("an image")?;
+    let gate = Meeting::new();
+    assert_eq!(rt; frames_of_two(&rt, rt.alloc(), &image, &gate), Some((1, 3)));
+    assert_eq!(rt; gate.counts(), BOTH_ENTERED);
     Ok(())
 }
 
@@ -141,6 +165,7 @@ fn symbolize_counted<T: Threads + Wait + Sync, I: Ledger, O: Ledger>(
     (status, bytes)
 }
 
+/// The same, over counts of failures of its own.
 fn symbolize_in<T: Threads + Wait + Sync>(
     rt: &T,
     alloc: Global,
@@ -151,15 +176,26 @@ fn symbolize_in<T: Threads + Wait + Sync>(
     symbolize_counted::<T, Brand, Brand>(rt, alloc, image, text, gate, Blank::new(1), Blank::new(1))
 }
 
+/// Whether an input has this text by two workers, without any fault.
+fn is_written<T: Threads + Wait + Sync>(
+    rt: &T,
+    alloc: Global,
+    image: &Image<'_>,
+    gate: &Meeting,
+    input: &[u8],
+    wanted: &[u8],
+) -> bool {
+    let (status, text) = symbolize_in(rt, alloc, image, input, gate);
+    status == Ok(Status::Clean) && text.as_slice() == wanted
+}
+
 #[test]
 fn two_workers_write_in_order(rt: HostRuntime) -> Result<(), Fail> {
     let file = hex::decode(rt.alloc(), INLINED)?;
     let image = Image::open(rt.alloc(), &file).ok().ok_or("an image")?;
     let gate = Meeting::new();
-    let (status, text) = symbolize_in(&rt, rt.alloc(), &image, b"401004\n401000\n", &gate);
-    assert_eq!(rt; status, Ok(Status::Clean));
-    assert_eq!(rt; text.as_slice(), b"/w/a.c:4\n/w/a.c:3\n".as_slice());
-    assert_eq!(rt; gate.numbers.load(Ordering::SeqCst), 3);
-    assert_eq!(rt; gate.alone.load(Ordering::SeqCst), 0);
+    let wanted = b"/w/a.c:4\n/w/a.c:3\n";
+    assert!(rt; is_written(&rt, rt.alloc(), &image, &gate, b"401004\n401000\n", wanted));
+    assert_eq!(rt; gate.counts(), BOTH_ENTERED);
     Ok(())
 }
