@@ -36,18 +36,3 @@ module _ {V : Type 0} where
   pub each_added : (F : V → Type 0) (items : List V) (item : V) → AllByRecursion F items → F item → AllByRecursion F (items ++ item ∷ [])
   each_added F [] item all mine = (mine, tt)
   each_added F (x ∷ xs) item all mine = (all.0, each_added F xs item all.1 mine)
-
-  -- what holds of each holds of the last
-  last_of : (F : V → Type 0) (items : List V) (item : V) → AllByRecursion F (items ++ item ∷ []) → F item
-  last_of F [] item all = all.0
-  last_of F (x ∷ xs) item all = last_of F xs item all.1
-
-  pub each_last : (F : V → Type 0) (items front : List V) (item : V) → AllByRecursion F items → items ≡ front ++ item ∷ [] → F item
-  each_last F items front item all is = last_of F front item (subst (AllByRecursion F) is all)
-
-  front_of : (F : V → Type 0) (items : List V) (item : V) → AllByRecursion F (items ++ item ∷ []) → AllByRecursion F items
-  front_of F [] item all = tt
-  front_of F (x ∷ xs) item all = (all.0, front_of F xs item all.1)
-
-  pub each_front : (F : V → Type 0) (items front : List V) (item : V) → AllByRecursion F items → items ≡ front ++ item ∷ [] → AllByRecursion F front
-  each_front F items front item all is = front_of F front item (subst (AllByRecursion F) is all)

@@ -12,8 +12,6 @@ mod opening;
 mod outcome;
 mod places;
 mod pool;
-#[cfg(test)]
-mod tests;
 mod worker;
 
 pub use board::Board;

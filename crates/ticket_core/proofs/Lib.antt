@@ -10,4 +10,3 @@ pub mod CallLemmas
 pub mod HandLemmas
 pub mod RunLemmas
 pub mod RefusalLemmas
-pub mod CallerLemmas

@@ -11,8 +11,6 @@ mod laws;
 mod machine;
 mod shape;
 mod solver;
-#[cfg(test)]
-mod tests;
 
 pub use fault::{CoreFault, NewFault};
 pub use laws::{law_of_refusals, law_of_runs};

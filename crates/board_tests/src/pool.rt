@@ -1,0 +1,145 @@
+//! Pools, each with threads of its own.
+
+use crate::draws::Draws;
+use crate::gates::{Meeting, Open, Watch};
+use crate::shapes::shape;
+use crate::solver::{Echo, Echoes, KEY};
+use std::alloc::{AllocError, Global};
+use std::sync::Wait;
+use std::test::Fail;
+use std::thread::Threads;
+use ticket_board::{Gate, PoolFault, run_pool};
+use ticket_core::Shape;
+
+/// The answers of a pool to which nothing is refused.
+pub fn answers<R: Threads + Wait + Sync, G: Gate + Sync>(
+    rt: &R,
+    alloc: Global,
+    shape: Shape,
+    queries: &[u64],
+    gate: &G,
+) -> Result<Vec<u64>, PoolFault> {
+    let maker = Echoes::new(&KEY, false, 0);
+    run_pool::<Echo<'_>, R, Echoes<'_>, G>(rt, alloc, &maker, shape, queries, gate)
+}
+
+/// So many queries, all different.
+fn some_queries(alloc: Global, count: u64) -> Result<Vec<u64>, AllocError> {
+    let mut queries = Vec::new(alloc);
+    for i in 0..count {
+        queries.push(i.wrapping_mul(7) ^ 0x2a)?;
+    }
+    Ok(queries)
+}
+
+#[test]
+fn same_for_all_pools(rt: HostRuntime) -> Result<(), Fail> {
+    let queries = some_queries(rt.alloc(), 200)?;
+    for workers in [1, 2, 64] {
+        for senders in [1, 3, 64] {
+            let shape = shape(senders, workers, 16, 1 << 60);
+            let found = answers(&rt, rt.alloc(), shape, &queries, &Open)?;
+            assert_eq!(rt; found.as_slice(), queries.as_slice());
+        }
+    }
+    Ok(())
+}
+
+/// A shape is refused where a sender would have more queries than it may ask.
+#[test]
+fn queries_of_each_sender(rt: HostRuntime) -> Result<(), Fail> {
+    let queries = some_queries(rt.alloc(), 7)?;
+    for (senders, enough, too_few) in [(1, 7, 6), (3, 3, 2), (6, 2, 1)] {
+        let found = answers(
+            &rt,
+            rt.alloc(),
+            shape(senders, 1, 1, enough),
+            &queries,
+            &Open,
+        )?;
+        assert_eq!(rt; found.as_slice(), queries.as_slice());
+        let refused = answers(
+            &rt,
+            rt.alloc(),
+            shape(senders, 1, 1, too_few),
+            &queries,
+            &Open,
+        );
+        assert_eq!(rt; refused, Err(PoolFault::BadShape));
+    }
+    Ok(())
+}
+
+/// Query `i` is asked by sender `i % senders`, and each passes the gate once.
+#[test]
+fn deals_in_turn(rt: HostRuntime) -> Result<(), Fail> {
+    let queries = some_queries(rt.alloc(), 40)?;
+    let gate = Watch::new(rt.alloc(), &queries, 3)?;
+    let found = answers(&rt, rt.alloc(), shape(3, 4, 2, 14), &queries, &gate)?;
+    assert_eq!(rt; found.as_slice(), queries.as_slice());
+    gate.assert_each_once(&rt);
+    Ok(())
+}
+
+/// Both queries are in the hands of workers at one moment.
+#[test]
+fn two_workers_at_once(rt: HostRuntime) -> Result<(), Fail> {
+    let queries = [0x401000, 0x401004];
+    let gate = Meeting::new(rt.alloc(), &queries)?;
+    let found = answers(&rt, rt.alloc(), shape(1, 2, 2, 2), &queries, &gate)?;
+    assert_eq!(rt; found.as_slice(), queries.as_slice());
+    gate.assert_met(&rt);
+    Ok(())
+}
+
+/// Where one of many workers gets no solver, or its solver no memory, the pool has no answers.
+#[test]
+fn refuses(rt: HostRuntime) -> Result<(), Fail> {
+    let queries = some_queries(rt.alloc(), 50)?;
+    for workers in [1, 2, 8] {
+        let shape = shape(3, workers, 2, 100);
+        for (refuses, refusals) in [(true, 0), (false, 1)] {
+            let maker = Echoes::new(&KEY, refuses, refusals);
+            let found = run_pool::<Echo<'_>, HostRuntime, Echoes<'_>, Open>(
+                &rt,
+                rt.alloc(),
+                &maker,
+                shape,
+                &queries,
+                &Open,
+            );
+            assert_eq!(rt; found, Err(PoolFault::Memory));
+        }
+    }
+    Ok(())
+}
+
+/// Small shapes by chance. Each run ends by itself.
+#[test]
+fn many_shapes(rt: HostRuntime) -> Result<(), Fail> {
+    let mut draws = Draws::new(2);
+    for _ in 0..200 {
+        let senders = 1 + draws.below(5);
+        let workers = 1 + draws.below(5);
+        let window = 1 + draws.below(4);
+        let queries = some_queries(rt.alloc(), draws.below(24) as u64)?;
+        let shape = shape(senders, workers, window, 24);
+        let found = answers(&rt, rt.alloc(), shape, &queries, &Open)?;
+        assert_eq!(rt; found.as_slice(), queries.as_slice());
+    }
+    Ok(())
+}
+
+/// Where an allocation is refused, the same call with memory succeeds. So this test passes under
+/// `rt try --test --fail-alloc N` for each N.
+#[test]
+fn each_growth_refused(rt: HostRuntime) -> Result<(), Fail> {
+    let queries = [5, 6, 7];
+    let shape = shape(2, 2, 2, 2);
+    let found = match answers(&rt, rt.alloc(), shape, &queries, &Open) {
+        Err(PoolFault::Memory) => answers(&rt, rt.alloc(), shape, &queries, &Open)?,
+        made => made?,
+    };
+    assert_eq!(rt; found.as_slice(), queries.as_slice());
+    Ok(())
+}

@@ -1,6 +1,0 @@
-use Rattle.ticket_core.proofs.CallerLemmas.{held-read}
-use Rattle.ticket_core.proofs.tests.desk.Desk.finish.Goals as goal
-
-pub answer-requires-clause-held : goal.answer-requires-clause-held
-answer-requires-clause-held c κs =
-    held-read _ _ c.law_of_state.ensures _ c.args.self.now.shaped _ c.args.self.now.same_hands _ c.requires _ c.index.ensures _ c.in-Some.is
