@@ -1,11 +1,11 @@
 #!/usr/bin/env bash
 # How the time of the core grows with its queries: runs the tests of 50,000 and of 100,000 queries, five
 # times each, and prints the quicker time of each and their ratio, which is about 2. Run it after `rt test`
-# in crates/ticket_core has built the tests.
+# in crates/board_tests has built the tests.
 set -euo pipefail
 here=$(cd "$(dirname "$0")/.." && pwd)
-tests=$here/crates/ticket_core/out/ticket_core_tests
-[ -x "$tests" ] || { echo "build the tests first: cd crates/ticket_core && rt test"; exit 1; }
+tests=$here/crates/board_tests/out/board_tests_tests
+[ -x "$tests" ] || { echo "build the tests first: cd crates/board_tests && rt test"; exit 1; }
 
 # the least of five times, in microseconds
 quickest() {
@@ -21,6 +21,6 @@ quickest() {
     echo "$least"
 }
 
-half=$(quickest tests::fifty_thousand_queries)
-whole=$(quickest tests::a_hundred_thousand_queries)
+half=$(quickest runs::fifty_thousand_queries)
+whole=$(quickest runs::a_hundred_thousand_queries)
 echo "50000 queries: $half us, 100000 queries: $whole us, ratio $(awk "BEGIN { printf \"%.2f\", $whole / $half }")"
