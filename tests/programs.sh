@@ -177,6 +177,34 @@ copy_proved() {
     done
 }
 
+# Builds refuse.so. A program that is run with it, by LD_PRELOAD, is refused the allocation that REFUSE counts, from 1, and
+# the file MARK is there then.
+build_refuser() {
+    cat > "$work/refuse.c" <<'END_C'
+/* Refuses the allocation that REFUSE counts, from 1, and leaves a mark where it did. */
+#define _GNU_SOURCE
+#include <dlfcn.h>
+#include <errno.h>
+#include <stdlib.h>
+#include <unistd.h>
+#include <fcntl.h>
+static _Atomic long count;
+static int refused(void) {
+    const char *wanted = getenv("REFUSE");
+    if (!wanted || ++count != atol(wanted)) return 0;
+    int mark = open(getenv("MARK"), O_CREAT | O_WRONLY, 0600);
+    if (mark >= 0) close(mark);
+    errno = ENOMEM;
+    return 1;
+}
+void *malloc(size_t n) { static void *(*next)(size_t); if (!next) next = dlsym(RTLD_NEXT, "malloc"); return refused() ? 0 : next(n); }
+void *realloc(void *p, size_t n) { static void *(*next)(void *, size_t); if (!next) next = dlsym(RTLD_NEXT, "realloc"); return refused() ? 0 : next(p, n); }
+int posix_memalign(void **p, size_t a, size_t n) { static int (*next)(void **, size_t, size_t); if (!next) next = dlsym(RTLD_NEXT, "posix_memalign"); return refused() ? ENOMEM : next(p, a, n); }
+void *aligned_alloc(size_t a, size_t n) { static void *(*next)(size_t, size_t); if (!next) next = dlsym(RTLD_NEXT, "aligned_alloc"); return refused() ? 0 : next(a, n); }
+END_C
+    cc -shared -fPIC -o "$work/refuse.so" "$work/refuse.c" -ldl
+}
+
 # A large program, as `program`: the one whose path is the word, where it is there, else one that is built of as
 # many units as the word says.
 need_large() {

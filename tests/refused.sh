@@ -1,22 +1,27 @@
 #!/usr/bin/env bash
-# Refuses the Nth growth of memory, for N from 1 on, in the tests of the crates that keep what they read: the
-# test `each_growth_refused` of each has to pass. Each test runs by itself, and the others fail where a growth is
-# refused, since they want memory. So where all pass, none of them had as many growths. It goes on until that was
-# so ten times in a row, since `each_growth_refused` may have a few more growths than the others.
-# It takes the crates as words, and tries all of them without.
-set -euo pipefail
-here=$(cd "$(dirname "$0")/.." && pwd)
-log=$(mktemp)
-trap 'rm -f "$log"' EXIT
-for crate in ${@:-dw_forms dw_units dw_ranges dw_line dw_frames ticket_core}; do
-    cd "$here/crates/$crate"
-    n=0
-    last=0
-    while [ "$n" -lt $((last + 10)) ]; do
+# Refuses the Nth allocation, for N from 1 on, in each test named `each_allocation_refused`, until it passes without a
+# refusal. It has to pass each time. The words are crates; without any they are the crates of tests. Run it after
+# `rt test` in each of these has built its tests.
+. "$(dirname "$0")/programs.sh"
+[ $# -gt 0 ] || set -- reader_tests board_tests
+build_refuser
+
+# Refuses each allocation of a test in turn: the built tests of a crate, and its name.
+refuse() {
+    local n=0
+    while :; do
         n=$((n + 1))
-        rt try --test --fail-alloc "$n" > "$log" 2>&1 || true
-        grep -q '^test tests::each_growth_refused ... ok$' "$log" || { cat "$log"; exit 1; }
-        grep -q '^test result: ok' "$log" || last=$n
+        rm -f mark
+        REFUSE=$n MARK=$work/mark LD_PRELOAD=$work/refuse.so timeout 60 "$1" "$2" > log 2>&1 \
+            || { echo "$2: fails where allocation $n is refused"; cat log; exit 1; }
+        [ -e mark ] || break
     done
-    echo "$crate: each growth refused in turn, $last of them"
+    echo "$2: $((n - 1)) allocations refused in turn"
+}
+
+for crate in "$@"; do
+    tests=$here/crates/$crate/out/${crate}_tests
+    [ -x "$tests" ] || { echo "build the tests first: cd crates/$crate && rt test"; exit 1; }
+    names=$("$tests" --list | grep -o '[a-z_:]*each_allocation_refused') || { echo "$crate: no such test"; exit 1; }
+    for name in $names; do refuse "$tests" "$name"; done
 done

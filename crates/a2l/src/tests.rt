@@ -2,11 +2,9 @@
 
 mod command;
 mod ends;
-mod entries;
 mod frames;
 mod input;
 mod listing;
-mod pools;
 mod samples;
 
 ghost use Rattle.std.specs.Prelude.{◌≡◌, ◌<◌};

@@ -23,6 +23,3 @@ pub use options::Options;
 pub use pool::run_pool;
 pub use symbolizing::{Status, symbolize};
 pub use writing::write_all;
-
-#[cfg(test)]
-mod tests;

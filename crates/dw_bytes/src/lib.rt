@@ -6,6 +6,3 @@ mod leb;
 
 pub use cursor::Cursor;
 pub use leb::Leb;
-
-#[cfg(test)]
-mod tests;

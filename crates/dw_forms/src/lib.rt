@@ -18,6 +18,3 @@ pub use firsts::Firsts;
 pub use tables::{Bases, Tables};
 pub use text::Text;
 pub use value::{Value, read_value};
-
-#[cfg(test)]
-mod tests;

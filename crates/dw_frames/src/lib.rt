@@ -19,6 +19,3 @@ mod walk;
 pub use call::{Call, Described, EntryId};
 pub use fault::TreeFault;
 pub use tree::Tree;
-
-#[cfg(test)]
-mod tests;

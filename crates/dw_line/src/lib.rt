@@ -16,6 +16,3 @@ mod used;
 pub use fault::LineFault;
 pub use lines::Lines;
 pub use rows::Row;
-
-#[cfg(test)]
-mod tests;

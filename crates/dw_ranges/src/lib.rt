@@ -10,6 +10,3 @@ mod step;
 pub use dw_index::{Index, Range, law_of_least_owner};
 pub use fault::RangeFault;
 pub use ranges::{ranges_of, read_ranges};
-
-#[cfg(test)]
-mod tests;

@@ -11,8 +11,6 @@ mod kept;
 mod location;
 mod refusals;
 mod solver;
-#[cfg(test)]
-mod tests;
 
 pub use answer::{Answer, Frame, Location, UnitFault};
 pub use context::Context;

@@ -19,6 +19,3 @@ pub use header::Kind;
 pub use sections::Sections;
 pub use unit::Unit;
 pub use units::Units;
-
-#[cfg(test)]
-mod tests;

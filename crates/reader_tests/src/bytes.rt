@@ -1,6 +1,6 @@
-//! Rows of numbers, with what stands behind them.
+//! Numbers in LEB128 (section 7.6 of DWARF 5), with the place of the cursor after each.
 
-use crate::{Cursor, Leb};
+use dw_bytes::{Cursor, Leb};
 
 #[test]
 fn uleb_rows(rt: HostRuntime) {

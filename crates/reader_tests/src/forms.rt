@@ -1,7 +1,7 @@
 //! Values, declarations, texts and addresses, worked out by hand from the standard's tables.
 
-use crate::{Abbrevs, Bases, FormFault, Tables, Value, read_value};
 use dw_bytes::Cursor;
+use dw_forms::{Abbrevs, Bases, FormFault, Tables, Value, read_value};
 use dw_model::dwarf::{
     DW_AT_high_pc, DW_AT_low_pc, DW_AT_name, DW_FORM_GNU_ref_alt, DW_FORM_GNU_strp_alt,
     DW_FORM_addr, DW_FORM_addrx, DW_FORM_addrx1, DW_FORM_addrx2, DW_FORM_addrx3, DW_FORM_addrx4,
@@ -13,6 +13,7 @@ use dw_model::dwarf::{
     DW_FORM_sdata, DW_FORM_sec_offset, DW_FORM_string, DW_FORM_strp, DW_FORM_strp_sup,
     DW_FORM_strx, DW_FORM_strx1, DW_FORM_strx2, DW_FORM_strx3, DW_FORM_strx4, DW_FORM_udata,
 };
+use std::test::Fail;
 
 /// The value of each form, of bytes that are one spelling of it.
 const ROWS: [(u64, &[u8], Value<'static>); 43] = [
@@ -188,38 +189,26 @@ const TABLE: &[u8] = &[
 ];
 
 #[test]
-fn tables_of_declarations(rt: HostRuntime) {
-    let alloc = rt.alloc();
-    let Ok(table) = Abbrevs::read(alloc, TABLE, 1) else {
-        assert!(rt; false, "not found");
-        return;
-    };
-    let Some(unit) = table.get(1) else {
-        assert!(rt; false, "not found");
-        return;
-    };
+fn tables_of_declarations(rt: HostRuntime) -> Result<(), Fail> {
+    let table = Abbrevs::read(rt.alloc(), TABLE, 1)?;
+    let unit = table.get(1).ok_or("a unit")?;
     assert_eq!(rt; (unit.code, unit.tag, unit.children), (1, 0x11, true));
-    let Some(function) = table.get(2) else {
-        assert!(rt; false, "not found");
-        return;
-    };
+    let function = table.get(2).ok_or("a function")?;
     assert_eq!(rt;
         (function.tag, function.children, function.specs.len()),
         (0x2e, false, 1)
     );
     assert_eq!(rt; function.specs.as_slice()[0].implicit, Some(-1));
-    let Some(variable) = table.get(9) else {
-        assert!(rt; false, "not found");
-        return;
-    };
+    let variable = table.get(9).ok_or("a variable")?;
     assert_eq!(rt; (variable.tag, variable.children), (0x34, true));
     assert!(rt; table.get(0).is_none() && table.get(3).is_none() && table.get(u64::MAX).is_none());
+    Ok(())
 }
 
 /// How many bytes the values of entries take: forms of one size, one of a length of its own, no pair, and one
 /// that names another.
 #[test]
-fn sizes_of_declarations(rt: HostRuntime) {
+fn sizes_of_declarations(rt: HostRuntime) -> Result<(), Fail> {
     let bytes = &[
         1, 0x05, 0, 0x03, 0x0e, 0x3a, 0x21, 1, 0x3b, 0x05, 0x49, 0x13, 0x3f, 0x19, 0, 0, // 1
         2, 0x34, 0, 0x3b, 0x05, 0x02, 0x18, 0, 0, // 2
@@ -227,34 +216,22 @@ fn sizes_of_declarations(rt: HostRuntime) {
         4, 0x34, 0, 0x3b, 0x16, 0, 0, // 4
         0,
     ];
-    let Ok(table) = Abbrevs::read(rt.alloc(), bytes, 0) else {
-        assert!(rt; false, "not read");
-        return;
-    };
+    let table = Abbrevs::read(rt.alloc(), bytes, 0)?;
     let rows: &[(u64, Option<usize>)] = &[(1, Some(10)), (2, None), (3, Some(0)), (4, None)];
     for (code, size) in rows {
-        let Some(declaration) = table.get(*code) else {
-            assert!(rt; false, "not found");
-            return;
-        };
+        let declaration = table.get(*code).ok_or("a declaration")?;
         assert_eq!(rt; declaration.size(), *size, "of {code}");
     }
+    Ok(())
 }
 
 /// Where the first attribute of a name stands: DW_AT_external, DW_AT_name, DW_AT_low_pc, DW_AT_name again. What
 /// isn't there stands behind all; a name that tells of no function has no place.
 #[test]
-fn places_of_declarations(rt: HostRuntime) {
+fn places_of_declarations(rt: HostRuntime) -> Result<(), Fail> {
     let bytes = &[1, 0x2e, 0, 0x3f, 0x19, 3, 8, 0x11, 1, 3, 8, 0, 0, 0];
-    let Ok(table) = Abbrevs::read(rt.alloc(), bytes, 0) else {
-        assert!(rt; false, "not read");
-        return;
-    };
-    let Some(declaration) = table.get(1) else {
-        assert!(rt; false, "not found");
-        return;
-    };
-    let firsts = declaration.firsts();
+    let table = Abbrevs::read(rt.alloc(), bytes, 0)?;
+    let firsts = table.get(1).ok_or("a declaration")?.firsts();
     let rows: &[(u64, Option<usize>)] = &[
         (DW_AT_name, Some(1)),
         (DW_AT_low_pc, Some(2)),
@@ -264,131 +241,119 @@ fn places_of_declarations(rt: HostRuntime) {
     for (name, place) in rows {
         assert_eq!(rt; firsts.place(*name), *place, "of {name}");
     }
+    Ok(())
 }
+
+/// Bytes, the offset of a table of declarations in them, and why it can't be read, if it can't.
+const ENDS: [(&[u8], u64, Option<FormFault>); 11] = [
+    (&[], 0, None),
+    (&[1, 0x11, 0, 0, 0], 0, None),
+    (TABLE, 33, None),
+    (TABLE, 34, Some(FormFault::End)),
+    (TABLE, u64::MAX, Some(FormFault::End)),
+    (&[1, 0x11, 0, 0], 0, Some(FormFault::End)),
+    (&[1, 0x11], 0, Some(FormFault::End)),
+    (&[1], 0, Some(FormFault::End)),
+    (&[1, 0x91], 0, Some(FormFault::End)),
+    (&[0x81], 0, Some(FormFault::End)),
+    (
+        &[
+            1, 0xff, 0xff, 0xff, 0xff, 0xff, 0xff, 0xff, 0xff, 0xff, 0xff, 0x7f,
+        ],
+        0,
+        Some(FormFault::Wide),
+    ),
+];
 
 #[test]
 fn tables_that_end(rt: HostRuntime) {
-    let alloc = rt.alloc();
-    assert!(rt; Abbrevs::read(alloc, &[], 0).is_ok());
-    assert!(rt; Abbrevs::read(alloc, &[1, 0x11, 0, 0, 0], 0).is_ok());
-    assert!(rt; Abbrevs::read(alloc, TABLE, 33).is_ok());
-    let rows: &[(&[u8], u64, FormFault)] = &[
-        (TABLE, 34, FormFault::End),
-        (TABLE, u64::MAX, FormFault::End),
-        (&[1, 0x11, 0, 0], 0, FormFault::End),
-        (&[1, 0x11], 0, FormFault::End),
-        (&[1], 0, FormFault::End),
-        (&[1, 0x91], 0, FormFault::End),
-        (&[0x81], 0, FormFault::End),
-        (
-            &[
-                1, 0xff, 0xff, 0xff, 0xff, 0xff, 0xff, 0xff, 0xff, 0xff, 0xff, 0x7f,
-            ],
-            0,
-            FormFault::Wide,
-        ),
-    ];
-    for (bytes, offset, fault) in rows {
-        match Abbrevs::read(alloc, bytes, *offset) {
-            Ok(_) => assert!(rt; false, "read at {offset}"),
-            Err(found) => assert_eq!(rt; found, *fault),
-        }
+    for (i, (bytes, offset, fault)) in ENDS.iter().enumerate() {
+        let read = Abbrevs::read(rt.alloc(), bytes, *offset);
+        assert_eq!(rt; read.err(), *fault, "table {i}");
     }
 }
+
+/// Texts and addresses that begin at 1 of the sections of their offsets and of addresses.
+const TABLES: Tables<'static> = Tables {
+    str: b"ab\0c\0d",
+    line_str: b"\0e\0",
+    str_offsets: &[0xee, 3, 0, 0, 0, 0, 0, 0, 0, 5, 0, 0, 0],
+    addr: &[0xee, 1, 0, 0, 0, 0, 0, 0, 0, 2, 0, 0, 0, 0, 0, 0, 0x80],
+    rnglists: &[],
+};
+
+const BASES: Bases = Bases {
+    str_offsets: Some(1),
+    addr: Some(1),
+    rnglists: None,
+};
+
+const NO_BASES: Bases = Bases {
+    str_offsets: None,
+    addr: None,
+    rnglists: None,
+};
+
+/// The texts to which values lead.
+const TEXTS: [(Value<'static>, Option<&[u8]>); 17] = [
+    (Value::Inline(b"x"), Some(b"x")),
+    (Value::Str(0), Some(b"ab")),
+    (Value::Str(1), Some(b"b")),
+    (Value::Str(2), Some(b"")),
+    (Value::Str(5), None),
+    (Value::Str(6), None),
+    (Value::Str(u64::MAX), None),
+    (Value::LineStr(0), Some(b"")),
+    (Value::LineStr(1), Some(b"e")),
+    (Value::StrIndex(0), Some(b"c")),
+    (Value::StrIndex(1), Some(b"ab")),
+    (Value::StrIndex(2), None),
+    (Value::StrIndex(3), None),
+    (Value::StrIndex(1 << 62), None),
+    (Value::StrIndex(u64::MAX), None),
+    (Value::Unsigned(0), None),
+    (Value::Unused(0), None),
+];
+
+/// The addresses to which values lead.
+const ADDRESSES: [(Value<'static>, Option<u64>); 6] = [
+    (Value::Address(7), Some(7)),
+    (Value::AddressIndex(0), Some(1)),
+    (Value::AddressIndex(1), Some(0x8000_0000_0000_0002)),
+    (Value::AddressIndex(2), None),
+    (Value::AddressIndex(1 << 61), None),
+    (Value::Unsigned(7), None),
+];
 
 #[test]
 fn texts_and_addresses(rt: HostRuntime) {
-    let tables = Tables {
-        str: b"ab\0c\0d",
-        line_str: b"\0e\0",
-        str_offsets: &[0xee, 3, 0, 0, 0, 0, 0, 0, 0, 5, 0, 0, 0],
-        addr: &[0xee, 1, 0, 0, 0, 0, 0, 0, 0, 2, 0, 0, 0, 0, 0, 0, 0x80],
-        rnglists: &[],
-    };
-    let bases = Bases {
-        str_offsets: Some(1),
-        addr: Some(1),
-        rnglists: None,
-    };
-    let none = Bases {
-        str_offsets: None,
-        addr: None,
-        rnglists: None,
-    };
-    let texts: &[(Value<'_>, Option<&[u8]>)] = &[
-        (Value::Inline(b"x"), Some(b"x")),
-        (Value::Str(0), Some(b"ab")),
-        (Value::Str(1), Some(b"b")),
-        (Value::Str(2), Some(b"")),
-        (Value::Str(5), None),
-        (Value::Str(6), None),
-        (Value::Str(u64::MAX), None),
-        (Value::LineStr(0), Some(b"")),
-        (Value::LineStr(1), Some(b"e")),
-        (Value::StrIndex(0), Some(b"c")),
-        (Value::StrIndex(1), Some(b"ab")),
-        (Value::StrIndex(2), None),
-        (Value::StrIndex(3), None),
-        (Value::StrIndex(1 << 62), None),
-        (Value::StrIndex(u64::MAX), None),
-        (Value::Unsigned(0), None),
-        (Value::Unused(0), None),
-    ];
-    for (value, text) in texts {
-        assert_eq!(rt; tables.text(value, &bases), *text);
+    for (value, text) in TEXTS {
+        assert_eq!(rt; TABLES.text(&value, &BASES), text, "{value:?}");
     }
-    assert_eq!(rt; tables.text(&Value::StrIndex(0), &none), None);
-    let addresses: &[(Value<'_>, Option<u64>)] = &[
-        (Value::Address(7), Some(7)),
-        (Value::AddressIndex(0), Some(1)),
-        (Value::AddressIndex(1), Some(0x8000_0000_0000_0002)),
-        (Value::AddressIndex(2), None),
-        (Value::AddressIndex(1 << 61), None),
-        (Value::Unsigned(7), None),
-    ];
-    for (value, address) in addresses {
-        assert_eq!(rt; tables.address(value, &bases), *address);
+    assert_eq!(rt; TABLES.text(&Value::StrIndex(0), &NO_BASES), None);
+    for (value, address) in ADDRESSES {
+        assert_eq!(rt; TABLES.address(&value, &BASES), address, "{value:?}");
     }
-    assert_eq!(rt; tables.address(&Value::AddressIndex(0), &none), None);
+    assert_eq!(rt; TABLES.address(&Value::AddressIndex(0), &NO_BASES), None);
 }
 
-/// A table whose growths are refused is want of memory, and the next reading of it, with memory,
-/// gives it whole: its codes are in no order, and one has more pairs than are kept in place. So this
-/// test passes under `rt try --test --fail-alloc N` for each N.
+/// Codes in no order, one of which has more pairs than are kept in place.
+const MANY: &[u8] = &[
+    9, 0x34, 0, 3, 8, 4, 8, 5, 8, 6, 8, 7, 8, 8, 8, 9, 8, 10, 8, 11, 8, 12, 8, 0, 0, 4, 0x35, 1, 0,
+    0, 0,
+];
+
+/// A table for which an allocation is refused is out of memory, and the next reading, with memory, gives it
+/// whole.
 #[test]
-fn each_growth_refused(rt: HostRuntime) {
-    let alloc = rt.alloc();
-    let many: &[u8] = &[
-        9, 0x34, 0, 3, 8, 4, 8, 5, 8, 6, 8, 7, 8, 8, 8, 9, 8, 10, 8, 11, 8, 12, 8, 0, 0, 4, 0x35,
-        1, 0, 0, 0,
-    ];
-    let table = match Abbrevs::read(alloc, many, 0) {
-        Err(FormFault::Memory) => Abbrevs::read(alloc, many, 0),
-        read => read,
+fn each_allocation_refused(rt: HostRuntime) -> Result<(), Fail> {
+    let table = match Abbrevs::read(rt.alloc(), MANY, 0) {
+        Err(FormFault::Memory) => Abbrevs::read(rt.alloc(), MANY, 0)?,
+        read => read?,
     };
-    let Ok(table) = table else {
-        assert!(rt; false, "not read");
-        return;
-    };
-    let Some(first) = table.get(9) else {
-        assert!(rt; false, "not found");
-        return;
-    };
+    let first = table.get(9).ok_or("a variable")?;
     assert_eq!(rt; first.specs.len(), 10);
     assert_eq!(rt; first.specs.as_slice()[9].name, 12);
     assert_eq!(rt; table.get(4).map(|found| found.tag), Some(0x35));
-}
-
-#[test]
-fn faults_have_numbers(rt: HostRuntime) {
-    let faults = [
-        FormFault::End,
-        FormFault::Form,
-        FormFault::Wide,
-        FormFault::Memory,
-        FormFault::Code,
-    ];
-    for (i, fault) in faults.iter().enumerate() {
-        assert_eq!(rt; fault.number() as usize, i + 1);
-    }
+    Ok(())
 }

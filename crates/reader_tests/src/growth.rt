@@ -1,10 +1,9 @@
 //! How the times of building an index and of finding in it grow. tests/owners.sh shows what these
 //! tests print.
 
-use super::draws::Draws;
-use super::owners::drawn;
-use crate::index::Index;
-use crate::range::Range;
+use crate::draws::Draws;
+use crate::owners::drawn;
+use dw_ranges::{Index, Range};
 use std::alloc::Global;
 use std::io::Write;
 use std::process::Abort;

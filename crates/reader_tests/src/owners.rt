@@ -1,8 +1,7 @@
 //! The least owner of an address.
 
-use super::draws::Draws;
-use crate::index::Index;
-use crate::range::Range;
+use crate::draws::Draws;
+use dw_ranges::{Index, Range};
 use std::alloc::Global;
 use std::test::Fail;
 
@@ -135,7 +134,7 @@ fn scanned(pairs: &[(Range, usize)], a: u64) -> Option<usize> {
 }
 
 /// Ranges of all sizes, some of them empty, with owners that come several times.
-pub(super) fn drawn(alloc: Global, count: usize) -> Result<Vec<(Range, usize)>, Fail> {
+pub fn drawn(alloc: Global, count: usize) -> Result<Vec<(Range, usize)>, Fail> {
     let mut draws = Draws::new(2026);
     let mut pairs = Vec::new(alloc);
     for _ in 0..count {
@@ -164,20 +163,18 @@ fn agrees_with_a_scan(rt: HostRuntime) -> Result<(), Fail> {
     Ok(())
 }
 
-/// Builds an index, once more where a growth was refused, and says whether it finds what it should.
-pub(super) fn is_found_in_spite_of_refusals(alloc: Global) -> bool {
+/// An index for which an allocation is refused is out of memory, and the next one, with memory, finds what it should.
+#[test]
+fn each_allocation_refused(rt: HostRuntime) -> Result<(), Fail> {
     let pairs = [
         pair(1, 9, 2),
         pair(3, 5, 1),
         pair(8, 12, 0),
         pair(20, 30, 2),
     ];
-    let built = match Index::build(alloc, &pairs) {
-        Ok(index) => Ok(index),
-        Err(_) => Index::build(alloc, &pairs),
-    };
-    let Ok(index) = built else {
-        return false;
+    let index = match Index::build(rt.alloc(), &pairs) {
+        Ok(index) => index,
+        Err(_) => Index::build(rt.alloc(), &pairs)?,
     };
     let rows: &[(u64, Option<usize>)] = &[
         (0, None),
@@ -190,5 +187,6 @@ pub(super) fn is_found_in_spite_of_refusals(alloc: Global) -> bool {
         (29, Some(2)),
         (30, None),
     ];
-    differs(&index, rows).is_none()
+    assert_eq!(rt; differs(&index, rows), None);
+    Ok(())
 }

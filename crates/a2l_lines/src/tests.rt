@@ -1,3 +1,0 @@
-//! Lines that are worked out by hand.
-
-mod texts;

@@ -1,0 +1,400 @@
+//! Line tables, worked out by hand from the standard's tables.
+
+use crate::files::line_table;
+use dw_forms::{Bases, Tables};
+use dw_line::{LineFault, Lines, Row};
+use std::alloc::{AllocError, Global};
+use std::test::Fail;
+
+/// The header behind its length, of a table with directory 0 `/w`, file 0 `z.c` and file 1 `a.c`:
+/// instructions of 1 byte, line_base -5, line_range 14, opcode_base 13.
+pub const HEADER: &[u8] = &[
+    5, 0, 8, 0, 0x29, 0, 0, 0, 1, 1, 1, 0xfb, 0x0e, 0x0d, 0, 1, 1, 1, 1, 0, 0, 0, 1, 0, 0, 1, 1, 1,
+    8, 1, b'/', b'w', 0, 2, 1, 8, 2, 0x0b, 2, b'z', b'.', b'c', 0, 0, b'a', b'.', b'c', 0, 0,
+];
+
+/// 0x401000 line 3, 0x401004 line 4, end 0x40100e.
+pub const TWO_ROWS: &[u8] = &[
+    0, 9, 2, 0, 0x10, 0x40, 0, 0, 0, 0, 0, 0x14, 0x4b, 2, 0x0a, 0, 1, 1,
+];
+
+/// Another header: instructions of 4 bytes, opcode_base 14, opcode 13 with two operands.
+const FOUR_BYTES: &[u8] = &[
+    5, 0, 8, 0, 0x17, 0, 0, 0, 4, 1, 1, 0xfb, 0x0e, 0x0e, 0, 1, 1, 1, 1, 0, 0, 0, 1, 0, 0, 1, 2, 0,
+    0, 0, 0,
+];
+
+const NO_BASES: Bases = Bases {
+    str_offsets: None,
+    addr: None,
+    rnglists: None,
+};
+
+/// Texts to which names of files and directories lead.
+const TABLES: Tables<'static> = Tables {
+    str: &[],
+    line_str: b"/w\0src\0/abs\0b.c\0/b.c\0",
+    str_offsets: &[],
+    addr: &[],
+    rnglists: &[],
+};
+
+/// The table at the front of a section, of a unit that was compiled in a directory.
+fn read<'a>(
+    alloc: Global,
+    section: &'a [u8],
+    comp_dir: Option<&'a [u8]>,
+) -> Result<Lines<'a>, LineFault> {
+    Lines::read(alloc, section, &TABLES, &NO_BASES, comp_dir, 0)
+}
+
+/// Header, program, and the lines of addresses: each row is of file 1 and column 0.
+type Program = (&'static [u8], &'static [u8], &'static [(u64, Option<u64>)]);
+
+const PROGRAMS: [Program; 11] = [
+    // special opcodes
+    (
+        HEADER,
+        TWO_ROWS,
+        &[
+            (0, None),
+            (0x40_0fff, None),
+            (0x40_1000, Some(3)),
+            (0x40_1003, Some(3)),
+            (0x40_1004, Some(4)),
+            (0x40_100d, Some(4)),
+            (0x40_100e, None),
+            (u64::MAX, None),
+        ],
+    ),
+    // const_add_pc
+    (
+        HEADER,
+        &[
+            0, 9, 2, 0, 0x10, 0x40, 0, 0, 0, 0, 0, 0x14, 8, 0x4b, 2, 0x0a, 0, 1, 1,
+        ],
+        &[
+            (0x40_1000, Some(3)),
+            (0x40_1014, Some(3)),
+            (0x40_1015, Some(4)),
+            (0x40_101e, Some(4)),
+            (0x40_101f, None),
+        ],
+    ),
+    // two rows at one address
+    (
+        HEADER,
+        &[
+            0, 9, 2, 0, 0x10, 0x40, 0, 0, 0, 0, 0, 0x18, 0x14, 2, 4, 0, 1, 1,
+        ],
+        &[(0x40_1000, Some(9)), (0x40_1003, Some(9))],
+    ),
+    // a sequence whose addresses fall, and then another
+    (
+        HEADER,
+        &[
+            0, 9, 2, 0xff, 0xff, 0xff, 0xff, 0xff, 0xff, 0xff, 0xff, 0x14, 2, 4, 0, 1, 1, 0, 9, 2,
+            0, 0x10, 0x40, 0, 0, 0, 0, 0, 0x14, 0x4b, 2, 0x0a, 0, 1, 1,
+        ],
+        &[
+            (1, None),
+            (u64::MAX, None),
+            (0x40_1000, Some(3)),
+            (0x40_1004, Some(4)),
+        ],
+    ),
+    // of two sequences the first
+    (
+        HEADER,
+        &[
+            0, 9, 2, 0, 0x10, 0x40, 0, 0, 0, 0, 0, 0x14, 0x4b, 2, 0x0a, 0, 1, 1, 0, 9, 2, 0, 0x10,
+            0x40, 0, 0, 0, 0, 0, 0x18, 2, 0x20, 0, 1, 1,
+        ],
+        &[
+            (0x40_1000, Some(3)),
+            (0x40_100d, Some(4)),
+            (0x40_100e, Some(7)),
+            (0x40_101f, Some(7)),
+            (0x40_1020, None),
+        ],
+    ),
+    // no rows: no program, a sequence without an end, and an end alone
+    (
+        HEADER,
+        &[],
+        &[(0, None), (0x40_1000, None), (u64::MAX, None)],
+    ),
+    (
+        HEADER,
+        &[0, 9, 2, 0, 0x10, 0x40, 0, 0, 0, 0, 0, 0x14, 0x4b, 2, 0x0a],
+        &[(0, None), (0x40_1000, None), (u64::MAX, None)],
+    ),
+    (
+        HEADER,
+        &[0, 1, 1],
+        &[(0, None), (0x40_1000, None), (u64::MAX, None)],
+    ),
+    // a line below 0
+    (
+        HEADER,
+        &[
+            0, 9, 2, 0, 0x10, 0x40, 0, 0, 0, 0, 0, 3, 0x76, 1, 2, 1, 0, 1, 1,
+        ],
+        &[(0x40_1000, Some(18_446_744_073_709_551_607))],
+    ),
+    // two sequences of ten rows each, from 0x1000 and from 0x2000 on
+    (
+        HEADER,
+        MANY_ROWS,
+        &[
+            (0x0fff, None),
+            (0x1003, Some(4)),
+            (0x1009, Some(10)),
+            (0x100a, None),
+            (0x2009, Some(10)),
+        ],
+    ),
+    // opcode 13 with 0x81 1 and 5; copy; advance_pc 1; the special opcode of line + 1 and 1
+    // operation; const_add_pc; fixed_advance_pc 1; end
+    (
+        FOUR_BYTES,
+        &[13, 0x81, 1, 5, 1, 2, 1, 0x22, 8, 9, 1, 0, 0, 1, 1],
+        &[
+            (0, Some(1)),
+            (7, Some(1)),
+            (8, Some(2)),
+            (76, Some(2)),
+            (77, None),
+        ],
+    ),
+];
+
+/// The row at the k-th address of each sequence is at line k + 1.
+const MANY_ROWS: &[u8] = &[
+    0, 9, 2, 0, 0x10, 0, 0, 0, 0, 0, 0, 1, 0x21, 0x21, 0x21, 0x21, 0x21, 0x21, 0x21, 0x21, 0x21, 2,
+    1, 0, 1, 1, 0, 9, 2, 0, 0x20, 0, 0, 0, 0, 0, 0, 1, 0x21, 0x21, 0x21, 0x21, 0x21, 0x21, 0x21,
+    0x21, 0x21, 2, 1, 0, 1, 1,
+];
+
+#[test]
+fn rows_of_programs(rt: HostRuntime) -> Result<(), Fail> {
+    for (i, (header, program, rows)) in PROGRAMS.iter().enumerate() {
+        let section = line_table(rt.alloc(), header, program)?;
+        let lines = read(rt.alloc(), &section, None)?;
+        for (address, line) in *rows {
+            let wanted = line.map(|line| Row {
+                file: 1,
+                line,
+                column: 0,
+            });
+            assert_eq!(rt; lines.row(*address), wanted, "program {i}, address {address:#x}");
+        }
+    }
+    Ok(())
+}
+
+#[test]
+fn each_opcode(rt: HostRuntime) -> Result<(), Fail> {
+    // set_file 7, set_column 8, advance_line 9, four flags and an instruction set, fixed_advance_pc
+    // 0x102, a discriminator, copy; advance_pc 5, end; then the registers begin anew
+    let program = &[
+        4, 7, 5, 8, 3, 9, 6, 7, 10, 11, 12, 0x81, 1, 9, 2, 1, 0, 2, 4, 9, 1, 2, 5, 0, 1, 1, 1, 2,
+        1, 0, 1, 1,
+    ];
+    let section = line_table(rt.alloc(), HEADER, program)?;
+    let lines = read(rt.alloc(), &section, None)?;
+    let first = Row {
+        file: 7,
+        line: 10,
+        column: 8,
+    };
+    let anew = Row {
+        file: 1,
+        line: 1,
+        column: 0,
+    };
+    let rows: &[(u64, Option<Row>)] = &[
+        (0, Some(anew)),
+        (1, None),
+        (0x102, Some(first)),
+        (0x106, Some(first)),
+        (0x107, None),
+    ];
+    for (address, row) in rows {
+        assert_eq!(rt; lines.row(*address), *row, "address {address:#x}");
+    }
+    Ok(())
+}
+
+/// Programs, and whether they can't be read.
+const BAD_PROGRAMS: [(&[u8], Option<LineFault>); 12] = [
+    (&[0, 0], Some(LineFault::Bad)),
+    (&[0], Some(LineFault::Bad)),
+    (&[0, 3, 2, 0, 0], Some(LineFault::Bad)),
+    (&[0, 10, 2, 0, 0, 0, 0, 0, 0, 0, 0, 0], Some(LineFault::Bad)),
+    (&[0, 4, 0x80, 0, 0], Some(LineFault::Bad)),
+    (&[2, 0x80], Some(LineFault::Bad)),
+    (&[2], Some(LineFault::Bad)),
+    (&[3, 0x80], Some(LineFault::Bad)),
+    (&[9, 1], Some(LineFault::Bad)),
+    (
+        &[2, 0xff, 0xff, 0xff, 0xff, 0xff, 0xff, 0xff, 0xff, 0xff, 2],
+        Some(LineFault::Bad),
+    ),
+    (
+        &[
+            0, 9, 2, 0, 0x10, 0x40, 0, 0, 0, 0, 0, 0x14, 0x4b, 2, 0x0a, 0, 1, 1, 0,
+        ],
+        Some(LineFault::Bad),
+    ),
+    (&[0, 3, 0x80, 0, 0], None),
+];
+
+#[test]
+fn bad_programs(rt: HostRuntime) -> Result<(), Fail> {
+    for (i, (program, fault)) in BAD_PROGRAMS.iter().enumerate() {
+        let section = line_table(rt.alloc(), HEADER, program)?;
+        assert_eq!(rt; read(rt.alloc(), &section, None).err(), *fault, "program {i}");
+    }
+    Ok(())
+}
+
+/// Bytes that are changed in the table of two rows, and whether it can't be read then.
+const BAD_HEADERS: [(usize, u8, Option<LineFault>); 15] = [
+    // the length
+    (0, 68, Some(LineFault::Bad)),
+    (3, 0xff, Some(LineFault::Bad)),
+    // the version
+    (4, 4, Some(LineFault::Bad)),
+    // the size of addresses
+    (6, 4, Some(LineFault::Bad)),
+    // header_length
+    (8, 66, Some(LineFault::Bad)),
+    (8, 0x28, Some(LineFault::Bad)),
+    // operations, line_range, opcode_base
+    (13, 2, Some(LineFault::Bad)),
+    (16, 0, Some(LineFault::Bad)),
+    (17, 0, Some(LineFault::Bad)),
+    // more directories than bytes are left
+    (33, 20, Some(LineFault::Bad)),
+    // an unknown form
+    (41, 0, Some(LineFault::Bad)),
+    // one file too many, and more files than bytes are left
+    (42, 3, Some(LineFault::Bad)),
+    (42, 11, Some(LineFault::Bad)),
+    // the size of segment selectors and default_is_stmt aren't used
+    (7, 9, None),
+    (14, 0, None),
+];
+
+#[test]
+fn bad_headers(rt: HostRuntime) -> Result<(), Fail> {
+    for (at, byte, fault) in BAD_HEADERS {
+        let mut section = line_table(rt.alloc(), HEADER, TWO_ROWS)?;
+        *section.get_mut(at).ok_or("a byte of the table")? = byte;
+        assert_eq!(rt; read(rt.alloc(), &section, None).err(), fault, "byte {at}");
+    }
+    Ok(())
+}
+
+#[test]
+fn offsets_of_tables(rt: HostRuntime) -> Result<(), Fail> {
+    let alloc = rt.alloc();
+    let mut section = line_table(alloc, HEADER, &[])?;
+    let second = line_table(alloc, HEADER, TWO_ROWS)?;
+    section.extend_from_slice(&second)?;
+    let lines = Lines::read(alloc, &section, &TABLES, &NO_BASES, None, 53)?;
+    assert_eq!(rt; lines.row(0x40_1000).map(|row| row.line), Some(3));
+    for offset in [1, 54, 123, 124, 125, u64::MAX] {
+        let read = Lines::read(alloc, &section, &TABLES, &NO_BASES, None, offset);
+        assert_eq!(rt; read.err(), Some(LineFault::Bad), "offset {offset}");
+    }
+    Ok(())
+}
+
+/// A header whose directories are texts in .debug_line_str and whose files have a name, the number
+/// of a directory, 16 bytes and a size.
+const PATHS: &[u8] = &[
+    5, 0, 8, 0, 0x48, 0, 0, 0, 1, 1, 1, 0xfb, 0x0e, 0x0d, 0, 1, 1, 1, 1, 0, 0, 0, 1, 0, 0, 1, 1, 1,
+    0x1f, 3, 0, 0, 0, 0, 3, 0, 0, 0, 7, 0, 0, 0, 3, 2, 0x0b, 1, 0x1f, 4, 0x0f, 5, 1, 12, 0, 0, 0,
+    5, 2, 12, 0, 0, 0, 5, 0, 12, 0, 0, 0, 5, 7, 12, 0, 0, 0, 0, 1, 16, 0, 0, 0, 0,
+];
+
+/// One without a directory 0, and one whose files and directories say nothing.
+const NO_DIRECTORY: &[u8] = &[
+    5, 0, 8, 0, 0x1c, 0, 0, 0, 1, 1, 1, 0xfb, 0x0e, 0x0d, 0, 1, 1, 1, 1, 0, 0, 0, 1, 0, 0, 1, 0, 0,
+    1, 1, 8, 1, b'b', b'.', b'c', 0,
+];
+const NO_FORMATS: &[u8] = &[
+    5, 0, 8, 0, 0x1b, 0, 0, 0, 1, 1, 1, 0xfb, 0x0e, 0x0d, 0, 1, 1, 1, 1, 0, 0, 0, 1, 0, 0, 1, 0, 2,
+    0, 2, 0, 0, 0, 0, 0,
+];
+
+/// A header, where its unit was compiled, and the path of a file.
+type Path = (
+    &'static [u8],
+    Option<&'static [u8]>,
+    u64,
+    Option<&'static [u8]>,
+);
+
+const FILES: [Path; 12] = [
+    (PATHS, Some(b"/x"), 0, Some(b"/w/src/b.c")),
+    (PATHS, Some(b"/x"), 1, Some(b"/abs/b.c")),
+    (PATHS, Some(b"/x"), 2, Some(b"/w/b.c")),
+    (PATHS, Some(b"/x"), 3, Some(b"/w/b.c")),
+    (PATHS, Some(b"/x"), 4, Some(b"/b.c")),
+    (PATHS, Some(b"/x"), 5, None),
+    (PATHS, Some(b"/x"), u64::MAX, None),
+    // without a directory 0, a path begins where the unit was compiled, else nowhere
+    (NO_DIRECTORY, Some(b"/w/"), 0, Some(b"/w/b.c")),
+    (NO_DIRECTORY, Some(b"/w"), 0, Some(b"/w/b.c")),
+    (NO_DIRECTORY, Some(b""), 0, Some(b"b.c")),
+    (NO_DIRECTORY, None, 0, Some(b"b.c")),
+    // files of which nothing is known have no path
+    (NO_FORMATS, Some(b"/w"), 1, None),
+];
+
+#[test]
+fn paths_of_files(rt: HostRuntime) -> Result<(), Fail> {
+    for (i, (header, comp_dir, n, path)) in FILES.iter().enumerate() {
+        let section = line_table(rt.alloc(), header, &[])?;
+        let lines = read(rt.alloc(), &section, *comp_dir)?;
+        let found = lines.path(rt.alloc(), *n)?;
+        assert_eq!(rt; found.as_deref(), *path, "path {i}");
+    }
+    Ok(())
+}
+
+/// The table at the front of a section, read once more where an allocation was refused.
+fn read_at_last<'a>(alloc: Global, section: &'a [u8]) -> Result<Lines<'a>, LineFault> {
+    let lines = read(alloc, section, None);
+    let Err(LineFault::Memory) = lines else {
+        return lines;
+    };
+    read(alloc, section, None)
+}
+
+/// The path of file 0, made once more where an allocation was refused.
+fn path_at_last(alloc: Global, lines: &Lines<'_>) -> Result<Option<Vec<u8>>, AllocError> {
+    let Ok(path) = lines.path(alloc, 0) else {
+        return lines.path(alloc, 0);
+    };
+    Ok(path)
+}
+
+/// A table for which an allocation is refused is out of memory, and so is a path; the next reading, with
+/// memory, gives them whole.
+#[test]
+fn each_allocation_refused(rt: HostRuntime) -> Result<(), Fail> {
+    let alloc = rt.alloc();
+    let Ok(section) = line_table(alloc, PATHS, MANY_ROWS) else {
+        return Ok(());
+    };
+    let lines = read_at_last(alloc, &section)?;
+    assert_eq!(rt; lines.row(0x1003).map(|row| row.line), Some(4));
+    assert_eq!(rt; lines.row(0x2009).map(|row| row.line), Some(10));
+    let path = path_at_last(alloc, &lines)?;
+    assert_eq!(rt; path.as_deref(), Some(b"/w/src/b.c".as_slice()));
+    Ok(())
+}

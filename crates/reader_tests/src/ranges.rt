@@ -1,0 +1,420 @@
+//! Ranges of entries, worked out by hand from the standard's tables, and what no clause says: that calls succeed.
+
+use crate::files::{file_of, push_unit};
+use crate::units::units_of;
+use dw_forms::{Tables, Value};
+use dw_model::dwarf::{DW_AT_high_pc, DW_AT_low_pc, DW_AT_name, DW_AT_ranges, DW_TAG_subprogram};
+use dw_ranges::{Range, RangeFault, ranges_of, read_ranges};
+use dw_units::{Attribute, Attributes, Entry, Units};
+use std::alloc::{AllocError, Global};
+use std::process::Abort;
+use std::test::Fail;
+
+/// What is asked for of an entry: its ranges, or that they are bad.
+type Expected = Option<&'static [(u64, u64)]>;
+
+/// Eight bytes that aren't entries, and then the addresses 0x1000 and 0x2000.
+const ADDR: &[u8] = &[
+    1, 2, 3, 4, 5, 6, 7, 8, 0, 0x10, 0, 0, 0, 0, 0, 0, 0, 0x20, 0, 0, 0, 0, 0, 0,
+];
+
+/// First entries: with the bases 8 of addresses and 4 of range lists; with none; with these and an address; with
+/// these and an address by index.
+const DECLARATIONS: &[u8] = &[
+    1, 0x11, 0, 0x73, 0x17, 0x74, 0x17, 0, 0, 2, 0x11, 0, 0, 0, 3, 0x11, 0, 0x73, 0x17, 0x74, 0x17,
+    0x11, 1, 0, 0, 4, 0x11, 0, 0x73, 0x17, 0x74, 0x17, 0x11, 0x1b, 0, 0, 0,
+];
+
+const ROOTS: [&[u8]; 5] = [
+    &[1, 8, 0, 0, 0, 4, 0, 0, 0],
+    &[2],
+    &[3, 8, 0, 0, 0, 4, 0, 0, 0, 0, 5, 0, 0, 0, 0, 0, 0],
+    &[4, 8, 0, 0, 0, 4, 0, 0, 0, 1],
+    &[4, 8, 0, 0, 0, 4, 0, 0, 0, 2],
+];
+
+/// The units of these first entries by their indexes. What has bases has them as above; the address is 0x500, the one
+/// at index 1, or one at an index past the last. The skipped unit has no first entry.
+const BASED: usize = 0;
+const PLAIN: usize = 1;
+const AT_ADDRESS: usize = 2;
+const AT_INDEX: usize = 3;
+const UNREADABLE: usize = 4;
+const SKIPPED: usize = 5;
+
+/// A file of these units, and of one of version 4 behind them.
+fn file_of_roots(alloc: Global) -> Result<Vec<u8>, AllocError> {
+    let mut info = Vec::new(alloc);
+    for root in ROOTS {
+        push_unit(&mut info, root)?;
+    }
+    info.extend_from_slice(&[7, 0, 0, 0, 4, 0, 0, 0, 0, 0, 8])?;
+    file_of(alloc, &info, DECLARATIONS)
+}
+
+fn tables(rnglists: &[u8]) -> Tables<'_> {
+    Tables {
+        str: &[],
+        line_str: &[],
+        str_offsets: &[],
+        addr: ADDR,
+        rnglists,
+    }
+}
+
+fn entry_of<'a>(alloc: Global, pairs: &[(u64, Value<'a>)]) -> Result<Entry<'a>, AllocError> {
+    let mut attrs: Vec<Attribute<'a>> = Vec::new(alloc);
+    for (name, value) in pairs {
+        attrs.push(Attribute {
+            name: *name,
+            value: *value,
+        })?;
+    }
+    Ok(Entry {
+        offset: 0,
+        next: 0,
+        tag: DW_TAG_subprogram as u64,
+        children: false,
+        attrs: Attributes::from_vec(attrs),
+    })
+}
+
+/// The ranges are these, and no allocation was refused.
+fn are_expected(ranges: &[Range], expected: Expected) -> bool {
+    let Some(rows) = expected else {
+        return false;
+    };
+    ranges.len() == rows.len()
+        && ranges
+            .iter()
+            .zip(rows)
+            .all(|(range, row)| range.begin == row.0 && range.end == row.1)
+}
+
+/// The ranges of an entry of the unit at an index are as expected, where .debug_rnglists has these bytes: read by
+/// themselves, and in place of others.
+fn has_ranges(
+    alloc: Global,
+    units: &Units<'_>,
+    i: usize,
+    pairs: &[(u64, Value<'_>)],
+    rnglists: &[u8],
+    expected: Expected,
+) -> Result<bool, Fail> {
+    if i >= units.len() {
+        return Err(Fail::from("a unit at the index"));
+    }
+    let entry = entry_of(alloc, pairs)?;
+    let tables = tables(rnglists);
+    let alone = match ranges_of(alloc, &entry, units.unit(i), &tables) {
+        Ok(found) => are_expected(&found, expected),
+        Err(fault) => fault == RangeFault::Bad && expected.is_none(),
+    };
+    let mut kept = vec![in alloc; Range { begin: 7, end: 8 }]?;
+    let in_place = match read_ranges(&mut kept, &entry, units.unit(i), &tables) {
+        Ok(()) => are_expected(&kept, expected),
+        Err(fault) => fault == RangeFault::Bad && expected.is_none(),
+    };
+    Ok(alone && in_place)
+}
+
+/// Lists, each with the ranges that it has, or bad.
+const LISTS: [(&[u8], Expected); 28] = [
+    (&[0], Some(&[])),
+    // base_addressx
+    (&[1, 1, 4, 0, 1, 0], Some(&[(0x2000, 0x2001)])),
+    (&[1, 2, 0], None),
+    // startx_endx
+    (&[2, 0, 1, 0], Some(&[(0x1000, 0x2000)])),
+    (&[2, 1, 0, 0], Some(&[])),
+    (&[2, 0, 2, 0], None),
+    (&[2, 2, 0, 0], None),
+    // startx_length
+    (&[3, 0, 0x80, 1, 0], Some(&[(0x1000, 0x1080)])),
+    (&[3, 0, 0, 0], Some(&[])),
+    (&[3, 2, 1, 0], None),
+    // offset_pair, from the base 0 of a unit that names none
+    (&[4, 3, 5, 0], Some(&[(3, 5)])),
+    (&[4, 5, 5, 0], Some(&[])),
+    (&[4, 5, 3, 0], Some(&[])),
+    // base_address holds for all entries behind it
+    (
+        &[5, 0, 0x30, 0, 0, 0, 0, 0, 0, 4, 1, 2, 4, 3, 4, 0],
+        Some(&[(0x3001, 0x3002), (0x3003, 0x3004)]),
+    ),
+    // a sum above 2^64 - 1 isn't wrapped
+    (
+        &[
+            5, 0xf0, 0xff, 0xff, 0xff, 0xff, 0xff, 0xff, 0xff, 4, 0x10, 0x20, 4, 0, 0x10, 4, 0,
+            0xf, 0,
+        ],
+        Some(&[(0xffff_ffff_ffff_fff0, 0xffff_ffff_ffff_ffff)]),
+    ),
+    // start_end
+    (
+        &[6, 1, 0, 0, 0, 0, 0, 0, 0, 2, 0, 0, 0, 0, 0, 0, 0, 0],
+        Some(&[(1, 2)]),
+    ),
+    // start_length, whose end is 2^64, and 2^64 - 1
+    (
+        &[7, 0xf0, 0xff, 0xff, 0xff, 0xff, 0xff, 0xff, 0xff, 16, 0],
+        Some(&[]),
+    ),
+    (
+        &[7, 0xf0, 0xff, 0xff, 0xff, 0xff, 0xff, 0xff, 0xff, 15, 0],
+        Some(&[(0xffff_ffff_ffff_fff0, 0xffff_ffff_ffff_ffff)]),
+    ),
+    // what stands behind the end isn't read
+    (&[0, 8], Some(&[])),
+    // an unknown entry
+    (&[8, 0], None),
+    (&[0xff], None),
+    // no end
+    (&[], None),
+    (&[4, 1], None),
+    (&[4, 1, 2], None),
+    (&[6, 1, 0, 0, 0, 0, 0, 0, 0, 2, 0, 0, 0, 0, 0, 0], None),
+    // a number of 65 bits
+    (
+        &[
+            4, 0, 0xff, 0xff, 0xff, 0xff, 0xff, 0xff, 0xff, 0xff, 0xff, 2, 0,
+        ],
+        None,
+    ),
+    // several of these, with an end and without
+    (
+        &[
+            1, 0, 4, 0x10, 0x20, 3, 1, 8, 4, 0x30, 0x30, 7, 0xff, 0xff, 0xff, 0xff, 0xff, 0xff,
+            0xff, 0xff, 8, 0,
+        ],
+        Some(&[(0x1010, 0x1020), (0x2000, 0x2008)]),
+    ),
+    (
+        &[
+            1, 0, 4, 0x10, 0x20, 3, 1, 8, 4, 0x30, 0x30, 7, 0xff, 0xff, 0xff, 0xff, 0xff, 0xff,
+            0xff, 0xff, 8,
+        ],
+        None,
+    ),
+];
+
+/// An entry has the list at the begin of .debug_rnglists.
+const LIST: [(u64, Value<'static>); 1] = [(DW_AT_ranges, Value::SectionOffset(0))];
+
+#[test]
+fn entries_of_lists(rt: HostRuntime) -> Result<(), Fail> {
+    let file = file_of_roots(rt.alloc())?;
+    let units = units_of(rt.alloc(), &file)?;
+    for (i, (list, expected)) in LISTS.iter().enumerate() {
+        assert!(rt; has_ranges(rt.alloc(), &units, BASED, &LIST, list, *expected)?, "list {i}");
+    }
+    Ok(())
+}
+
+/// Lists in units of each kind: without a base no address has an index, and the first base is the address of the
+/// unit's first entry.
+const IN_UNITS: [(usize, &[u8], Expected); 11] = [
+    (PLAIN, &[1, 0, 0], None),
+    (PLAIN, &[2, 0, 0, 0], None),
+    (PLAIN, &[3, 0, 0, 0], None),
+    (PLAIN, &[4, 0, 0, 3, 0, 0, 0], None),
+    (PLAIN, &[4, 1, 2, 0], Some(&[(1, 2)])),
+    (SKIPPED, &[4, 1, 2, 0], Some(&[(1, 2)])),
+    (BASED, &[4, 1, 2, 0], Some(&[(1, 2)])),
+    (AT_ADDRESS, &[4, 1, 2, 0], Some(&[(0x501, 0x502)])),
+    (AT_INDEX, &[4, 1, 2, 0], Some(&[(0x2001, 0x2002)])),
+    (UNREADABLE, &[4, 1, 2, 0], None),
+    (
+        UNREADABLE,
+        &[3, 0, 1, 5, 0, 0, 0, 0, 0, 0, 0, 0, 4, 1, 2, 0],
+        Some(&[(0x1000, 0x1001), (1, 2)]),
+    ),
+];
+
+#[test]
+fn bases_of_units(rt: HostRuntime) -> Result<(), Fail> {
+    let file = file_of_roots(rt.alloc())?;
+    let units = units_of(rt.alloc(), &file)?;
+    for (row, (i, list, expected)) in IN_UNITS.iter().enumerate() {
+        assert!(rt; has_ranges(rt.alloc(), &units, *i, &LIST, list, *expected)?, "row {row}");
+    }
+    Ok(())
+}
+
+/// Two bytes that aren't read, a table of two offsets that count from its begin at 4, and the two
+/// lists.
+const INDEXED: &[u8] = &[9, 9, 9, 9, 8, 0, 0, 0, 12, 0, 0, 0, 4, 1, 2, 0, 4, 3, 4, 0];
+
+/// What names a list of these, in which unit, and its ranges.
+const NAMED: [(usize, Value<'static>, Expected); 12] = [
+    (BASED, Value::RangeIndex(0), Some(&[(1, 2)])),
+    (BASED, Value::RangeIndex(1), Some(&[(3, 4)])),
+    // a list as an offset: it begins behind the section
+    (BASED, Value::RangeIndex(2), None),
+    (BASED, Value::RangeIndex(4), None),
+    (BASED, Value::RangeIndex(1 << 62), None),
+    (BASED, Value::RangeIndex(u64::MAX), None),
+    (BASED, Value::SectionOffset(12), Some(&[(1, 2)])),
+    (BASED, Value::SectionOffset(16), Some(&[(3, 4)])),
+    (BASED, Value::SectionOffset(19), Some(&[])),
+    (BASED, Value::SectionOffset(20), None),
+    (BASED, Value::SectionOffset(u64::MAX), None),
+    (PLAIN, Value::RangeIndex(0), None),
+];
+
+#[test]
+fn lists_by_offset_and_index(rt: HostRuntime) -> Result<(), Fail> {
+    let file = file_of_roots(rt.alloc())?;
+    let units = units_of(rt.alloc(), &file)?;
+    for (i, value, expected) in NAMED {
+        let pairs = [(DW_AT_ranges, value)];
+        assert!(rt; has_ranges(rt.alloc(), &units, i, &pairs, INDEXED, expected)?, "{value:?}");
+    }
+    Ok(())
+}
+
+/// DW_AT_low_pc and DW_AT_high_pc, where each is there, and the ranges.
+const PAIRS: [(Option<Value<'static>>, Option<Value<'static>>, Expected); 16] = [
+    (None, None, Some(&[])),
+    (Some(Value::Address(5)), None, Some(&[])),
+    (None, Some(Value::Address(5)), Some(&[])),
+    (None, Some(Value::AddressIndex(9)), Some(&[])),
+    (Some(Value::AddressIndex(9)), None, Some(&[])),
+    (
+        Some(Value::Address(5)),
+        Some(Value::Address(8)),
+        Some(&[(5, 8)]),
+    ),
+    (
+        Some(Value::Address(5)),
+        Some(Value::Unsigned(8)),
+        Some(&[(5, 13)]),
+    ),
+    (
+        Some(Value::Address(5)),
+        Some(Value::Signed(8)),
+        Some(&[(5, 13)]),
+    ),
+    (Some(Value::Address(5)), Some(Value::Signed(-2)), Some(&[])),
+    (Some(Value::Address(5)), Some(Value::Unsigned(0)), Some(&[])),
+    (Some(Value::Address(5)), Some(Value::Address(5)), Some(&[])),
+    (
+        Some(Value::Address(0)),
+        Some(Value::Unsigned(7)),
+        Some(&[(0, 7)]),
+    ),
+    (
+        Some(Value::AddressIndex(0)),
+        Some(Value::AddressIndex(1)),
+        Some(&[(0x1000, 0x2000)]),
+    ),
+    (Some(Value::AddressIndex(2)), Some(Value::Unsigned(1)), None),
+    (Some(Value::Address(5)), Some(Value::AddressIndex(2)), None),
+    (
+        Some(Value::Address(u64::MAX)),
+        Some(Value::Unsigned(1)),
+        Some(&[]),
+    ),
+];
+
+/// The attribute of a name, or one that says nothing of ranges.
+fn attribute(name: u64, value: Option<Value<'static>>) -> (u64, Value<'static>) {
+    match value {
+        Some(value) => (name, value),
+        None => (DW_AT_name, Value::Unsigned(0)),
+    }
+}
+
+#[test]
+fn low_and_high(rt: HostRuntime) -> Result<(), Fail> {
+    let file = file_of_roots(rt.alloc())?;
+    let units = units_of(rt.alloc(), &file)?;
+    for (i, (low, high, expected)) in PAIRS.iter().enumerate() {
+        let pairs = [attribute(DW_AT_low_pc, *low), attribute(DW_AT_high_pc, *high)];
+        assert!(rt; has_ranges(rt.alloc(), &units, BASED, &pairs, &[], *expected)?, "pair {i}");
+    }
+    Ok(())
+}
+
+/// Where both are there, the list alone counts; where DW_AT_ranges names none, it is as if absent.
+#[test]
+fn list_before_low_and_high(rt: HostRuntime) -> Result<(), Fail> {
+    let file = file_of_roots(rt.alloc())?;
+    let units = units_of(rt.alloc(), &file)?;
+    let rows: [(Value<'static>, Expected); 3] = [
+        (Value::SectionOffset(0), Some(&[(1, 2)])),
+        (Value::SectionOffset(9), None),
+        (Value::Unsigned(0), Some(&[(5, 8)])),
+    ];
+    for (ranges, expected) in rows {
+        let pairs = [
+            (DW_AT_low_pc, Value::Address(5)),
+            (DW_AT_ranges, ranges),
+            (DW_AT_high_pc, Value::Address(8)),
+        ];
+        let list = &[4, 1, 2, 0];
+        assert!(rt; has_ranges(rt.alloc(), &units, PLAIN, &pairs, list, expected)?, "{ranges:?}");
+    }
+    Ok(())
+}
+
+#[test]
+fn faults_show_themselves(rt: HostRuntime) -> Result<(), Fail> {
+    let bad = format!(in rt.alloc(); "{}", RangeFault::Bad)?;
+    assert_eq!(rt; bad.as_str(), "the ranges can't be read");
+    let memory = format!(in rt.alloc(); "{}", RangeFault::Memory)?;
+    assert_eq!(rt; memory.as_str(), "out of memory");
+    Ok(())
+}
+
+/// An entry of the first unit has these ranges, where they are read once more after an allocation was refused, by
+/// themselves and in place of others.
+fn has_ranges_at_last(
+    alloc: Global,
+    units: &Units<'_>,
+    entry: &Entry<'_>,
+    rnglists: &[u8],
+    expected: Expected,
+) -> Result<bool, Fail> {
+    if units.len() == 0 {
+        return Err(Fail::from("a unit"));
+    }
+    let tables = tables(rnglists);
+    let found = match ranges_of(alloc, entry, units.unit(0), &tables) {
+        Err(RangeFault::Memory) => ranges_of(alloc, entry, units.unit(0), &tables)?,
+        found => found?,
+    };
+    let mut kept = Vec::new(alloc);
+    match read_ranges(&mut kept, entry, units.unit(0), &tables) {
+        Err(RangeFault::Memory) => read_ranges(&mut kept, entry, units.unit(0), &tables)?,
+        read => read?,
+    }
+    Ok(are_expected(&found, expected) && are_expected(&kept, expected))
+}
+
+/// Ranges for which an allocation is refused are out of memory, and the next call, with memory, gives them whole.
+#[test]
+fn each_allocation_refused(rt: HostRuntime) -> Result<(), Fail> {
+    let alloc = rt.alloc();
+    let pairs = [
+        (DW_AT_low_pc, Value::Address(5)),
+        (DW_AT_high_pc, Value::Unsigned(8)),
+    ];
+    let Ok(file) = file_of_roots(alloc) else {
+        return Ok(());
+    };
+    let Ok(units) = units_of(alloc, &file) else {
+        return Ok(());
+    };
+    let Ok(by_list) = entry_of(alloc, &LIST) else {
+        return Ok(());
+    };
+    let Ok(by_pair) = entry_of(alloc, &pairs) else {
+        return Ok(());
+    };
+    let list = &[4, 1, 2, 4, 3, 4, 4, 5, 6, 4, 7, 8, 4, 9, 10, 0];
+    let rows: Expected = Some(&[(1, 2), (3, 4), (5, 6), (7, 8), (9, 10)]);
+    assert!(rt; has_ranges_at_last(alloc, &units, &by_list, list, rows)?);
+    assert!(rt; has_ranges_at_last(alloc, &units, &by_pair, &[], Some(&[(5, 13)]))?);
+    Ok(())
+}

@@ -1,0 +1,273 @@
+//! Functions of units, chains and names, worked out by hand, and what no clause says: that calls succeed.
+
+use crate::files::{ABBREVS, INFO, file_of, poked, sample, unit_of};
+use crate::units::units_of;
+use dw_frames::{Call, EntryId, Tree, TreeFault};
+use dw_units::{Kind, Units};
+use std::alloc::{AllocError, Global};
+use std::process::Abort;
+use std::test::Fail;
+
+/// The functions of the unit at an index, which isn't skipped.
+fn tree_at<'a>(
+    alloc: Global,
+    units: &Units<'a>,
+    i: usize,
+) -> Result<Result<Tree<'a>, TreeFault>, Fail> {
+    if i >= units.len() {
+        return Err(Fail::from("a unit at the index"));
+    }
+    match units.unit(i).kind {
+        Kind::Compile | Kind::Partial | Kind::Skeleton => Ok(Tree::read(alloc, units, i)),
+        Kind::Skipped => Err(Fail::from("a unit that isn't skipped")),
+    }
+}
+
+/// Reads the functions of the first unit of a file.
+pub fn read_first(alloc: Global, file: &[u8]) -> Result<Result<(), TreeFault>, Fail> {
+    let units = units_of(alloc, file)?;
+    match tree_at(alloc, &units, 0)? {
+        Ok(_tree) => Ok(Ok(())),
+        Err(fault) => Ok(Err(fault)),
+    }
+}
+
+/// The name of the entry at an offset of the first unit of these sections is the one wanted.
+fn expect_name<A: Abort>(
+    rt: &A,
+    alloc: Global,
+    info: &[u8],
+    abbrevs: &[u8],
+    offset: u64,
+    wanted: Option<&[u8]>,
+) -> Result<(), Fail> {
+    let file = file_of(alloc, info, abbrevs)?;
+    let units = units_of(alloc, &file)?;
+    let tree = tree_at(alloc, &units, 0)??;
+    let id = EntryId { unit: 0, offset };
+    assert_eq!(rt; tree.name(id), wanted, "name at {offset:#x}");
+    Ok(())
+}
+
+/// The functions at addresses of the sample's first unit.
+const CHAINS: [(u64, &[u64]); 12] = [
+    (0x40_0fff, &[]),
+    (0x40_1000, &[0x23]),
+    (0x40_1001, &[0x23]),
+    (0x40_1002, &[0x36, 0x23]),
+    (0x40_1004, &[0x47, 0x36, 0x23]),
+    (0x40_1005, &[0x47, 0x36, 0x23]),
+    (0x40_1006, &[0x36, 0x23]),
+    (0x40_1007, &[0x36, 0x23]),
+    (0x40_1008, &[0x23]),
+    (0x40_100d, &[0x23]),
+    (0x40_100e, &[]),
+    (u64::MAX, &[]),
+];
+
+#[test]
+fn inlined_functions(rt: HostRuntime) -> Result<(), Fail> {
+    let file = sample(rt.alloc())?;
+    let units = units_of(rt.alloc(), &file)?;
+    let tree = tree_at(rt.alloc(), &units, 0)??;
+    for (a, wanted) in CHAINS {
+        let chain = tree.chain(rt.alloc(), a)?;
+        assert_eq!(rt; chain.len(), wanted.len(), "functions at {a:#x}");
+        for (id, offset) in chain.iter().zip(wanted.iter()) {
+            assert_eq!(rt; (id.unit, id.offset), (0, *offset), "functions at {a:#x}");
+        }
+    }
+    Ok(())
+}
+
+/// Units and offsets of entries, and the names of functions there, asked of the first unit.
+const NAMES: [(usize, u64, Option<&[u8]>); 8] = [
+    (0, 0x0c, None),
+    (0, 0x1d, Some(b"leaf")),
+    (0, 0x23, Some(b"main")),
+    (0, 0x35, None),
+    (0, 0x36, Some(b"mid")),
+    (0, 0x47, Some(b"leaf")),
+    (0, 0x48, None),
+    (1, 0x23, None),
+];
+
+/// Where functions were called: file, line and column.
+const CALLS: [(u64, Option<u64>, Option<u64>, Option<u64>); 3] = [
+    (0x47, Some(1), Some(30), None),
+    (0x36, Some(0), Some(20), Some(7)),
+    (0x23, None, None, None),
+];
+
+#[test]
+fn names_and_calls(rt: HostRuntime) -> Result<(), Fail> {
+    let file = sample(rt.alloc())?;
+    let units = units_of(rt.alloc(), &file)?;
+    let tree = tree_at(rt.alloc(), &units, 0)??;
+    for (unit, offset, name) in NAMES {
+        let id = EntryId { unit, offset };
+        assert_eq!(rt; tree.name(id), name, "name at {offset:#x}");
+        assert_eq!(rt; tree.describe(id).name, name, "name at {offset:#x}");
+    }
+    for (offset, file, line, column) in CALLS {
+        let id = EntryId { unit: 0, offset };
+        let wanted = Call { file, line, column };
+        assert_eq!(rt; tree.call(id), wanted, "call of {offset:#x}");
+        assert_eq!(rt; tree.describe(id).call, wanted, "call of {offset:#x}");
+    }
+    Ok(())
+}
+
+#[test]
+fn names_itself(rt: HostRuntime) -> Result<(), Fail> {
+    let info = poked(rt.alloc(), INFO, 0x48, 0x47)?;
+    expect_name(&rt, rt.alloc(), &info, ABBREVS, 0x47, None)?;
+    expect_name(&rt, rt.alloc(), &info, ABBREVS, 0x36, Some(b"mid"))
+}
+
+#[test]
+fn unit_of_a_target(rt: HostRuntime) -> Result<(), Fail> {
+    let file = sample(rt.alloc())?;
+    let units = units_of(rt.alloc(), &file)?;
+    let tree = tree_at(rt.alloc(), &units, 1)??;
+    let id = EntryId {
+        unit: 1,
+        offset: 0x68,
+    };
+    assert_eq!(rt; tree.name(id), Some(b"mid".as_slice()));
+    let chain = tree.chain(rt.alloc(), 0x40_1000)?;
+    assert!(rt; chain.is_empty());
+    Ok(())
+}
+
+/// A unit with children; an inlined subroutine of another, by an offset of the unit; a subprogram with a
+/// name; a block with children; a subprogram with a range list; a block with one; blocks with a name, with
+/// a value of no form, and with a number.
+const SHORT: &[u8] = &[
+    1, 0x11, 1, 0, 0, 2, 0x1d, 0, 0x31, 0x13, 0, 0, 3, 0x2e, 0, 3, 8, 0, 0, 4, 0x0b, 1, 0, 0, 5,
+    0x2e, 0, 0x55, 0x17, 0, 0, 6, 0x0b, 0, 0x55, 0x17, 0, 0, 7, 0x0b, 0, 3, 8, 0, 0, 8, 0x0b, 0, 3,
+    0x7e, 0, 0, 9, 0x0b, 0, 3, 0x0f, 0, 0, 0,
+];
+
+/// A unit whose function at 13 leads to a name by so many references.
+fn led(alloc: Global, references: u8) -> Result<Vec<u8>, AllocError> {
+    let mut entries = Vec::new(alloc);
+    entries.push(1)?;
+    for i in 0..references {
+        let next = i.saturating_mul(5).saturating_add(18);
+        entries.extend_from_slice(&[2, next, 0, 0, 0])?;
+    }
+    entries.extend_from_slice(&[3, b'n', 0, 0])?;
+    unit_of(alloc, &entries)
+}
+
+#[test]
+fn sixteen_references(rt: HostRuntime) -> Result<(), Fail> {
+    let sixteen = led(rt.alloc(), 16)?;
+    expect_name(&rt, rt.alloc(), &sixteen, SHORT, 13, Some(b"n"))?;
+    let seventeen = led(rt.alloc(), 17)?;
+    expect_name(&rt, rt.alloc(), &seventeen, SHORT, 13, None)?;
+    expect_name(&rt, rt.alloc(), &seventeen, SHORT, 18, Some(b"n"))
+}
+
+#[test]
+fn lists_ended_by_the_unit(rt: HostRuntime) -> Result<(), Fail> {
+    let info = unit_of(rt.alloc(), &[1, 4, 4, 3, b'n', 0])?;
+    expect_name(&rt, rt.alloc(), &info, SHORT, 15, Some(b"n"))
+}
+
+/// A unit whose function at 13 refers to the offset of what stands behind its list of entries.
+fn led_behind(alloc: Global, behind: &[u8]) -> Result<Vec<u8>, AllocError> {
+    let mut entries = Vec::from_slice(alloc, &[1, 2, 19, 0, 0, 0, 0])?;
+    entries.extend_from_slice(behind)?;
+    unit_of(alloc, &entries)
+}
+
+/// What stands there, and the name.
+const TARGETS: [(&[u8], Option<&[u8]>); 7] = [
+    (&[], None),
+    (&[0], None),
+    (&[0x7f], None),
+    (&[7, b'n'], None),
+    (&[8], None),
+    (
+        &[
+            9, 0xff, 0xff, 0xff, 0xff, 0xff, 0xff, 0xff, 0xff, 0xff, 0xff, 0x7f,
+        ],
+        None,
+    ),
+    (&[7, b'n', 0], Some(b"n")),
+];
+
+/// What can't be read is no name, and isn't out of memory.
+#[test]
+fn unreadable_targets(rt: HostRuntime) -> Result<(), Fail> {
+    for (behind, name) in TARGETS {
+        let info = led_behind(rt.alloc(), behind)?;
+        expect_name(&rt, rt.alloc(), &info, SHORT, 13, name)?;
+    }
+    let mut skipped = led_behind(rt.alloc(), &[])?;
+    let target = skipped.get_mut(14).ok_or("a reference")?;
+    *target = 30;
+    skipped.extend_from_slice(&[11, 0, 0, 0, 4, 0, 0, 0, 0, 0, 8, 7, b'n', 0, 0])?;
+    expect_name(&rt, rt.alloc(), &skipped, SHORT, 13, None)
+}
+
+/// How many blocks stand in one another below the first entry, what stands in the last, and why that unit's
+/// functions can't be read, if they can't.
+const FAULTS: [(usize, &[u8], Option<TreeFault>); 11] = [
+    // entries behind the list aren't read
+    (0, &[0, 0x7f], None),
+    (1, &[0x7f], Some(TreeFault::Entry)),
+    // entries that are cut: a function, one that is passed, and its text
+    (0, &[3, b'n'], Some(TreeFault::Entry)),
+    (0, &[6, 0, 0, 0], Some(TreeFault::Entry)),
+    (0, &[7, b'n'], Some(TreeFault::Entry)),
+    (511, &[3, b'n', 0, 4], None),
+    (512, &[3, b'n', 0], Some(TreeFault::Depth)),
+    (512, &[4], Some(TreeFault::Depth)),
+    (512, &[7, b'n', 0], Some(TreeFault::Depth)),
+    (0, &[5, 0, 0, 0, 0, 0x7f], Some(TreeFault::Ranges)),
+    // what isn't a function has ranges that aren't read
+    (0, &[6, 0, 0, 0, 0, 0], None),
+];
+
+#[test]
+fn faults_of_trees(rt: HostRuntime) -> Result<(), Fail> {
+    for (i, (blocks, last, fault)) in FAULTS.iter().enumerate() {
+        let mut entries = Vec::new(rt.alloc());
+        entries.push(1)?;
+        for _ in 0..*blocks {
+            entries.push(4)?;
+        }
+        entries.extend_from_slice(last)?;
+        let info = unit_of(rt.alloc(), &entries)?;
+        let file = file_of(rt.alloc(), &info, SHORT)?;
+        assert_eq!(rt; read_first(rt.alloc(), &file)?.err(), *fault, "row {i}");
+    }
+    Ok(())
+}
+
+/// Where an allocation is refused, a tree and a chain are out of memory, and the same call, with memory, gives them
+/// whole.
+#[test]
+fn each_allocation_refused(rt: HostRuntime) -> Result<(), Fail> {
+    let alloc = rt.alloc();
+    let Ok(file) = sample(alloc) else {
+        return Ok(());
+    };
+    let Ok(units) = units_of(alloc, &file) else {
+        return Ok(());
+    };
+    let tree = match tree_at(alloc, &units, 0)? {
+        Err(TreeFault::Memory) => tree_at(alloc, &units, 0)??,
+        read => read?,
+    };
+    let chain = match tree.chain(alloc, 0x40_1004) {
+        Ok(chain) => chain,
+        Err(_) => tree.chain(alloc, 0x40_1004)?,
+    };
+    assert_eq!(rt; chain.len(), 3);
+    assert_eq!(rt; tree.name(chain[0]), Some(b"leaf".as_slice()));
+    Ok(())
+}

@@ -1,0 +1,323 @@
+//! Units and their entries, worked out by hand from the standard's tables.
+
+use crate::files::{ABBREVS, INFO, file_of, poked, sample, unit_of};
+use dw_elf::{Elf, OpenFault};
+use dw_forms::{FormFault, Value};
+use dw_model::dwarf::{
+    DW_AT_abstract_origin, DW_AT_call_column, DW_AT_call_file, DW_AT_call_line, DW_AT_high_pc,
+    DW_AT_low_pc, DW_AT_name, DW_TAG_inlined_subroutine, DW_TAG_partial_unit,
+};
+use dw_units::{Entry, Next, Units};
+use std::alloc::{AllocError, Global};
+use std::test::Fail;
+
+/// The units of a file.
+pub fn units_of<'a>(alloc: Global, file: &'a [u8]) -> Result<Units<'a>, OpenFault> {
+    let elf = Elf::open(file)?;
+    Units::read(alloc, &elf)
+}
+
+/// How an entry is read: by itself, or in place of one that is kept.
+#[derive(Clone, Copy, Debug)]
+enum Way {
+    Alone,
+    InPlace,
+}
+
+const WAYS: [Way; 2] = [Way::Alone, Way::InPlace];
+
+/// The entry at an offset, in the unit at an index, or why it can't be read. The entry that is kept first is that
+/// unit's first one.
+fn entry_at<'a>(
+    alloc: Global,
+    units: &Units<'a>,
+    i: usize,
+    offset: u64,
+    way: Way,
+) -> Result<Result<Option<Entry<'a>>, FormFault>, Fail> {
+    if i >= units.len() {
+        return Err(Fail::from("a unit at the index"));
+    }
+    let Way::InPlace = way else {
+        return Ok(units.entry(alloc, i, offset));
+    };
+    let mut kept = Entry::unread(alloc);
+    units.read_entry(i, units.unit(i).first_entry, &mut kept)?;
+    match units.read_entry(i, offset, &mut kept) {
+        Ok(true) => Ok(Ok(Some(kept))),
+        Ok(false) => Ok(Ok(None)),
+        Err(fault) => Ok(Err(fault)),
+    }
+}
+
+/// The attributes of the entry at 0x36 of the sample.
+const ATTRIBUTES: [(u64, Value<'static>); 6] = [
+    (DW_AT_abstract_origin, Value::SectionRef(0x68)),
+    (DW_AT_low_pc, Value::Address(0x40_1002)),
+    (DW_AT_high_pc, Value::Unsigned(6)),
+    (DW_AT_call_file, Value::Unsigned(0)),
+    (DW_AT_call_line, Value::Unsigned(20)),
+    (DW_AT_call_column, Value::Unsigned(7)),
+];
+
+#[test]
+fn entry_of_an_inlined_call(rt: HostRuntime) -> Result<(), Fail> {
+    let file = sample(rt.alloc())?;
+    let units = units_of(rt.alloc(), &file)?;
+    for way in WAYS {
+        let found = entry_at(rt.alloc(), &units, 0, 0x36, way)??;
+        let entry = found.ok_or("no null entry")?;
+        assert_eq!(rt;
+            (entry.offset, entry.next, entry.tag, entry.children),
+            (0x36, 0x47, DW_TAG_inlined_subroutine, true)
+        );
+        assert_eq!(rt; entry.attrs.len(), 6);
+        for (name, value) in ATTRIBUTES {
+            assert_eq!(rt; entry.attr(name), Some(&value), "attribute {name}");
+        }
+        assert_eq!(rt; entry.attr(DW_AT_name), None);
+        assert_eq!(rt; entry.attr(0), None);
+    }
+    Ok(())
+}
+
+/// Offsets of the sample's first unit at which no entry is read: the reason, and none for a null entry. Its first
+/// entry stands at 0x0c, and its end is 0x5b.
+const WITHOUT_ENTRY: [(u64, Option<FormFault>); 11] = [
+    (0, Some(FormFault::End)),
+    (0x0b, Some(FormFault::End)),
+    (0x20, Some(FormFault::Code)),
+    (0x57, None),
+    (0x58, None),
+    (0x59, None),
+    (0x5a, None),
+    (0x5b, Some(FormFault::End)),
+    (0x67, Some(FormFault::End)),
+    (0x6e, Some(FormFault::End)),
+    (u64::MAX, Some(FormFault::End)),
+];
+
+#[test]
+fn entries_at_borders(rt: HostRuntime) -> Result<(), Fail> {
+    let file = sample(rt.alloc())?;
+    let units = units_of(rt.alloc(), &file)?;
+    for way in WAYS {
+        for (offset, fault) in WITHOUT_ENTRY {
+            match entry_at(rt.alloc(), &units, 0, offset, way)? {
+                Ok(found) => assert!(rt; found.is_none() && fault.is_none(), "at {offset:#x}"),
+                Err(told) => assert_eq!(rt; Some(told), fault, "at {offset:#x}"),
+            }
+        }
+        let root = entry_at(rt.alloc(), &units, 1, 0x67, way)??;
+        let root = root.ok_or("no null entry at 0x67")?;
+        assert_eq!(rt; (root.tag, root.next), (DW_TAG_partial_unit, 0x68));
+    }
+    if units.len() != 3 {
+        return Err(Fail::from("three units"));
+    }
+    let root = units.unit(1).root.as_ref().ok_or("a first entry")?;
+    assert_eq!(rt; root.offset, 0x67);
+    Ok(())
+}
+
+#[test]
+fn past_null_entries(rt: HostRuntime) -> Result<(), Fail> {
+    // Four null entries of one byte each; then the first two bytes as one padded code.
+    for (byte, past) in [(0, 0x58), (0x80, 0x59)] {
+        let info = poked(rt.alloc(), INFO, 0x57, byte)?;
+        let file = file_of(rt.alloc(), &info, ABBREVS)?;
+        let units = units_of(rt.alloc(), &file)?;
+        if units.len() == 0 {
+            return Err(Fail::from("a unit"));
+        }
+        let Ok(None) = units.entry(rt.alloc(), 0, 0x57) else {
+            return Err(Fail::from("a null entry"));
+        };
+        assert_eq!(rt; units.past_null(0, 0x57), past);
+    }
+    Ok(())
+}
+
+#[test]
+fn unit_of_an_offset(rt: HostRuntime) -> Result<(), Fail> {
+    let file = sample(rt.alloc())?;
+    let units = units_of(rt.alloc(), &file)?;
+    let rows = [
+        (0, Some(0)),
+        (0x5a, Some(0)),
+        (0x5b, Some(1)),
+        (0x6d, Some(1)),
+        (0x6e, Some(2)),
+        (0x8b, Some(2)),
+        (0x8c, None),
+        (u64::MAX, None),
+    ];
+    for (offset, unit) in rows {
+        assert_eq!(rt; units.holding(offset), unit, "unit of {offset:#x}");
+    }
+    Ok(())
+}
+
+#[test]
+fn walk_of_a_unit(rt: HostRuntime) -> Result<(), Fail> {
+    let file = sample(rt.alloc())?;
+    let units = units_of(rt.alloc(), &file)?;
+    if units.len() == 0 {
+        return Err(Fail::from("a unit"));
+    }
+    let mut entries = units.entries(0).ok_or("entries of the first unit")?;
+    let mut kept = Entry::unread(rt.alloc());
+    // The unit's first entry and the lexical block are no functions.
+    let rows = [None, Some(0x1d), Some(0x23), None, Some(0x36), Some(0x47)];
+    for row in rows {
+        assert!(rt; !entries.is_done());
+        let offset = match entries.next_function(&mut kept)? {
+            Next::Function => Some(kept.offset),
+            Next::Passed { children } => {
+                assert!(rt; children);
+                None
+            }
+            Next::Null => return Err(Fail::from("no null entry")),
+        };
+        assert_eq!(rt; offset, row);
+    }
+    for _ in 0..4 {
+        let next = entries.next_function(&mut kept)?;
+        assert!(rt; matches!(next, Next::Null));
+    }
+    assert!(rt; entries.is_done());
+    Ok(())
+}
+
+/// A unit; a function with two names, a number and a text, and the count of its addresses; one with a value of no
+/// form; one with a number in LEB128.
+const DECLARATIONS: &[u8] = &[
+    1, 0x11, 1, 0, 0, 2, 0x2e, 0, 3, 0x0b, 3, 8, 0x12, 0x0d, 0, 0, 3, 0x2e, 0, 3, 0x7e, 0, 0, 4,
+    0x2e, 0, 3, 0x0f, 0, 0, 0,
+];
+
+/// A file of one unit whose second entry, at 13, has these bytes.
+fn file_with(alloc: Global, entry: &[u8], declarations: &[u8]) -> Result<Vec<u8>, AllocError> {
+    let mut entries = vec![in alloc; 1]?;
+    entries.extend_from_slice(entry)?;
+    let info = unit_of(alloc, &entries)?;
+    file_of(alloc, &info, declarations)
+}
+
+#[test]
+fn first_of_two_attributes_decides(rt: HostRuntime) -> Result<(), Fail> {
+    let file = file_with(rt.alloc(), &[2, 5, b'f', 0, 0x7d], DECLARATIONS)?;
+    let units = units_of(rt.alloc(), &file)?;
+    for way in WAYS {
+        let found = entry_at(rt.alloc(), &units, 0, 13, way)??;
+        let entry = found.ok_or("no null entry")?;
+        assert_eq!(rt; (entry.next, entry.attrs.len()), (18, 3));
+        assert_eq!(rt; entry.attr(DW_AT_name), None);
+        assert_eq!(rt; entry.attr(DW_AT_high_pc), Some(&Value::Signed(-3)));
+    }
+    Ok(())
+}
+
+/// Entries that can't be read, and why.
+const FAULTS: [(&[u8], FormFault); 4] = [
+    (&[2, 5, b'f', 0], FormFault::End),
+    (&[3, 1], FormFault::Form),
+    (
+        &[4, 0xff, 0xff, 0xff, 0xff, 0xff, 0xff, 0xff, 0xff, 0xff, 2],
+        FormFault::Wide,
+    ),
+    (&[5], FormFault::Code),
+];
+
+/// Why a walk over the first unit can't read its second entry.
+fn fault_of_walk(alloc: Global, units: &Units<'_>) -> Result<Option<FormFault>, Fail> {
+    if units.len() == 0 {
+        return Err(Fail::from("a unit"));
+    }
+    let mut entries = units.entries(0).ok_or("entries of the first unit")?;
+    let mut kept = Entry::unread(alloc);
+    let _first = entries.next_function(&mut kept)?;
+    Ok(entries.next_function(&mut kept).err())
+}
+
+#[test]
+fn faults_of_entries(rt: HostRuntime) -> Result<(), Fail> {
+    for (entry, fault) in FAULTS {
+        let file = file_with(rt.alloc(), entry, DECLARATIONS)?;
+        let units = units_of(rt.alloc(), &file)?;
+        for way in WAYS {
+            let found = entry_at(rt.alloc(), &units, 0, 13, way)?;
+            assert_eq!(rt; found.err(), Some(fault));
+        }
+        assert_eq!(rt; fault_of_walk(rt.alloc(), &units)?, Some(fault));
+    }
+    Ok(())
+}
+
+/// A unit and a function of 13 attributes.
+const MANY: &[u8] = &[
+    1, 0x11, 1, 0, 0, 2, 0x2e, 0, 3, 0x0b, 4, 0x0b, 5, 0x0b, 6, 0x0b, 7, 0x0b, 8, 0x0b, 9, 0x0b,
+    10, 0x0b, 11, 0x0b, 12, 0x0b, 13, 0x0b, 14, 0x0b, 15, 0x0b, 0, 0, 0,
+];
+
+/// Has the 13 attributes, of which the last is 12.
+fn is_whole(entry: &Entry<'_>) -> bool {
+    let last = entry.attrs.as_slice().last();
+    entry.attrs.len() == 13 && last.map(|last| last.value) == Some(Value::Unsigned(12))
+}
+
+/// The units of a file, read once more where an allocation was refused.
+fn units_at_last<'a>(alloc: Global, file: &'a [u8]) -> Result<Units<'a>, OpenFault> {
+    let read = units_of(alloc, file);
+    let Err(OpenFault::Memory) = read else {
+        return read;
+    };
+    units_of(alloc, file)
+}
+
+/// The entry at 13 of the first unit is whole, by itself and in place of another, where it is read once more after an
+/// allocation was refused.
+fn is_read_at_last(alloc: Global, units: &Units<'_>) -> Result<bool, Fail> {
+    if units.len() == 0 {
+        return Err(Fail::from("a unit"));
+    }
+    let found = match units.entry(alloc, 0, 13) {
+        Err(FormFault::Memory) => units.entry(alloc, 0, 13)?,
+        found => found?,
+    };
+    let mut kept = Entry::unread(alloc);
+    let read = match units.read_entry(0, 13, &mut kept) {
+        Err(FormFault::Memory) => units.read_entry(0, 13, &mut kept)?,
+        read => read?,
+    };
+    Ok(read && is_whole(&kept) && is_whole(&found.ok_or("no null entry")?))
+}
+
+/// The same for the second entry of a walk.
+fn is_walked_at_last(alloc: Global, units: &Units<'_>) -> Result<bool, Fail> {
+    if units.len() == 0 {
+        return Err(Fail::from("a unit"));
+    }
+    let mut entries = units.entries(0).ok_or("entries of the first unit")?;
+    let mut kept = Entry::unread(alloc);
+    let _first = entries.next_function(&mut kept)?;
+    let next = match entries.next_function(&mut kept) {
+        Err(FormFault::Memory) => entries.next_function(&mut kept)?,
+        next => next?,
+    };
+    Ok(next == Next::Function && is_whole(&kept))
+}
+
+/// Where an allocation is refused, units, an entry and a walk are out of memory, and the same call, with memory,
+/// gives them whole.
+#[test]
+fn each_allocation_refused(rt: HostRuntime) -> Result<(), Fail> {
+    let entry = &[2, 0, 1, 2, 3, 4, 5, 6, 7, 8, 9, 10, 11, 12];
+    let Ok(file) = file_with(rt.alloc(), entry, MANY) else {
+        return Ok(());
+    };
+    let units = units_at_last(rt.alloc(), &file)?;
+    assert!(rt; is_read_at_last(rt.alloc(), &units)?);
+    assert!(rt; is_walked_at_last(rt.alloc(), &units)?);
+    Ok(())
+}
