@@ -93,7 +93,7 @@ fn refuses_once(rt: HostRuntime) -> Result<(), Fail> {
 /// Where an allocation is refused in `open`, the same call with memory succeeds. No other call takes
 /// memory. So this test passes under `rt try --test --fail-alloc N` for each N.
 #[test]
-fn each_growth_refused(rt: HostRuntime) -> Result<(), Fail> {
+fn each_allocation_refused(rt: HostRuntime) -> Result<(), Fail> {
     let shape = Shape {
         senders: 2,
         workers: 2,

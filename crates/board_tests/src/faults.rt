@@ -1,8 +1,22 @@
 //! The numbers and the sentences of errors.
 
+use std::alloc::{AllocError, Global};
+use std::fmt::Display;
+use std::process::Abort;
 use std::test::Fail;
 use ticket_board::{AskFault, BoardFault, PoolFault};
 use ticket_core::{CoreFault, NewFault};
+
+/// Asserts that the text of a fault is this.
+fn says<F: Display + Drop>(
+    rt: &impl Abort,
+    alloc: Global,
+    fault: F,
+    text: &str,
+) -> Result<(), AllocError> {
+    assert_eq!(rt; format!(in alloc; "{fault}")?.as_str(), text);
+    Ok(())
+}
 
 #[test]
 fn core_faults(rt: HostRuntime) -> Result<(), Fail> {
@@ -31,7 +45,7 @@ fn core_faults(rt: HostRuntime) -> Result<(), Fail> {
     ];
     for (fault, number, text) in table {
         assert_eq!(rt; fault.number(), number);
-        assert_eq!(rt; format!(in rt.alloc(); "{fault}")?.as_str(), text);
+        says(&rt, rt.alloc(), fault, text)?;
     }
     Ok(())
 }
@@ -50,7 +64,7 @@ fn ask_faults(rt: HostRuntime) -> Result<(), Fail> {
     ];
     for (fault, number, text) in table {
         assert_eq!(rt; fault.number(), number);
-        assert_eq!(rt; format!(in rt.alloc(); "{fault}")?.as_str(), text);
+        says(&rt, rt.alloc(), fault, text)?;
     }
     Ok(())
 }
@@ -58,31 +72,34 @@ fn ask_faults(rt: HostRuntime) -> Result<(), Fail> {
 /// A core, a board and a pool are refused for two reasons each.
 #[test]
 fn new_faults(rt: HostRuntime) -> Result<(), Fail> {
-    let table = [
-        (
-            (
-                NewFault::BadShape,
-                BoardFault::BadShape,
-                PoolFault::BadShape,
-            ),
-            1,
-            [
-                "the shape of the core is not within its limits",
-                "the shape of the board is not within its limits",
-                "the shape of the pool is not within its limits",
-            ],
-        ),
-        (
-            (NewFault::Memory, BoardFault::Memory, PoolFault::Memory),
-            2,
-            ["out of memory", "out of memory", "out of memory"],
-        ),
-    ];
-    for ((core, board, pool), number, texts) in table {
-        assert_eq!(rt; [core.number(), board.number(), pool.number()], [number; 3]);
-        assert_eq!(rt; format!(in rt.alloc(); "{core}")?.as_str(), texts[0]);
-        assert_eq!(rt; format!(in rt.alloc(); "{board}")?.as_str(), texts[1]);
-        assert_eq!(rt; format!(in rt.alloc(); "{pool}")?.as_str(), texts[2]);
-    }
+    let (core, board, pool) = (
+        NewFault::BadShape,
+        BoardFault::BadShape,
+        PoolFault::BadShape,
+    );
+    assert_eq!(rt; [core.number(), board.number(), pool.number()], [1; 3]);
+    says(
+        &rt,
+        rt.alloc(),
+        core,
+        "the shape of the core is not within its limits",
+    )?;
+    says(
+        &rt,
+        rt.alloc(),
+        board,
+        "the shape of the board is not within its limits",
+    )?;
+    says(
+        &rt,
+        rt.alloc(),
+        pool,
+        "the shape of the pool is not within its limits",
+    )?;
+    let (core, board, pool) = (NewFault::Memory, BoardFault::Memory, PoolFault::Memory);
+    assert_eq!(rt; [core.number(), board.number(), pool.number()], [2; 3]);
+    says(&rt, rt.alloc(), core, "out of memory")?;
+    says(&rt, rt.alloc(), board, "out of memory")?;
+    says(&rt, rt.alloc(), pool, "out of memory")?;
     Ok(())
 }

@@ -133,7 +133,7 @@ fn many_shapes(rt: HostRuntime) -> Result<(), Fail> {
 /// Where an allocation is refused, the same call with memory succeeds. So this test passes under
 /// `rt try --test --fail-alloc N` for each N.
 #[test]
-fn each_growth_refused(rt: HostRuntime) -> Result<(), Fail> {
+fn each_allocation_refused(rt: HostRuntime) -> Result<(), Fail> {
     let queries = [5, 6, 7];
     let shape = shape(2, 2, 2, 2);
     let found = match answers(&rt, rt.alloc(), shape, &queries, &Open) {

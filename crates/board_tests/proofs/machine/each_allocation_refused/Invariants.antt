@@ -1,5 +1,5 @@
 use Rattle.std.proofs.Common.{◌≡◌}
-use Rattle.board_tests.proofs.machine.each_growth_refused.Given as goal
+use Rattle.board_tests.proofs.machine.each_allocation_refused.Given as goal
 
 abbrev pub invariant-loop-a : goal.invariant-loop-a
 invariant-loop-a g l = l.desk.shape.senders ≡ 1 × l.desk.shape.workers ≡ 1
