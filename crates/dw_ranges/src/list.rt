@@ -13,11 +13,11 @@ ghost use Rattle.dw_ranges.specs.Step.{all_kept, list_place, ranges_from};
 ghost use Rattle.dw_ranges.specs.OutcomeShown.{base_shown};
 
 use crate::fault::RangeFault;
-use dw_index::Range;
 use crate::range_entry::next_range_entry;
 use crate::step::step;
 use dw_bytes::Cursor;
 use dw_forms::{Bases, Tables, Value};
+use dw_index::Range;
 use dw_model::dwarf::OFFSET_SIZE_32;
 use std::alloc::AllocError;
 

@@ -14,9 +14,9 @@ ghost use Rattle.dw_ranges.specs.OutcomeShown.{base_shown};
 
 use crate::fault::RangeFault;
 use crate::list::list_ranges;
-use dw_index::Range;
 use crate::step::{address_of, range_between, range_of_length};
 use dw_forms::{Bases, Tables, Value};
+use dw_index::Range;
 use dw_model::dwarf::{DW_AT_high_pc, DW_AT_low_pc, DW_AT_ranges};
 use dw_units::{Entry, Unit};
 use std::alloc::{AllocError, Global};

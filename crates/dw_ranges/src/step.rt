@@ -12,9 +12,9 @@ ghost use Rattle.dw_ranges.specs.Step as model;
 ghost use Rattle.dw_ranges.specs.OutcomeShown.{base_shown, outcome_shown};
 
 use crate::fault::RangeFault;
-use dw_index::Range;
 use crate::range_entry::RangeEntry;
 use dw_forms::{Bases, Tables, Value};
+use dw_index::Range;
 
 /// What stands behind an entry: the base in force, `None` where it can't be read, and the range that
 /// the entry makes, where that counts.

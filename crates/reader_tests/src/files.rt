@@ -30,6 +30,7 @@ const HEADER_SIZE: usize = 64;
 
 /// The types of sections with bytes of a program, and with texts.
 const PROGBITS: u32 = 1;
+
 const STRTAB: u32 = 3;
 
 /// A section header: where its name begins among the names, its type, and where its bytes stand.
@@ -88,7 +89,10 @@ pub fn elf(alloc: Global, sections: &[(Name, &[u8])]) -> Result<Vec<u8>, AllocEr
 
 /// An ELF file of units and their declarations.
 pub fn file_of(alloc: Global, info: &[u8], abbrevs: &[u8]) -> Result<Vec<u8>, AllocError> {
-    elf(alloc, &[(Name::DebugInfo, info), (Name::DebugAbbrev, abbrevs)])
+    elf(
+        alloc,
+        &[(Name::DebugInfo, info), (Name::DebugAbbrev, abbrevs)],
+    )
 }
 
 /// The same with the rows of `main`: 0x401000 line 3, 0x401004 line 4, in a file 1 of path `/w/a.c`.

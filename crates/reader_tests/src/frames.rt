@@ -20,6 +20,7 @@ pub const INLINED: &[Wanted<'_>] = &[
     (Some(b"mid"), Some(b"/w/a.c"), Some(30), None),
     (Some(b"main"), Some(b"/w/z.c"), Some(20), Some(7)),
 ];
+
 const LINE: &[Wanted<'_>] = &[(None, Some(b"/w/a.c"), Some(4), Some(0))];
 
 /// The frame where nothing is known.
@@ -107,7 +108,9 @@ pub const FAULTS: [UnitFault; 4] = [
 /// Where the first unit of the sample has the first entry below its own, where the code of `main` stands, and where
 /// the form of its DW_AT_low_pc stands among the declarations.
 const FIRST_CHILD: usize = 29;
+
 const MAIN: usize = 0x23;
+
 const LOW_PC_FORM: usize = 17;
 
 /// The sample's units, the first of them with blocks in one another, of which the last stands below 513 entries.
@@ -212,7 +215,12 @@ fn each_allocation_refused(rt: HostRuntime) -> Result<(), Fail> {
     let image = open_at_last(rt.alloc(), &file)?;
     let mut context = context_at_last(rt.alloc(), &image)?;
     expect_frames(&rt, &frames_at_last(&mut context, 0x40_1004)?, 0, INLINED);
-    expect_frames(&rt, &frames_at_last(&mut context, 0x50_0001)?, 0x6e, UNKNOWN);
+    expect_frames(
+        &rt,
+        &frames_at_last(&mut context, 0x50_0001)?,
+        0x6e,
+        UNKNOWN,
+    );
     let location = match context.find_location(0x40_1004) {
         Ok(location) => location,
         Err(_) => context.find_location(0x40_1004)?,

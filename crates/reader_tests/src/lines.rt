@@ -187,7 +187,11 @@ fn rows_of_programs(rt: HostRuntime) -> Result<(), Fail> {
                 line,
                 column: 0,
             });
-            assert_eq!(rt; lines.row(*address), wanted, "program {i}, address {address:#x}");
+            assert_eq!(rt;
+                lines.row(*address),
+                wanted,
+                "program {i}, address {address:#x}"
+            );
         }
     }
     Ok(())
@@ -254,7 +258,11 @@ const BAD_PROGRAMS: [(&[u8], Option<LineFault>); 12] = [
 fn bad_programs(rt: HostRuntime) -> Result<(), Fail> {
     for (i, (program, fault)) in BAD_PROGRAMS.iter().enumerate() {
         let section = line_table(rt.alloc(), HEADER, program)?;
-        assert_eq!(rt; read(rt.alloc(), &section, None).err(), *fault, "program {i}");
+        assert_eq!(rt;
+            read(rt.alloc(), &section, None).err(),
+            *fault,
+            "program {i}"
+        );
     }
     Ok(())
 }
@@ -325,6 +333,7 @@ const NO_DIRECTORY: &[u8] = &[
     5, 0, 8, 0, 0x1c, 0, 0, 0, 1, 1, 1, 0xfb, 0x0e, 0x0d, 0, 1, 1, 1, 1, 0, 0, 0, 1, 0, 0, 1, 0, 0,
     1, 1, 8, 1, b'b', b'.', b'c', 0,
 ];
+
 const NO_FORMATS: &[u8] = &[
     5, 0, 8, 0, 0x1b, 0, 0, 0, 1, 1, 1, 0xfb, 0x0e, 0x0d, 0, 1, 1, 1, 1, 0, 0, 0, 1, 0, 0, 1, 0, 2,
     0, 2, 0, 0, 0, 0, 0,

@@ -36,10 +36,15 @@ const ROOTS: [&[u8]; 5] = [
 /// The units of these first entries by their indexes. What has bases has them as above; the address is 0x500, the one
 /// at index 1, or one at an index past the last. The skipped unit has no first entry.
 const BASED: usize = 0;
+
 const PLAIN: usize = 1;
+
 const AT_ADDRESS: usize = 2;
+
 const AT_INDEX: usize = 3;
+
 const UNREADABLE: usize = 4;
+
 const SKIPPED: usize = 5;
 
 /// A file of these units, and of one of version 4 behind them.
@@ -206,7 +211,10 @@ fn entries_of_lists(rt: HostRuntime) -> Result<(), Fail> {
     let file = file_of_roots(rt.alloc())?;
     let units = units_of(rt.alloc(), &file)?;
     for (i, (list, expected)) in LISTS.iter().enumerate() {
-        assert!(rt; has_ranges(rt.alloc(), &units, BASED, &LIST, list, *expected)?, "list {i}");
+        assert!(rt;
+            has_ranges(rt.alloc(), &units, BASED, &LIST, list, *expected)?,
+            "list {i}"
+        );
     }
     Ok(())
 }
@@ -236,7 +244,10 @@ fn bases_of_units(rt: HostRuntime) -> Result<(), Fail> {
     let file = file_of_roots(rt.alloc())?;
     let units = units_of(rt.alloc(), &file)?;
     for (row, (i, list, expected)) in IN_UNITS.iter().enumerate() {
-        assert!(rt; has_ranges(rt.alloc(), &units, *i, &LIST, list, *expected)?, "row {row}");
+        assert!(rt;
+            has_ranges(rt.alloc(), &units, *i, &LIST, list, *expected)?,
+            "row {row}"
+        );
     }
     Ok(())
 }
@@ -268,7 +279,10 @@ fn lists_by_offset_and_index(rt: HostRuntime) -> Result<(), Fail> {
     let units = units_of(rt.alloc(), &file)?;
     for (i, value, expected) in NAMED {
         let pairs = [(DW_AT_ranges, value)];
-        assert!(rt; has_ranges(rt.alloc(), &units, i, &pairs, INDEXED, expected)?, "{value:?}");
+        assert!(rt;
+            has_ranges(rt.alloc(), &units, i, &pairs, INDEXED, expected)?,
+            "{value:?}"
+        );
     }
     Ok(())
 }
@@ -330,8 +344,14 @@ fn low_and_high(rt: HostRuntime) -> Result<(), Fail> {
     let file = file_of_roots(rt.alloc())?;
     let units = units_of(rt.alloc(), &file)?;
     for (i, (low, high, expected)) in PAIRS.iter().enumerate() {
-        let pairs = [attribute(DW_AT_low_pc, *low), attribute(DW_AT_high_pc, *high)];
-        assert!(rt; has_ranges(rt.alloc(), &units, BASED, &pairs, &[], *expected)?, "pair {i}");
+        let pairs = [
+            attribute(DW_AT_low_pc, *low),
+            attribute(DW_AT_high_pc, *high),
+        ];
+        assert!(rt;
+            has_ranges(rt.alloc(), &units, BASED, &pairs, &[], *expected)?,
+            "pair {i}"
+        );
     }
     Ok(())
 }
@@ -353,7 +373,10 @@ fn list_before_low_and_high(rt: HostRuntime) -> Result<(), Fail> {
             (DW_AT_high_pc, Value::Address(8)),
         ];
         let list = &[4, 1, 2, 0];
-        assert!(rt; has_ranges(rt.alloc(), &units, PLAIN, &pairs, list, expected)?, "{ranges:?}");
+        assert!(rt;
+            has_ranges(rt.alloc(), &units, PLAIN, &pairs, list, expected)?,
+            "{ranges:?}"
+        );
     }
     Ok(())
 }

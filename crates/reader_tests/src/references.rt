@@ -9,6 +9,7 @@ use std::time::Instant;
 
 /// How many entries of each kind there are, and how often each is referred to.
 const TARGETS: usize = 200;
+
 const ROUNDS: usize = 50;
 
 /// How many attributes of one byte stand before the name of a long entry.
@@ -16,8 +17,11 @@ const ATTRIBUTES: usize = 1_000;
 
 /// Where the first long entry and the first short one stand, and how many bytes one takes.
 const LONG: usize = 13;
+
 const LONG_SIZE: usize = ATTRIBUTES + 3;
+
 const SHORT: usize = LONG + TARGETS * LONG_SIZE;
+
 const SHORT_SIZE: usize = 3;
 
 /// A unit, a long entry, a short one, and a function that refers to another entry.

@@ -263,9 +263,25 @@ fn each_allocation_refused(rt: HostRuntime) -> Result<(), Fail> {
         return Ok(());
     };
     let mut lines = Compared::new(BORDERS.text);
-    let status = match symbolize(&rt, alloc, &mut Nothing, &mut lines, &image, &options, &Open) {
+    let status = match symbolize(
+        &rt,
+        alloc,
+        &mut Nothing,
+        &mut lines,
+        &image,
+        &options,
+        &Open,
+    ) {
         Err(RunFault::Memory) => {
-            symbolize(&rt, alloc, &mut Nothing, &mut lines, &image, &options, &Open)?
+            symbolize(
+                &rt,
+                alloc,
+                &mut Nothing,
+                &mut lines,
+                &image,
+                &options,
+                &Open,
+            )?
         }
         status => status?,
     };
