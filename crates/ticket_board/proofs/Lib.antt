@@ -6,3 +6,9 @@ pub mod ClientLemmas
 pub mod WorkerLemmas
 pub mod OpeningLemmas
 pub mod PoolLemmas
+pub mod RingPlaces
+pub mod RingViews
+pub mod RingSenders
+pub mod RingFrames
+pub mod RingSenderSteps
+pub mod RingWorkerSteps

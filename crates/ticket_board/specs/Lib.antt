@@ -8,3 +8,4 @@ pub mod BoardShown
 pub mod ClientShown
 pub mod Outcome
 pub mod WorkerShown
+pub mod Ring

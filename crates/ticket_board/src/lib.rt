@@ -12,6 +12,7 @@ mod opening;
 mod outcome;
 mod places;
 mod pool;
+pub mod ring;
 mod worker;
 
 pub use board::Board;

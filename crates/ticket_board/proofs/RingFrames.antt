@@ -1,0 +1,172 @@
+-- A step of one seat leaves what the ring shows of the others.
+use Rattle.std.proofs.Common.{◌≡◌, ◌≢◌, ℕ, ◌+◌, ◌<◌, List, length, set, inl, inr, refl, sym, ◌∙◌, ap, subst, arith}
+use Rattle.std.proofs.lemmas.Bool.{cases_eq}
+use Rattle.std.proofs.lemmas.List.{length-set}
+use mathlib.Core.Option.{some}
+use lib.ListN.{get_elem?}
+use Rattle.ticket_core.specs.declared.shape.Shape.{Shape}
+use Rattle.ticket_core.specs.State.{Meaning, State, sender_at, hand_at, place_of, address_of}
+use Rattle.ticket_core.specs.Sound.{IsSound}
+use Rattle.ticket_core.specs.Runs.{once_finished}
+use Rattle.ticket_core.proofs.CallerLemmas.{held-asked}
+use Rattle.ticket_board.specs.Ring.Layout.{cells_in, words_in, state_at, address_at}
+use Rattle.ticket_board.specs.Ring.Homes.{Home, home_at}
+use Rattle.ticket_board.specs.Ring.Views.{Asking, Working, View, asker, worker, sender_seat, worker_seat, view_at, asking_of, working_of, asking_at, working_at}
+use Rattle.ticket_board.specs.Ring.Shows.{Board, SenderShows, WorkerShows, Seated, Sits, times, times_done, Shows}
+use Rattle.ticket_board.proofs.ViewLemmas.{changed}
+use Rattle.ticket_board.proofs.RingViews.{view-is, seat-there, view-else, view-here, times-set}
+use Rattle.ticket_board.proofs.RingSenders.{carried}
+
+module _ (meaning : Meaning) (shape : Shape) (key : List ℕ) (board : Board) (state : State) (shows : Shows meaning shape key board state) where
+  -- a seat that keeps its role and its place
+  reseated : (seat : ℕ) (old new : View) → Sits board seat old → Seated shape key (length board.views) seat new
+      → (port : ℕ) (view : View) → get_elem? (set board.views seat new) port ≡ some view → Seated shape key (length (set board.views seat new)) port view
+  reseated seat old new sits seated port view e =
+      subst (λ (seats : ℕ). Seated shape key seats port view) (sym (length-set board.views seat new))
+      (changed (Seated shape key (length board.views)) board.views seat new seated (λ j u _ at. shows.seated j u at) port view e)
+
+  -- ---- a sender's step
+
+  module _ (seat s : ℕ) (asking : Asking) (sits : Sits board seat (asker shape key s asking)) where
+    pub asker-seated : Seated shape key (length board.views) seat (asker shape key s asking)
+    asker-seated = shows.seated seat (asker shape key s asking) sits
+
+    asker-there : seat < length board.views
+    asker-there = seat-there board.views seat (asker shape key s asking) sits
+
+    pub asking-is : asking_at board.views s ≡ asking
+    asking-is = ap (λ (view : View). asking_of view.role)
+        (ap (view_at board.views) (sym asker-seated.stands.0) ∙ view-is board.views seat (asker shape key s asking) sits)
+
+    pub sender-shows : SenderShows shape (state_at shape board.words s) (address_at shape board.words s) (home_at shape board.homes s) asking (sender_at state s)
+    sender-shows = subst (λ (x : Asking). SenderShows shape (state_at shape board.words s) (address_at shape board.words s) (home_at shape board.homes s) x (sender_at state s))
+        asking-is (shows.senders s asker-seated.stands.1)
+
+    module _ (words : List ℕ) (homes : List Home) (asking' : Asking) (new : State) where
+      abbrev views_sent : List View
+      views_sent = set board.views seat (asker shape key s asking')
+
+      asking-else : (t : ℕ) → t ≢ s → asking_at views_sent t ≡ asking_at board.views t
+      asking-else t ne = ap (λ (view : View). asking_of view.role)
+          (view-else board.views seat (sender_seat t) (asker shape key s asking') (λ e. ne (let at : seat ≡ sender_seat s = asker-seated.stands.0 in omega arith)))
+
+      asking-here : asking_at views_sent s ≡ asking'
+      asking-here = ap (λ (view : View). asking_of view.role)
+          (ap (view_at views_sent) (sym asker-seated.stands.0) ∙ view-here board.views seat (asker shape key s asking') asker-there)
+
+      working-same : (w : ℕ) → working_at shape views_sent w ≡ working_at shape board.views w
+      working-same w = ap (λ (view : View). working_of view.role)
+          (view-else board.views seat (worker_seat shape w) (asker shape key s asking')
+          (λ e. let at : seat ≡ sender_seat s = asker-seated.stands.0 in let h : s < shape.senders = asker-seated.stands.1 in omega arith))
+
+      pub asker-frame : new.shape ≡ shape → new.key ≡ key → IsSound meaning new → length words ≡ words_in shape → length homes ≡ cells_in shape
+          → SenderShows shape (state_at shape words s) (address_at shape words s) (home_at shape homes s) asking' (sender_at new s)
+          → ((t n : ℕ) → t ≢ s → (state_at shape words t n ≡ state_at shape board.words t n) × (address_at shape words t n ≡ address_at shape board.words t n)
+          × (home_at shape homes t n ≡ home_at shape board.homes t n))
+          → ((t : ℕ) → t ≢ s → sender_at new t ≡ sender_at state t)
+          → ((w : ℕ) → hand_at new w ≡ hand_at state w)
+          → ((n : ℕ) → n < length (sender_at state s).asked → address_of (sender_at new s) n ≡ address_of (sender_at state s) n)
+          → ((t n : ℕ) → once_finished (place_of (sender_at new t) n) ≡ once_finished (place_of (sender_at state t) n))
+          → Shows meaning shape key (record { words = words; homes = homes; views = views_sent }) new
+      asker-frame shape_is key_is sound in_words in_homes mine others senders hands addresses counted = record {
+        shape_is = shape_is;
+        key_is = key_is;
+        fits = shows.fits;
+        sound = sound;
+        words = in_words;
+        homes = in_homes;
+        seated = reseated seat (asker shape key s asking) (asker shape key s asking') sits
+            (record { shape_is = refl; key_is = refl; stands = asker-seated.stands });
+        senders = λ t h. elim (cases_eq t s) [
+          | inl e ↦ subst (λ (x : ℕ). SenderShows shape (state_at shape words x) (address_at shape words x) (home_at shape homes x) (asking_at views_sent x) (sender_at new x)) (sym e)
+              (subst (λ (x : Asking). SenderShows shape (state_at shape words s) (address_at shape words s) (home_at shape homes s) x (sender_at new s)) (sym asking-here) mine)
+          | inr ne ↦ carried shape (state_at shape board.words t) (state_at shape words t) (address_at shape board.words t) (address_at shape words t)
+              (home_at shape board.homes t) (home_at shape homes t) (asking_at board.views t) (asking_at views_sent t) (sender_at state t) (sender_at new t)
+              (λ n. (others t n ne).0) (λ n. (others t n ne).1) (λ n. (others t n ne).2) (asking-else t ne) (senders t ne) (shows.senders t h)
+        ];
+        workers = λ w. subst (λ (x : Working). WorkerShows shape new w x) (sym (working-same w)) (record {
+          hand = hands w ∙ (shows.workers w).hand;
+          read = λ t n a holds is.
+              let asked : n < length (sender_at state t).asked = held-asked meaning state shows.sound w t n ((shows.workers w).hand ∙ holds) in
+              (shows.workers w).read t n a holds is ∙ elim (cases_eq t s) [
+                | inl e ↦ sym (subst (λ (x : ℕ). n < length (sender_at state x).asked → address_of (sender_at new x) n ≡ address_of (sender_at state x) n) (sym e) (addresses n) asked)
+                | inr ne ↦ sym (ap (λ sender. address_of sender n) (senders t ne))
+              ];
+          seen = (shows.workers w).seen;
+        });
+        done = λ t n.
+            let kept : times_done t n views_sent + 0 ≡ times_done t n board.views + 0 = times-set t n board.views seat (asker shape key s asking) (asker shape key s asking') sits in
+            let was : times_done t n board.views ≡ once_finished (place_of (sender_at state t) n) = shows.done t n in
+            let is : once_finished (place_of (sender_at new t) n) ≡ once_finished (place_of (sender_at state t) n) = counted t n in
+            omega arith;
+      }
+
+  -- ---- a worker's step
+
+  module _ (seat w : ℕ) (working : Working) (sits : Sits board seat (worker shape key w working)) where
+    pub worker-seated : Seated shape key (length board.views) seat (worker shape key w working)
+    worker-seated = shows.seated seat (worker shape key w working) sits
+
+    worker-there : seat < length board.views
+    worker-there = seat-there board.views seat (worker shape key w working) sits
+
+    pub working-is : working_at shape board.views w ≡ working
+    working-is = ap (λ (view : View). working_of view.role)
+        (ap (view_at board.views) (sym worker-seated.stands.0) ∙ view-is board.views seat (worker shape key w working) sits)
+
+    pub worker-shows : WorkerShows shape state w working
+    worker-shows = subst (λ (x : Working). WorkerShows shape state w x) working-is (shows.workers w)
+
+    module _ (words : List ℕ) (homes : List Home) (working' : Working) (new : State) where
+      abbrev views_worked : List View
+      views_worked = set board.views seat (worker shape key w working')
+
+      asking-same : (t : ℕ) → t < shape.senders → asking_at views_worked t ≡ asking_at board.views t
+      asking-same t h = ap (λ (view : View). asking_of view.role)
+          (view-else board.views seat (sender_seat t) (worker shape key w working')
+          (λ e. let at : seat ≡ worker_seat shape w = worker-seated.stands.0 in omega arith))
+
+      working-else : (v : ℕ) → v ≢ w → working_at shape views_worked v ≡ working_at shape board.views v
+      working-else v ne = ap (λ (view : View). working_of view.role)
+          (view-else board.views seat (worker_seat shape v) (worker shape key w working')
+          (λ e. ne (let at : seat ≡ worker_seat shape w = worker-seated.stands.0 in omega arith)))
+
+      working-here : working_at shape views_worked w ≡ working'
+      working-here = ap (λ (view : View). working_of view.role)
+          (ap (view_at views_worked) (sym worker-seated.stands.0) ∙ view-here board.views seat (worker shape key w working') worker-there)
+
+      pub worker-frame : new.shape ≡ shape → new.key ≡ key → IsSound meaning new → length words ≡ words_in shape → length homes ≡ cells_in shape
+          → ((t : ℕ) → t < shape.senders
+          → SenderShows shape (state_at shape words t) (address_at shape words t) (home_at shape homes t) (asking_at board.views t) (sender_at new t))
+          → WorkerShows shape new w working'
+          → ((v : ℕ) → v ≢ w → hand_at new v ≡ hand_at state v)
+          → ((t n : ℕ) → address_of (sender_at new t) n ≡ address_of (sender_at state t) n)
+          → ((t n : ℕ) → times t n working'.done + once_finished (place_of (sender_at state t) n) ≡ times t n working.done + once_finished (place_of (sender_at new t) n))
+          → Shows meaning shape key (record { words = words; homes = homes; views = views_worked }) new
+      worker-frame shape_is key_is sound in_words in_homes senders mine hands addresses counted = record {
+        shape_is = shape_is;
+        key_is = key_is;
+        fits = shows.fits;
+        sound = sound;
+        words = in_words;
+        homes = in_homes;
+        seated = reseated seat (worker shape key w working) (worker shape key w working') sits
+            (record { shape_is = refl; key_is = refl; stands = worker-seated.stands });
+        senders = λ t h. subst (λ (x : Asking). SenderShows shape (state_at shape words t) (address_at shape words t) (home_at shape homes t) x (sender_at new t))
+            (sym (asking-same t h)) (senders t h);
+        workers = λ v. elim (cases_eq v w) [
+          | inl e ↦ subst (λ (x : ℕ). WorkerShows shape new x (working_at shape views_worked x)) (sym e)
+              (subst (λ (x : Working). WorkerShows shape new w x) (sym working-here) mine)
+          | inr ne ↦ subst (λ (x : Working). WorkerShows shape new v x) (sym (working-else v ne)) (record {
+            hand = hands v ne ∙ (shows.workers v).hand;
+            read = λ t n a holds is. (shows.workers v).read t n a holds is ∙ sym (addresses t n);
+            seen = (shows.workers v).seen;
+          })
+        ];
+        done = λ t n.
+            let kept : times_done t n views_worked + times t n working.done ≡ times_done t n board.views + times t n working'.done =
+            times-set t n board.views seat (worker shape key w working) (worker shape key w working') sits in
+            let was : times_done t n board.views ≡ once_finished (place_of (sender_at state t) n) = shows.done t n in
+            let is : times t n working'.done + once_finished (place_of (sender_at state t) n) ≡ times t n working.done + once_finished (place_of (sender_at new t) n) = counted t n in
+            omega arith;
+      }

@@ -1,0 +1,331 @@
+-- Each step of a worker keeps what the ring shows.
+use Rattle.std.proofs.Common.{◌≡◌, ◌≢◌, ℕ, ◌+◌, ◌*◌, ◌/◌, ◌<◌, ◌≤◌, Bool, true, false, eqb, if◌then◌else◌, List, [], ◌∷◌, ◌++◌, length, get_or, set, Option, Some, None, IsSome, inl, inr, refl, sym, ◌∙◌, ap, subst, eq-eqb, arith}
+use Rattle.std.proofs.lemmas.Bool.{cases_eq, cases_lt, ne_eqb}
+use Rattle.std.proofs.lemmas.List.{length-set}
+use Rattle.std.proofs.lemmas.Nat.{div_below}
+use Rattle.ticket_core.specs.declared.shape.Shape.{Shape}
+use Rattle.ticket_core.specs.State.{Address, Shown, Meaning, Place, Unasked, Waiting, Held, Answered, Collected, Sender, Ticket, State, sender_at, hand_at, place_of, address_of}
+use Rattle.ticket_core.specs.Events.{Event, Take, Finish, GiveBack, puts, with_sender, ticket_in, meaning_of, puts_down, Can, after}
+use Rattle.ticket_core.specs.Sound.{IsSound}
+use Rattle.ticket_core.specs.Runs.{is_ticket, once_finished, finishes}
+use Rattle.ticket_core.proofs.ReadLemmas.{inside}
+use Rattle.ticket_core.proofs.StateLemmas.{sender_changed, hand_changed}
+use Rattle.ticket_core.proofs.StepLemmas.{step-sound}
+use Rattle.ticket_core.proofs.CountLemmas.{step-counted}
+use Rattle.ticket_core.proofs.CallerLemmas.{held-sender, held-asked}
+use Rattle.ticket_board.specs.Ring.Layout.{cell_of, cells_in, state_field, word_of, state_place, state_at, address_at, asked_word, taken_word, answered_word}
+use Rattle.ticket_board.specs.Ring.Homes.{Home, Out, Empty, Full, home_at}
+use Rattle.ticket_board.specs.Ring.Views.{Asking, Working, worker, next_asked, next_received, asking_at}
+use Rattle.ticket_board.specs.Ring.Shows.{Board, CellShows, SenderShows, WorkerShows, Sits, Shows, times}
+use Rattle.ticket_board.specs.Ring.Steps.{LooksAt, ReadsAddress, Answers, GivesBack, is_asked_word, working_after, worked}
+use Rattle.ticket_board.specs.Ring.Laws.{ShowsAfter}
+use Rattle.ticket_board.proofs.RingPlaces.{numbers-apart, senders-apart, state-else, address-beside, word-here, home-else, home-here}
+use Rattle.ticket_board.proofs.RingSenders.{carried, cell-moved, waits, put-there}
+use Rattle.ticket_board.proofs.RingViews.{times-append}
+use Rattle.ticket_board.proofs.RingFrames.{worker-frame, worker-seated, worker-shows}
+
+-- what is seen is of a sender below the bound
+seen-below : (found : Bool) (q m bound s n : ℕ) → q < bound
+    → ◌≡◌ {A = Option Ticket} (if found then Some (q, m) else None) (Some (s, n)) → s < bound
+seen-below true q m bound s n h e = let same : q ≡ s = ap (λ (ticket : Option Ticket). (ticket_in ticket).0) e in omega arith
+seen-below false q m bound s n h e = absurd (cc)
+
+ticket-parts : (s n t m : ℕ) → ◌≡◌ {A = Option Ticket} (Some (s, n)) (Some (t, m)) → (s ≡ t) × (n ≡ m)
+ticket-parts s n t m e = (ap (λ x. (ticket_in x).0) e, ap (λ x. (ticket_in x).1) e)
+
+-- a cell whose number is in a hand
+held-cell : (n next : ℕ) (collecting : Option Shown) (w : ℕ) (word : ℕ) (home : Home) → CellShows n next collecting (Held w) word home
+    → (word ≡ taken_word n) × (home ≡ Out)
+held-cell n next collecting w word home shows = shows
+
+module _ (meaning : Meaning) (shape : Shape) (key : List ℕ) (board : Board) (state : State) (shows : Shows meaning shape key board state) where
+  some_room : 0 < shape.window
+  some_room = shows.fits.4
+
+  abbrev asking : ℕ → Asking
+  asking s = asking_at board.views s
+
+  abbrev states : ℕ → ℕ → ℕ
+  states = state_at shape board.words
+
+  abbrev SenderNow : ℕ → Type 0
+  SenderNow s = SenderShows shape (states s) (address_at shape board.words s) (home_at shape board.homes s) (asking s) (sender_at state s)
+
+  sender-there' : (s : ℕ) → s < shape.senders → s < length state.senders
+  sender-there' s h = let e : state.shape.senders ≡ shape.senders = ap (λ x. x.senders) shows.shape_is in omega (arith, shows.sound.senders)
+
+  -- ---- a number in a hand
+
+  module _ (w s n : ℕ) (holds : hand_at state w ≡ Some (s, n)) where
+    abbrev held-place : Type 0
+    held-place = place_of (sender_at state s) n ≡ Held w
+
+    held-is : held-place
+    held-is = shows.sound.held w s n holds
+
+    held-of : s < shape.senders
+    held-of = let h : s < state.shape.senders = held-sender meaning state shows.sound w s n holds in
+        let e : state.shape.senders ≡ shape.senders = ap (λ x. x.senders) shows.shape_is in omega arith
+
+    held-from : next_received (asking s) ≤ n
+    held-from = elim (cases_lt n (next_received (asking s))) [
+      | inl lt ↦ absurd (
+          let same : length (sender_at state s).received ≡ next_received (asking s) = ap length (shows.senders s held-of).received in
+          let received : place_of (sender_at state s) n ≡ Collected = (shows.sound.each s).collected n (omega arith) in
+          let held : place_of (sender_at state s) n ≡ Held w = held-is in cc)
+      | inr le ↦ le
+    ]
+
+    held-below : n < next_asked (asking s)
+    held-below =
+        let same : length (sender_at state s).asked ≡ next_asked (asking s) = ap length (shows.senders s held-of).asked in
+        let h : n < length (sender_at state s).asked = held-asked meaning state shows.sound w s n holds in omega arith
+
+    held-window : n < next_received (asking s) + shape.window
+    held-window =
+        let asked : length (sender_at state s).asked ≡ next_asked (asking s) = ap length (shows.senders s held-of).asked in
+        let received : length (sender_at state s).received ≡ next_received (asking s) = ap length (shows.senders s held-of).received in
+        let e : state.shape.window ≡ shape.window = ap (λ x. x.window) shows.shape_is in
+        let h : n < next_asked (asking s) = held-below in
+        omega (arith, shows.sound.window s)
+
+    held-word : (states s n ≡ taken_word n) × (home_at shape board.homes s n ≡ Out)
+    held-word = held-cell n (next_received (asking s)) (asking s).collecting w (states s n) (home_at shape board.homes s n)
+        (cell-moved n (next_received (asking s)) (asking s).collecting (place_of (sender_at state s) n) (Held w) (states s n) (states s n)
+        (home_at shape board.homes s n) (home_at shape board.homes s n) (sym held-is) refl refl
+        ((shows.senders s held-of).cells n held-from held-window))
+
+    held-address : address_at shape board.words s n ≡ address_of (sender_at state s) n
+    held-address = (shows.senders s held-of).addresses n held-from held-below
+
+  -- ---- a number that isn't answered yet stands at another place
+
+  module _ (s n x : ℕ) (home : Home) (place : Place) (new : State) (there : s < shape.senders)
+      (from : next_received (asking s) ≤ n) (below : n < next_received (asking s) + shape.window) (early : states s n < answered_word n)
+      (asked : place_of (sender_at state s) n ≡ Unasked → ⊥) (cell : CellShows n (next_received (asking s)) (asking s).collecting place x home)
+      (changed : sender_at new s ≡ puts n place (sender_at state s)) (others : (t : ℕ) → t ≢ s → sender_at new t ≡ sender_at state t) where
+    abbrev words_put : List ℕ
+    words_put = set board.words (state_place shape s n) x
+
+    abbrev homes_put : List Home
+    homes_put = set board.homes (cell_of shape s n) home
+
+    put-sender : SenderShows shape (state_at shape words_put s) (address_at shape words_put s) (home_at shape homes_put s) (asking s) (puts n place (sender_at state s))
+    put-sender =
+        let old : SenderNow s = shows.senders s there in
+        carried shape (state_at shape words_put s) (state_at shape words_put s) (address_at shape board.words s) (address_at shape words_put s)
+        (home_at shape homes_put s) (home_at shape homes_put s) (asking s) (asking s) (puts n place (sender_at state s)) (puts n place (sender_at state s))
+        (λ _. refl) (λ m. address-beside shape some_room board.words s n x s m) (λ _. refl) refl refl
+        (put-there shape (states s) (address_at shape board.words s) (home_at shape board.homes s) (asking s) (sender_at state s) old
+        (state_at shape words_put s) (home_at shape homes_put s) n place from below early
+        (λ m m_from m_below ne. (
+          state-else shape some_room board.words s n x state_field s m (omega arith)
+              (numbers-apart shape some_room s (next_received (asking s)) n m from below m_from m_below ne),
+          home-else shape some_room board.homes s n home s m
+              (numbers-apart shape some_room s (next_received (asking s)) n m from below m_from m_below ne),
+        ))
+        (inside (sender_at state s).places n Unasked asked)
+        (cell-moved n (next_received (asking s)) (asking s).collecting place place x (state_at shape words_put s n) home (home_at shape homes_put s n) refl
+        (word-here shape some_room board.words s n x state_field (omega arith) there shows.words)
+        (home-here shape some_room board.homes s n home there shows.homes) cell))
+
+    pub put-senders : (t : ℕ) → t < shape.senders
+        → SenderShows shape (state_at shape words_put t) (address_at shape words_put t) (home_at shape homes_put t) (asking t) (sender_at new t)
+    put-senders t h = elim (cases_eq t s) [
+      | inl e ↦ subst (λ (y : ℕ). SenderShows shape (state_at shape words_put y) (address_at shape words_put y) (home_at shape homes_put y) (asking y) (sender_at new y)) (sym e)
+          (subst (λ (y : Sender). SenderShows shape (state_at shape words_put s) (address_at shape words_put s) (home_at shape homes_put s) (asking s) y) (sym changed) put-sender)
+      | inr ne ↦ carried shape (states t) (state_at shape words_put t) (address_at shape board.words t) (address_at shape words_put t)
+          (home_at shape board.homes t) (home_at shape homes_put t) (asking t) (asking t) (sender_at state t) (sender_at new t)
+          (λ m. state-else shape some_room board.words s n x state_field t m (omega arith) (senders-apart shape some_room s n t m ne))
+          (λ m. address-beside shape some_room board.words s n x t m)
+          (λ m. home-else shape some_room board.homes s n home t m (senders-apart shape some_room s n t m ne)) refl (others t ne) (shows.senders t h)
+    ]
+
+    -- what was asked stays asked
+    pub put-addresses : (t m : ℕ) → address_of (sender_at new t) m ≡ address_of (sender_at state t) m
+    put-addresses t m = elim (cases_eq t s) [
+      | inl e ↦ subst (λ (y : ℕ). address_of (sender_at new y) m ≡ address_of (sender_at state y) m) (sym e) (ap (λ sender. address_of sender m) changed)
+      | inr ne ↦ ap (λ sender. address_of sender m) (others t ne)
+    ]
+
+  -- ---- the steps
+
+  module _ (seat w : ℕ) (working : Working) (sits : Sits board seat (worker shape key w working)) where
+    mine : WorkerShows shape state w working
+    mine = worker-shows meaning shape key board state shows seat w working sits
+
+    there : w < shape.workers
+    there = (worker-seated meaning shape key board state shows seat w working sits).stands.1
+
+    hand-there : w < length state.hands
+    hand-there = let e : state.shape.workers ≡ shape.workers = ap (λ x. x.workers) shows.shape_is in omega (arith, there, shows.sound.workers)
+
+    -- a step that leaves the state of the core, and what was done
+    note : (working' : Working) → WorkerShows shape state w working' → working'.done ≡ working.done
+        → Shows meaning shape key (record { words = board.words; homes = board.homes; views = set board.views seat (worker shape key w working') }) state
+    note working' new done =
+        worker-frame meaning shape key board state shows seat w working sits board.words board.homes working' state
+        shows.shape_is shows.key_is shows.sound shows.words shows.homes shows.senders new (λ _ _. refl) (λ _ _. refl)
+        (λ t n. ap (λ tickets. times t n tickets + once_finished (place_of (sender_at state t) n)) done)
+
+    pub looks-at : (cell : ℕ) → working.hand ≡ None → cell < cells_in shape
+        → Shows meaning shape key (worked shape key seat w working (LooksAt cell) board) state
+    looks-at cell empty within =
+        note (working_after shape working (LooksAt cell) (get_or board.words (word_of cell state_field) 0)) (record {
+          hand = mine.hand;
+          read = mine.read;
+          seen = λ s n e. seen-below (is_asked_word (get_or board.words (word_of cell state_field) 0)) (cell / shape.window)
+              (get_or board.words (word_of cell state_field) 0 / 8) shape.senders s n (div_below cell shape.window shape.senders some_room within) e;
+        }) refl
+
+    pub reads-address : (s n : ℕ) → working.hand ≡ Some (s, n)
+        → Shows meaning shape key (worked shape key seat w working (ReadsAddress s n) board) state
+    reads-address s n holds =
+        note (working_after shape working (ReadsAddress s n) (address_at shape board.words s n)) (record {
+          hand = mine.hand;
+          read = λ t m a held is.
+              let parts : (s ≡ t) × (n ≡ m) = ticket-parts s n t m (sym holds ∙ held) in
+              let word : address_at shape board.words s n ≡ address_of (sender_at state s) n = held-address w s n (mine.hand ∙ holds) in
+              let same : a ≡ address_at shape board.words s n = cc in
+              same ∙ word ∙ (λ i. address_of (sender_at state (parts.0 i)) (parts.1 i));
+          seen = mine.seen;
+        }) refl
+
+    -- ---- a number is taken
+
+    module _ (s n : ℕ) (empty : working.hand ≡ None) (saw : working.seen ≡ Some (s, n)) where
+      of-sender : s < shape.senders
+      of-sender = mine.seen s n saw
+
+      module _ (found : states s n ≡ asked_word n) where
+        stands : (next_received (asking s) ≤ n) × (n < next_received (asking s) + shape.window) × (place_of (sender_at state s) n ≡ Waiting)
+        stands =
+            waits shape (states s) (address_at shape board.words s) (home_at shape board.homes s) (asking s) (sender_at state s)
+            (shows.senders s of-sender) n some_room
+            (λ m e. ap (λ (k : ℕ). get_or board.words (word_of (s * shape.window + k) state_field) 0) e) found
+
+        abbrev taken : State
+        taken = after meaning (Take w s n) state
+
+        can-take : Can (Take w s n) state
+        can-take = let e : state.shape.workers ≡ shape.workers = ap (λ x. x.workers) shows.shape_is in
+            (omega (arith, there), mine.hand ∙ empty, stands.2)
+
+        shows-taken : Shows meaning shape key (record {
+          words = set board.words (state_place shape s n) (taken_word n);
+          homes = set board.homes (cell_of shape s n) Out;
+          views = set board.views seat (worker shape key w (record working { hand = Some (s, n); read = None; seen = None }));
+        }) taken
+        shows-taken =
+            let was : place_of (sender_at state s) n ≡ Unasked → ⊥ = λ e. let waiting : place_of (sender_at state s) n ≡ Waiting = stands.2 in cc in
+            let changed : sender_at taken s ≡ puts n (Held w) (sender_at state s) =
+            sender_changed state s (puts n (Held w) (sender_at state s)) s (λ x. x ≡ puts n (Held w) (sender_at state s)) (sender-there' s of-sender) (λ _. refl) (λ ne. absurd (ne refl)) in
+            let others : (t : ℕ) → t ≢ s → sender_at taken t ≡ sender_at state t =
+            λ t ne. sender_changed state s (puts n (Held w) (sender_at state s)) t (λ x. x ≡ sender_at state t) (sender-there' s of-sender) (λ e. absurd (ne e)) (λ _. refl) in
+            let early : states s n < answered_word n = omega (arith, found) in
+            worker-frame meaning shape key board state shows seat w working sits
+            (set board.words (state_place shape s n) (taken_word n)) (set board.homes (cell_of shape s n) Out)
+            (record working { hand = Some (s, n); read = None; seen = None }) taken
+            shows.shape_is shows.key_is (step-sound meaning (Take w s n) state shows.sound can-take)
+            (length-set board.words (state_place shape s n) (taken_word n) ∙ shows.words) (length-set board.homes (cell_of shape s n) Out ∙ shows.homes)
+            (put-senders s n (taken_word n) Out (Held w) taken of-sender stands.0 stands.1 early was (refl, refl) changed others)
+            (record {
+              hand = hand_changed (with_sender s (puts n (Held w) (sender_at state s)) state) w (Some (s, n)) w (λ x. x ≡ Some (s, n)) hand-there (λ _. refl) (λ ne. absurd (ne refl));
+              read = λ t m a held is. absurd (cc);
+              seen = λ t m is. absurd (cc);
+            })
+            (λ v ne. hand_changed (with_sender s (puts n (Held w) (sender_at state s)) state) w (Some (s, n)) v (λ x. x ≡ hand_at state v) hand-there (λ e. absurd (ne e)) (λ _. refl))
+            (put-addresses s n (taken_word n) Out (Held w) taken of-sender stands.0 stands.1 early was (refl, refl) changed others)
+            (λ t m. let c : 0 + once_finished (place_of (sender_at state t) m) ≡ once_finished (place_of (sender_at taken t) m) =
+            step-counted meaning (Take w s n) state t m shows.sound can-take in omega arith)
+
+      abbrev After : Bool → Type 0
+      After hit = ShowsAfter meaning shape key (if hit then Some (Take w s n) else None) state (record {
+        words = if hit then set board.words (state_place shape s n) (taken_word n) else board.words;
+        homes = if hit then set board.homes (cell_of shape s n) Out else board.homes;
+        views = set board.views seat (worker shape key w (record working {
+          hand = if hit then Some (s, n) else None;
+          read = None;
+          seen = None;
+          missed = if hit then working.missed else working.missed ++ cell_of shape s n ∷ [];
+        }));
+      })
+
+      pub takes : After (eqb (states s n) (asked_word n))
+      takes = elim (cases_eq (states s n) (asked_word n)) [
+        | inl e ↦ subst After (sym (eq-eqb (states s n) (asked_word n) e)) (taken e, (can-take e, refl), shows-taken e)
+        | inr ne ↦ subst After (sym (ne_eqb (states s n) (asked_word n) ne)) (
+          state,
+          refl,
+          note (record working { hand = None; read = None; seen = None; missed = working.missed ++ cell_of shape s n ∷ [] })
+              (record { hand = mine.hand ∙ empty; read = λ t m a held is. absurd (cc); seen = λ t m is. absurd (cc) }) refl,
+        )
+      ]
+
+    -- ---- a number is put down
+
+    module _ (s n : ℕ) (holds : working.hand ≡ Some (s, n)) where
+      holds-now : hand_at state w ≡ Some (s, n)
+      holds-now = mine.hand ∙ holds
+
+      module _ (event : Event) (can : Can event state) (x : ℕ) (home : Home) (place : Place) (done : List Ticket)
+          (is : after meaning event state ≡ puts_down w (s, n) place state)
+          (cell : CellShows n (next_received (asking s)) (asking s).collecting place x home)
+          (more : (t m : ℕ) → times t m done ≡ times t m working.done + (if finishes event state t m then 1 else 0)) where
+        abbrev down : State
+        down = puts_down w (s, n) place state
+
+        puts-down : ShowsAfter meaning shape key (Some event) state (record {
+          words = set board.words (state_place shape s n) x;
+          homes = set board.homes (cell_of shape s n) home;
+          views = set board.views seat (worker shape key w (record working { hand = None; read = None; done = done }));
+        })
+        puts-down =
+            let from : next_received (asking s) ≤ n = held-from w s n holds-now in
+            let below : n < next_received (asking s) + shape.window = held-window w s n holds-now in
+            let of : s < shape.senders = held-of w s n holds-now in
+            let word : states s n ≡ taken_word n = (held-word w s n holds-now).0 in
+            let early : states s n < answered_word n = omega arith in
+            let was : place_of (sender_at state s) n ≡ Unasked → ⊥ = λ e. let held : place_of (sender_at state s) n ≡ Held w = held-is w s n holds-now in cc in
+            let changed : sender_at down s ≡ puts n place (sender_at state s) =
+            sender_changed state s (puts n place (sender_at state s)) s (λ y. y ≡ puts n place (sender_at state s)) (sender-there' s of) (λ _. refl) (λ ne. absurd (ne refl)) in
+            let others : (t : ℕ) → t ≢ s → sender_at down t ≡ sender_at state t =
+            λ t ne. sender_changed state s (puts n place (sender_at state s)) t (λ y. y ≡ sender_at state t) (sender-there' s of) (λ e. absurd (ne e)) (λ _. refl) in (
+              down,
+              (can, sym is),
+              worker-frame meaning shape key board state shows seat w working sits
+                  (set board.words (state_place shape s n) x) (set board.homes (cell_of shape s n) home)
+                  (record working { hand = None; read = None; done = done }) down
+                  shows.shape_is shows.key_is (subst (IsSound meaning) is (step-sound meaning event state shows.sound can))
+                  (length-set board.words (state_place shape s n) x ∙ shows.words) (length-set board.homes (cell_of shape s n) home ∙ shows.homes)
+                  (put-senders s n x home place down of from below early was cell changed others)
+                  (record {
+                    hand = hand_changed (with_sender s (puts n place (sender_at state s)) state) w None w (λ y. y ≡ None) hand-there (λ _. refl) (λ ne. absurd (ne refl));
+                    read = λ t m a held same. absurd (cc);
+                    seen = mine.seen;
+                  })
+                  (λ v ne. hand_changed (with_sender s (puts n place (sender_at state s)) state) w None v (λ y. y ≡ hand_at state v) hand-there (λ e. absurd (ne e)) (λ _. refl))
+                  (put-addresses s n x home place down of from below early was cell changed others)
+                  (λ t m.
+                  let c : (if finishes event state t m then 1 else 0) + once_finished (place_of (sender_at state t) m) ≡ once_finished (place_of (sender_at down t) m) =
+                  subst (λ (y : State). (if finishes event state t m then 1 else 0) + once_finished (place_of (sender_at state t) m) ≡ once_finished (place_of (sender_at y t) m)) is
+                  (step-counted meaning event state t m shows.sound can) in
+                  omega (arith, more t m)),
+            )
+
+      pub gives-back : ShowsAfter meaning shape key (Some (GiveBack w)) state (worked shape key seat w working (GivesBack s n) board)
+      gives-back =
+          puts-down (GiveBack w) (subst (λ (hand : Option Ticket). IsSome hand) (sym holds-now) refl) (asked_word n) Empty Waiting working.done
+          (ap (λ (hand : Option Ticket). puts_down w (ticket_in hand) Waiting state) holds-now) (refl, refl) (λ t m. omega arith)
+
+      pub answers : (a : Address) (answer : Shown) → working.read ≡ Some a → answer ≡ meaning key a
+          → ShowsAfter meaning shape key (Some (Finish w)) state (worked shape key seat w working (Answers s n a answer) board)
+      answers a answer read right =
+          let address : a ≡ address_of (sender_at state s) n = mine.read s n a holds read in
+          let means : answer ≡ meaning_of meaning state (s, n) = right ∙ (λ i. meaning (sym shows.key_is i) (address i)) in
+          puts-down (Finish w) (subst (λ (hand : Option Ticket). IsSome hand) (sym holds-now) refl) (answered_word n) (Full answer)
+          (Answered (meaning_of meaning state (s, n))) (working.done ++ (s, n) ∷ [])
+          (ap (λ (hand : Option Ticket). puts_down w (ticket_in hand) (Answered (meaning_of meaning state (ticket_in hand))) state) holds-now)
+          (inl (refl, ap Full means))
+          (λ t m. subst (λ (hand : Option Ticket). times t m (working.done ++ (s, n) ∷ []) ≡ times t m working.done + (if is_ticket hand t m then 1 else 0)) (sym holds-now)
+          (times-append t m working.done (s, n)))

@@ -1,0 +1,7 @@
+-- The ring: the board over words that change in single steps.
+pub mod Layout
+pub mod Views
+pub mod Homes
+pub mod Shows
+pub mod Steps
+pub mod Laws

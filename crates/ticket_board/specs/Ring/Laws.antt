@@ -1,0 +1,32 @@
+-- What each step of the ring keeps.
+use Rattle.std.specs.Prelude.{◌≡◌, ℕ, List, Option, Some, None, slice_index_or}
+use Rattle.ticket_core.specs.declared.shape.Shape.{Shape}
+use Rattle.ticket_core.specs.State.{Meaning, State}
+use Rattle.ticket_core.specs.Events.{Event, Step}
+use Rattle.ticket_board.specs.Ring.Views.{Asking, Working, asker, worker}
+use Rattle.ticket_board.specs.Ring.Shows.{Board, Sits, Shows}
+use Rattle.ticket_board.specs.Ring.Steps.{SenderStep, WorkerStep, MaySend, MayWork, sent, worked, event_sent, event_worked, word_worked}
+
+-- the event could happen, and leads from the one state to the other; without one the state stays
+abbrev pub Leads : Meaning → Option Event → State → State → Type 0
+Leads meaning None old new = new ≡ old
+Leads meaning (Some event) old new = Step meaning event old new
+
+-- the ring shows the same state, or the one after the event
+abbrev pub ShowsAfter : Meaning → Shape → List ℕ → Option Event → State → Board → Type 0
+ShowsAfter meaning shape key event old board = (new : State) × Leads meaning event old new × Shows meaning shape key board new
+
+-- a step that a sender may make
+abbrev pub SenderLaw : Meaning → SenderStep → Type 0
+SenderLaw meaning step =
+    (shape : Shape) (key : List ℕ) (board : Board) (state : State) (seat s : ℕ) (asking : Asking)
+    → Shows meaning shape key board state → Sits board seat (asker shape key s asking) → MaySend shape asking step
+    → ShowsAfter meaning shape key (event_sent s step) state (sent shape key seat s asking step board)
+
+-- a step that a worker may make
+abbrev pub WorkerLaw : Meaning → WorkerStep → Type 0
+WorkerLaw meaning step =
+    (shape : Shape) (key : List ℕ) (board : Board) (state : State) (seat w : ℕ) (working : Working)
+    → Shows meaning shape key board state → Sits board seat (worker shape key w working) → MayWork meaning shape key working step
+    → ShowsAfter meaning shape key (event_worked w step (slice_index_or board.words (word_worked shape step) 0)) state
+    (worked shape key seat w working step board)

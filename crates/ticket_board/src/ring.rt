@@ -1,0 +1,8 @@
+//! The board over words that change in single steps, and that no call waits for.
+
+mod laws;
+
+pub use laws::{
+    law_of_k1, law_of_k2, law_of_k3, law_of_k4, law_of_k5, law_of_k6, law_of_k7, law_of_k8,
+    law_of_steps,
+};

@@ -1,0 +1,70 @@
+//! What each kind of step keeps, whichever seat makes it and whatever the other seats did before.
+//!
+//! A step is one store, load or compare-exchange on one word. Where the ring shows a state of the
+//! core before a step that may be made, it shows afterwards the same state, or the state after the
+//! one event that the step is.
+
+ghost use Rattle.std.specs.Prelude.{ℕ};
+ghost use Rattle.ticket_core.specs.State.{Address, Meaning, Shown};
+ghost use Rattle.ticket_board.specs.Ring.Steps.{SenderStep, WritesAddress, Publishes, LooksNext, BringsOut, Receives, WorkerStep, LooksAt, Takes, ReadsAddress, Answers, GivesBack};
+ghost use Rattle.ticket_board.specs.Ring.Laws.{SenderLaw, WorkerLaw};
+
+/// A sender stores an address in the cell of the number that it asks next: no event.
+pub fn law_of_k1()
+    ensures { (meaning : Meaning) (a : Address) → SenderLaw meaning (WritesAddress a) }
+{}
+
+/// A sender stores that this number waits: it is asked.
+pub fn law_of_k2()
+    ensures { (meaning : Meaning) (a : Address) → SenderLaw meaning (Publishes a) }
+{}
+
+/// A sender or a worker loads a state word: no event.
+pub fn law_of_k3()
+    ensures sender { (meaning : Meaning) → SenderLaw meaning LooksNext }
+    ensures worker { (meaning : Meaning) (cell : ℕ) → WorkerLaw meaning (LooksAt cell) }
+{}
+
+/// A worker tries to exchange a state word, once: where that succeeds the number is taken, and else
+/// it is no event.
+pub fn law_of_k4()
+    ensures { (meaning : Meaning) (s n : ℕ) → WorkerLaw meaning (Takes s n) }
+{}
+
+/// A worker loads the address of the number in its hand: no event.
+pub fn law_of_k5()
+    ensures { (meaning : Meaning) (s n : ℕ) → WorkerLaw meaning (ReadsAddress s n) }
+{}
+
+/// A worker stores that the number in its hand is answered, with the meaning of its address in the
+/// slot: it is finished. Or it stores that the number waits again: it is given back.
+pub fn law_of_k6()
+    ensures answers { (meaning : Meaning) (s n : ℕ) (a : Address) (answer : Shown) → WorkerLaw meaning (Answers s n a answer) }
+    ensures gives_back { (meaning : Meaning) (s n : ℕ) → WorkerLaw meaning (GivesBack s n) }
+{}
+
+/// A sender stores that its next answer is on its way out of the slot: no event.
+pub fn law_of_k7()
+    ensures { (meaning : Meaning) → SenderLaw meaning BringsOut }
+{}
+
+/// A sender stores that the cell is free for the number a window later: the answer is collected.
+pub fn law_of_k8()
+    ensures { (meaning : Meaning) (answer : Shown) → SenderLaw meaning (Receives answer) }
+{}
+
+/// Any step, by any seat. With the core's law over all runs, what that says of each sender and of
+/// each number holds of the ring between any two steps.
+pub fn law_of_steps()
+    ensures sender { (meaning : Meaning) (step : SenderStep) → SenderLaw meaning step }
+    ensures worker { (meaning : Meaning) (step : WorkerStep) → WorkerLaw meaning step }
+{
+    law_of_k1();
+    law_of_k2();
+    law_of_k3();
+    law_of_k4();
+    law_of_k5();
+    law_of_k6();
+    law_of_k7();
+    law_of_k8();
+}
