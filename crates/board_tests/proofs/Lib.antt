@@ -1,2 +1,1 @@
-pub mod HandLemmas
 pub mod SeatLemmas

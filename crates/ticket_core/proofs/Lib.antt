@@ -10,3 +10,4 @@ pub mod CallLemmas
 pub mod HandLemmas
 pub mod RunLemmas
 pub mod RefusalLemmas
+pub mod CallerLemmas

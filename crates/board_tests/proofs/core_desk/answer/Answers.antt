@@ -1,6 +1,6 @@
 use Rattle.std.proofs.Common.{◌<◌, length, ap, arith}
 use Rattle.ticket_core.specs.State.{sender_at}
-use Rattle.board_tests.proofs.HandLemmas.{held-sender, held-asked}
+use Rattle.ticket_core.proofs.CallerLemmas.{held-sender, held-asked}
 use Rattle.board_tests.proofs.core_desk.answer.Goals as goal
 
 pub asked-requires-after_bounds : goal.asked-requires-after_bounds

@@ -1,4 +1,4 @@
-use Rattle.board_tests.proofs.HandLemmas.{held-read}
+use Rattle.ticket_core.proofs.CallerLemmas.{held-read}
 use Rattle.board_tests.proofs.core_desk.CoreDesk.finish.Goals as goal
 
 pub answer-requires-clause-held : goal.answer-requires-clause-held
