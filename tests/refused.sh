@@ -12,7 +12,7 @@ refuse() {
     while :; do
         n=$((n + 1))
         rm -f mark
-        REFUSE=$n MARK=$work/mark LD_PRELOAD=$work/refuse.so timeout 60 "$1" "$2" > log 2>&1 \
+        timeout 60 env REFUSE=$n MARK=$work/mark LD_PRELOAD=$work/refuse.so "$1" "$2" > log 2>&1 \
             || { echo "$2: fails where allocation $n is refused"; cat log; exit 1; }
         [ -e mark ] || break
     done
