@@ -3,6 +3,8 @@
 
 mod cursor;
 mod leb;
+mod steps;
 
 pub use cursor::Cursor;
 pub use leb::Leb;
+pub use steps::Steps;

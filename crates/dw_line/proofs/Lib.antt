@@ -1,9 +1,12 @@
 pub mod CountLemmas
 pub mod EntryLemmas
 pub mod OperandLemmas
-pub mod RowLemmas
+pub mod MachineLemmas
 pub mod KeptLemmas
+pub mod RecorderLemmas
 pub mod ProgramLemmas
+pub mod RunLemmas
+pub mod SearchLemmas
 pub mod SequenceLemmas
-pub mod PathLemmas
 pub mod LinesLemmas
+pub mod PathLemmas

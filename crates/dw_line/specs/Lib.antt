@@ -2,12 +2,11 @@ pub mod Fault
 pub mod Header
 pub mod Instruction
 pub mod Registers
-pub mod Rows
-pub mod RowsInside
+pub mod Machine
 pub mod Sequences
-pub mod UsedInside
+pub mod Recorder
+pub mod Search
 pub mod Program
-pub mod ProgramShown
 pub mod Path
 pub mod Lines
 pub mod LinesInside

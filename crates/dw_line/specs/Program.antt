@@ -1,39 +1,20 @@
--- The machine that runs a line program, and what it keeps of the matrix.
-use Rattle.std.specs.Prelude.{false, List, Result, Ok, if◌then◌else◌}
-use Rattle.dw_model.specs.Results.{◌>>=◌}
-use Rattle.dw_model.specs.Faults.{Bad}
+-- A line program that was run to its end.
+use Rattle.std.specs.Prelude.{◌≡◌, List, Result, Ok, Err, MatchOption}
 use Rattle.dw_model.specs.LineHeader.{LineHeader}
-use Rattle.dw_model.specs.Instruction.{Instruction, instructions}
-use Rattle.dw_model.specs.Matrix.{Row, matrix, is_end, appends}
-use Rattle.dw_model.specs.Registers.{Registers, initial, step, row}
-use Rattle.dw_line.specs.Rows.{Kept, nothing, pushed, closed, used_rows}
+use Rattle.dw_model.specs.Matrix.{Row}
+use Rattle.dw_line.specs.declared.fault.LineFault.{LineFault}
+use Rattle.dw_line.specs.declared.checkpoints.Checkpoints.{Checkpoints}
+use Rattle.dw_line.specs.Fault.{line_fault}
+use Rattle.dw_line.specs.Machine.{beginning, rows_on}
+use Rattle.dw_line.specs.Sequences.{used_sequences, AreKept}
 
--- the registers, and what is kept of the rows that were appended
-pub record Machine : Type 0 where
-  pub registers : Registers
-  pub kept : Kept
+-- The rows are those of a header's program, and what is kept is of their used sequences.
+pub record IsRecorded (header : LineHeader) (recorded : Checkpoints) : Type 0 where
+  pub rows : List Row
+  pub run : rows_on header (beginning header) ≡ Ok rows
+  pub kept : AreKept header recorded.checkpoints.items recorded.sequences.items (used_sequences rows)
 
-abbrev pub fresh : Machine
-fresh = record { registers = initial; kept = nothing }
-
--- a row is appended
-abbrev pub appended : Registers → Machine → Machine
-appended registers machine = record { registers = registers; kept = pushed (row registers false) machine.kept }
-
--- a row is appended that ends its sequence
-abbrev pub ended : Registers → Machine → Machine
-ended registers machine = record { registers = initial; kept = closed (pushed (row registers false) machine.kept) }
-
--- one instruction is done
-abbrev pub executed : LineHeader → Instruction → Machine → Machine
-executed header instruction machine =
-    let registers = step header instruction machine.registers in
-    if is_end instruction then ended registers machine else (
-    if appends instruction then appended registers machine
-    else record { registers = registers; kept = machine.kept })
-
--- what is kept of the matrix of a header's program
-unfoldable pub used_by : LineHeader → Result (List (List Row)) Bad
-used_by header = do
-  program ← instructions header
-  Ok (used_rows (matrix header program))
+-- what a call answers that runs a header's program, unless it reports that it is out of memory
+abbrev pub RecordsProgram : LineHeader → Result Checkpoints LineFault → Type 0
+RecordsProgram header (Ok recorded) = IsRecorded header recorded
+RecordsProgram header (Err e) = MatchOption (line_fault e) (Unit {0}) (λ fault. rows_on header (beginning header) ≡ Err fault)

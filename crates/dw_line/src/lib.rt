@@ -1,17 +1,20 @@
 //! Line tables: the row of an address and the path of a file, by section 6.2 of DWARF 5.
 #![tactic(auto)]
 
+mod checkpoints;
 mod entries;
 mod fault;
 mod header;
 mod instruction;
 mod lines;
+mod machine;
 mod numbers;
 mod path;
 mod program;
 mod registers;
 mod rows;
-mod used;
+mod search;
+mod sequences;
 
 pub use fault::LineFault;
 pub use lines::Lines;

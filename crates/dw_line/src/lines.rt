@@ -1,30 +1,40 @@
 //! A line table: the row of an address, and the path of a file.
 
-ghost use Rattle.std.specs.Prelude.{◌≡◌, IfOk, option_map};
+ghost use Rattle.std.specs.Prelude.{◌≡◌, ◌≤◌, ◌<◌, ◌+◌, IfOk, option_map};
 ghost use Rattle.dw_model.specs.Answers.{GivesUnlessMemory};
 ghost use Rattle.dw_model.specs.Matrix.{row_of};
 ghost use Rattle.dw_model.specs.Path.{path};
 ghost use Rattle.dw_forms.specs.Tables.{tables_shown, bases_shown};
 ghost use Rattle.dw_line.specs.Fault.{line_fault};
 ghost use Rattle.dw_line.specs.Lines.{lines_of};
-ghost use Rattle.dw_line.specs.RowsInside.{row_told};
+ghost use Rattle.dw_line.specs.Search.{row_told};
+ghost use Rattle.dw_line.specs.Sequences.{used_sequences, most_checkpoints};
 
+use crate::checkpoints::{Checkpoint, Checkpoints, Sequence};
 use crate::fault::LineFault;
 use crate::header::{Header, header_at};
 use crate::path::{join, join_some};
-use crate::program::rows_of;
+use crate::program::run_program;
 use crate::rows::Row;
-use crate::used::UsedRows;
+use crate::search::row_in_sequence;
+use crate::sequences::{index_of, own_checkpoints};
+use dw_bytes::Steps;
 use dw_forms::{Bases, Tables};
+use dw_index::Index;
 use std::alloc::{AllocError, Global};
-use std::marker::Model;
+use std::marker::{Brand, Model};
+use std::sync::ledger::{Blank, Ledger};
 
 /// A line table. Contracts see its header, the rows of its program's matrix, and the directory in
 /// which its unit was compiled.
 #[derive(Drop)]
 pub struct Lines<'a> {
     header: Header<'a>,
-    rows: UsedRows,
+    /// Those of all used sequences, one sequence after the other.
+    checkpoints: Vec<Checkpoint>,
+    sequences: Vec<Sequence>,
+    /// Finds the first sequence that holds an address.
+    index: Index,
     comp_dir: Option<&'a [u8]>,
 }
 
@@ -71,22 +81,64 @@ impl<'a> Lines<'a> {
         ensures { GivesUnlessMemory (λ lines. lines) line_fault result (lines_of (tables_shown tables.now) (bases_shown bases.now) line_section.now (option_map (λ directory. directory.now) comp_dir.entry) offset) }
     {
         let header = header_at(alloc, line_section, tables, bases, offset)?;
-        let rows = rows_of(alloc, &header)?;
-        let rows = UsedRows::of(alloc, rows)?;
+        let recorded = run_program(alloc, &header)?;
+        let Checkpoints {
+            checkpoints,
+            sequences,
+            ..
+        } = recorded;
+        let index = index_of(alloc, &sequences)?;
         Ok(Lines {
             header,
-            rows,
+            checkpoints,
+            sequences,
+            index,
             comp_dir,
         })
     }
 
     /// The row of an address: in the first used sequence, in program order, from whose first
-    /// address on and below whose end it lies, the last row whose address isn't above it. Takes no
+    /// address on and below whose end it lies, the last row whose address isn't above it. It is found by
+    /// halves among the sequences and among the checkpoints of one, from which rows are run again. Takes no
     /// memory.
     pub fn row(&self, address: u64) -> Option<Row>
         ensures { result ≡ option_map row_told (row_of self.now.rows address) }
     {
-        self.rows.row(address)
+        self.row_uncounted::<Brand>(address, Blank::new(1))
+    }
+
+    /// The same with steps of its own.
+    fn row_uncounted<L: Ledger>(&self, address: u64, blank: Blank) -> Option<Row>
+        requires name { blank.name ≡ L.name }
+        requires parts { blank.parts ≡ L.parts }
+        requires some { 0 < L.parts }
+        ensures { result ≡ option_map row_told (row_of self.now.rows address) }
+    {
+        let mut steps = Steps::<L>::new(blank);
+        self.row_counted(address, &mut steps)
+    }
+
+    /// The row of an address, as `row` finds it. A step is a row that is run again: there are at most 64.
+    pub fn row_counted<L: Ledger>(&self, address: u64, steps: &mut Steps<L>) -> Option<Row>
+        ensures row { result ≡ option_map row_told (row_of self.now.rows address) }
+        ensures counted { steps.new ≤ steps.old + 64 }
+    {
+        let Some(number) = self.index.find(address) else {
+            return None;
+        };
+        let Some(sequence) = self.sequences.get(number) else {
+            return None;
+        };
+        let checkpoints = own_checkpoints(&self.checkpoints, *sequence);
+        row_in_sequence(&self.header, checkpoints, address, steps)
+    }
+
+    /// How many checkpoints are kept: at most one for 64 rows of used sequences, and one for each of these
+    /// sequences. Nothing else is kept of their rows.
+    pub fn kept(&self) -> usize
+        ensures { result ≤ most_checkpoints (used_sequences self.now.rows) }
+    {
+        self.checkpoints.len()
     }
 
     /// The path of a file, numbered from 0 on: from directory 0, else from the directory in which

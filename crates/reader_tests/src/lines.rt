@@ -230,6 +230,38 @@ fn each_opcode(rt: HostRuntime) -> Result<(), Fail> {
     Ok(())
 }
 
+/// A program of one sequence with so many rows: row i, from 1 on, at 0x1000 + i with line 1 + i. It ends
+/// one byte behind the last.
+fn rows_in_turn(alloc: Global, count: usize) -> Result<Vec<u8>, AllocError> {
+    let mut program = Vec::new(alloc);
+    program.extend_from_slice(&[0, 9, 2, 0, 0x10, 0, 0, 0, 0, 0, 0])?;
+    for _ in 0..count {
+        program.push(0x21)?;
+    }
+    program.extend_from_slice(&[2, 1, 0, 1, 1])?;
+    Ok(program)
+}
+
+#[test]
+fn rows_behind_checkpoints(rt: HostRuntime) -> Result<(), Fail> {
+    let program = rows_in_turn(rt.alloc(), 200)?;
+    let section = line_table(rt.alloc(), HEADER, &program)?;
+    let lines = read(rt.alloc(), &section, None)?;
+    assert_eq!(rt; lines.kept(), 4);
+    let rows = [
+        (0x1000, None),
+        (0x1001, Some(2)),
+        (0x1040, Some(65)),
+        (0x1041, Some(66)),
+        (0x10c8, Some(201)),
+        (0x10c9, None),
+    ];
+    for (address, line) in rows {
+        assert_eq!(rt; lines.row(address).map(|row| row.line), line, "address {address:#x}");
+    }
+    Ok(())
+}
+
 /// Programs, and whether they can't be read.
 const BAD_PROGRAMS: [(&[u8], Option<LineFault>); 12] = [
     (&[0, 0], Some(LineFault::Bad)),

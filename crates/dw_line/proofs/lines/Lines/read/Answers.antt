@@ -4,10 +4,12 @@ use Rattle.dw_model.specs.LineHeader.{line_header}
 use Rattle.dw_forms.specs.Tables.{tables_shown, bases_shown}
 use Rattle.dw_line.specs.Fault.{line_fault}
 use Rattle.dw_line.specs.Header.{header_shown}
-use Rattle.dw_line.specs.Lines.{lines_of}
-use Rattle.dw_line.specs.Program.{used_by}
+use Rattle.dw_line.specs.declared.checkpoints.Sequence.{Sequence}
+use Rattle.dw_line.specs.Lines.{lines_of, matrix_of}
+use Rattle.dw_line.specs.Sequences.{used_sequences, number_of}
+use Rattle.dw_line.specs.Machine.{beginning, rows_on}
 use Rattle.dw_line.proofs.CountLemmas.{tells_unless}
-use Rattle.dw_line.proofs.LinesLemmas.{header_bad, program_bad, used_are, lines_are}
+use Rattle.dw_line.proofs.LinesLemmas.{header_bad, run_bad, lines_are, kept_of, number_is}
 use Rattle.dw_line.proofs.lines.Lines.read.Goals as goal
 
 pub returns-in_err-header : goal.returns-in_err-header
@@ -19,20 +21,27 @@ returns-in_err-header c =
     rw (p.1) (tells_unless (line_fault c.in_err-header.field-0.0) (line_fault p.0) (line_header tables bases c.args.line_section.now c.args.offset) (lines_of tables bases c.args.line_section.now comp_dir c.args.offset) (ap line_fault p.2) c.in_err-header.ensures
     (header_bad tables bases c.args.line_section.now comp_dir c.args.offset))
 
-pub returns-in_err-rows : goal.returns-in_err-rows
-returns-in_err-rows c =
+pub returns-in_err-recorded : goal.returns-in_err-recorded
+returns-in_err-recorded c =
     let tables = tables_shown c.args.tables.now in
     let bases = bases_shown c.args.bases.now in
     let comp_dir = option_map (λ (directory : Bor (List ℕ)). directory.now) c.args.comp_dir in
     let header = header_shown c.in_ok-header.header in
-    let p = err_from_is_err_and c.from_residual-in_err-rows.result c.from_residual-in_err-rows.ensures.1 in
-    rw (p.1) (tells_unless (line_fault c.in_err-rows.field-0.0) (line_fault p.0) (used_by header) (lines_of tables bases c.args.line_section.now comp_dir c.args.offset) (ap line_fault p.2) c.in_err-rows.ensures
-    (program_bad tables bases c.args.line_section.now comp_dir c.args.offset header c.in_ok-header.ensures))
+    let p = err_from_is_err_and c.from_residual-in_err-recorded.result c.from_residual-in_err-recorded.ensures.1 in
+    rw (p.1) (tells_unless (line_fault c.in_err-recorded.field-0.0) (line_fault p.0) (rows_on header (beginning header)) (lines_of tables bases c.args.line_section.now comp_dir c.args.offset) (ap line_fault p.2) c.in_err-recorded.ensures
+    (run_bad tables bases c.args.line_section.now comp_dir c.args.offset header c.in_ok-header.ensures))
 
 pub invariant_of-result : goal.invariant_of-result
-invariant_of-result c = c.in_ok-rows-2.ensures ∙ used_are (header_shown c.in_ok-header.header) c.in_ok-rows.rows.used c.in_ok-rows.ensures
+invariant_of-result c =
+    let header = header_shown c.in_ok-header.header in
+    let recorded = c.in_ok-recorded.recorded in
+    let kept = kept_of header recorded c.in_ok-recorded.ensures in
+    record {
+      kept = kept;
+      found = λ a. c.in_ok-index.ensures a ∙ ap (λ (sequences : List Sequence). number_of sequences a) c.deref.ensures.value ∙ number_is header recorded.checkpoints.items recorded.sequences.items (used_sequences (matrix_of header)) a kept;
+    }
 
 pub returns : goal.returns
 returns c =
     let comp_dir = option_map (λ (directory : Bor (List ℕ)). directory.now) c.args.comp_dir in
-    lines_are (tables_shown c.args.tables.now) (bases_shown c.args.bases.now) c.args.line_section.now comp_dir c.args.offset (header_shown c.in_ok-header.header) c.in_ok-rows.rows.used c.in_ok-header.ensures c.in_ok-rows.ensures
+    lines_are (tables_shown c.args.tables.now) (bases_shown c.args.bases.now) c.args.line_section.now comp_dir c.args.offset (header_shown c.in_ok-header.header) c.in_ok-recorded.recorded c.in_ok-header.ensures c.in_ok-recorded.ensures

@@ -1,0 +1,207 @@
+-- The row of an address in a sequence, from one of its checkpoints on.
+use Rattle.std.proofs.Common.{◌≡◌, ℕ, zero, suc, ◌+◌, ◌-◌, ◌*◌, ◌<◌, ◌≤◌, Bool, true, false, cond, List, [], ◌∷◌, ◌++◌, length, drop, get_or, Option, Some, None, ◌⊎◌, inl, inr, refl, sym, subst, ap, ◌∙◌, arith, add-one}
+use Rattle.std.specs.Prelude.{nat_le, nat_lt, ◌&&◌}
+use Rattle.std.specs.List.Sorted.{IsNonDecreasingBy, IsPartitionPoint}
+use Rattle.std.proofs.Math.Seq.{drop-nil}
+use Rattle.std.proofs.lemmas.Bool.{leb-true, leb-false, lt-ltb, le-leb, le-ltb, ltb-true, ltb-false, and_parts}
+use Rattle.std.proofs.lemmas.List.{drop-drop, length-drop}
+use Rattle.std.proofs.lemmas.List.Sorted.{IsNonDecreasingBy-from_all_adjacent}
+use Rattle.dw_model.specs.LineHeader.{LineHeader}
+use Rattle.dw_model.specs.Matrix.{Row, never_falls, first_address, last_address, is_used, row_in}
+use Rattle.dw_line.specs.declared.checkpoints.Checkpoint.{Checkpoint}
+use Rattle.dw_line.specs.Sequences.{up_to_end, checkpoint_row, IsCheckpoint, AreCheckpoints, HasCheckpoints}
+use Rattle.dw_line.specs.Search.{row_before_address}
+
+-- ---- rows that never fall
+
+tail_rises : (r : Row) (rows : List Row) → never_falls (r ∷ rows) ≡ true → never_falls rows ≡ true
+tail_rises r [] e = refl
+tail_rises r (s ∷ rows) e = (and_parts (nat_le r.address s.address) (never_falls (s ∷ rows)) e).1
+
+next_above : (r s : Row) (rows : List Row) → never_falls (r ∷ s ∷ rows) ≡ true → r.address ≤ s.address
+next_above r s rows e = leb-true r.address s.address (and_parts (nat_le r.address s.address) (never_falls (s ∷ rows)) e).0
+
+later_rises : (n : ℕ) (rows : List Row) → never_falls rows ≡ true → never_falls (drop n rows) ≡ true
+later_rises zero rows e = e
+later_rises (suc n) [] e = refl
+later_rises (suc n) (r ∷ rows) e = later_rises n rows (tail_rises r rows e)
+
+first_below : (n : ℕ) (r s : Row) (rows rest : List Row) → never_falls (r ∷ rows) ≡ true → s ∷ rest ≡ drop n (r ∷ rows) → r.address ≤ s.address
+first_below zero r s rows rest e h =
+    let same : s.address ≡ r.address = ap first_address h in
+    omega (arith, same)
+first_below (suc n) r s [] rest e h =
+    let none : s ∷ rest ≡ [] = h ∙ drop-nil n in
+    absurd cc
+first_below (suc n) r s (t ∷ rows) rest e h =
+    let one = next_above r t rows e in
+    let others = first_below n t s rows rest (tail_rises r (t ∷ rows) e) h in
+    omega (arith, one, others)
+
+last_later : (n : ℕ) (rows : List Row) (s : Row) (rest : List Row) → s ∷ rest ≡ drop n rows → last_address (s ∷ rest) ≡ last_address rows
+last_later zero rows s rest h = ap last_address h
+last_later (suc n) [] s rest h = absurd cc
+last_later (suc n) (r ∷ []) s rest h =
+    let none : s ∷ rest ≡ [] = h ∙ drop-nil n in
+    absurd cc
+last_later (suc n) (r ∷ t ∷ rows) s rest h = last_later n (t ∷ rows) s rest h
+
+-- rows in front of one at or before the address don't matter
+row_later : (n a : ℕ) (rows : List Row) (s : Row) (rest : List Row) → never_falls rows ≡ true → s ∷ rest ≡ drop n rows → s.address ≤ a → row_in a rows ≡ row_in a (s ∷ rest)
+unfolding row_in
+row_later zero a rows s rest e h below = ap (row_in a) (sym h)
+row_later (suc n) a [] s rest e h below = absurd cc
+row_later (suc n) a (r ∷ []) s rest e h below =
+    let none : s ∷ rest ≡ [] = h ∙ drop-nil n in
+    absurd cc
+row_later (suc n) a (r ∷ t ∷ rows) s rest e h below =
+    let next = first_below n t s rows rest (tail_rises r (t ∷ rows) e) h in
+    let behind : nat_lt a t.address ≡ false = le-ltb a t.address (omega (arith, next, below)) in
+    by (nat_le r.address a) (nat_lt a t.address) behind (row_later n a (t ∷ rows) s rest (tail_rises r (t ∷ rows) e) h below)
+  where
+    by : (b c : Bool) → c ≡ false → row_in a (t ∷ rows) ≡ row_in a (s ∷ rest) → cond (b && c) (Some r) (row_in a (t ∷ rows)) ≡ row_in a (s ∷ rest)
+    by true true f e = absurd cc
+    by true false f e = e
+    by false c f e = e
+
+-- an address before the first row has none
+none_below : (a : ℕ) (rows : List Row) → never_falls rows ≡ true → a < first_address rows → row_in a rows ≡ None
+unfolding row_in
+none_below a [] e h = refl
+none_below a (r ∷ []) e h = refl
+none_below a (r ∷ t ∷ rows) e h =
+    let next = next_above r t rows e in
+    by (nat_le r.address a) (nat_lt a t.address) (lt-leb r.address a h) (none_below a (t ∷ rows) (tail_rises r (t ∷ rows) e) (omega (arith, h, next)))
+  where
+    lt-leb : (x y : ℕ) → y < x → nat_le x y ≡ false
+    lt-leb x y h = grind (arith, h)
+
+    by : (b c : Bool) → b ≡ false → row_in a (t ∷ rows) ≡ None → cond (b && c) (Some r) (row_in a (t ∷ rows)) ≡ None
+    by true c f e = absurd cc
+    by false c f e = e
+
+short : (a : ℕ) (rows : List Row) → length rows ≤ 1 → row_in a rows ≡ None
+unfolding row_in
+short a [] h = refl
+short a (r ∷ []) h = refl
+short a (r ∷ s ∷ rows) h = absurd (omega (arith, h))
+
+-- ---- running on
+
+-- one of the first so many rows lies above the address
+pub record Stops (n a : ℕ) (rows : List Row) : Type 0 where
+  pub place : ℕ
+  pub row : Row
+  pub rest : List Row
+  pub soon : place < n
+  pub there : row ∷ rest ≡ drop place rows
+  pub above : a < row.address
+
+run_is : (n a : ℕ) (r : Row) (rows : List Row) → r.address ≤ a → Stops n a (up_to_end rows) → row_in a (r ∷ up_to_end rows) ≡ row_before_address n a r rows
+unfolding row_in row_before_address
+run_is zero a r rows below stops = absurd (omega (arith, stops.soon))
+run_is (suc n) a r [] below stops =
+    let none : stops.row ∷ stops.rest ≡ [] = stops.there ∙ drop-nil stops.place in
+    absurd cc
+run_is (suc n) a r (next ∷ rows) below stops =
+    by next.ends (le-leb r.address a below) (nat_lt a next.address) refl stops.place stops.soon stops.there (λ below later. run_is n a next rows below later)
+  where
+    by : (ends : Bool) → nat_le r.address a ≡ true → (above : Bool) → nat_lt a next.address ≡ above → (place : ℕ) → place < suc n → stops.row ∷ stops.rest ≡ drop place (cond ends (next ∷ []) (next ∷ up_to_end rows))
+        → (next.address ≤ a → Stops n a (up_to_end rows) → row_in a (next ∷ up_to_end rows) ≡ row_before_address n a next rows)
+        → row_in a (r ∷ cond ends (next ∷ []) (next ∷ up_to_end rows)) ≡ cond above (Some r) (cond {A = Option Row} ends None (row_before_address n a next rows))
+    by true here true behind place soon there on = rw (here, behind) refl
+    by true here false behind zero soon there on =
+        let same : stops.row.address ≡ next.address = ap first_address there in
+        absurd (omega (arith, same, stops.above, ltb-false a next.address behind))
+    by true here false behind (suc place) soon there on =
+        let none : stops.row ∷ stops.rest ≡ [] = there ∙ drop-nil place in
+        absurd cc
+    by false here true behind place soon there on = rw (here, behind) refl
+    by false here false behind zero soon there on =
+        let same : stops.row.address ≡ next.address = ap first_address there in
+        absurd (omega (arith, same, stops.above, ltb-false a next.address behind))
+    by false here false behind (suc place) soon there on =
+        let later : Stops n a (up_to_end rows) = record { place = place; row = stops.row; rest = stops.rest; soon = omega (arith, soon); there = there; above = stops.above } in
+        rw (here, behind) (on (ltb-false a next.address behind) later)
+
+-- the last row lies above the address
+last_stops : (a : ℕ) (s : Row) (rows : List Row) → a < last_address (s ∷ rows) → Stops (suc (length rows)) a (s ∷ rows)
+last_stops a s [] h = record { place = 0; row = s; rest = []; soon = omega arith; there = refl; above = h }
+last_stops a s (t ∷ rows) h =
+    let later = last_stops a t rows h in
+    record { place = suc later.place; row = later.row; rest = later.rest; soon = omega (arith, later.soon); there = later.there; above = later.above }
+
+-- ---- checkpoints
+
+checkpoint_at : (header : LineHeader) (checkpoints : List Checkpoint) (rows : List Row) → AreCheckpoints header checkpoints rows → (k : ℕ) (d : Checkpoint) → k < length checkpoints → IsCheckpoint header (get_or checkpoints k d) (drop (64 * k) rows)
+checkpoint_at header [] rows are k d h = absurd (omega (arith, h))
+checkpoint_at header (c ∷ checkpoints) rows are zero d h = are.0
+checkpoint_at header (c ∷ checkpoints) rows are (suc k) d h =
+    let places : 64 + 64 * k ≡ 64 * suc k = omega arith in
+    subst (λ (rest : List Row). IsCheckpoint header (get_or checkpoints k d) rest) (drop-drop (64 * k) 64 rows ∙ ap (λ (n : ℕ). drop n rows) places) (checkpoint_at header checkpoints (drop 64 rows) are.1 k d (omega (arith, h)))
+
+-- from a checkpoint the next one is 64 rows away
+next_there : (k : ℕ) (rows own others next : List Row) (c d : Row) → c ∷ own ≡ drop (64 * k) rows → d ∷ next ≡ drop (64 * (k + 1)) rows → d ∷ next ≡ drop 63 own
+next_there k rows own others next c d e f =
+    let places : 64 * k + 64 ≡ 64 * (k + 1) = omega arith in
+    f ∙ ap (λ (n : ℕ). drop n rows) (sym places) ∙ sym (drop-drop 64 (64 * k) rows) ∙ ap (drop 64) (sym e)
+
+pub rises : (header : LineHeader) (checkpoints : List Checkpoint) (rows : List Row) → HasCheckpoints header checkpoints rows → IsNonDecreasingBy (λ checkpoint. checkpoint.registers.address) checkpoints
+rises header checkpoints rows has =
+    IsNonDecreasingBy-from_all_adjacent (λ checkpoint. checkpoint.registers.address) checkpoints
+    (λ k d h.
+    let one = checkpoint_at header checkpoints rows has.each k d (omega (arith, h)) in
+    let other = checkpoint_at header checkpoints rows has.each (k + 1) d (omega (arith, h)) in
+    let never : never_falls rows ≡ true = (and_parts (never_falls rows) (nat_lt (first_address rows) (last_address rows)) has.used).0 in
+    let places : 64 * k + 64 ≡ 64 * (k + 1) = omega arith in
+    let there = other.rest ∙ ap (λ (n : ℕ). drop n rows) (sym places) ∙ sym (drop-drop 64 (64 * k) rows) ∙ ap (drop 64) (sym one.rest) in
+    first_below 64 (checkpoint_row (get_or checkpoints k d)) (checkpoint_row (get_or checkpoints (k + 1) d)) (up_to_end one.others) (up_to_end other.others) (subst (λ (rest : List Row). never_falls rest ≡ true) (sym one.rest) (later_rises (64 * k) rows never)) there)
+
+-- `next` checkpoints lie at the address or before it
+abbrev pub Splits : List Checkpoint → (a next : ℕ) → Type 0
+Splits checkpoints a next = IsPartitionPoint (λ checkpoint. nat_le checkpoint.registers.address a ≡ true) (λ checkpoint. nat_le checkpoint.registers.address a ≡ false) checkpoints next
+
+pub none_before : (header : LineHeader) (checkpoints : List Checkpoint) (rows : List Row) (a : ℕ) (d : Checkpoint) → HasCheckpoints header checkpoints rows → Splits checkpoints a 0 → row_in a rows ≡ None
+none_before header [] rows a d has point = short a rows (omega (arith, has.enough))
+none_before header (c ∷ checkpoints) rows a d has point =
+    let never : never_falls rows ≡ true = (and_parts (never_falls rows) (nat_lt (first_address rows) (last_address rows)) has.used).0 in
+    let first : c.registers.address ≡ first_address rows = ap first_address has.each.0.rest in
+    let above = leb-false c.registers.address a (point.1 0 d (omega arith) (omega arith)) in
+    none_below a rows never (omega (arith, first, above))
+
+stops_soon : (header : LineHeader) (checkpoints : List Checkpoint) (rows : List Row) (a k : ℕ) (d : Checkpoint) → HasCheckpoints header checkpoints rows → k < length checkpoints → Splits checkpoints a (k + 1) → a < last_address rows → (is : IsCheckpoint header (get_or checkpoints k d) (drop (64 * k) rows)) → (get_or checkpoints k d).registers.address ≤ a → k + 1 < length checkpoints ⊎ (length checkpoints ≤ k + 1) → Stops 64 a (up_to_end is.others)
+stops_soon header checkpoints rows a k d has within point below_end is below (inl more) =
+    let other = checkpoint_at header checkpoints rows has.each (k + 1) d more in
+    let above = leb-false (get_or checkpoints (k + 1) d).registers.address a (point.1 (k + 1) d (omega arith) more) in
+    record { place = 63; row = checkpoint_row (get_or checkpoints (k + 1) d); rest = up_to_end other.others; soon = omega arith; there = next_there k rows (up_to_end is.others) [] (up_to_end other.others) (checkpoint_row (get_or checkpoints k d)) (checkpoint_row (get_or checkpoints (k + 1) d)) is.rest other.rest; above = above }
+stops_soon header checkpoints rows a k d has within point below_end is below (inr last) =
+    by (up_to_end is.others) is.rest
+  where
+    by : (own : List Row) → checkpoint_row (get_or checkpoints k d) ∷ own ≡ drop (64 * k) rows → Stops 64 a own
+    by [] rest =
+        let same : (get_or checkpoints k d).registers.address ≡ last_address rows = last_later (64 * k) rows (checkpoint_row (get_or checkpoints k d)) [] rest in
+        absurd (omega (arith, same, below, below_end))
+    by (s ∷ own) rest =
+        let same : last_address (s ∷ own) ≡ last_address rows = last_later (64 * k) rows (checkpoint_row (get_or checkpoints k d)) (s ∷ own) rest in
+        let stops = last_stops a s own (omega (arith, same, below_end)) in
+        record { place = stops.place; row = stops.row; rest = stops.rest; soon = omega (arith, stops.soon, ap length rest, length-drop (64 * k) rows, has.enough, last, within); there = stops.there; above = stops.above }
+
+decide : (m n : ℕ) → (m < n) ⊎ (n ≤ m)
+decide m n = by (nat_lt m n) refl
+  where
+    by : (b : Bool) → nat_lt m n ≡ b → (m < n) ⊎ (n ≤ m)
+    by true e = inl (ltb-true m n e)
+    by false e = inr (ltb-false m n e)
+
+-- the row of the address stands at the last checkpoint that isn't above it, or behind it
+pub row_is : (header : LineHeader) (checkpoints : List Checkpoint) (rows : List Row) (a k : ℕ) (d : Checkpoint) → HasCheckpoints header checkpoints rows → k < length checkpoints → Splits checkpoints a (k + 1) → a < last_address rows
+    → (is : IsCheckpoint header (get_or checkpoints k d) (drop (64 * k) rows)) → row_in a rows ≡ row_before_address 64 a (checkpoint_row (get_or checkpoints k d)) is.others
+row_is header checkpoints rows a k d has within point below_end is =
+    let never : never_falls rows ≡ true = (and_parts (never_falls rows) (nat_lt (first_address rows) (last_address rows)) has.used).0 in
+    let below = leb-true (get_or checkpoints k d).registers.address a (point.0 k d (omega arith) (omega arith)) in
+    let stops = stops_soon header checkpoints rows a k d has within point below_end is below (decide (k + 1) (length checkpoints)) in
+    row_later (64 * k) a rows (checkpoint_row (get_or checkpoints k d)) (up_to_end is.others) never is.rest below
+    ∙ run_is 64 a (checkpoint_row (get_or checkpoints k d)) is.others below stops
+
+pub there : (header : LineHeader) (checkpoints : List Checkpoint) (rows : List Row) (k : ℕ) (d : Checkpoint) → HasCheckpoints header checkpoints rows → k < length checkpoints → IsCheckpoint header (get_or checkpoints k d) (drop (64 * k) rows)
+there header checkpoints rows k d has within = checkpoint_at header checkpoints rows has.each k d within
