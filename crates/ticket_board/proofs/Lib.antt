@@ -12,3 +12,4 @@ pub mod RingSenders
 pub mod RingFrames
 pub mod RingSenderSteps
 pub mod RingWorkerSteps
+pub mod RingOpening

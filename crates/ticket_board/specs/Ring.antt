@@ -5,3 +5,4 @@ pub mod Homes
 pub mod Shows
 pub mod Steps
 pub mod Laws
+pub mod Opening

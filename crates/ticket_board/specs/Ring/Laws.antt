@@ -1,11 +1,13 @@
 -- What each step of the ring keeps.
-use Rattle.std.specs.Prelude.{◌≡◌, ℕ, List, Option, Some, None, slice_index_or}
+use Rattle.std.specs.Prelude.{◌≡◌, ℕ, ◌+◌, ◌<◌, List, Option, Some, None, slice_index_or}
 use Rattle.ticket_core.specs.declared.shape.Shape.{Shape}
-use Rattle.ticket_core.specs.State.{Meaning, State}
+use Rattle.ticket_core.specs.State.{Meaning, State, opening}
+use Rattle.ticket_core.specs.Shape.{Fits}
 use Rattle.ticket_core.specs.Events.{Event, Step}
-use Rattle.ticket_board.specs.Ring.Views.{Asking, Working, asker, worker}
+use Rattle.ticket_board.specs.Ring.Views.{Asking, Working, opener, asker, worker}
 use Rattle.ticket_board.specs.Ring.Shows.{Board, Sits, Shows}
 use Rattle.ticket_board.specs.Ring.Steps.{SenderStep, WorkerStep, MaySend, MayWork, sent, worked, event_sent, event_worked, word_worked}
+use Rattle.ticket_board.specs.Ring.Opening.{AreFree, opened, cut_off}
 
 -- the event could happen, and leads from the one state to the other; without one the state stays
 abbrev pub Leads : Meaning → Option Event → State → State → Type 0
@@ -30,3 +32,15 @@ WorkerLaw meaning step =
     → Shows meaning shape key board state → Sits board seat (worker shape key w working) → MayWork meaning shape key working step
     → ShowsAfter meaning shape key (event_worked w step (slice_index_or board.words (word_worked shape step) 0)) state
     (worked shape key seat w working step board)
+
+-- the opened ring shows the opening state
+abbrev pub OpeningLaw : Meaning → Type 0
+OpeningLaw meaning =
+    (shape : Shape) (key words : List ℕ) → Fits shape → AreFree shape words → Shows meaning shape key (opened shape key words) (opening shape key)
+
+-- a seat that is cut off leaves what the ring shows
+abbrev pub SeatLaw : Meaning → Type 0
+SeatLaw meaning =
+    (shape : Shape) (key : List ℕ) (board : Board) (state : State) (seat cut : ℕ)
+    → Shows meaning shape key board state → Sits board seat (opener shape key cut) → cut < shape.senders + shape.workers
+    → Shows meaning shape key (cut_off shape key seat cut board) state

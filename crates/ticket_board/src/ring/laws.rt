@@ -7,7 +7,14 @@
 ghost use Rattle.std.specs.Prelude.{ℕ};
 ghost use Rattle.ticket_core.specs.State.{Address, Meaning, Shown};
 ghost use Rattle.ticket_board.specs.Ring.Steps.{SenderStep, WritesAddress, Publishes, LooksNext, BringsOut, Receives, WorkerStep, LooksAt, Takes, ReadsAddress, Answers, GivesBack};
-ghost use Rattle.ticket_board.specs.Ring.Laws.{SenderLaw, WorkerLaw};
+ghost use Rattle.ticket_board.specs.Ring.Laws.{OpeningLaw, SeatLaw, SenderLaw, WorkerLaw};
+
+/// The opened ring shows the opening state of the core, and cutting off the seat of a sender or of a
+/// worker leaves the state that it shows.
+pub fn law_of_opening()
+    ensures opening { (meaning : Meaning) → OpeningLaw meaning }
+    ensures seats { (meaning : Meaning) → SeatLaw meaning }
+{}
 
 /// A sender stores an address in the cell of the number that it asks next: no event.
 pub fn law_of_k1()
