@@ -13,3 +13,4 @@ pub mod RingFrames
 pub mod RingSenderSteps
 pub mod RingWorkerSteps
 pub mod RingOpening
+pub mod RingRule

@@ -6,3 +6,5 @@ pub mod Shows
 pub mod Steps
 pub mod Laws
 pub mod Opening
+pub mod Codes
+pub mod Rule

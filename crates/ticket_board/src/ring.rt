@@ -1,6 +1,9 @@
 //! The board over words that change in single steps, and that no call waits for.
 
 mod laws;
+mod plays;
+mod rule;
+mod steps;
 
 pub use laws::{
     law_of_k1, law_of_k2, law_of_k3, law_of_k4, law_of_k5, law_of_k6, law_of_k7, law_of_k8,

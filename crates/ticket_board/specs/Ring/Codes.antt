@@ -1,0 +1,50 @@
+-- How a view is stored as a tree of numbers.
+use Rattle.std.specs.Prelude.{ℕ, Bool, List, Option, refl, ◌≡◌, ◌⊎◌}
+use mathlib.Core.Logic.{inl, inr}
+use Rattle.std.specs.Coded.{Coded, code_by, coded×, coded⊎, coded_ℕ, coded_bool, coded_list, coded_option}
+use Rattle.ticket_core.specs.declared.shape.Shape.{Shape}
+use Rattle.ticket_core.specs.State.{Address, Shown, Ticket}
+use Rattle.ticket_core.specs.Codes.{shown_code, shape_code}
+use Rattle.ticket_board.specs.Ring.Views.{Asking, Working, Role, Opens, Asks, Works, View}
+
+abbrev pub ticket_code : Coded Ticket
+ticket_code = coded× coded_ℕ coded_ℕ
+
+abbrev pub asking_code : Coded Asking
+asking_code =
+    code_by (List Address × (List Shown × (Option Address × (Bool × (Option Shown × List ℕ)))))
+    (coded× (coded_list coded_ℕ) (coded× (coded_list shown_code) (coded× (coded_option coded_ℕ) (coded× coded_bool (coded× (coded_option shown_code) (coded_list coded_ℕ))))))
+    (λ asking. (asking.asked, (asking.received, (asking.ahead, (asking.found, (asking.collecting, asking.missed))))))
+    (λ p. record { asked = p.0; received = p.1.0; ahead = p.1.1.0; found = p.1.1.1.0; collecting = p.1.1.1.1.0; missed = p.1.1.1.1.1 }) (λ _. refl)
+
+abbrev pub working_code : Coded Working
+working_code =
+    code_by (Option Ticket × (Option Address × (Option Ticket × (List ℕ × List Ticket))))
+    (coded× (coded_option ticket_code) (coded× (coded_option coded_ℕ) (coded× (coded_option ticket_code) (coded× (coded_list coded_ℕ) (coded_list ticket_code)))))
+    (λ working. (working.hand, (working.read, (working.seen, (working.missed, working.done)))))
+    (λ p. record { hand = p.0; read = p.1.0; seen = p.1.1.0; missed = p.1.1.1.0; done = p.1.1.1.1 }) (λ _. refl)
+
+abbrev pub role_parts : Role → ℕ ⊎ ((ℕ × Asking) ⊎ (ℕ × Working))
+role_parts (Opens cut) = inl cut
+role_parts (Asks s asking) = inr (inl (s, asking))
+role_parts (Works w working) = inr (inr (w, working))
+
+abbrev pub role_from : ℕ ⊎ ((ℕ × Asking) ⊎ (ℕ × Working)) → Role
+role_from (inl cut) = Opens cut
+role_from (inr (inl sender)) = Asks sender.0 sender.1
+role_from (inr (inr worker)) = Works worker.0 worker.1
+
+pub role_back : (role : Role) → role_from (role_parts role) ≡ role
+role_back (Opens cut) = refl
+role_back (Asks s asking) = refl
+role_back (Works w working) = refl
+
+abbrev pub role_code : Coded Role
+role_code =
+    code_by (ℕ ⊎ ((ℕ × Asking) ⊎ (ℕ × Working))) (coded⊎ coded_ℕ (coded⊎ (coded× coded_ℕ asking_code) (coded× coded_ℕ working_code)))
+    role_parts role_from role_back
+
+abbrev pub view_code : Coded View
+view_code =
+    code_by (Shape × (List ℕ × Role)) (coded× shape_code (coded× (coded_list coded_ℕ) role_code))
+    (λ view. (view.shape, (view.key, view.role))) (λ p. record { shape = p.0; key = p.1.0; role = p.1.1 }) (λ _. refl)

@@ -1,0 +1,48 @@
+//! The table of the ring, and its rule: its words, slots and seats show a state of the core.
+
+use atomic_table::{Seat, Shared, TableRule};
+use std::marker::{Model, PhantomData};
+use ticket_core::{Shape, Solver};
+
+/// What a seat knows. No value of it is made.
+pub struct Knowledge {}
+
+impl Model for Knowledge {
+    ghost use Rattle.ticket_board.specs.Ring.Views.{View, nobody};
+    ghost use Rattle.ticket_board.specs.Ring.Codes.{view_code};
+
+    ghost Value = { View };
+
+    ghost coded = { view_code };
+
+    ghost view = { λ _. nobody };
+}
+
+/// What the table is told once: the ring's shape, and the key of its answers.
+#[derive(Drop)]
+pub struct Terms<'a> {
+    /// The shape of the core that the ring shows.
+    pub shape: Shape,
+    /// The key by which queries are answered.
+    pub key: &'a [u8],
+}
+
+/// The table shows a state of the core.
+pub struct Rule<S> {
+    solved_by: PhantomData<S>,
+}
+
+impl<'a, S: Solver> TableRule<Option<S::Answer>, Knowledge, Terms<'a>> for Rule<S> {
+    ghost use Rattle.ticket_board.specs.Ring.Views.{opener};
+    ghost use Rattle.ticket_board.specs.Ring.Rule.{Holds};
+
+    ghost holds = { λ terms. Holds S.shown S.meaning terms.shape terms.key.now };
+
+    ghost first = { λ terms. opener terms.shape terms.key.now 0 };
+}
+
+/// The words and slots, as all seats share them.
+pub type Shelf<'a, S> = Shared<Option<<S as Solver>::Answer>, Knowledge, Terms<'a>, Rule<S>>;
+
+/// A seat at them.
+pub type Place<S> = Seat<Option<<S as Solver>::Answer>, Knowledge>;
