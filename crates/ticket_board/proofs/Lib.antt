@@ -14,3 +14,4 @@ pub mod RingSenderSteps
 pub mod RingWorkerSteps
 pub mod RingOpening
 pub mod RingRule
+pub mod RingCode

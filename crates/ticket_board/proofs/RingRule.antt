@@ -10,7 +10,7 @@ use Rattle.ticket_board.specs.Ring.Homes.{Out}
 use Rattle.ticket_board.specs.Ring.Views.{Asking, Role, Opens, Asks, Works, View, asker, asking_of, next_asked}
 use Rattle.ticket_board.specs.Ring.Shows.{Board, Seated, Sits, Shows}
 use Rattle.ticket_board.specs.Ring.Steps.{SenderStep, WritesAddress, Publishes, HasRoom, asking_after, sent}
-use Rattle.ticket_board.specs.Ring.Rule.{home_shown, board_shown, Holds, sender_of, IsSender, ahead_of, view_sent, KnowsSent}
+use Rattle.ticket_board.specs.Ring.Rule.{home_shown, board_shown, Holds, sender_of, IsSender, ahead_of, KnowsSent}
 use Rattle.ticket_board.proofs.RingSenderSteps.{writes-address, publishes}
 
 is-sender : (role : Role) → IsSender role → role ≡ Asks (sender_of role) (asking_of role)
@@ -31,9 +31,8 @@ module _ {A : Type 0} (shown : A → Shown) (meaning : Meaning) (shape : Shape) 
   view-is seats seated = λ i. record { shape = seated.shape_is i; key = seated.key_is i; role = is-sender me.0.role sender i }
 
   after-is : (seats : ℕ) (step : SenderStep) (word : ℕ) → Seated shape key seats id me.0
-      → asker shape key s (asking_after asking step word Out) ≡ view_sent step word me.0
-  after-is seats step word seated =
-      ap (view_sent step word) (sym (view-is seats seated))
+      → asker shape key s (asking_after asking step word Out) ≡ asker me.0.shape me.0.key s (asking_after asking step word Out)
+  after-is seats step word seated = λ i. asker (sym seated.shape_is i) (sym seated.key_is i) s (asking_after asking step word Out)
 
   pub writes-allowed : (place a : ℕ) → HasRoom me.0.shape asking → place ≡ address_place me.0.shape s (next_asked asking)
       → table.Allows (Holds shown meaning shape key) slots id me place (λ _. a) (λ _. KnowsSent (WritesAddress a) 0 me)

@@ -8,3 +8,4 @@ pub mod Laws
 pub mod Opening
 pub mod Codes
 pub mod Rule
+pub mod Ends

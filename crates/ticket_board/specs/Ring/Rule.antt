@@ -5,9 +5,9 @@ use Rattle.atomic_table.specs.Table as table
 use Rattle.ticket_core.specs.declared.shape.Shape.{Shape}
 use Rattle.ticket_core.specs.State.{Address, Shown, Meaning, State}
 use Rattle.ticket_board.specs.Ring.Homes.{Home, Out, Empty, Full}
-use Rattle.ticket_board.specs.Ring.Views.{Role, Opens, Asks, Works, View, Asking, Working, asking_of}
+use Rattle.ticket_board.specs.Ring.Views.{Role, Opens, Asks, Works, View, Asking, asker, asking_of}
 use Rattle.ticket_board.specs.Ring.Shows.{Board, Shows}
-use Rattle.ticket_board.specs.Ring.Steps.{SenderStep, WorkerStep, asking_after, working_after}
+use Rattle.ticket_board.specs.Ring.Steps.{SenderStep, asking_after}
 
 -- a slot of the table: out with a seat, or with an answer or none
 abbrev pub home_shown : {A : Type 0} → (A → Shown) → maybe.Option (Option A) → Home
@@ -36,14 +36,7 @@ IsSender _ = ⊥
 abbrev pub ahead_of : Role → Address
 ahead_of role = unwrap_or (asking_of role).ahead 0
 
-abbrev pub role_sent : SenderStep → ℕ → Role → Role
-role_sent step word (Asks s asking) = Asks s (asking_after asking step word Out)
-role_sent step word (Opens cut) = Opens cut
-role_sent step word (Works w working) = Works w working
-
 -- a sender's seat after a step, where it found this word
-abbrev pub view_sent : SenderStep → ℕ → View → View
-view_sent step word view = record { shape = view.shape; key = view.key; role = role_sent step word view.role }
-
 abbrev pub KnowsSent : {S : Type 0} → SenderStep → ℕ → table.Me S View → table.Me S View → Type 0
-KnowsSent step word old new = new ≡ (view_sent step word old.0, old.1)
+KnowsSent step word old new =
+    new ≡ (asker old.0.shape old.0.key (sender_of old.0.role) (asking_after (asking_of old.0.role) step word Out), old.1)

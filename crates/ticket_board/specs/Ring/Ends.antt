@@ -1,0 +1,67 @@
+-- What the ring shows its callers, and what a sender's end of it shows.
+use Rattle.std.specs.Prelude.{◌≡◌, ℕ, ◌+◌, ◌-◌, ◌<◌, ◌≤◌, List, [], length, Option, Some, None, nat_le, if◌then◌else◌}
+use Rattle.atomic_table.specs.Table as table
+use Rattle.atomic_table.specs.Seated.{TableId}
+use Rattle.ticket_core.specs.declared.shape.Shape.{Shape}
+use Rattle.ticket_core.specs.Shape.{Fits}
+use Rattle.ticket_core.specs.State.{Address}
+use Rattle.ticket_board.specs.declared.fault.AskFault.{AskFault}
+use Rattle.ticket_board.specs.declared.fault.AskFault.TheVariants.{Full, Exhausted}
+use Rattle.ticket_board.specs.Ring.Layout.{words_in}
+use Rattle.ticket_board.specs.Ring.Views.{Asking, View, asking_of, next_asked, next_received}
+use Rattle.ticket_board.specs.Ring.Steps.{WritesAddress, Publishes, asking_after}
+use Rattle.ticket_board.specs.Ring.Homes.{Out}
+use Rattle.ticket_board.specs.Ring.Rule.{IsSender, sender_of}
+
+-- the ring: its shape and key, and which table it is
+pub record RingState : Type 0 where
+  pub shape : Shape
+  pub key : List ℕ
+  pub table : TableId
+
+-- the table has a word of each kind for each cell
+abbrev pub IsRing : Shape → TableId → Type 0
+IsRing shape table = Fits shape × (table.words ≡ words_in shape)
+
+-- a sender's end: whose it is, of which table, and what its seat knows
+pub record AskerState : Type 0 where
+  pub shape : Shape
+  pub key : List ℕ
+  pub table : TableId
+  pub sender : ℕ
+  pub asking : Asking
+
+-- it was opened with this ring
+pub record IsAskerOf (ring : RingState) (asker : AskerState) : Type 0 where
+  pub shape_is : asker.shape ≡ ring.shape
+  pub key_is : asker.key ≡ ring.key
+  pub table_is : asker.table ≡ ring.table
+
+module _ {S : Type 0} where
+  abbrev pub asker_shown : ℕ → TableId → table.Me S View → AskerState
+  asker_shown sender table me = record { shape = me.0.shape; key = me.0.key; table = table; sender = sender; asking = asking_of me.0.role }
+
+  -- its fields are what its seat knows
+  pub record IsAsker (sender asked received : ℕ) (shape : Shape) (me : table.Me S View) : Type 0 where
+    pub asks : IsSender me.0.role
+    pub sender_is : sender_of me.0.role ≡ sender
+    pub shape_is : me.0.shape ≡ shape
+    pub carries : me.1 ≡ []
+    pub fits : Fits shape
+    pub below : sender < shape.senders
+    pub asked_is : asked ≡ next_asked (asking_of me.0.role)
+    pub received_is : received ≡ next_received (asking_of me.0.role)
+    pub ordered : received ≤ asked
+    pub window : asked ≤ received + shape.window
+    pub most : asked ≤ shape.most
+
+-- the first condition that refuses a query: the sender asked all it may, then its window is full
+abbrev pub asking_refusal : Shape → Asking → Option AskFault
+asking_refusal shape asking =
+    if nat_le shape.most (next_asked asking) then Some Exhausted
+    else if nat_le shape.window (next_asked asking - next_received asking) then Some Full
+    else None
+
+-- one address more is asked about
+abbrev pub asks_one : Address → Asking → Asking
+asks_one a asking = asking_after (asking_after asking (WritesAddress a) 0 Out) (Publishes a) 0 Out
