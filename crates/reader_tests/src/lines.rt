@@ -257,7 +257,11 @@ fn rows_behind_checkpoints(rt: HostRuntime) -> Result<(), Fail> {
         (0x10c9, None),
     ];
     for (address, line) in rows {
-        assert_eq!(rt; lines.row(address).map(|row| row.line), line, "address {address:#x}");
+        assert_eq!(rt;
+            lines.row(address).map(|row| row.line),
+            line,
+            "address {address:#x}"
+        );
     }
     Ok(())
 }
