@@ -13,5 +13,7 @@ pub mod RingFrames
 pub mod RingSenderSteps
 pub mod RingWorkerSteps
 pub mod RingOpening
+pub mod RingHomes
 pub mod RingRule
+pub mod RingWorkerRule
 pub mod RingCode

@@ -6,7 +6,7 @@ use Rattle.ticket_core.specs.declared.shape.Shape.{Shape}
 use Rattle.ticket_core.specs.State.{Address, Shown, Meaning, Unasked, Waiting, Answered, Collected, Sender, State, sender_at, place_of, address_of, next_of}
 use Rattle.ticket_core.specs.Events.{Ask, Collect, asks, collects, answer_in, IsAnswered, Can, after}
 use Rattle.ticket_core.specs.Runs.{once_finished}
-use Rattle.ticket_core.proofs.ReadLemmas.{appended}
+use Rattle.ticket_core.proofs.ReadLemmas.{appended, inside}
 use Rattle.ticket_core.proofs.StateLemmas.{sender_changed}
 use Rattle.ticket_core.proofs.StepLemmas.{step-sound}
 use Rattle.ticket_core.proofs.CountLemmas.{step-counted}
@@ -239,10 +239,22 @@ module _ (meaning : Meaning) (shape : Shape) (key : List ℕ) (board : Board) (s
     abbrev asking_out : Asking
     asking_out = record asking { found = false; collecting = Some (answer_at_home (homes (next_received asking))) }
 
-    has-answer : (homes (next_received asking) ≡ Full (answer_at_home (homes (next_received asking))))
+    pub has-answer : (homes (next_received asking) ≡ Full (answer_at_home (homes (next_received asking))))
         × (place_of (sender_at state s) (next_received asking) ≡ Answered (answer_at_home (homes (next_received asking))))
     has-answer = answered-cell (next_received asking) (next_received asking) asking.collecting (place_of (sender_at state s) (next_received asking))
         (states (next_received asking)) (homes (next_received asking)) (mine.cells (next_received asking) (omega arith) (omega (arith, some_room))) (mine.found noted)
+
+    -- it is that of the number that the sender receives next, which it asked
+    pub right-answer : (next_received asking < next_asked asking)
+        × (answer_at_home (homes (next_received asking)) ≡ meaning key (get_or asking.asked (next_received asking) 0))
+    right-answer =
+        let answered : place_of (sender_at state s) (next_received asking) ≡ Answered (answer_at_home (homes (next_received asking))) = has-answer.1 in
+        let within : next_received asking < length (sender_at state s).places =
+        inside (sender_at state s).places (next_received asking) Unasked (λ e. let is : place_of (sender_at state s) (next_received asking) ≡ Unasked = e in cc) in (
+          omega (arith, within, placed),
+          (shows.sound.each s).answered (next_received asking) (answer_at_home (homes (next_received asking))) answered
+          ∙ (λ i. meaning (shows.key_is i) (get_or (mine.asked i) (next_received asking) 0)),
+        )
 
     -- the cells of two numbers of the window
     apart-out : (n : ℕ) → next_received asking ≤ n → n < next_received asking + shape.window → n ≢ next_received asking

@@ -38,6 +38,10 @@ held-cell : (n next : ℕ) (collecting : Option Shown) (w : ℕ) (word : ℕ) (h
     → (word ≡ taken_word n) × (home ≡ Out)
 held-cell n next collecting w word home shows = shows
 
+-- a cell whose number waits
+waiting-cell : (n next : ℕ) (collecting : Option Shown) (word : ℕ) (home : Home) → CellShows n next collecting Waiting word home → home ≡ Empty
+waiting-cell n next collecting word home shows = shows.1
+
 module _ (meaning : Meaning) (shape : Shape) (key : List ℕ) (board : Board) (state : State) (shows : Shows meaning shape key board state) where
   some_room : 0 < shape.window
   some_room = shows.fits.4
@@ -239,6 +243,28 @@ module _ (meaning : Meaning) (shape : Shape) (key : List ℕ) (board : Board) (s
             (λ t m. let c : 0 + once_finished (place_of (sender_at state t) m) ≡ once_finished (place_of (sender_at taken t) m) =
             step-counted meaning (Take w s n) state t m shows.sound can-take in omega arith)
 
+        -- its slot is empty
+        pub slot-waits : home_at shape board.homes s n ≡ Empty
+        slot-waits = waiting-cell n (next_received (asking s)) (asking s).collecting (states s n) (home_at shape board.homes s n)
+            (cell-moved n (next_received (asking s)) (asking s).collecting (place_of (sender_at state s) n) Waiting (states s n) (states s n)
+            (home_at shape board.homes s n) (home_at shape board.homes s n) (sym stands.2) refl refl
+            ((shows.senders s of-sender).cells n stands.0 stands.1))
+
+        pub hits : ShowsAfter meaning shape key (Some (Take w s n)) state (record {
+          words = set board.words (state_place shape s n) (taken_word n);
+          homes = set board.homes (cell_of shape s n) Out;
+          views = set board.views seat (worker shape key w (record working { hand = Some (s, n); read = None; seen = None }));
+        })
+        hits = (taken, (can-take, refl), shows-taken)
+
+      pub misses : Shows meaning shape key (record {
+        words = board.words;
+        homes = board.homes;
+        views = set board.views seat (worker shape key w (record working { hand = None; read = None; seen = None; missed = working.missed ++ cell_of shape s n ∷ [] }));
+      }) state
+      misses = note (record working { hand = None; read = None; seen = None; missed = working.missed ++ cell_of shape s n ∷ [] })
+          (record { hand = mine.hand ∙ empty; read = λ t m a held is. absurd (cc); seen = λ t m is. absurd (cc) }) refl
+
       abbrev After : Bool → Type 0
       After hit = ShowsAfter meaning shape key (if hit then Some (Take w s n) else None) state (record {
         words = if hit then set board.words (state_place shape s n) (taken_word n) else board.words;
@@ -253,13 +279,8 @@ module _ (meaning : Meaning) (shape : Shape) (key : List ℕ) (board : Board) (s
 
       pub takes : After (eqb (states s n) (asked_word n))
       takes = elim (cases_eq (states s n) (asked_word n)) [
-        | inl e ↦ subst After (sym (eq-eqb (states s n) (asked_word n) e)) (taken e, (can-take e, refl), shows-taken e)
-        | inr ne ↦ subst After (sym (ne_eqb (states s n) (asked_word n) ne)) (
-          state,
-          refl,
-          note (record working { hand = None; read = None; seen = None; missed = working.missed ++ cell_of shape s n ∷ [] })
-              (record { hand = mine.hand ∙ empty; read = λ t m a held is. absurd (cc); seen = λ t m is. absurd (cc) }) refl,
-        )
+        | inl e ↦ subst After (sym (eq-eqb (states s n) (asked_word n) e)) (hits e)
+        | inr ne ↦ subst After (sym (ne_eqb (states s n) (asked_word n) ne)) (state, refl, misses)
       ]
 
     -- ---- a number is put down

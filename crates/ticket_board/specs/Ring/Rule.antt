@@ -1,13 +1,16 @@
 -- The rule of the ring's table: its words, slots and views show a state of the core.
-use Rattle.std.specs.Prelude.{◌≡◌, ℕ, List, map, Option, Some, None, unwrap_or}
+use Rattle.std.specs.Prelude.{◌≡◌, ℕ, suc, ◌/◌, ◌%◌, ◌<◌, List, ◌∷◌, map, Option, Some, None, unwrap_or, slice_index_or, nat_eq, if◌then◌else◌}
+use base.Stored.{gnil}
 use mathlib.Core.Option as maybe
 use Rattle.atomic_table.specs.Table as table
 use Rattle.ticket_core.specs.declared.shape.Shape.{Shape}
-use Rattle.ticket_core.specs.State.{Address, Shown, Meaning, State}
+use Rattle.ticket_core.specs.State.{Address, Shown, Meaning, Ticket, State}
+use Rattle.ticket_board.specs.Ring.Layout.{cell_of, asked_word}
 use Rattle.ticket_board.specs.Ring.Homes.{Home, Out, Empty, Full}
-use Rattle.ticket_board.specs.Ring.Views.{Role, Opens, Asks, Works, View, Asking, asker, asking_of}
+use Rattle.ticket_board.specs.Ring.Views.{Role, Opens, Asks, Works, View, Asking, opener, asker, worker, asking_of, working_of, next_asked, next_received}
 use Rattle.ticket_board.specs.Ring.Shows.{Board, Shows}
-use Rattle.ticket_board.specs.Ring.Steps.{SenderStep, asking_after}
+use Rattle.ticket_board.specs.Ring.Steps.{SenderStep, BringsOut, WorkerStep, LooksAt, Takes, ReadsAddress, Answers, GivesBack, asking_after, working_after}
+use Rattle.ticket_board.specs.Ring.Opening.{next_seat}
 
 -- a slot of the table: out with a seat, or with an answer or none
 abbrev pub home_shown : {A : Type 0} → (A → Shown) → maybe.Option (Option A) → Home
@@ -21,9 +24,8 @@ board_shown shown state = record { words = state.words; homes = map (home_shown 
 abbrev pub Holds : {A : Type 0} → (A → Shown) → Meaning → Shape → List ℕ → table.State (Option A) View → Type 0
 Holds shown meaning shape key state = (core : State) × Shows meaning shape key (board_shown shown state) core
 
--- ---- what a step tells the seat that made it
+-- ---- whose seat it is
 
--- whose seat it is
 abbrev pub sender_of : Role → ℕ
 sender_of (Asks s asking) = s
 sender_of _ = 0
@@ -32,11 +34,102 @@ abbrev pub IsSender : Role → Type 0
 IsSender (Asks s asking) = Unit {0}
 IsSender _ = ⊥
 
--- the address that it wrote ahead
+abbrev pub worker_of : Role → ℕ
+worker_of (Works w working) = w
+worker_of _ = 0
+
+abbrev pub IsWorker : Role → Type 0
+IsWorker (Works w working) = Unit {0}
+IsWorker _ = ⊥
+
+-- how many seats were cut off from it
+abbrev pub cut_of : Role → ℕ
+cut_of (Opens cut) = cut
+cut_of _ = 0
+
+-- ---- what it knows
+
+-- the address that a sender wrote ahead
 abbrev pub ahead_of : Role → Address
 ahead_of role = unwrap_or (asking_of role).ahead 0
 
--- a sender's seat after a step, where it found this word
-abbrev pub KnowsSent : {S : Type 0} → SenderStep → ℕ → table.Me S View → table.Me S View → Type 0
-KnowsSent step word old new =
-    new ≡ (asker old.0.shape old.0.key (sender_of old.0.role) (asking_after (asking_of old.0.role) step word Out), old.1)
+-- the answer that is in a sender's hand
+abbrev pub collecting_of : Role → Shown
+collecting_of role = unwrap_or (asking_of role).collecting gnil
+
+-- the number that a worker saw asked, and the one in its hand, with its address
+abbrev pub seen_of : Role → Ticket
+seen_of role = unwrap_or (working_of role).seen (0, 0)
+
+abbrev pub hand_of : Role → Ticket
+hand_of role = unwrap_or (working_of role).hand (0, 0)
+
+abbrev pub read_of : Role → Address
+read_of role = unwrap_or (working_of role).read 0
+
+-- ---- what a step tells the seat that made it
+
+-- the state word of a cell is of a number that uses this cell
+abbrev pub IsOfCell : Shape → ℕ → ℕ → Type 0
+IsOfCell shape cell word = word / 8 % shape.window ≡ cell % shape.window
+
+module _ {A : Type 0} where
+  -- the slot that it took last is this cell's, with this in it
+  abbrev pub CarriesFirst : ℕ → Option A → table.Me (Option A) View → Type 0
+  CarriesFirst cell value me = me.1 ≡ (cell, value) ∷ table.rest me.1
+
+  -- it is that of the number in a worker's hand, and has the meaning of the address that was asked
+  abbrev pub CarriesMeaning : (A → Shown) → Meaning → table.Me (Option A) View → Type 0
+  CarriesMeaning shown meaning me =
+      (answer : A) × CarriesFirst (cell_of me.0.shape (hand_of me.0.role).0 (hand_of me.0.role).1) (Some answer) me
+      × (shown answer ≡ meaning me.0.key (read_of me.0.role))
+
+  -- a sender's seat after a step, where it found this state word and this in the slot; and the slots that are out with it then
+  abbrev pub KnowsSent : SenderStep → ℕ → Home → List (ℕ × Option A) → table.Me (Option A) View → table.Me (Option A) View → Type 0
+  KnowsSent step word home slots old new =
+      new ≡ (asker old.0.shape old.0.key (sender_of old.0.role) (asking_after (asking_of old.0.role) step word home), slots)
+
+  -- an answer came out: it is that of the number that the sender receives next, which it asked
+  abbrev pub KnowsAnswer : (A → Shown) → Meaning → A → table.Me (Option A) View → table.Me (Option A) View → Type 0
+  KnowsAnswer shown meaning answer old new =
+      (next_received (asking_of old.0.role) < next_asked (asking_of old.0.role))
+      × (shown answer ≡ meaning old.0.key (slice_index_or (asking_of old.0.role).asked (next_received (asking_of old.0.role)) 0))
+      × KnowsSent BringsOut 0 (Full (shown answer))
+      ((cell_of old.0.shape (sender_of old.0.role) (next_received (asking_of old.0.role)), Some answer) ∷ old.1) old new
+
+  -- a worker's seat after a step, where it found this word; and the slots that are out with it then
+  abbrev pub KnowsWorked : WorkerStep → ℕ → List (ℕ × Option A) → table.Me (Option A) View → table.Me (Option A) View → Type 0
+  KnowsWorked step word slots old new =
+      new ≡ (worker old.0.shape old.0.key (worker_of old.0.role) (working_after old.0.shape (working_of old.0.role) step word), slots)
+
+  -- it looked at a cell
+  abbrev pub KnowsLooked : ℕ → ℕ → table.Me (Option A) View → table.Me (Option A) View → Type 0
+  KnowsLooked cell word old new = KnowsWorked (LooksAt cell) word old.1 old new × IsOfCell old.0.shape cell word
+
+  -- it tried to take a number, and where it found it waiting, it has that number's slot
+  abbrev pub KnowsTried : Ticket → ℕ → table.Me (Option A) View → table.Me (Option A) View → Type 0
+  KnowsTried ticket word old new =
+      KnowsWorked (Takes ticket.0 ticket.1) word
+      (if nat_eq word (asked_word ticket.1) then (cell_of old.0.shape ticket.0 ticket.1, None) ∷ old.1 else old.1) old new
+
+  -- it read the address of the number in its hand
+  abbrev pub KnowsRead : Ticket → ℕ → table.Me (Option A) View → table.Me (Option A) View → Type 0
+  KnowsRead ticket word old new = KnowsWorked (ReadsAddress ticket.0 ticket.1) word old.1 old new
+
+  -- it answered the number in its hand; what it knows then is the same for all addresses and answers
+  abbrev pub KnowsAnswered : Ticket → List (ℕ × Option A) → table.Me (Option A) View → table.Me (Option A) View → Type 0
+  KnowsAnswered ticket slots old new = KnowsWorked (Answers ticket.0 ticket.1 0 gnil) 0 slots old new
+
+  -- it gave the number in its hand back
+  abbrev pub KnowsGivenBack : Ticket → List (ℕ × Option A) → table.Me (Option A) View → table.Me (Option A) View → Type 0
+  KnowsGivenBack ticket slots old new = KnowsWorked (GivesBack ticket.0 ticket.1) 0 slots old new
+
+-- ---- how a seat is cut off
+
+-- what is left of the opening seat
+abbrev pub left_after : View → View
+left_after view = opener view.shape view.key (suc (cut_of view.role))
+
+-- what the new one knows
+abbrev pub cut_from : View → View
+cut_from view = next_seat view.shape view.key (cut_of view.role)

@@ -1,21 +1,95 @@
 //! What each step tells the seat that made it.
 
-ghost use Rattle.ticket_board.specs.Ring.Steps.{WritesAddress, Publishes};
-ghost use Rattle.ticket_board.specs.Ring.Rule.{ahead_of, KnowsSent};
+ghost use Rattle.std.specs.Prelude.{◌/◌};
+ghost use Rattle.atomic_table.specs.Table.{rest};
+ghost use Rattle.ticket_board.specs.Ring.Layout.{cell_words};
+ghost use Rattle.ticket_board.specs.Ring.Homes.{Out};
+ghost use Rattle.ticket_board.specs.Ring.Steps.{WritesAddress, Publishes, LooksNext, Receives};
+ghost use Rattle.ticket_board.specs.Ring.Rule.{ahead_of, collecting_of, seen_of, hand_of, left_after, cut_from};
+ghost use Rattle.ticket_board.specs.Ring.Rule.{KnowsSent, KnowsAnswer, KnowsLooked, KnowsTried, KnowsRead, KnowsAnswered, KnowsGivenBack};
 
 use crate::ring::rule::Knowledge;
-use atomic_table::Play;
+use atomic_table::{Play, Split};
+use std::marker::PhantomData;
+use ticket_core::Solver;
+
+/// The seat of the next sender or worker is cut off.
+pub struct CutOff;
+
+impl Split<Knowledge> for CutOff {
+    ghost left = { left_after };
+
+    ghost right = { cut_from };
+}
 
 /// An address is written ahead.
 pub struct WriteAddress;
 
 impl<T> Play<Option<T>, Knowledge> for WriteAddress {
-    ghost then = { λ step old word new. KnowsSent (WritesAddress step.first) 0 old new };
+    ghost then = { λ step old word new. KnowsSent (WritesAddress step.first) 0 Out old.1 old new };
 }
 
 /// A number is asked.
 pub struct Publish;
 
 impl<T> Play<Option<T>, Knowledge> for Publish {
-    ghost then = { λ step old word new. KnowsSent (Publishes (ahead_of old.0.role)) 0 old new };
+    ghost then = { λ step old word new. KnowsSent (Publishes (ahead_of old.0.role)) 0 Out old.1 old new };
+}
+
+/// A sender looks for its next answer.
+pub struct LookNext;
+
+impl<T> Play<Option<T>, Knowledge> for LookNext {
+    ghost then = { λ step old word new. KnowsSent LooksNext word Out old.1 old new };
+}
+
+/// The next answer is on its way out of its slot.
+pub struct BringOut<S> {
+    solved_by: PhantomData<S>,
+}
+
+impl<S: Solver> Play<Option<S::Answer>, Knowledge> for BringOut<S> {
+    ghost then = { λ step old word new. (answer : S.Answer) × KnowsAnswer S.shown S.meaning answer old new };
+}
+
+/// The next answer is received.
+pub struct Receive;
+
+impl<T> Play<Option<T>, Knowledge> for Receive {
+    ghost then = { λ step old word new. KnowsSent (Receives (collecting_of old.0.role)) 0 Out (rest old.1) old new };
+}
+
+/// A worker looks at a cell.
+pub struct LookAt;
+
+impl<T> Play<Option<T>, Knowledge> for LookAt {
+    ghost then = { λ step old word new. KnowsLooked (step.word / cell_words) word old new };
+}
+
+/// A worker tries to take the number that it saw.
+pub struct Take;
+
+impl<T> Play<Option<T>, Knowledge> for Take {
+    ghost then = { λ step old word new. KnowsTried (seen_of old.0.role) word old new };
+}
+
+/// A worker reads the address of the number in its hand.
+pub struct ReadAddress;
+
+impl<T> Play<Option<T>, Knowledge> for ReadAddress {
+    ghost then = { λ step old word new. KnowsRead (hand_of old.0.role) word old new };
+}
+
+/// A worker answers the number in its hand.
+pub struct Finish;
+
+impl<T> Play<Option<T>, Knowledge> for Finish {
+    ghost then = { λ step old word new. KnowsAnswered (hand_of old.0.role) (rest old.1) old new };
+}
+
+/// A worker gives the number in its hand back.
+pub struct GiveBack;
+
+impl<T> Play<Option<T>, Knowledge> for GiveBack {
+    ghost then = { λ step old word new. KnowsGivenBack (hand_of old.0.role) (rest old.1) old new };
 }

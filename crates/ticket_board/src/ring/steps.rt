@@ -1,12 +1,20 @@
-//! The steps of the ring on its table, each one store, load or compare-exchange.
+//! The steps of the ring on its table, each one store, load or compare-exchange: first those of a sender, then
+//! those of a worker.
 
-ghost use Rattle.std.specs.Prelude.{◌≡◌, ◌<◌, Some};
-ghost use Rattle.ticket_board.specs.Ring.Layout.{address_place, state_place, asked_word};
-ghost use Rattle.ticket_board.specs.Ring.Views.{asking_of, next_asked};
-ghost use Rattle.ticket_board.specs.Ring.Steps.{WritesAddress, Publishes, HasRoom};
-ghost use Rattle.ticket_board.specs.Ring.Rule.{IsSender, sender_of, ahead_of, KnowsSent};
+ghost use Rattle.std.specs.Prelude.{◌≡◌, ◌<◌, ◌+◌, ◌∷◌, true, Some, None};
+ghost use Rattle.atomic_table.specs.Table.{rest};
+ghost use Rattle.ticket_board.specs.Ring.Layout.{cells_in, cell_of, word_of, state_field, address_place, state_place, free_word, asked_word, taken_word, answered_word, collecting_word};
+ghost use Rattle.ticket_board.specs.Ring.Homes.{Out};
+ghost use Rattle.ticket_board.specs.Ring.Views.{asking_of, working_of, next_asked, next_received};
+ghost use Rattle.ticket_board.specs.Ring.Steps.{WritesAddress, Publishes, LooksNext, Receives, HasRoom};
+ghost use Rattle.ticket_board.specs.Ring.Rule.{IsSender, IsWorker, sender_of, ahead_of, collecting_of, seen_of, hand_of, read_of};
+ghost use Rattle.ticket_board.specs.Ring.Rule.{KnowsSent, KnowsAnswer, KnowsLooked, KnowsTried, KnowsRead, KnowsAnswered, KnowsGivenBack};
+ghost use Rattle.ticket_board.specs.Ring.Rule.{CarriesFirst, CarriesMeaning};
 
-use crate::ring::plays::{Publish, WriteAddress};
+use crate::ring::layout::{CELL_WORDS, STATE};
+use crate::ring::plays::{
+    BringOut, Finish, GiveBack, LookAt, LookNext, Publish, ReadAddress, Receive, Take, WriteAddress,
+};
 use crate::ring::rule::{Place, Shelf};
 use ticket_core::Solver;
 
@@ -18,7 +26,7 @@ pub fn write_address<'a, S: Solver>(shelf: &Shelf<'a, S>, seat: &mut Place<S>, w
     requires room { HasRoom seat.old.me.0.shape (asking_of seat.old.me.0.role) }
     requires place { word ≡ address_place seat.old.me.0.shape (sender_of seat.old.me.0.role) (next_asked (asking_of seat.old.me.0.role)) }
     ensures same { (seat.new.table_id ≡ seat.old.table_id) × (seat.new.id ≡ seat.old.id) }
-    ensures told { KnowsSent (WritesAddress a) 0 seat.old.me seat.new.me }
+    ensures told { KnowsSent (WritesAddress a) 0 Out seat.old.me.1 seat.old.me seat.new.me }
 {
     shelf.store::<WriteAddress>(seat, word, a);
 }
@@ -32,7 +40,130 @@ pub fn publish<'a, S: Solver>(shelf: &Shelf<'a, S>, seat: &mut Place<S>, word: u
     requires place { word ≡ state_place seat.old.me.0.shape (sender_of seat.old.me.0.role) (next_asked (asking_of seat.old.me.0.role)) }
     requires asked { asked ≡ asked_word (next_asked (asking_of seat.old.me.0.role)) }
     ensures same { (seat.new.table_id ≡ seat.old.table_id) × (seat.new.id ≡ seat.old.id) }
-    ensures told { KnowsSent (Publishes (ahead_of seat.old.me.0.role)) 0 seat.old.me seat.new.me }
+    ensures told { KnowsSent (Publishes (ahead_of seat.old.me.0.role)) 0 Out seat.old.me.1 seat.old.me seat.new.me }
 {
     shelf.store::<Publish>(seat, word, asked);
+}
+
+/// Loads the state of the number that a sender receives next.
+pub fn look_next<'a, S: Solver>(shelf: &Shelf<'a, S>, seat: &mut Place<S>, word: usize) -> u64
+    requires table { seat.old.table_id ≡ shelf.now.table_id }
+    requires within { word < shelf.now.table_id.words }
+    requires sender { IsSender seat.old.me.0.role }
+    requires place { word ≡ state_place seat.old.me.0.shape (sender_of seat.old.me.0.role) (next_received (asking_of seat.old.me.0.role)) }
+    ensures same { (seat.new.table_id ≡ seat.old.table_id) × (seat.new.id ≡ seat.old.id) }
+    ensures told { KnowsSent LooksNext result Out seat.old.me.1 seat.old.me seat.new.me }
+{
+    shelf.load::<LookNext>(seat, word)
+}
+
+/// Stores that the answer of this number is on its way out, and takes the slot in which it lies.
+pub fn bring_out<'a, S: Solver>(shelf: &Shelf<'a, S>, seat: &mut Place<S>, word: usize, out: u64)
+    requires table { seat.old.table_id ≡ shelf.now.table_id }
+    requires within { word < shelf.now.table_id.words }
+    requires sender { IsSender seat.old.me.0.role }
+    requires found { (asking_of seat.old.me.0.role).found ≡ true }
+    requires place { word ≡ state_place seat.old.me.0.shape (sender_of seat.old.me.0.role) (next_received (asking_of seat.old.me.0.role)) }
+    requires out { out ≡ collecting_word (next_received (asking_of seat.old.me.0.role)) }
+    ensures same { (seat.new.table_id ≡ seat.old.table_id) × (seat.new.id ≡ seat.old.id) }
+    ensures told { (answer : S.Answer) × KnowsAnswer S.shown S.meaning answer seat.old.me seat.new.me }
+{
+    shelf.store::<BringOut<S>>(seat, word, out);
+}
+
+/// Stores that the cell is free for the number a window later, and gives the slot back, which is empty.
+pub fn receive<'a, S: Solver>(shelf: &Shelf<'a, S>, seat: &mut Place<S>, word: usize, free: u64)
+    requires table { seat.old.table_id ≡ shelf.now.table_id }
+    requires within { word < shelf.now.table_id.words }
+    requires sender { IsSender seat.old.me.0.role }
+    requires out { (asking_of seat.old.me.0.role).collecting ≡ Some (collecting_of seat.old.me.0.role) }
+    requires slot { CarriesFirst (cell_of seat.old.me.0.shape (sender_of seat.old.me.0.role) (next_received (asking_of seat.old.me.0.role))) None seat.old.me }
+    requires place { word ≡ state_place seat.old.me.0.shape (sender_of seat.old.me.0.role) (next_received (asking_of seat.old.me.0.role)) }
+    requires free { free ≡ free_word (next_received (asking_of seat.old.me.0.role) + seat.old.me.0.shape.window) }
+    ensures same { (seat.new.table_id ≡ seat.old.table_id) × (seat.new.id ≡ seat.old.id) }
+    ensures told { KnowsSent (Receives (collecting_of seat.old.me.0.role)) 0 Out (rest seat.old.me.1) seat.old.me seat.new.me }
+{
+    shelf.store::<Receive>(seat, word, free);
+}
+
+/// Loads the state word of a cell, whose hand is empty.
+pub fn look_at<'a, S: Solver>(shelf: &Shelf<'a, S>, seat: &mut Place<S>, cell: usize) -> u64
+    requires table { seat.old.table_id ≡ shelf.now.table_id }
+    requires words { word_of cell state_field < shelf.now.table_id.words }
+    requires few { cell < 65536 }
+    requires within { cell < cells_in seat.old.me.0.shape }
+    requires worker { IsWorker seat.old.me.0.role }
+    requires empty { (working_of seat.old.me.0.role).hand ≡ None }
+    ensures same { (seat.new.table_id ≡ seat.old.table_id) × (seat.new.id ≡ seat.old.id) }
+    ensures told { KnowsLooked cell result seat.old.me seat.new.me }
+{
+    shelf.load::<LookAt>(seat, cell * CELL_WORDS + STATE)
+}
+
+/// Exchanges the word of the number that a worker saw for one that says that it is taken, in one try, and returns
+/// the word that was there. Where that said that the number waits, the slot is taken too.
+pub fn try_take<'a, S: Solver>(
+    shelf: &Shelf<'a, S>,
+    seat: &mut Place<S>,
+    word: usize,
+    asked: u64,
+    taken: u64,
+) -> u64
+    requires table { seat.old.table_id ≡ shelf.now.table_id }
+    requires within { word < shelf.now.table_id.words }
+    requires worker { IsWorker seat.old.me.0.role }
+    requires empty { (working_of seat.old.me.0.role).hand ≡ None }
+    requires seen { (working_of seat.old.me.0.role).seen ≡ Some (seen_of seat.old.me.0.role) }
+    requires place { word ≡ state_place seat.old.me.0.shape (seen_of seat.old.me.0.role).0 (seen_of seat.old.me.0.role).1 }
+    requires asked { asked ≡ asked_word (seen_of seat.old.me.0.role).1 }
+    requires taken { taken ≡ taken_word (seen_of seat.old.me.0.role).1 }
+    ensures same { (seat.new.table_id ≡ seat.old.table_id) × (seat.new.id ≡ seat.old.id) }
+    ensures told { KnowsTried (seen_of seat.old.me.0.role) result seat.old.me seat.new.me }
+{
+    shelf.compare_exchange::<Take>(seat, word, asked, taken)
+}
+
+/// Loads the address of the number in a worker's hand.
+pub fn read_address<'a, S: Solver>(shelf: &Shelf<'a, S>, seat: &mut Place<S>, word: usize) -> u64
+    requires table { seat.old.table_id ≡ shelf.now.table_id }
+    requires within { word < shelf.now.table_id.words }
+    requires worker { IsWorker seat.old.me.0.role }
+    requires held { (working_of seat.old.me.0.role).hand ≡ Some (hand_of seat.old.me.0.role) }
+    requires place { word ≡ address_place seat.old.me.0.shape (hand_of seat.old.me.0.role).0 (hand_of seat.old.me.0.role).1 }
+    ensures same { (seat.new.table_id ≡ seat.old.table_id) × (seat.new.id ≡ seat.old.id) }
+    ensures told { KnowsRead (hand_of seat.old.me.0.role) result seat.old.me seat.new.me }
+{
+    shelf.load::<ReadAddress>(seat, word)
+}
+
+/// Stores that the number in a worker's hand is answered, and gives the slot back, in which the meaning of its
+/// address lies.
+pub fn finish<'a, S: Solver>(shelf: &Shelf<'a, S>, seat: &mut Place<S>, word: usize, answered: u64)
+    requires table { seat.old.table_id ≡ shelf.now.table_id }
+    requires within { word < shelf.now.table_id.words }
+    requires worker { IsWorker seat.old.me.0.role }
+    requires held { (working_of seat.old.me.0.role).hand ≡ Some (hand_of seat.old.me.0.role) }
+    requires read { (working_of seat.old.me.0.role).read ≡ Some (read_of seat.old.me.0.role) }
+    requires slot { CarriesMeaning S.shown S.meaning seat.old.me }
+    requires place { word ≡ state_place seat.old.me.0.shape (hand_of seat.old.me.0.role).0 (hand_of seat.old.me.0.role).1 }
+    requires answered { answered ≡ answered_word (hand_of seat.old.me.0.role).1 }
+    ensures same { (seat.new.table_id ≡ seat.old.table_id) × (seat.new.id ≡ seat.old.id) }
+    ensures told { KnowsAnswered (hand_of seat.old.me.0.role) (rest seat.old.me.1) seat.old.me seat.new.me }
+{
+    shelf.store::<Finish>(seat, word, answered);
+}
+
+/// Stores that the number in a worker's hand waits again, and gives the slot back, which is empty.
+pub fn give_back<'a, S: Solver>(shelf: &Shelf<'a, S>, seat: &mut Place<S>, word: usize, asked: u64)
+    requires table { seat.old.table_id ≡ shelf.now.table_id }
+    requires within { word < shelf.now.table_id.words }
+    requires worker { IsWorker seat.old.me.0.role }
+    requires held { (working_of seat.old.me.0.role).hand ≡ Some (hand_of seat.old.me.0.role) }
+    requires slot { CarriesFirst (cell_of seat.old.me.0.shape (hand_of seat.old.me.0.role).0 (hand_of seat.old.me.0.role).1) None seat.old.me }
+    requires place { word ≡ state_place seat.old.me.0.shape (hand_of seat.old.me.0.role).0 (hand_of seat.old.me.0.role).1 }
+    requires asked { asked ≡ asked_word (hand_of seat.old.me.0.role).1 }
+    ensures same { (seat.new.table_id ≡ seat.old.table_id) × (seat.new.id ≡ seat.old.id) }
+    ensures told { KnowsGivenBack (hand_of seat.old.me.0.role) (rest seat.old.me.1) seat.old.me seat.new.me }
+{
+    shelf.store::<GiveBack>(seat, word, asked);
 }

@@ -1,0 +1,266 @@
+-- Each step of a worker keeps the rule of the ring's table.
+use Rattle.std.proofs.Common.{◌≡◌, ◌≢◌, ℕ, suc, ◌+◌, ◌*◌, ◌/◌, ◌%◌, ◌<◌, ◌≤◌, Bool, true, false, eqb, if◌then◌else◌, List, [], ◌∷◌, ◌++◌, length, map, get_or, set, Option, Some, None, inl, inr, ⊎_elim, refl, sym, ◌∙◌, ap, subst, eq-eqb, arith}
+use Rattle.std.proofs.lemmas.Bool.{cases_eq, ne_eqb}
+use Rattle.std.proofs.lemmas.List.{map-set}
+use Rattle.std.proofs.lemmas.Nat.{div_below, mod_below, div-add-mod'}
+use prog.Atomic.{either}
+use mathlib.Core.Option as maybe
+use lib.ListN.{get_elem?}
+use Rattle.atomic_table.specs.Table as table
+use Rattle.ticket_core.specs.declared.shape.Shape.{Shape}
+use Rattle.ticket_core.specs.State.{Address, Shown, Meaning, Place, Unasked, Waiting, Held, Answered, Collected, Ticket, State, sender_at, place_of}
+use Rattle.ticket_board.specs.Ring.Layout.{cell_of, cells_in, cell_words, state_field, word_of, state_place, address_place, state_at, asked_word, taken_word, answered_word, collecting_word}
+use Rattle.ticket_board.specs.Ring.Homes.{Home, Out, Empty, Full, home_at}
+use Rattle.ticket_board.specs.Ring.Views.{Working, Role, Opens, Asks, Works, View, worker, working_of, next_received, asking_at}
+use Rattle.ticket_board.specs.Ring.Shows.{Board, CellShows, SenderShows, Seated, Sits, Shows}
+use Rattle.ticket_board.specs.Ring.Steps.{WorkerStep, LooksAt, Takes, ReadsAddress, Answers, GivesBack, working_after, worked}
+use Rattle.ticket_board.specs.Ring.Rule.{home_shown, board_shown, Holds, worker_of, IsWorker, IsOfCell, KnowsWorked, KnowsLooked, KnowsTried}
+use Rattle.ticket_board.proofs.RingPlaces.{standing}
+use Rattle.ticket_board.proofs.RingWorkerSteps.{looks-at, hits, misses, reads-address, answers, gives-back, slot-waits}
+use Rattle.ticket_board.proofs.RingHomes.{set-same, home-empty}
+
+is-worker : (role : Role) → IsWorker role → role ≡ Works (worker_of role) (working_of role)
+is-worker (Opens cut) h = absurd h
+is-worker (Asks s asking) h = absurd h
+is-worker (Works w working) h = refl
+
+-- ---- the number in a state word
+
+number-of : (n next : ℕ) (collecting : Option Shown) (place : Place) (word : ℕ) (home : Home) → CellShows n next collecting place word home → word / 8 ≡ n
+number-of n next collecting Unasked word home shows = let e : word ≡ 8 * n = shows.0 in omega arith
+number-of n next collecting Waiting word home shows = let e : word ≡ 8 * n + 1 = shows.0 in omega arith
+number-of n next collecting (Held w) word home shows = let e : word ≡ 8 * n + 2 = shows.0 in omega arith
+number-of n next collecting (Answered answer) word home shows =
+    ⊎_elim (λ (x : (word ≡ answered_word n) × (home ≡ Full answer)). let e : word ≡ 8 * n + 3 = x.0 in let h : word / 8 ≡ n = omega arith in h)
+    (λ (x : (word ≡ collecting_word n) × (home ≡ Out) × (n ≡ next) × (collecting ≡ Some answer)). let e : word ≡ 8 * n + 4 = x.0 in let h : word / 8 ≡ n = omega arith in h) shows
+number-of n next collecting Collected word home shows = absurd shows
+
+-- a cell's state word is of a number that uses the cell
+of-cell : (meaning : Meaning) (shape : Shape) (key : List ℕ) (board : Board) (state : State) → Shows meaning shape key board state
+    → (cell : ℕ) → cell < cells_in shape → IsOfCell shape cell (get_or board.words (word_of cell state_field) 0)
+of-cell meaning shape key board state shows cell within =
+    let some_room : 0 < shape.window = shows.fits.4 in
+    let s : ℕ = cell / shape.window in
+    let below : s < shape.senders = div_below cell shape.window shape.senders some_room within in
+    let stands = standing shape some_room (next_received (asking_at board.views s)) (cell % shape.window) (mod_below cell shape.window some_room) in
+    let here : cell_of shape s stands.0 ≡ cell = ap (λ (k : ℕ). s * shape.window + k) stands.3 ∙ div-add-mod' cell shape.window in
+    let number : state_at shape board.words s stands.0 / 8 ≡ stands.0 =
+    number-of stands.0 (next_received (asking_at board.views s)) (asking_at board.views s).collecting (place_of (sender_at state s) stands.0)
+    (state_at shape board.words s stands.0) (home_at shape board.homes s stands.0) ((shows.senders s below).cells stands.0 stands.1 stands.2) in
+    ap (λ (c : ℕ). get_or board.words (word_of c state_field) 0 / 8 % shape.window) (sym here) ∙ ap (λ (k : ℕ). k % shape.window) number ∙ stands.3
+
+module _ {A : Type 0} (shown : A → Shown) (meaning : Meaning) (shape : Shape) (key : List ℕ) (slots id : ℕ) (me : table.Me (Option A) View)
+    (works : IsWorker me.0.role) where
+  abbrev w : ℕ
+  w = worker_of me.0.role
+
+  abbrev working : Working
+  working = working_of me.0.role
+
+  abbrev Allowed : ℕ → (ℕ → ℕ) → (ℕ → table.Me (Option A) View → Type 0) → Type 0
+  Allowed place change told = table.Allows (Holds shown meaning shape key) slots id me place change told
+
+  view-is : (seats : ℕ) → Seated shape key seats id me.0 → me.0 ≡ worker shape key w working
+  view-is seats seated = λ i. record { shape = seated.shape_is i; key = seated.key_is i; role = is-worker me.0.role works i }
+
+  after-is : (seats : ℕ) (new : Working) → Seated shape key seats id me.0 → worker shape key w new ≡ worker me.0.shape me.0.key w new
+  after-is seats new seated = λ i. worker (sym seated.shape_is i) (sym seated.key_is i) w new
+
+  -- the words, the slots and this seat's view
+  abbrev ShowsWith : table.State (Option A) View → State → List ℕ → List Home → Working → Type 0
+  ShowsWith state core words homes new =
+      Shows meaning shape key (record { words = words; homes = homes; views = set state.views id (worker shape key w new) }) core
+
+  pub looks-allowed : (place cell : ℕ) → working.hand ≡ None → cell < cells_in me.0.shape → place ≡ word_of cell state_field
+      → Allowed place (λ word. word) (λ word. KnowsLooked cell word me)
+  looks-allowed place cell empty within at state holds deep sits fits =
+      let seated : Seated shape key (length state.views) id me.0 = holds.1.seated id me.0 sits in
+      let within' : cell < cells_in shape = subst (λ (x : Shape). cell < cells_in x) seated.shape_is within in
+      let word : ℕ = get_or state.words place 0 in
+      let law : Shows meaning shape key (worked shape key id w working (LooksAt cell) (board_shown shown state)) holds.0 =
+      looks-at meaning shape key (board_shown shown state) holds.0 holds.1 id w working (sits ∙ ap maybe.some (view-is (length state.views) seated)) cell empty within' in
+      let of : IsOfCell shape cell (get_or state.words (word_of cell state_field) 0) = of-cell meaning shape key (board_shown shown state) holds.0 holds.1 cell within' in (
+        worker shape key w (working_after shape working (LooksAt cell) word),
+        table.keeps,
+        tt,
+        (
+          holds.0,
+          subst (λ (x : List ℕ × ℕ). ShowsWith state holds.0 x.0 (map (home_shown shown) state.homes) (working_after shape working (LooksAt cell) (get_or state.words x.1 0)))
+              (λ i. (sym (set-same state.words place) i, sym at i)) law,
+        ),
+        (
+          (λ i. (worker (sym seated.shape_is i) (sym seated.key_is i) w (working_after (sym seated.shape_is i) working (LooksAt cell) word), me.1)),
+          subst (λ (x : Shape × ℕ). IsOfCell x.0 cell (get_or state.words x.1 0)) (λ i. (sym seated.shape_is i, sym at i)) of,
+        ),
+      )
+
+  -- the cell is told by the word's place
+  cell-is : (cell : ℕ) → word_of cell state_field / cell_words ≡ cell
+  cell-is cell = omega arith
+
+  pub cell-of-word : (place cell : ℕ) → place ≡ word_of cell state_field → place / cell_words ≡ cell
+  cell-of-word place cell at = ap (λ (x : ℕ). x / cell_words) at ∙ cell-is cell
+
+  pub looks-at-word : (place cell : ℕ) → working.hand ≡ None → cell < cells_in me.0.shape → place ≡ word_of cell state_field
+      → Allowed place (λ word. word) (λ word. KnowsLooked (place / cell_words) word me)
+  looks-at-word place cell empty within at =
+      subst (λ (x : ℕ). Allowed place (λ word. word) (λ word. KnowsLooked x word me)) (sym (cell-of-word place cell at)) (looks-allowed place cell empty within at)
+
+  -- ---- a number is tried
+
+  module _ (place s n : ℕ) (empty : working.hand ≡ None) (saw : working.seen ≡ Some (s, n)) (at : place ≡ state_place me.0.shape s n)
+      (state : table.State (Option A) View) (holds : Holds shown meaning shape key state) (sits : get_elem? state.views id ≡ maybe.some me.0) where
+    seated : Seated shape key (length state.views) id me.0
+    seated = holds.1.seated id me.0 sits
+
+    at' : place ≡ state_place shape s n
+    at' = at ∙ ap (λ (x : Shape). state_place x s n) seated.shape_is
+
+    sits' : Sits (board_shown shown state) id (worker shape key w working)
+    sits' = sits ∙ ap maybe.some (view-is (length state.views) seated)
+
+    abbrev word : ℕ
+    word = get_or state.words place 0
+
+    found : word ≡ state_at shape state.words s n
+    found = ap (λ (x : ℕ). get_or state.words x 0) at'
+
+    abbrev tried : Bool → Working
+    tried hit = record working {
+      hand = if hit then Some (s, n) else None;
+      read = None;
+      seen = None;
+      missed = if hit then working.missed else working.missed ++ cell_of shape s n ∷ [];
+    }
+
+    -- a step that keeps the rule, and the slots that are out with the seat then
+    abbrev Ends : Bool → Type 0
+    Ends hit =
+        (act : table.Act (Option A)) × table.Valid state.homes me.1 act
+        × Holds shown meaning shape key (table.stepped state place (either hit (taken_word n) word) id me.1 (worker shape key w (tried hit)) act)
+        × (table.carried_after me.1 act ≡ (if hit then (cell_of shape s n, None) ∷ me.1 else me.1))
+
+    ends-taken : word ≡ asked_word n → Ends true
+    ends-taken is =
+        let law = hits meaning shape key (board_shown shown state) holds.0 holds.1 id w working sits' s n empty saw (sym found ∙ is) in
+        (
+          table.takes (cell_of shape s n) None,
+          home-empty shown state.homes (cell_of shape s n)
+              (slot-waits meaning shape key (board_shown shown state) holds.0 holds.1 id w working sits' s n empty saw (sym found ∙ is)),
+          (
+            law.0,
+            subst (λ (x : ℕ × List Home). ShowsWith state law.0 (set state.words x.0 (taken_word n)) x.1 (tried true))
+                (λ i. (sym at' i, sym (map-set (home_shown shown) state.homes (cell_of shape s n) maybe.none) i)) law.2,
+          ),
+          refl,
+        )
+
+    ends-missed : Ends false
+    ends-missed =
+        let law = misses meaning shape key (board_shown shown state) holds.0 holds.1 id w working sits' s n empty saw in
+        (
+          table.keeps,
+          tt,
+          (
+            holds.0,
+            subst (λ (x : List ℕ). ShowsWith state holds.0 x (map (home_shown shown) state.homes) (tried false)) (sym (set-same state.words place)) law,
+          ),
+          refl,
+        )
+
+    ends : Ends (eqb word (asked_word n))
+    ends = elim (cases_eq word (asked_word n)) [
+      | inl is ↦ subst Ends (sym (eq-eqb word (asked_word n) is)) (ends-taken is)
+      | inr ne ↦ subst Ends (sym (ne_eqb word (asked_word n) ne)) ends-missed
+    ]
+
+  pub takes-allowed : (place s n : ℕ) → working.hand ≡ None → working.seen ≡ Some (s, n) → place ≡ state_place me.0.shape s n
+      → Allowed place (λ word. either (eqb word (asked_word n)) (taken_word n) word) (λ word. KnowsTried (s, n) word me)
+  takes-allowed place s n empty saw at state holds deep sits fits =
+      let seat = seated place s n empty saw at state holds sits in
+      let done = ends place s n empty saw at state holds sits in
+      let word : ℕ = get_or state.words place 0 in
+      let slots_are : table.carried_after me.1 done.0 ≡ (if eqb word (asked_word n) then (cell_of me.0.shape s n, None) ∷ me.1 else me.1) =
+      done.3 ∙ ap (λ (x : Shape). if eqb word (asked_word n) then (cell_of x s n, None) ∷ me.1 else me.1) (sym seat.shape_is) in (
+        worker shape key w (working_after shape working (Takes s n) word),
+        done.0,
+        done.1,
+        done.2,
+        (λ i. (worker (sym seat.shape_is i) (sym seat.key_is i) w (working_after (sym seat.shape_is i) working (Takes s n) word), slots_are i)),
+      )
+
+  pub tries-allowed : (place asked taken s n : ℕ) → working.hand ≡ None → working.seen ≡ Some (s, n) → place ≡ state_place me.0.shape s n
+      → asked ≡ asked_word n → taken ≡ taken_word n
+      → Allowed place (λ word. either (eqb word asked) taken word) (λ word. KnowsTried (s, n) word me)
+  tries-allowed place asked taken s n empty saw at is is' =
+      subst (λ (x : ℕ × ℕ). Allowed place (λ word. either (eqb word x.0) x.1 word) (λ word. KnowsTried (s, n) word me))
+      (λ i. (sym is i, sym is' i)) (takes-allowed place s n empty saw at)
+
+  -- ---- the address of the number in its hand
+
+  pub reads-allowed : (place s n : ℕ) → working.hand ≡ Some (s, n) → place ≡ address_place me.0.shape s n
+      → Allowed place (λ word. word) (λ word. KnowsWorked (ReadsAddress s n) word me.1 me)
+  reads-allowed place s n holding at state holds deep sits fits =
+      let seated : Seated shape key (length state.views) id me.0 = holds.1.seated id me.0 sits in
+      let at' : place ≡ address_place shape s n = at ∙ ap (λ (x : Shape). address_place x s n) seated.shape_is in
+      let word : ℕ = get_or state.words place 0 in
+      let law : Shows meaning shape key (worked shape key id w working (ReadsAddress s n) (board_shown shown state)) holds.0 =
+      reads-address meaning shape key (board_shown shown state) holds.0 holds.1 id w working (sits ∙ ap maybe.some (view-is (length state.views) seated)) s n holding in (
+        worker shape key w (working_after shape working (ReadsAddress s n) word),
+        table.keeps,
+        tt,
+        (
+          holds.0,
+          subst (λ (x : List ℕ × ℕ). ShowsWith state holds.0 x.0 (map (home_shown shown) state.homes) (working_after shape working (ReadsAddress s n) (get_or state.words x.1 0)))
+              (λ i. (sym (set-same state.words place) i, sym at' i)) law,
+        ),
+        (λ i. (worker (sym seated.shape_is i) (sym seated.key_is i) w (working_after (sym seated.shape_is i) working (ReadsAddress s n) word), me.1)),
+      )
+
+  -- ---- the number in its hand is put down
+
+  pub answers-allowed : (place word s n a : ℕ) (answer : A) → working.hand ≡ Some (s, n) → working.read ≡ Some a → shown answer ≡ meaning me.0.key a
+      → me.1 ≡ (cell_of me.0.shape s n, Some answer) ∷ table.rest me.1 → place ≡ state_place me.0.shape s n → word ≡ answered_word n
+      → Allowed place (λ _. word) (λ _. KnowsWorked (Answers s n a (shown answer)) 0 (table.rest me.1) me)
+  answers-allowed place word s n a answer holding read right carries at is state holds deep sits fits =
+      let seated : Seated shape key (length state.views) id me.0 = holds.1.seated id me.0 sits in
+      let at' : place ≡ state_place shape s n = at ∙ ap (λ (x : Shape). state_place x s n) seated.shape_is in
+      let right' : shown answer ≡ meaning key a = right ∙ ap (λ (x : List ℕ). meaning x a) seated.key_is in
+      let home : map (home_shown shown) (table.put_back state.homes me.1) ≡ set (map (home_shown shown) state.homes) (cell_of shape s n) (Full (shown answer)) =
+      ap (λ (x : List (ℕ × Option A)). map (home_shown shown) (table.put_back state.homes x)) carries
+      ∙ map-set (home_shown shown) state.homes (cell_of me.0.shape s n) (maybe.some (Some answer))
+      ∙ ap (λ (x : Shape). set (map (home_shown shown) state.homes) (cell_of x s n) (Full (shown answer))) seated.shape_is in
+      let new : Working = working_after shape working (Answers s n a (shown answer)) 0 in
+      let law = answers meaning shape key (board_shown shown state) holds.0 holds.1 id w working (sits ∙ ap maybe.some (view-is (length state.views) seated)) s n holding
+      a (shown answer) read right' in (
+        worker shape key w new,
+        table.gives,
+        tt,
+        (
+          law.0,
+          subst (λ (x : ℕ × ℕ × List Home). ShowsWith state law.0 (set state.words x.0 x.1) x.2 new) (λ i. (sym at' i, sym is i, sym home i)) law.2,
+        ),
+        (λ i. (after-is (length state.views) new seated i, table.rest me.1)),
+      )
+
+  pub gives-allowed : (place word s n : ℕ) → working.hand ≡ Some (s, n)
+      → me.1 ≡ (cell_of me.0.shape s n, None) ∷ table.rest me.1 → place ≡ state_place me.0.shape s n → word ≡ asked_word n
+      → Allowed place (λ _. word) (λ _. KnowsWorked (GivesBack s n) 0 (table.rest me.1) me)
+  gives-allowed place word s n holding carries at is state holds deep sits fits =
+      let seated : Seated shape key (length state.views) id me.0 = holds.1.seated id me.0 sits in
+      let at' : place ≡ state_place shape s n = at ∙ ap (λ (x : Shape). state_place x s n) seated.shape_is in
+      let home : map (home_shown shown) (table.put_back state.homes me.1) ≡ set (map (home_shown shown) state.homes) (cell_of shape s n) Empty =
+      ap (λ (x : List (ℕ × Option A)). map (home_shown shown) (table.put_back state.homes x)) carries
+      ∙ map-set (home_shown shown) state.homes (cell_of me.0.shape s n) (maybe.some None)
+      ∙ ap (λ (x : Shape). set (map (home_shown shown) state.homes) (cell_of x s n) Empty) seated.shape_is in
+      let new : Working = working_after shape working (GivesBack s n) 0 in
+      let law = gives-back meaning shape key (board_shown shown state) holds.0 holds.1 id w working (sits ∙ ap maybe.some (view-is (length state.views) seated)) s n holding in (
+        worker shape key w new,
+        table.gives,
+        tt,
+        (
+          law.0,
+          subst (λ (x : ℕ × ℕ × List Home). ShowsWith state law.0 (set state.words x.0 x.1) x.2 new) (λ i. (sym at' i, sym is i, sym home i)) law.2,
+        ),
+        (λ i. (after-is (length state.views) new seated i, table.rest me.1)),
+      )

@@ -1,0 +1,10 @@
+use Rattle.ticket_board.proofs.RingRule.{looks-allowed}
+use Rattle.ticket_board.proofs.ring.steps.look_next.Goals as goal
+
+pub load-requires : goal.load-requires
+load-requires g c = (
+  c.requires.table,
+  c.requires.within,
+  looks-allowed g.S.Solver.shown g.S.Solver.meaning c.args.shelf.now.key.shape c.args.shelf.now.key.key.now c.args.shelf.now.table_id.slots
+      c.args.seat.now.id c.args.seat.now.me c.requires.sender c.args.word c.requires.place,
+)
