@@ -6,6 +6,7 @@ mod laws;
 mod layout;
 mod plays;
 mod rule;
+mod slots;
 mod steps;
 
 pub use asker::Asker;

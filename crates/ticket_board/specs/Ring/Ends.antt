@@ -1,10 +1,10 @@
 -- What the ring shows its callers, and what a sender's end of it shows.
-use Rattle.std.specs.Prelude.{◌≡◌, ℕ, ◌+◌, ◌-◌, ◌<◌, ◌≤◌, List, [], length, Option, Some, None, nat_le, if◌then◌else◌}
+use Rattle.std.specs.Prelude.{◌≡◌, ℕ, ◌+◌, ◌-◌, ◌<◌, ◌≤◌, Bool, false, List, [], ◌∷◌, ◌++◌, length, map, take, slice_index_or, Option, Some, None, nat_le, if◌then◌else◌}
 use Rattle.atomic_table.specs.Table as table
 use Rattle.atomic_table.specs.Seated.{TableId}
 use Rattle.ticket_core.specs.declared.shape.Shape.{Shape}
 use Rattle.ticket_core.specs.Shape.{Fits}
-use Rattle.ticket_core.specs.State.{Address}
+use Rattle.ticket_core.specs.State.{Address, Shown, Meaning}
 use Rattle.ticket_board.specs.declared.fault.AskFault.{AskFault}
 use Rattle.ticket_board.specs.declared.fault.AskFault.TheVariants.{Full, Exhausted}
 use Rattle.ticket_board.specs.Ring.Layout.{words_in}
@@ -42,7 +42,7 @@ module _ {S : Type 0} where
   asker_shown sender table me = record { shape = me.0.shape; key = me.0.key; table = table; sender = sender; asking = asking_of me.0.role }
 
   -- its fields are what its seat knows
-  pub record IsAsker (sender asked received : ℕ) (shape : Shape) (me : table.Me S View) : Type 0 where
+  pub record IsAsker (meaning : Meaning) (sender asked received : ℕ) (found : Bool) (shape : Shape) (me : table.Me S View) : Type 0 where
     pub asks : IsSender me.0.role
     pub sender_is : sender_of me.0.role ≡ sender
     pub shape_is : me.0.shape ≡ shape
@@ -51,6 +51,9 @@ module _ {S : Type 0} where
     pub below : sender < shape.senders
     pub asked_is : asked ≡ next_asked (asking_of me.0.role)
     pub received_is : received ≡ next_received (asking_of me.0.role)
+    pub found_is : found ≡ (asking_of me.0.role).found
+    pub nothing_out : (asking_of me.0.role).collecting ≡ None
+    pub right : (asking_of me.0.role).received ≡ map (meaning me.0.key) (take received (asking_of me.0.role).asked)
     pub ordered : received ≤ asked
     pub window : asked ≤ received + shape.window
     pub most : asked ≤ shape.most
@@ -61,6 +64,21 @@ asking_refusal shape asking =
     if nat_le shape.most (next_asked asking) then Some Exhausted
     else if nat_le shape.window (next_asked asking - next_received asking) then Some Full
     else None
+
+-- what it asked at a number
+abbrev pub asked_at : Asking → ℕ → Address
+asked_at asking n = slice_index_or asking.asked n 0
+
+-- it was seen whether the next number is answered
+abbrev pub looks : Bool → Asking → Asking
+looks found asking = record asking {
+  found = found;
+  missed = if found then asking.missed else asking.missed ++ next_received asking ∷ [];
+}
+
+-- the next answer is received
+abbrev pub receives_one : Shown → Asking → Asking
+receives_one answer asking = record asking { received = asking.received ++ answer ∷ []; found = false; collecting = None }
 
 -- one address more is asked about
 abbrev pub asks_one : Address → Asking → Asking

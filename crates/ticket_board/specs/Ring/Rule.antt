@@ -78,6 +78,10 @@ module _ {A : Type 0} where
   abbrev pub CarriesFirst : ℕ → Option A → table.Me (Option A) View → Type 0
   CarriesFirst cell value me = me.1 ≡ (cell, value) ∷ table.rest me.1
 
+  -- that slot with something else in it
+  abbrev pub carries : ℕ → Option A → table.Me (Option A) View → table.Me (Option A) View
+  carries cell value me = (me.0, (cell, value) ∷ table.rest me.1)
+
   -- it is that of the number in a worker's hand, and has the meaning of the address that was asked
   abbrev pub CarriesMeaning : (A → Shown) → Meaning → table.Me (Option A) View → Type 0
   CarriesMeaning shown meaning me =

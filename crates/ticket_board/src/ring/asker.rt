@@ -1,14 +1,15 @@
 //! A sender's end of the ring.
 
-ghost use Rattle.std.specs.Prelude.{◌≡◌, None, Some, IfOk, OnOk, OnErr, MatchResult};
-ghost use Rattle.ticket_board.specs.Ring.Views.{next_asked};
-ghost use Rattle.ticket_board.specs.Ring.Ends.{IsAskerOf, asking_refusal, asks_one};
+ghost use Rattle.std.specs.Prelude.{◌≡◌, ◌<◌, true, None, Some, IfOk, OnOk, OnErr, MatchResult};
+ghost use Rattle.ticket_board.specs.Ring.Views.{next_asked, next_received};
+ghost use Rattle.ticket_board.specs.Ring.Ends.{IsAskerOf, asking_refusal, asked_at, asks_one, looks, receives_one};
 
 use crate::fault::AskFault;
 use crate::ring::board::Ring;
 use crate::ring::layout::{ADDRESS, CELL_WORDS, STATE, cell_at};
 use crate::ring::rule::Place;
-use crate::ring::steps::{publish, write_address};
+use crate::ring::slots::take_out;
+use crate::ring::steps::{bring_out, look_next, publish, receive, write_address};
 use std::marker::Model;
 use ticket_core::{Shape, Solver};
 
@@ -19,6 +20,7 @@ pub struct Asker<S: Solver> {
     pub(crate) sender: usize,
     pub(crate) asked: u64,
     pub(crate) received: u64,
+    pub(crate) found: bool,
 }
 
 impl<S: Solver> Model for Asker<S> {
@@ -28,7 +30,7 @@ impl<S: Solver> Model for Asker<S> {
 
     ghost view = { λ asker. asker_shown asker.sender asker.seat.table_id asker.seat.me };
 
-    ghost invariant = { λ asker. IsAsker asker.sender asker.asked asker.received asker.shape asker.seat.me };
+    ghost invariant = { λ asker. IsAsker S.meaning asker.sender asker.asked asker.received asker.found asker.shape asker.seat.me };
 }
 
 impl<S: Solver> Asker<S> {
@@ -62,5 +64,42 @@ impl<S: Solver> Asker<S> {
         );
         self.asked = number + 1;
         Ok(number)
+    }
+
+    /// Whether the next number was found answered, as `collect` asks. It waits for nobody and takes no memory.
+    pub fn ready<'a>(&mut self, ring: &Ring<'a, S>) -> bool
+        requires { IsAskerOf ring.now self.old }
+        ensures found { self.old.asking.found ≡ true → result ≡ true }
+        ensures looked { self.new ≡ record self.old { asking = looks result self.old.asking } }
+    {
+        if self.found {
+            return true;
+        }
+        let cell = cell_at(&self.shape, self.sender, self.received);
+        let word = look_next(&ring.table.shared, &mut self.seat, cell * CELL_WORDS + STATE);
+        self.found = word == 8 * self.received + 3;
+        self.found
+    }
+
+    /// Receives the answer of the next number, which was found answered, and returns that number and its answer.
+    /// It waits for nobody and takes no memory.
+    pub fn collect<'a>(&mut self, ring: &Ring<'a, S>) -> (u64, S::Answer)
+        requires ring { IsAskerOf ring.now self.old }
+        requires found { self.old.asking.found ≡ true }
+        ensures number { (result.0 ≡ next_received self.old.asking) × (result.0 < next_asked self.old.asking) }
+        ensures answer { S.shown result.1 ≡ S.meaning self.old.key (asked_at self.old.asking result.0) }
+        ensures received { self.new ≡ record self.old { asking = receives_one (S.shown result.1) self.old.asking } }
+    {
+        let number = self.received;
+        let cell = cell_at(&self.shape, self.sender, number);
+        let word = cell * CELL_WORDS + STATE;
+        let free = 8 * (number + self.shape.window as u64);
+        let shelf = &ring.table.shared;
+        bring_out(shelf, &mut self.seat, word, 8 * number + 4);
+        let answer = take_out(shelf, &mut self.seat, cell);
+        receive(shelf, &mut self.seat, word, free);
+        self.received = number + 1;
+        self.found = false;
+        (number, answer)
     }
 }
