@@ -14,6 +14,7 @@ pub mod RingSenderSteps
 pub mod RingWorkerSteps
 pub mod RingOpening
 pub mod RingHomes
+pub mod RingMissed
 pub mod RingRule
 pub mod RingWorkerRule
 pub mod RingCode

@@ -253,7 +253,7 @@ module _ (meaning : Meaning) (shape : Shape) (key : List ℕ) (board : Board) (s
         inside (sender_at state s).places (next_received asking) Unasked (λ e. let is : place_of (sender_at state s) (next_received asking) ≡ Unasked = e in cc) in (
           omega (arith, within, placed),
           (shows.sound.each s).answered (next_received asking) (answer_at_home (homes (next_received asking))) answered
-          ∙ (λ i. meaning (shows.key_is i) (get_or (mine.asked i) (next_received asking) 0)),
+              ∙ (λ i. meaning (shows.key_is i) (get_or (mine.asked i) (next_received asking) 0)),
         )
 
     -- the cells of two numbers of the window

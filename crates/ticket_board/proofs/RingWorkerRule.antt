@@ -142,8 +142,7 @@ module _ {A : Type 0} (shown : A → Shown) (meaning : Meaning) (shape : Shape) 
 
     ends-taken : word ≡ asked_word n → Ends true
     ends-taken is =
-        let law = hits meaning shape key (board_shown shown state) holds.0 holds.1 id w working sits' s n empty saw (sym found ∙ is) in
-        (
+        let law = hits meaning shape key (board_shown shown state) holds.0 holds.1 id w working sits' s n empty saw (sym found ∙ is) in (
           table.takes (cell_of shape s n) None,
           home-empty shown state.homes (cell_of shape s n)
               (slot-waits meaning shape key (board_shown shown state) holds.0 holds.1 id w working sits' s n empty saw (sym found ∙ is)),
@@ -157,8 +156,7 @@ module _ {A : Type 0} (shown : A → Shown) (meaning : Meaning) (shape : Shape) 
 
     ends-missed : Ends false
     ends-missed =
-        let law = misses meaning shape key (board_shown shown state) holds.0 holds.1 id w working sits' s n empty saw in
-        (
+        let law = misses meaning shape key (board_shown shown state) holds.0 holds.1 id w working sits' s n empty saw in (
           table.keeps,
           tt,
           (

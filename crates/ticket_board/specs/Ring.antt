@@ -9,3 +9,4 @@ pub mod Opening
 pub mod Codes
 pub mod Rule
 pub mod Ends
+pub mod Takers

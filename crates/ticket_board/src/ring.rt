@@ -8,6 +8,7 @@ mod plays;
 mod rule;
 mod slots;
 mod steps;
+mod taker;
 
 pub use asker::Asker;
 pub use board::Ring;
@@ -15,3 +16,4 @@ pub use laws::{
     law_of_k1, law_of_k2, law_of_k3, law_of_k4, law_of_k5, law_of_k6, law_of_k7, law_of_k8,
     law_of_steps,
 };
+pub use taker::Taker;

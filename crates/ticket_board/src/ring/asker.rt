@@ -76,7 +76,11 @@ impl<S: Solver> Asker<S> {
             return true;
         }
         let cell = cell_at(&self.shape, self.sender, self.received);
-        let word = look_next(&ring.table.shared, &mut self.seat, cell * CELL_WORDS + STATE);
+        let word = look_next(
+            &ring.table.shared,
+            &mut self.seat,
+            cell * CELL_WORDS + STATE,
+        );
         self.found = word == 8 * self.received + 3;
         self.found
     }

@@ -7,7 +7,12 @@ use crate::ring::rule::{Place, Shelf};
 use ticket_core::Solver;
 
 /// Puts an answer into the slot, which is empty.
-pub fn put_in<'a, S: Solver>(shelf: &Shelf<'a, S>, seat: &mut Place<S>, cell: usize, answer: S::Answer)
+pub fn put_in<'a, S: Solver>(
+    shelf: &Shelf<'a, S>,
+    seat: &mut Place<S>,
+    cell: usize,
+    answer: S::Answer,
+)
     requires table { seat.old.table_id ≡ shelf.now.table_id }
     requires slot { CarriesFirst cell None seat.old.me }
     ensures same { (seat.new.table_id ≡ seat.old.table_id) × (seat.new.id ≡ seat.old.id) }

@@ -1,7 +1,7 @@
 //! The steps of the ring on its table, each one store, load or compare-exchange: first those of a sender, then
-//! those of a worker.
+//! those of a worker, which are counted.
 
-ghost use Rattle.std.specs.Prelude.{◌≡◌, ◌<◌, ◌+◌, ◌∷◌, true, Some, None};
+ghost use Rattle.std.specs.Prelude.{◌≡◌, ◌<◌, ◌+◌, true, Some, None};
 ghost use Rattle.atomic_table.specs.Table.{rest};
 ghost use Rattle.ticket_board.specs.Ring.Layout.{cells_in, cell_of, word_of, state_field, address_place, state_place, free_word, asked_word, taken_word, answered_word, collecting_word};
 ghost use Rattle.ticket_board.specs.Ring.Homes.{Out};
@@ -16,6 +16,8 @@ use crate::ring::plays::{
     BringOut, Finish, GiveBack, LookAt, LookNext, Publish, ReadAddress, Receive, Take, WriteAddress,
 };
 use crate::ring::rule::{Place, Shelf};
+use dw_bytes::Steps;
+use std::sync::ledger::Ledger;
 use ticket_core::Solver;
 
 /// Stores an address in the cell of the number that a sender asks next.
@@ -87,7 +89,12 @@ pub fn receive<'a, S: Solver>(shelf: &Shelf<'a, S>, seat: &mut Place<S>, word: u
 }
 
 /// Loads the state word of a cell, whose hand is empty.
-pub fn look_at<'a, S: Solver>(shelf: &Shelf<'a, S>, seat: &mut Place<S>, cell: usize) -> u64
+pub fn look_at<'a, S: Solver, L: Ledger>(
+    shelf: &Shelf<'a, S>,
+    seat: &mut Place<S>,
+    cell: usize,
+    steps: &mut Steps<L>,
+) -> u64
     requires table { seat.old.table_id ≡ shelf.now.table_id }
     requires words { word_of cell state_field < shelf.now.table_id.words }
     requires few { cell < 65536 }
@@ -96,18 +103,21 @@ pub fn look_at<'a, S: Solver>(shelf: &Shelf<'a, S>, seat: &mut Place<S>, cell: u
     requires empty { (working_of seat.old.me.0.role).hand ≡ None }
     ensures same { (seat.new.table_id ≡ seat.old.table_id) × (seat.new.id ≡ seat.old.id) }
     ensures told { KnowsLooked cell result seat.old.me seat.new.me }
+    ensures counted { steps.new ≡ steps.old + 1 }
 {
+    steps.tick();
     shelf.load::<LookAt>(seat, cell * CELL_WORDS + STATE)
 }
 
 /// Exchanges the word of the number that a worker saw for one that says that it is taken, in one try, and returns
 /// the word that was there. Where that said that the number waits, the slot is taken too.
-pub fn try_take<'a, S: Solver>(
+pub fn try_take<'a, S: Solver, L: Ledger>(
     shelf: &Shelf<'a, S>,
     seat: &mut Place<S>,
     word: usize,
     asked: u64,
     taken: u64,
+    steps: &mut Steps<L>,
 ) -> u64
     requires table { seat.old.table_id ≡ shelf.now.table_id }
     requires within { word < shelf.now.table_id.words }
@@ -119,12 +129,19 @@ pub fn try_take<'a, S: Solver>(
     requires taken { taken ≡ taken_word (seen_of seat.old.me.0.role).1 }
     ensures same { (seat.new.table_id ≡ seat.old.table_id) × (seat.new.id ≡ seat.old.id) }
     ensures told { KnowsTried (seen_of seat.old.me.0.role) result seat.old.me seat.new.me }
+    ensures counted { steps.new ≡ steps.old + 1 }
 {
+    steps.tick();
     shelf.compare_exchange::<Take>(seat, word, asked, taken)
 }
 
 /// Loads the address of the number in a worker's hand.
-pub fn read_address<'a, S: Solver>(shelf: &Shelf<'a, S>, seat: &mut Place<S>, word: usize) -> u64
+pub fn read_address<'a, S: Solver, L: Ledger>(
+    shelf: &Shelf<'a, S>,
+    seat: &mut Place<S>,
+    word: usize,
+    steps: &mut Steps<L>,
+) -> u64
     requires table { seat.old.table_id ≡ shelf.now.table_id }
     requires within { word < shelf.now.table_id.words }
     requires worker { IsWorker seat.old.me.0.role }
@@ -132,13 +149,21 @@ pub fn read_address<'a, S: Solver>(shelf: &Shelf<'a, S>, seat: &mut Place<S>, wo
     requires place { word ≡ address_place seat.old.me.0.shape (hand_of seat.old.me.0.role).0 (hand_of seat.old.me.0.role).1 }
     ensures same { (seat.new.table_id ≡ seat.old.table_id) × (seat.new.id ≡ seat.old.id) }
     ensures told { KnowsRead (hand_of seat.old.me.0.role) result seat.old.me seat.new.me }
+    ensures counted { steps.new ≡ steps.old + 1 }
 {
+    steps.tick();
     shelf.load::<ReadAddress>(seat, word)
 }
 
 /// Stores that the number in a worker's hand is answered, and gives the slot back, in which the meaning of its
 /// address lies.
-pub fn finish<'a, S: Solver>(shelf: &Shelf<'a, S>, seat: &mut Place<S>, word: usize, answered: u64)
+pub fn finish<'a, S: Solver, L: Ledger>(
+    shelf: &Shelf<'a, S>,
+    seat: &mut Place<S>,
+    word: usize,
+    answered: u64,
+    steps: &mut Steps<L>,
+)
     requires table { seat.old.table_id ≡ shelf.now.table_id }
     requires within { word < shelf.now.table_id.words }
     requires worker { IsWorker seat.old.me.0.role }
@@ -149,12 +174,20 @@ pub fn finish<'a, S: Solver>(shelf: &Shelf<'a, S>, seat: &mut Place<S>, word: us
     requires answered { answered ≡ answered_word (hand_of seat.old.me.0.role).1 }
     ensures same { (seat.new.table_id ≡ seat.old.table_id) × (seat.new.id ≡ seat.old.id) }
     ensures told { KnowsAnswered (hand_of seat.old.me.0.role) (rest seat.old.me.1) seat.old.me seat.new.me }
+    ensures counted { steps.new ≡ steps.old + 1 }
 {
+    steps.tick();
     shelf.store::<Finish>(seat, word, answered);
 }
 
 /// Stores that the number in a worker's hand waits again, and gives the slot back, which is empty.
-pub fn give_back<'a, S: Solver>(shelf: &Shelf<'a, S>, seat: &mut Place<S>, word: usize, asked: u64)
+pub fn give_back<'a, S: Solver, L: Ledger>(
+    shelf: &Shelf<'a, S>,
+    seat: &mut Place<S>,
+    word: usize,
+    asked: u64,
+    steps: &mut Steps<L>,
+)
     requires table { seat.old.table_id ≡ shelf.now.table_id }
     requires within { word < shelf.now.table_id.words }
     requires worker { IsWorker seat.old.me.0.role }
@@ -164,6 +197,8 @@ pub fn give_back<'a, S: Solver>(shelf: &Shelf<'a, S>, seat: &mut Place<S>, word:
     requires asked { asked ≡ asked_word (hand_of seat.old.me.0.role).1 }
     ensures same { (seat.new.table_id ≡ seat.old.table_id) × (seat.new.id ≡ seat.old.id) }
     ensures told { KnowsGivenBack (hand_of seat.old.me.0.role) (rest seat.old.me.1) seat.old.me seat.new.me }
+    ensures counted { steps.new ≡ steps.old + 1 }
 {
+    steps.tick();
     shelf.store::<GiveBack>(seat, word, asked);
 }

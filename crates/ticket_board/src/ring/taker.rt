@@ -1,0 +1,262 @@
+//! A worker's end of the ring.
+
+ghost use Rattle.std.specs.Prelude.{◌≡◌, ◌+◌, ◌*◌, ◌≤◌, ◌<◌, None, Some, IsSome, IsTrue, IfSome, MatchBool};
+ghost use Rattle.ticket_board.specs.Ring.Layout.{cells_in};
+ghost use Rattle.ticket_board.specs.Ring.Takers.{IsTakerOf, HasSought, HoldsRead, IsMeaning, MissedEach, MissedAll, Between};
+ghost use Rattle.ticket_board.specs.Ring.Takers.{knowing, answers_one, gives_one};
+
+use crate::ring::board::Ring;
+use crate::ring::layout::{ADDRESS, CELL_WORDS, STATE, cell_at};
+use crate::ring::rule::Place;
+use crate::ring::slots::put_in;
+use crate::ring::steps::{finish, give_back, look_at, read_address, try_take};
+use dw_bytes::Steps;
+use std::marker::{Brand, Model};
+use std::sync::ledger::{Blank, Ledger};
+use ticket_core::{Shape, Solver};
+
+/// A worker's end of the ring: it takes numbers that wait. Contracts see what its seat knows.
+pub struct Taker<S: Solver> {
+    pub(crate) seat: Place<S>,
+    pub(crate) shape: Shape,
+    pub(crate) hand: Option<(usize, u64)>,
+    pub(crate) begin: usize,
+}
+
+impl<S: Solver> Model for Taker<S> {
+    ghost use Rattle.ticket_board.specs.Ring.Takers.{TakerState, taker_shown, IsTaker};
+
+    ghost Value = { TakerState };
+
+    ghost view = { λ taker. taker_shown taker.seat.table_id taker.seat.me };
+
+    ghost invariant = { λ taker. IsTaker taker.hand taker.shape taker.seat.me };
+}
+
+impl<S: Solver> Taker<S> {
+    /// Looks at a cell, and tries to take its number where that waits.
+    fn try_cell<'a, L: Ledger>(
+        &mut self,
+        ring: &Ring<'a, S>,
+        cell: usize,
+        steps: &mut Steps<L>,
+    ) -> bool
+        requires ring { IsTakerOf ring.now self.old }
+        requires empty { self.old.working.hand ≡ None }
+        requires within { cell < cells_in ring.now.shape }
+        ensures sought { HasSought self.old self.new }
+        ensures found { MatchBool result (IsSome self.new.working.hand) (MissedEach (λ other. other ≡ cell) self.old.working self.new.working) }
+        ensures counted { steps.new ≤ steps.old + 2 }
+    {
+        let shelf = &ring.table.shared;
+        let word = look_at(shelf, &mut self.seat, cell, steps);
+        if word % 8 != 1 {
+            return false;
+        }
+        let sender = cell / self.shape.window;
+        let place = cell * CELL_WORDS + STATE;
+        let found = try_take(shelf, &mut self.seat, place, word, word + 1, steps);
+        if found != word {
+            return false;
+        }
+        self.hand = Some((sender, word / 8));
+        true
+    }
+
+    /// Tries each of these cells, as far as one gives a number.
+    fn try_cells<'a, L: Ledger>(
+        &mut self,
+        ring: &Ring<'a, S>,
+        from: usize,
+        to: usize,
+        steps: &mut Steps<L>,
+    ) -> bool
+        requires ring { IsTakerOf ring.now self.old }
+        requires empty { self.old.working.hand ≡ None }
+        requires order { from ≤ to }
+        requires within { to ≤ cells_in ring.now.shape }
+        ensures sought { HasSought self.old self.new }
+        ensures found { MatchBool result (IsSome self.new.working.hand) (MissedEach (Between from to) self.old.working self.new.working) }
+        ensures counted { steps.new + 2 * from ≤ steps.old + 2 * to }
+    {
+        for cell in from..to {
+            if self.try_cell(ring, cell, steps) {
+                return true;
+            }
+        }
+        false
+    }
+
+    /// Tries all cells once, from the one on at which this worker begins.
+    fn seek<'a, L: Ledger>(&mut self, ring: &Ring<'a, S>, steps: &mut Steps<L>) -> bool
+        requires ring { IsTakerOf ring.now self.old }
+        requires empty { self.old.working.hand ≡ None }
+        ensures sought { HasSought self.old self.new }
+        ensures found { MatchBool result (IsSome self.new.working.hand) (MissedAll ring.now.shape self.old.working self.new.working) }
+        ensures counted { steps.new ≤ steps.old + 2 * cells_in ring.now.shape }
+    {
+        let cells = self.shape.senders * self.shape.window;
+        let begin = if self.begin < cells { self.begin } else { 0 };
+        if self.try_cells(ring, begin, cells, steps) {
+            return true;
+        }
+        self.try_cells(ring, 0, begin, steps)
+    }
+
+    /// Reads the address of the number in the hand.
+    fn read<'a, L: Ledger>(&mut self, ring: &Ring<'a, S>, steps: &mut Steps<L>) -> (usize, u64, u64)
+        requires ring { IsTakerOf ring.now self.old }
+        requires held { IsSome self.old.working.hand }
+        ensures sought { HasSought self.old self.new }
+        ensures held { HoldsRead result self.new.working }
+        ensures same { self.new.working.hand ≡ self.old.working.hand }
+        ensures counted { steps.new ≡ steps.old + 1 }
+    {
+        let Some((sender, number)) = self.hand else {
+            unreachable!()
+        };
+        let cell = cell_at(&self.shape, sender, number);
+        let shelf = &ring.table.shared;
+        let a = read_address(shelf, &mut self.seat, cell * CELL_WORDS + ADDRESS, steps);
+        (sender, number, a)
+    }
+
+    /// Takes a number that waits, and returns its sender, the number and its address; or `None`, where no cell gave
+    /// it one in one pass over all cells. It waits for nobody and takes no memory.
+    pub fn take<'a>(&mut self, ring: &Ring<'a, S>) -> Option<(usize, u64, u64)>
+        requires ring { IsTakerOf ring.now self.old }
+        requires empty { self.old.working.hand ≡ None }
+        ensures sought { HasSought self.old self.new }
+        ensures taken { IfSome result (λ found. HoldsRead found self.new.working) }
+        ensures none { result ≡ None → MissedAll ring.now.shape self.old.working self.new.working }
+    {
+        self.take_uncounted::<Brand>(ring, Blank::new(1))
+    }
+
+    /// The same with steps of its own.
+    fn take_uncounted<'a, L: Ledger>(
+        &mut self,
+        ring: &Ring<'a, S>,
+        blank: Blank,
+    ) -> Option<(usize, u64, u64)>
+        requires name { blank.name ≡ L.name }
+        requires parts { blank.parts ≡ L.parts }
+        requires some { 0 < L.parts }
+        requires ring { IsTakerOf ring.now self.old }
+        requires empty { self.old.working.hand ≡ None }
+        ensures sought { HasSought self.old self.new }
+        ensures taken { IfSome result (λ found. HoldsRead found self.new.working) }
+        ensures none { result ≡ None → MissedAll ring.now.shape self.old.working self.new.working }
+    {
+        let mut steps = Steps::<L>::new(blank);
+        self.take_counted(ring, &mut steps)
+    }
+
+    /// Takes a number, as `take` does. A step is one load or compare-exchange of a word: there are at most two for
+    /// each cell, and one more.
+    pub fn take_counted<'a, L: Ledger>(
+        &mut self,
+        ring: &Ring<'a, S>,
+        steps: &mut Steps<L>,
+    ) -> Option<(usize, u64, u64)>
+        requires ring { IsTakerOf ring.now self.old }
+        requires empty { self.old.working.hand ≡ None }
+        ensures sought { HasSought self.old self.new }
+        ensures taken { IfSome result (λ found. HoldsRead found self.new.working) }
+        ensures none { result ≡ None → MissedAll ring.now.shape self.old.working self.new.working }
+        ensures counted { steps.new ≤ steps.old + 2 * cells_in ring.now.shape + 1 }
+    {
+        if !self.seek(ring, steps) {
+            return None;
+        }
+        Some(self.read(ring, steps))
+    }
+
+    /// Answers the number in the hand, and returns its sender and the number. It waits for nobody and takes no
+    /// memory.
+    pub fn answer<'a, L: Ledger>(
+        &mut self,
+        ring: &Ring<'a, S>,
+        answer: S::Answer,
+        steps: &mut Steps<L>,
+    ) -> (usize, u64)
+        requires ring { IsTakerOf ring.now self.old }
+        requires right { IsMeaning S.shown S.meaning answer self.old }
+        ensures ticket { self.old.working.hand ≡ Some result }
+        ensures answered { self.new ≡ knowing (answers_one result self.old.working) self.old }
+        ensures counted { steps.new ≡ steps.old + 1 }
+    {
+        let Some((sender, number)) = self.hand else {
+            unreachable!()
+        };
+        let cell = cell_at(&self.shape, sender, number);
+        let shelf = &ring.table.shared;
+        put_in(shelf, &mut self.seat, cell, answer);
+        finish(
+            shelf,
+            &mut self.seat,
+            cell * CELL_WORDS + STATE,
+            8 * number + 3,
+            steps,
+        );
+        self.hand = None;
+        (sender, number)
+    }
+
+    /// Gives the number in the hand back, which waits again, and returns its sender and the number. It waits for
+    /// nobody and takes no memory.
+    pub fn give_back<'a>(&mut self, ring: &Ring<'a, S>) -> (usize, u64)
+        requires ring { IsTakerOf ring.now self.old }
+        requires held { IsSome self.old.working.hand }
+        ensures ticket { self.old.working.hand ≡ Some result }
+        ensures given { self.new ≡ knowing (gives_one self.old.working) self.old }
+    {
+        self.give_back_uncounted::<Brand>(ring, Blank::new(1))
+    }
+
+    /// The same with steps of its own.
+    fn give_back_uncounted<'a, L: Ledger>(
+        &mut self,
+        ring: &Ring<'a, S>,
+        blank: Blank,
+    ) -> (usize, u64)
+        requires name { blank.name ≡ L.name }
+        requires parts { blank.parts ≡ L.parts }
+        requires some { 0 < L.parts }
+        requires ring { IsTakerOf ring.now self.old }
+        requires held { IsSome self.old.working.hand }
+        ensures ticket { self.old.working.hand ≡ Some result }
+        ensures given { self.new ≡ knowing (gives_one self.old.working) self.old }
+    {
+        let mut steps = Steps::<L>::new(blank);
+        self.give_back_counted(ring, &mut steps)
+    }
+
+    /// Gives the number in the hand back, as `give_back` does, in one step.
+    pub fn give_back_counted<'a, L: Ledger>(
+        &mut self,
+        ring: &Ring<'a, S>,
+        steps: &mut Steps<L>,
+    ) -> (usize, u64)
+        requires ring { IsTakerOf ring.now self.old }
+        requires held { IsSome self.old.working.hand }
+        ensures ticket { self.old.working.hand ≡ Some result }
+        ensures given { self.new ≡ knowing (gives_one self.old.working) self.old }
+        ensures counted { steps.new ≡ steps.old + 1 }
+    {
+        let Some((sender, number)) = self.hand else {
+            unreachable!()
+        };
+        let cell = cell_at(&self.shape, sender, number);
+        let shelf = &ring.table.shared;
+        give_back(
+            shelf,
+            &mut self.seat,
+            cell * CELL_WORDS + STATE,
+            8 * number + 1,
+            steps,
+        );
+        self.hand = None;
+        (sender, number)
+    }
+}
