@@ -15,6 +15,7 @@ pub mod RingWorkerSteps
 pub mod RingOpening
 pub mod RingHomes
 pub mod RingMissed
+pub mod RingTable
 pub mod RingRule
 pub mod RingWorkerRule
 pub mod RingCode

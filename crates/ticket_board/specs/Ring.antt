@@ -10,3 +10,4 @@ pub mod Codes
 pub mod Rule
 pub mod Ends
 pub mod Takers
+pub mod Opened

@@ -4,6 +4,7 @@ mod asker;
 mod board;
 mod laws;
 mod layout;
+mod opening;
 mod plays;
 mod rule;
 mod slots;

@@ -14,6 +14,7 @@ use std::marker::Model;
 use ticket_core::{Shape, Solver};
 
 /// A sender's end of the ring: it asks. Contracts see what its seat knows.
+#[derive(Drop)]
 pub struct Asker<S: Solver> {
     pub(crate) seat: Place<S>,
     pub(crate) shape: Shape,

@@ -8,6 +8,7 @@ use ticket_core::Solver;
 
 /// The words and slots of the board, as askers and takers share them. Contracts see its shape, its
 /// key, and which table it is.
+#[derive(Drop)]
 pub struct Ring<'a, S: Solver> {
     pub(crate) table: Table<Option<S::Answer>, Knowledge, Terms<'a>, Rule<S>, Global>,
 }

@@ -16,6 +16,7 @@ use std::sync::ledger::{Blank, Ledger};
 use ticket_core::{Shape, Solver};
 
 /// A worker's end of the ring: it takes numbers that wait. Contracts see what its seat knows.
+#[derive(Drop)]
 pub struct Taker<S: Solver> {
     pub(crate) seat: Place<S>,
     pub(crate) shape: Shape,

@@ -1,0 +1,135 @@
+-- The ring's table as it is opened, and seats that are cut off from it.
+use Rattle.std.proofs.Common.{◌≡◌, ℕ, zero, suc, ◌+◌, ◌-◌, ◌*◌, ◌%◌, ◌<◌, ◌≤◌, Bool, if◌then◌else◌, List, [], ◌∷◌, ◌++◌, length, get_or, map, replicate, Option, None, inl, inr, refl, sym, ◌∙◌, ap, subst, arith}
+use Rattle.std.proofs.lemmas.Bool.{cases_lt, lt-ltb, le-ltb}
+use Rattle.std.proofs.lemmas.List.{length-append, get_or_append_left}
+use Rattle.std.proofs.Math.Seq.{get_or-append_seam}
+use Rattle.std.proofs.lemmas.Nat.{mul-le}
+use mathlib.Core.Option as maybe
+use lib.ListN.{get_elem?}
+use Rattle.atomic_table.specs.Table as table
+use Rattle.ticket_core.specs.declared.shape.Shape.{Shape}
+use Rattle.ticket_core.specs.Shape.{Fits}
+use Rattle.ticket_core.specs.State.{Shown, Meaning, State, opening}
+use Rattle.atomic_table.specs.Seated.{TableId}
+use Rattle.ticket_board.specs.Ring.Layout.{cells_in, words_in, state_field, word_of, free_word}
+use Rattle.ticket_board.specs.Ring.Homes.{Home, Empty}
+use Rattle.ticket_board.specs.Ring.Views.{View, Asks, Works, opener, asker, worker, new_asking, new_working}
+use Rattle.ticket_board.specs.Ring.Shows.{Shows}
+use Rattle.ticket_board.specs.Ring.Opening.{AreFree, opened, next_seat}
+use Rattle.ticket_board.specs.Ring.Rule.{home_shown, board_shown, Holds, cut_of, left_after, cut_from}
+use Rattle.ticket_board.specs.Ring.Ends.{RingState, AskerState}
+use Rattle.ticket_board.specs.Ring.Takers.{TakerState}
+use Rattle.ticket_board.specs.Ring.Opened.{IsDesk, new_asker, new_taker, askers_from, takers_from}
+use Rattle.ticket_board.proofs.RingHomes.{all-empty}
+use Rattle.ticket_board.proofs.RingOpening.{opens, cuts}
+
+module _ {A : Type 0} (shown : A → Shown) (meaning : Meaning) where
+  -- the opened table shows the opening state
+  pub opening-holds : (shape : Shape) (key words : List ℕ) (count : ℕ) → Fits shape → AreFree shape words → count ≡ cells_in shape
+      → Holds shown meaning shape key (table.opening words (replicate count None) (opener shape key 0))
+  opening-holds shape key words count fits free is =
+      let law : Shows meaning shape key (opened shape key words) (opening shape key) = opens meaning shape key fits words free in (
+        opening shape key,
+        subst (λ (x : List Home). Shows meaning shape key (record { words = words; homes = x; views = opener shape key 0 ∷ [] }) (opening shape key))
+            (sym (all-empty shown count ∙ ap (λ (n : ℕ). replicate n Empty) is)) law,
+      )
+
+  -- and a seat that is cut off keeps the rule
+  pub splits-allowed : (shape : Shape) (key : List ℕ) (id cut : ℕ) → cut < shape.senders + shape.workers
+      → table.Splits (Holds shown meaning shape key) id (opener shape key cut) (opener shape key (suc cut)) (next_seat shape key cut)
+  splits-allowed shape key id cut left state holds sits =
+      (holds.0, cuts meaning shape key (board_shown shown state) holds.0 holds.1 id cut sits left)
+
+-- the same of the seat that is the ring's
+pub desk-splits : {A : Type 0} (shown : A → Shown) (meaning : Meaning) (ring : RingState) (id : ℕ) (table_id : TableId) (me : table.Me (Option A) View)
+    → IsDesk ring (cut_of me.0.role) table_id me → cut_of me.0.role < ring.shape.senders + ring.shape.workers
+    → table.Splits (Holds shown meaning ring.shape ring.key) id me.0 (left_after me.0) (cut_from me.0)
+desk-splits {A} shown meaning ring id table_id me desk left =
+    let view : View = opener ring.shape ring.key (cut_of me.0.role) in
+    subst (λ (x : View). table.Splits (Holds shown meaning ring.shape ring.key) id x (left_after x) (cut_from x))
+    (sym (ap (λ x. x.0) desk.1)) (splits-allowed shown meaning ring.shape ring.key id (cut_of me.0.role) left)
+
+-- there is a word
+pub some-words : (shape : Shape) → Fits shape → 0 < words_in shape
+some-words shape fits = let some : 1 * 1 ≤ shape.senders * shape.window = mul-le 1 1 shape.senders shape.window fits.0 fits.4 in omega arith
+
+-- ---- the words
+
+pub free-more : (window cell : ℕ) (words words' words'' : List ℕ) → length words ≡ 2 * cell
+    → ((k : ℕ) → k < cell → get_or words (word_of k state_field) 0 ≡ free_word (k % window))
+    → words' ≡ words ++ free_word (cell % window) ∷ [] → words'' ≡ words' ++ 0 ∷ []
+    → (k : ℕ) → k < cell + 1 → get_or words'' (word_of k state_field) 0 ≡ free_word (k % window)
+free-more window cell words words' words'' len below is is' k h =
+    let long : length words' ≡ 2 * cell + 1 = ap length is ∙ length-append words (free_word (cell % window) ∷ []) ∙ omega arith in
+    let first : get_or words'' (word_of k state_field) 0 ≡ get_or words' (word_of k state_field) 0 =
+    ap (λ (xs : List ℕ). get_or xs (word_of k state_field) 0) is' ∙ get_or_append_left words' (0 ∷ []) 0 (word_of k state_field) (omega arith) in
+    first ∙ ap (λ (xs : List ℕ). get_or xs (word_of k state_field) 0) is
+    ∙ elim (cases_lt k cell) [
+      | inl lt ↦ get_or_append_left words (free_word (cell % window) ∷ []) 0 (word_of k state_field) (omega arith) ∙ below k lt
+      | inr le ↦ (
+          let e : k ≡ cell = omega arith in
+          let at : word_of k state_field ≡ length words = omega arith in
+          ap (λ (n : ℕ). get_or (words ++ free_word (cell % window) ∷ []) n 0) at ∙ get_or-append_seam words (free_word (cell % window)) [] 0
+          ∙ ap (λ (n : ℕ). free_word (n % window)) (sym e))
+    ]
+
+-- ---- the ends
+
+pub askers-more : (ring : RingState) (s n : ℕ) → askers_from ring s n ++ new_asker ring (s + n) ∷ [] ≡ askers_from ring s (n + 1)
+askers-more ring s zero = let e : s + 0 ≡ s = omega arith in ap (λ (k : ℕ). new_asker ring k ∷ []) e
+askers-more ring s (suc n) =
+    let e : s + suc n ≡ suc s + n = omega arith in
+    ap (λ (k : ℕ). new_asker ring s ∷ (askers_from ring (suc s) n ++ new_asker ring k ∷ [])) e
+    ∙ ap (λ (xs : List AskerState). new_asker ring s ∷ xs) (askers-more ring (suc s) n)
+    ∙ ap (askers_from ring s) (let e' : suc (n + 1) ≡ suc n + 1 = omega arith in e')
+
+pub takers-more : (ring : RingState) (w n : ℕ) → takers_from ring w n ++ new_taker ring (w + n) ∷ [] ≡ takers_from ring w (n + 1)
+takers-more ring w zero = let e : w + 0 ≡ w = omega arith in ap (λ (k : ℕ). new_taker ring k ∷ []) e
+takers-more ring w (suc n) =
+    let e : w + suc n ≡ suc w + n = omega arith in
+    ap (λ (k : ℕ). new_taker ring w ∷ (takers_from ring (suc w) n ++ new_taker ring k ∷ [])) e
+    ∙ ap (λ (xs : List TakerState). new_taker ring w ∷ xs) (takers-more ring (suc w) n)
+    ∙ ap (takers_from ring w) (let e' : suc (n + 1) ≡ suc n + 1 = omega arith in e')
+
+pub sender-next : (shape : Shape) (key : List ℕ) (cut : ℕ) → cut < shape.senders → next_seat shape key cut ≡ asker shape key cut new_asking
+sender-next shape key cut h =
+    ap (λ (b : Bool). record { shape = shape; key = key; role = if b then Asks cut new_asking else Works (cut - shape.senders) new_working }) (lt-ltb cut shape.senders h)
+
+pub worker-next : (shape : Shape) (key : List ℕ) (cut w : ℕ) → cut ≡ shape.senders + w → next_seat shape key cut ≡ worker shape key w new_working
+worker-next shape key cut w at =
+    let le : shape.senders ≤ cut = omega arith in
+    let e : cut - shape.senders ≡ w = omega arith in
+    ap (λ (b : Bool). record { shape = shape; key = key; role = if b then Asks cut new_asking else Works (cut - shape.senders) new_working }) (le-ltb cut shape.senders le)
+    ∙ ap (λ (n : ℕ). worker shape key n new_working) e
+
+-- what the seat that was cut off next shows, in the end of a sender or of a worker
+module _ {A : Type 0} where
+  pub asker-cut : (ring : RingState) (s : ℕ) (desk me : table.Me (Option A) View) → s < ring.shape.senders → desk ≡ (opener ring.shape ring.key s, [])
+      → me ≡ (next_seat ring.shape ring.key (cut_of desk.0.role), []) → me ≡ (asker ring.shape ring.key s new_asking, [])
+  asker-cut ring s desk me below was is =
+      is ∙ ap (λ (x : table.Me (Option A) View). (next_seat ring.shape ring.key (cut_of x.0.role), [])) was
+      ∙ ap (λ (view : View). (view, [])) (sender-next ring.shape ring.key s below)
+
+  pub taker-cut : (ring : RingState) (w : ℕ) (desk me : table.Me (Option A) View) → desk ≡ (opener ring.shape ring.key (ring.shape.senders + w), [])
+      → me ≡ (next_seat ring.shape ring.key (cut_of desk.0.role), []) → me ≡ (worker ring.shape ring.key w new_working, [])
+  taker-cut ring w desk me was is =
+      is ∙ ap (λ (x : table.Me (Option A) View). (next_seat ring.shape ring.key (cut_of x.0.role), [])) was
+      ∙ ap (λ (view : View). (view, [])) (worker-next ring.shape ring.key (ring.shape.senders + w) w refl)
+
+  -- the seat from which it was cut off
+  pub desk-after : (ring : RingState) (cut more : ℕ) (table_id : TableId) (desk new : table.Me (Option A) View) → desk ≡ (opener ring.shape ring.key cut, [])
+      → IsDesk ring (cut_of desk.0.role + 1) table_id new → more ≡ cut + 1 → IsDesk ring more table_id new
+  desk-after ring cut more table_id desk new was is next =
+      let e : cut_of desk.0.role + 1 ≡ more = ap (λ (x : table.Me (Option A) View). cut_of x.0.role + 1) was ∙ sym next in
+      subst (λ (n : ℕ). IsDesk ring n table_id new) e is
+
+-- one end more
+pub askers-then : (ring : RingState) (s : ℕ) (askers askers' : List AskerState) (new : AskerState) → askers ≡ askers_from ring 0 s → askers' ≡ askers ++ new ∷ []
+    → new ≡ new_asker ring s → askers' ≡ askers_from ring 0 (s + 1)
+askers-then ring s askers askers' new was is end =
+    is ∙ (λ i. was i ++ end i ∷ []) ∙ ap (λ (n : ℕ). askers_from ring 0 s ++ new_asker ring n ∷ []) (let e : s ≡ 0 + s = omega arith in e) ∙ askers-more ring 0 s
+
+pub takers-then : (ring : RingState) (w : ℕ) (takers takers' : List TakerState) (new : TakerState) → takers ≡ takers_from ring 0 w → takers' ≡ takers ++ new ∷ []
+    → new ≡ new_taker ring w → takers' ≡ takers_from ring 0 (w + 1)
+takers-then ring w takers takers' new was is end =
+    is ∙ (λ i. was i ++ end i ∷ []) ∙ ap (λ (n : ℕ). takers_from ring 0 w ++ new_taker ring n ∷ []) (let e : w ≡ 0 + w = omega arith in e) ∙ takers-more ring 0 w
