@@ -1,9 +1,4 @@
 pub mod ViewLemmas
-pub mod JobLemmas
-pub mod MessageLemmas
-pub mod PlaceLemmas
-pub mod ClientLemmas
-pub mod WorkerLemmas
 pub mod OpeningLemmas
 pub mod PoolLemmas
 pub mod RingPlaces
@@ -15,6 +10,7 @@ pub mod RingWorkerSteps
 pub mod RingOpening
 pub mod RingHomes
 pub mod RingMissed
+pub mod RingAsker
 pub mod RingTable
 pub mod RingRule
 pub mod RingWorkerRule

@@ -1,12 +1,12 @@
 -- Every step-th of the queries, and the answers to them.
-use Rattle.std.proofs.Common.{◌≡◌, ℕ, zero, suc, ◌+◌, ◌-◌, ◌<◌, ◌≤◌, List, [], ◌∷◌, ◌++◌, length, get_or, drop, refl, sym, ap, subst, ◌∙◌, append_assoc, add-one, arith, drop-cons}
-use Rattle.std.specs.List.{AllByRecursion}
+use Rattle.std.proofs.Common.{◌≡◌, ℕ, zero, suc, ◌+◌, ◌-◌, ◌<◌, ◌≤◌, false, List, [], ◌∷◌, ◌++◌, length, map, get_or, drop, refl, sym, ap, subst, ◌∙◌, append_assoc, add-one, arith, drop-cons}
 use Rattle.std.proofs.lemmas.List.{drop-drop, nil_from_length}
-use Rattle.atomic_table.specs.Seated.{TableId}
 use Rattle.ticket_core.specs.State.{Shown, Meaning}
 use Rattle.ticket_board.specs.declared.pool.task.Task.{Task}
 use Rattle.ticket_board.specs.declared.pool.task.Lot.{Lot}
-use Rattle.ticket_board.specs.Seats.{BoardSeat, ClientState, IsClientOf, new_clients_from, new_clients}
+use Rattle.ticket_board.specs.Ring.Ends.{RingState}
+use Rattle.ticket_board.specs.Ring.Opened.{askers_from}
+use Rattle.ticket_board.specs.Seats.{ClientState, client_shown, new_clients}
 use Rattle.ticket_board.specs.Pool.{every, EachFrom, IsLane, AreLanes, IsNewSender, IsPromised}
 
 -- what is passed over is dropped
@@ -54,25 +54,19 @@ module _ {V : Type 0} where
   each_from_none F xs none = subst (EachFrom F 0) (sym (nil_from_length xs none)) tt
 
 -- the clients of a new board are those of its senders, in order
-each_new : (board : BoardSeat) (s : ℕ) (lines : List TableId)
-    → AllByRecursion (IsClientOf board) (new_clients_from s board.shape board.key board.jobs lines)
-    → EachFrom (IsNewSender board) s (new_clients_from s board.shape board.key board.jobs lines)
-each_new board s [] all = tt
-each_new board s (line ∷ lines) all =
-    let P : ℕ → Type 0 = λ n. AllByRecursion (IsClientOf board) (new_clients_from n board.shape board.key board.jobs lines)
-    → EachFrom (IsNewSender board) (suc s) (new_clients_from n board.shape board.key board.jobs lines) in
-    ((all.0, refl, (refl, refl, refl)), subst P (sym (add-one s)) (each_new board (suc s) lines) all.1)
+each_new : (board : RingState) (s n : ℕ) → EachFrom (IsNewSender board) s (map (client_shown false) (askers_from board s n))
+each_new board s zero = tt
+each_new board s (suc n) = ((record { shape_is = refl; key_is = refl; table_is = refl }, refl, (refl, refl, refl)), each_new board (suc s) n)
 
-pub all_new : (board : BoardSeat) (clients : List ClientState) → clients ≡ new_clients board → AllByRecursion (IsClientOf board) clients → EachFrom (IsNewSender board) 0 clients
-all_new board clients is all =
-    subst (EachFrom (IsNewSender board) 0) (sym is) (each_new board 0 board.lines (subst (AllByRecursion (IsClientOf board)) is all))
+pub all_new : (board : RingState) (clients : List ClientState) → clients ≡ new_clients board → EachFrom (IsNewSender board) 0 clients
+all_new board clients is = subst (EachFrom (IsNewSender board) 0) (sym is) (each_new board 0 board.shape.senders)
 
-count_new : (s : ℕ) (board : BoardSeat) (lines : List TableId) → length (new_clients_from s board.shape board.key board.jobs lines) ≡ length lines
-count_new s board [] = refl
-count_new s board (line ∷ lines) = ap suc (count_new (s + 1) board lines)
+count_new : (board : RingState) (s n : ℕ) → length (map (client_shown false) (askers_from board s n)) ≡ n
+count_new board s zero = refl
+count_new board s (suc n) = ap suc (count_new board (suc s) n)
 
-pub many_new : (board : BoardSeat) (clients : List ClientState) → clients ≡ new_clients board → length clients ≡ length board.lines
-many_new board clients is = ap length is ∙ count_new 0 board board.lines
+pub many_new : (board : RingState) (clients : List ClientState) → clients ≡ new_clients board → length clients ≡ board.shape.senders
+many_new board clients is = ap length is ∙ count_new board 0 board.shape.senders
 
 -- ---- lanes
 

@@ -3,7 +3,7 @@ use Rattle.std.proofs.Common.{◌≡◌, ◌≢◌, ℕ, zero, suc, ◌⊎◌, L
 use Rattle.std.specs.List.{AllByRecursion}
 use mathlib.Core.Option.{some, some-ne-none, some-injective}
 use lib.ListN.{get_elem?}
-use Rattle.crossbeam_queue.proofs.Lists.{at_set}
+use Rattle.atomic_table.proofs.Lists.{at_set}
 
 module _ {V : Type 0} where
   abbrev pub All : (ℕ → V → Type 0) → List V → Type 0

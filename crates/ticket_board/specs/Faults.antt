@@ -7,7 +7,7 @@ use Rattle.ticket_board.specs.declared.fault.BoardFault.TheVariants.{BadShape, M
 use Rattle.ticket_board.specs.declared.pool.fault.PoolFault.{PoolFault}
 use Rattle.ticket_board.specs.declared.pool.fault.PoolFault.TheVariants as pool_faults
 use Rattle.ticket_board.specs.declared.fault.AskFault.{AskFault}
-use Rattle.ticket_board.specs.declared.fault.AskFault.TheVariants.{Full, Closed, Exhausted, Busy}
+use Rattle.ticket_board.specs.declared.fault.AskFault.TheVariants.{Full, Closed, Exhausted}
 
 abbrev pub number_of_board : BoardFault → ℕ
 number_of_board BadShape = 1
@@ -21,7 +21,6 @@ abbrev pub number_of_ask : AskFault → ℕ
 number_of_ask Full = 1
 number_of_ask Closed = 2
 number_of_ask Exhausted = 3
-number_of_ask Busy = 4
 
 -- a shape past its limits is told as that, and want of memory only of a shape within them
 abbrev pub RefusesShape : BoardFault → Shape → Type 0

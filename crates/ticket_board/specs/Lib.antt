@@ -1,11 +1,5 @@
 pub mod Faults
-pub mod Jobs
-pub mod Messages
-pub mod Places
 pub mod Pool
 pub mod Seats
-pub mod BoardShown
-pub mod ClientShown
 pub mod Outcome
-pub mod WorkerShown
 pub mod Ring

@@ -10,7 +10,8 @@ use Rattle.ticket_board.specs.declared.pool.sending.Came.{Came}
 use Rattle.ticket_board.specs.declared.pool.sending.Came.TheVariants.{End}
 use Rattle.ticket_board.specs.declared.pool.task.Task.{Task}
 use Rattle.ticket_board.specs.declared.pool.task.Lot.{Lot}
-use Rattle.ticket_board.specs.Seats.{BoardSeat, ClientState, WorkerState, IsClientOf, IsWorkerOf}
+use Rattle.ticket_board.specs.Ring.Ends.{RingState}
+use Rattle.ticket_board.specs.Seats.{ClientState, WorkerState, IsClientOf, IsWorkerOf}
 
 -- ---- what a pool answers
 
@@ -55,7 +56,7 @@ abbrev pub IsFresh : ClientState → Type 0
 IsFresh client = (client.asked ≡ []) × (client.received ≡ []) × (client.closed ≡ false)
 
 -- it is this sender's of the board, and fresh
-abbrev pub IsNewSender : BoardSeat → ℕ → ClientState → Type 0
+abbrev pub IsNewSender : RingState → ℕ → ClientState → Type 0
 IsNewSender board sender client = IsClientOf board client × (client.seat.sender ≡ sender) × IsFresh client
 
 -- a sender is told that all was asked and received
@@ -68,7 +69,7 @@ abbrev pub IsPromised : {S : Type 0} → Task → ℕ → Lot S → Type 0
 IsPromised task sender lot = (lot.task ≡ task) × (lot.sender ≡ sender)
 
 -- what a pool runs on: a new board with all its ends, and a task and a maker under the board's key
-pub record IsPool (board : BoardSeat) (task : Task) (made_by : List ℕ) (clients : List ClientState) (workers : List WorkerState) : Type 0 where
+pub record IsPool (board : RingState) (task : Task) (made_by : List ℕ) (clients : List ClientState) (workers : List WorkerState) : Type 0 where
   pub key : task.key.now ≡ board.key
   pub maker : made_by ≡ board.key
   pub some : 1 ≤ task.senders

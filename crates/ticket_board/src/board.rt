@@ -1,28 +1,33 @@
 //! The board that clients and workers share.
 
-ghost use Rattle.std.specs.Prelude.{◌≡◌};
-
-use crate::jobs::JobQueue;
-use crate::messages::Line;
+use crate::ring::Ring;
 use std::marker::Model;
-use ticket_core::{Shape, Solver};
+use ticket_core::Solver;
 
-/// What clients and workers share: the queue of jobs, and a queue of messages for each sender.
-/// Contracts see which board it is, its shape and its key.
+/// What clients and workers share: the ring. Contracts see its shape, its key, and which table it is.
 #[derive(Drop)]
 pub struct Board<'a, S: Solver> {
-    pub(crate) shape: Shape,
-    pub(crate) key: &'a [u8],
-    pub(crate) jobs: JobQueue,
-    pub(crate) lines: Vec<Line<'a, S>>,
+    pub(crate) ring: Ring<'a, S>,
 }
 
 impl<'a, S: Solver> Model for Board<'a, S> {
-    ghost use Rattle.ticket_board.specs.Seats.{BoardSeat};
+    ghost use Rattle.ticket_board.specs.Ring.Ends.{RingState};
 
-    ghost Value = { BoardSeat };
+    ghost Value = { RingState };
 
-    ghost use Rattle.ticket_board.specs.BoardShown.{board_shown};
+    ghost view = { λ board. board.ring };
+}
 
-    ghost view = { λ board. board_shown board.shape board.key.now board.jobs board.lines.items };
+impl<'a, S: Solver> Board<'a, S> {
+    /// The sender and the number that wait in a cell, as far as can be seen: another thread may take the number at
+    /// any moment. `None` where the cell's number doesn't wait, or there is no such cell. It looks without a seat,
+    /// so it is no step, and it promises nothing.
+    pub fn waits_at(&self, cell: usize) -> Option<(usize, u64)> {
+        self.ring.waits_at(cell)
+    }
+
+    /// The state word of a cell, as `Ring::state_word` has it.
+    pub fn state_word(&self, cell: usize) -> Option<u64> {
+        self.ring.state_word(cell)
+    }
 }

@@ -26,9 +26,6 @@ pub enum AskFault {
     /// The sender asked as many queries as it may.
     #[error("this sender asked as many queries as it may")]
     Exhausted,
-    /// The queue of jobs is full.
-    #[error("the board is busy")]
-    Busy,
 }
 
 impl BoardFault {
@@ -50,7 +47,7 @@ impl AskFault {
     ghost use Rattle.std.specs.Prelude.{◌≡◌};
     ghost use Rattle.ticket_board.specs.Faults.{number_of_ask};
 
-    /// The number of the reason, from 1 to 4.
+    /// The number of the reason, from 1 to 3.
     pub fn number(&self) -> u8
         ensures { result ≡ number_of_ask self.now }
     {
@@ -58,7 +55,6 @@ impl AskFault {
             AskFault::Full => 1,
             AskFault::Closed => 2,
             AskFault::Exhausted => 3,
-            AskFault::Busy => 4,
         }
     }
 }

@@ -19,9 +19,9 @@ pub record RingState : Type 0 where
   pub key : List ℕ
   pub table : TableId
 
--- the table has a word of each kind for each cell
-abbrev pub IsRing : Shape → TableId → Type 0
-IsRing shape table = Fits shape × (table.words ≡ words_in shape)
+-- the table has a word of each kind for each cell, and the ring's own shape is the table's
+abbrev pub IsRing : Shape → Shape → TableId → Type 0
+IsRing own shape table = Fits shape × (table.words ≡ words_in shape) × (own ≡ shape)
 
 -- a sender's end: whose it is, of which table, and what its seat knows
 pub record AskerState : Type 0 where
@@ -57,6 +57,13 @@ module _ {S : Type 0} where
     pub ordered : received ≤ asked
     pub window : asked ≤ received + shape.window
     pub most : asked ≤ shape.most
+
+-- what a sender received is a beginning of the meanings of what it asked, in its order; and it keeps its limits
+pub record IsRightAsker (meaning : Meaning) (asker : AskerState) : Type 0 where
+  pub within : next_received asker.asking ≤ next_asked asker.asking
+  pub right : asker.asking.received ≡ map (meaning asker.key) (take (next_received asker.asking) asker.asking.asked)
+  pub window : next_asked asker.asking ≤ next_received asker.asking + asker.shape.window
+  pub most : next_asked asker.asking ≤ asker.shape.most
 
 -- the first condition that refuses a query: the sender asked all it may, then its window is full
 abbrev pub asking_refusal : Shape → Asking → Option AskFault

@@ -25,6 +25,10 @@ pub record IsTakerOf (ring : RingState) (taker : TakerState) : Type 0 where
   pub key_is : taker.key ≡ ring.key
   pub table_is : taker.table ≡ ring.table
 
+-- it holds no number
+abbrev pub HasEmptyHand : TakerState → Type 0
+HasEmptyHand taker = taker.working.hand ≡ None
+
 -- it knows this, and is whose it was
 abbrev pub knowing : Working → TakerState → TakerState
 knowing working taker = record taker { working = working }

@@ -25,8 +25,8 @@ use ticket_core::{NoMemory, Solver};
 #[derive(Drop)]
 pub struct Pool<'p, 'a, S: Solver, M, G> {
     pub board: &'p Board<'a, S>,
-    pub clients: Vec<Client<'a, S>>,
-    pub workers: Vec<Worker<'a, S>>,
+    pub clients: Vec<Client<S>>,
+    pub workers: Vec<Worker<S>>,
     pub maker: &'p M,
     pub gate: &'p G,
     pub task: Task<'p>,

@@ -60,7 +60,7 @@ pub fn start_senders<'s, 'a: 's, E: 's, S: Solver + Drop + Send + Sync, R: Wait 
     rt: &'s R,
     alloc: Global,
     board: &'s Board<'a, S>,
-    clients: Vec<Client<'a, S>>,
+    clients: Vec<Client<S>>,
     task: Task<'s>,
     stop: &'s Stop,
     threads: &mut Vec<SenderThread<'s, S>>,
@@ -69,8 +69,8 @@ pub fn start_senders<'s, 'a: 's, E: 's, S: Solver + Drop + Send + Sync, R: Wait 
     requires senders { (1 ≤ task.senders) × (task.senders ≤ 64) }
     requires clients { EachFrom (IsNewSender board.now) 0 clients.items }
     requires room { (vec_len threads.old ≡ 0) × (vec_len clients ≤ vec_capacity threads.old) }
-    ensures count { OnOk result (vec_len threads.new ≡ vec_len clients.entry) }
-    ensures within { vec_len threads.new ≤ vec_len clients.entry }
+    ensures count { OnOk result (vec_len threads.new ≡ vec_len clients) }
+    ensures within { vec_len threads.new ≤ vec_len clients }
     ensures promised { EachFrom (λ sender thread. IsPromised task.entry sender thread.promise) 0 threads.new.items }
 {
     for client in clients {

@@ -17,10 +17,9 @@ use ticket_core::{NoMemory, Solver};
 
 /// Asks every `step`-th query from the place `next` on, as far as the board takes them, and closes the
 /// client after the last. Gives the place of the next query.
-fn ask_on<'a, S: Solver, R: Wait>(
-    rt: &R,
+fn ask_on<'a, S: Solver>(
     board: &Board<'a, S>,
-    client: &mut Client<'a, S>,
+    client: &mut Client<S>,
     queries: &[u64],
     next: usize,
     step: usize,
@@ -35,7 +34,7 @@ fn ask_on<'a, S: Solver, R: Wait>(
 {
     let mut next = next;
     while next < queries.len() {
-        let Ok(_) = client.ask(rt, board, queries[next]) else {
+        let Ok(_) = client.ask(board, queries[next]) else {
             return next;
         };
         next += step;
@@ -56,10 +55,9 @@ enum Came {
 
 /// Receives the next answer, if it is there, into the lane. The error says that a growth of memory
 /// was refused.
-fn receive<'a, S: Solver, R: Wait>(
-    rt: &R,
+fn receive<'a, S: Solver>(
     board: &Board<'a, S>,
-    client: &mut Client<'a, S>,
+    client: &mut Client<S>,
     lane: &mut VecDeque<S::Answer>,
 ) -> Result<Came, NoMemory>
     requires board { IsClientOf board.now client.old }
@@ -70,7 +68,7 @@ fn receive<'a, S: Solver, R: Wait>(
     ensures lane { OnOk result (map S.shown lane.new.items ≡ client.new.received) }
     ensures end { IfOk result (λ came. IsEnd came → HasEnded client.new) }
 {
-    match client.next(rt, board) {
+    match client.next(board) {
         Next::Answer(_, answer) => {
             lane.push_back(answer)?;
             Ok(Came::Answer)
@@ -84,7 +82,7 @@ fn receive<'a, S: Solver, R: Wait>(
 #[derive(Drop)]
 pub struct Sending<'p, 'a, S: Solver> {
     pub board: &'p Board<'a, S>,
-    pub client: Client<'a, S>,
+    pub client: Client<S>,
     pub task: Task<'p>,
     pub sender: usize,
     pub stop: &'p Stop,
@@ -113,8 +111,8 @@ fn ask_all<S: Solver, R: Wait>(
     let mut next = sender;
     let mut idle = Idle::new();
     for _ in rt.forever() {
-        next = ask_on(rt, board, &mut client, task.queries, next, task.senders);
-        match receive(rt, board, &mut client, &mut lane)? {
+        next = ask_on(board, &mut client, task.queries, next, task.senders);
+        match receive(board, &mut client, &mut lane)? {
             Came::Answer => idle.end(),
             Came::Nothing => {
                 if stop.is_set() {

@@ -62,7 +62,7 @@ pub fn start_workers<
     rt: &'s R,
     alloc: Global,
     board: &'s Board<'a, S>,
-    workers: Vec<Worker<'a, S>>,
+    workers: Vec<Worker<S>>,
     maker: &'s M,
     gate: &'s G,
     stop: &'s Stop,
@@ -71,7 +71,7 @@ pub fn start_workers<
     requires key { M.key maker.now ≡ board.now.key }
     requires workers { AllByRecursion (IsWorkerOf board.now) workers.items }
     requires room { (vec_len threads.old ≡ 0) × (vec_len workers ≤ vec_capacity threads.old) }
-    ensures count { OnOk result (vec_len threads.new ≡ vec_len workers.entry) }
+    ensures count { OnOk result (vec_len threads.new ≡ vec_len workers) }
 {
     for worker in workers {
         let serving = Serving {

@@ -18,7 +18,7 @@ use ticket_core::{NoMemory, Solver};
 fn work<'a, S: Solver, R: Wait, G: Gate>(
     rt: &R,
     board: &Board<'a, S>,
-    worker: &mut Worker<'a, S>,
+    worker: &mut Worker<S>,
     solver: &mut S,
     gate: &G,
     stop: &Stop,
@@ -32,7 +32,7 @@ fn work<'a, S: Solver, R: Wait, G: Gate>(
         if stop.is_set() {
             break;
         }
-        match worker.turn(rt, board, solver, gate)? {
+        match worker.turn(board, solver, gate)? {
             Turn::Answered(_, _) => idle.end(),
             Turn::Idle => idle.wait(rt),
         }
@@ -44,7 +44,7 @@ fn work<'a, S: Solver, R: Wait, G: Gate>(
 #[derive(Drop)]
 pub struct Serving<'p, 'a, S: Solver, M, G> {
     pub board: &'p Board<'a, S>,
-    pub worker: Worker<'a, S>,
+    pub worker: Worker<S>,
     pub maker: &'p M,
     pub gate: &'p G,
     pub stop: &'p Stop,

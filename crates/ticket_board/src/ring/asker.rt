@@ -1,8 +1,8 @@
 //! A sender's end of the ring.
 
-ghost use Rattle.std.specs.Prelude.{◌≡◌, ◌<◌, true, None, Some, IfOk, OnOk, OnErr, MatchResult};
+ghost use Rattle.std.specs.Prelude.{◌≡◌, ◌<◌, true, None, Some, IfOk, OnOk, OnErr, MatchResult, nat_eq};
 ghost use Rattle.ticket_board.specs.Ring.Views.{next_asked, next_received};
-ghost use Rattle.ticket_board.specs.Ring.Ends.{IsAskerOf, asking_refusal, asked_at, asks_one, looks, receives_one};
+ghost use Rattle.ticket_board.specs.Ring.Ends.{IsAskerOf, IsRightAsker, asking_refusal, asked_at, asks_one, looks, receives_one};
 
 use crate::fault::AskFault;
 use crate::ring::board::Ring;
@@ -106,5 +106,20 @@ impl<S: Solver> Asker<S> {
         self.received = number + 1;
         self.found = false;
         (number, answer)
+    }
+
+    /// Whether everything that was asked is received.
+    pub fn has_all(&self) -> bool
+        ensures { result ≡ nat_eq (next_received self.now.asking) (next_asked self.now.asking) }
+    {
+        self.received == self.asked
+    }
+
+    /// Whatever was called before: what was received is a beginning of the meanings of what was asked, in its
+    /// order. It does nothing.
+    pub fn law_of_asker(&self)
+        ensures { IsRightAsker S.meaning self.now }
+    {
+        let _ = &self.received;
     }
 }

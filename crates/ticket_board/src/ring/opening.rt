@@ -45,8 +45,13 @@ fn lay<'a, S: Solver>(
 {
     let words = free_words(alloc, &shape)?;
     let terms = Terms { shape, key };
-    let (table, desk) = Table::vacant(alloc, words.as_slice(), shape.senders * shape.window, &terms)?;
-    Ok((Ring { table }, desk))
+    let (table, desk) = Table::vacant(
+        alloc,
+        words.as_slice(),
+        shape.senders * shape.window,
+        &terms,
+    )?;
+    Ok((Ring { table, shape }, desk))
 }
 
 /// The seat of the next sender or worker.

@@ -109,7 +109,7 @@ impl<S: Solver> Taker<S> {
         requires ring { IsTakerOf ring.now self.old }
         requires held { IsSome self.old.working.hand }
         ensures sought { HasSought self.old self.new }
-        ensures held { HoldsRead result self.new.working }
+        ensures held { HoldsRead result self.new.working × (result.0 < ring.now.shape.senders) }
         ensures same { self.new.working.hand ≡ self.old.working.hand }
         ensures counted { steps.new ≡ steps.old + 1 }
     {
@@ -128,7 +128,7 @@ impl<S: Solver> Taker<S> {
         requires ring { IsTakerOf ring.now self.old }
         requires empty { self.old.working.hand ≡ None }
         ensures sought { HasSought self.old self.new }
-        ensures taken { IfSome result (λ found. HoldsRead found self.new.working) }
+        ensures taken { IfSome result (λ found. HoldsRead found self.new.working × (found.0 < ring.now.shape.senders)) }
         ensures none { result ≡ None → MissedAll ring.now.shape self.old.working self.new.working }
     {
         self.take_uncounted::<Brand>(ring, Blank::new(1))
@@ -146,7 +146,7 @@ impl<S: Solver> Taker<S> {
         requires ring { IsTakerOf ring.now self.old }
         requires empty { self.old.working.hand ≡ None }
         ensures sought { HasSought self.old self.new }
-        ensures taken { IfSome result (λ found. HoldsRead found self.new.working) }
+        ensures taken { IfSome result (λ found. HoldsRead found self.new.working × (found.0 < ring.now.shape.senders)) }
         ensures none { result ≡ None → MissedAll ring.now.shape self.old.working self.new.working }
     {
         let mut steps = Steps::<L>::new(blank);
@@ -163,7 +163,7 @@ impl<S: Solver> Taker<S> {
         requires ring { IsTakerOf ring.now self.old }
         requires empty { self.old.working.hand ≡ None }
         ensures sought { HasSought self.old self.new }
-        ensures taken { IfSome result (λ found. HoldsRead found self.new.working) }
+        ensures taken { IfSome result (λ found. HoldsRead found self.new.working × (found.0 < ring.now.shape.senders)) }
         ensures none { result ≡ None → MissedAll ring.now.shape self.old.working self.new.working }
         ensures counted { steps.new ≤ steps.old + 2 * cells_in ring.now.shape + 1 }
     {
@@ -259,5 +259,12 @@ impl<S: Solver> Taker<S> {
         );
         self.hand = None;
         (sender, number)
+    }
+
+    /// Has `take` begin at this cell, and go round from there. It makes no step.
+    pub fn begin_at(&mut self, cell: usize)
+        ensures { self.new ≡ self.old }
+    {
+        self.begin = cell;
     }
 }

@@ -10,8 +10,7 @@ split_seat-requires g c =
     let desk = c.args.desk.now in
     let cut : ℕ = cut_of desk.me.0.role in
     let shared = c.ring.inside.table.shared in
-    let ring : RingState = record { shape = shared.key.shape; key = shared.key.key.now; table = shared.table_id } in
-    (
+    let ring : RingState = record { shape = shared.key.shape; key = shared.key.key.now; table = shared.table_id } in (
       c.requires.desk.0 ∙ sym (ap (λ (x : RingState). x.table) c.ring.view_is),
       subst (λ (n : ℕ). 0 < n) (sym c.ring.invariant.1) (some-words ring.shape c.ring.invariant.0),
       desk-splits g.S.Solver.shown g.S.Solver.meaning ring desk.id desk.table_id desk.me

@@ -37,5 +37,5 @@ loop-preserved g c =
 pub returns : goal.returns
 returns g c = record {
   takers = c.loop.invariant.made ∙ ap (takers_from c.args.ring.now 0) (
-    let n : c.loop.counter ≡ c.args.shape.workers = omega arith in n ∙ ap (λ (x : Shape). x.workers) (sym c.requires.shape));
+      let n : c.loop.counter ≡ c.args.shape.workers = omega arith in n ∙ ap (λ (x : Shape). x.workers) (sym c.requires.shape));
 }
