@@ -1,32 +1,29 @@
 //! A board with one client and one worker on one thread.
 
 ghost use Rattle.std.specs.Prelude.{◌≡◌};
-ghost use Rattle.ticket_board.specs.Seats.{IsClientSeatOf, IsWorkerSeatOf};
+ghost use Rattle.ticket_board.specs.Seats.{IsClientOf, IsWorkerOf};
 
-use crate::gates::Open;
+use crate::gates::{Open, Peek};
 use crate::solver::Echo;
 use std::alloc::Global;
-use std::sync::Wait;
 use ticket_board::{AskFault, Board, BoardFault, Client, Next, Turn, Worker, open};
 use ticket_core::{NoMemory, Shape};
 
 /// A board of which the last client and the last worker are used, with the worker's solver.
 #[derive(Drop)]
-pub struct BoardDesk<'a, R: Wait> {
-    rt: &'a R,
+pub struct BoardDesk<'a> {
     board: Board<'a, Echo<'a>>,
-    client: Client<'a, Echo<'a>>,
-    worker: Worker<'a, Echo<'a>>,
+    client: Client<Echo<'a>>,
+    worker: Worker<Echo<'a>>,
     solver: Echo<'a>,
-    ghost client_seat: { IsClientSeatOf board client.seat },
-    ghost worker_seat: { IsWorkerSeatOf board worker.seat },
+    ghost client_seat: { IsClientOf board client },
+    ghost worker_seat: { IsWorkerOf board worker },
     ghost same_key: { solver.key.now ≡ board.key },
 }
 
-impl<'a, R: Wait> BoardDesk<'a, R> {
+impl<'a> BoardDesk<'a> {
     /// The solver is refused memory in so many calls.
     pub fn new(
-        rt: &'a R,
         alloc: Global,
         shape: Shape,
         key: &'a [u8],
@@ -40,7 +37,6 @@ impl<'a, R: Wait> BoardDesk<'a, R> {
             return Err(BoardFault::BadShape);
         };
         Ok(BoardDesk {
-            rt,
             board,
             client,
             worker,
@@ -49,15 +45,15 @@ impl<'a, R: Wait> BoardDesk<'a, R> {
     }
 
     pub fn ask(&mut self, a: u64) -> Result<u64, AskFault> {
-        self.client.ask(self.rt, &self.board, a)
+        self.client.ask(&self.board, a)
     }
 
     pub fn ready(&mut self) -> bool {
-        self.client.ready(self.rt, &self.board)
+        self.client.ready(&self.board)
     }
 
     pub fn next(&mut self) -> Next<u64> {
-        self.client.next(self.rt, &self.board)
+        self.client.next(&self.board)
     }
 
     pub fn close(&mut self) {
@@ -65,7 +61,23 @@ impl<'a, R: Wait> BoardDesk<'a, R> {
     }
 
     pub fn turn(&mut self) -> Result<Turn, NoMemory> {
-        self.worker
-            .turn(self.rt, &self.board, &mut self.solver, &Open)
+        self.worker.turn(&self.board, &mut self.solver, &Open)
+    }
+
+    /// A turn, and the state word of the first cell while the worker is at the gate.
+    pub fn turn_watched(&mut self) -> (Result<Turn, NoMemory>, Option<u64>) {
+        let gate = Peek::new(&self.board);
+        let turn = self.worker.turn(&self.board, &mut self.solver, &gate);
+        (turn, gate.seen())
+    }
+
+    /// Has the worker's next turn begin at this cell.
+    pub fn begin_at(&mut self, cell: usize) {
+        self.worker.begin_at(cell);
+    }
+
+    /// The state word of a cell, and the sender and number that wait there.
+    pub fn cell(&self, cell: usize) -> (Option<u64>, Option<(usize, u64)>) {
+        (self.board.state_word(cell), self.board.waits_at(cell))
     }
 }

@@ -60,7 +60,6 @@ fn ask_faults(rt: HostRuntime) -> Result<(), Fail> {
             3,
             "this sender asked as many queries as it may",
         ),
-        (AskFault::Busy, 4, "the board is busy"),
     ];
     for (fault, number, text) in table {
         assert_eq!(rt; fault.number(), number);

@@ -1,10 +1,11 @@
 //! Gates for tests: what they are told of the queries that workers took.
 
+use crate::solver::Echo;
 use std::alloc::{AllocError, Global};
 use std::process::Abort;
-use std::sync::atomic::{AtomicU64, Ordering};
+use std::sync::atomic::{AtomicBool, AtomicU64, Ordering};
 use std::thread;
-use ticket_board::Gate;
+use ticket_board::{Board, Gate};
 
 /// How many turns a worker waits at the gate for the others.
 const MOST_TURNS: u64 = 10_000_000;
@@ -14,6 +15,42 @@ pub struct Open;
 
 impl Gate for Open {
     fn enter(&self, _sender: usize, _number: u64, _a: u64) {}
+}
+
+/// A gate that looks at the first cell of a board.
+#[derive(Drop)]
+pub struct Peek<'b, 'a> {
+    board: &'b Board<'a, Echo<'a>>,
+    /// The state word that it saw there, and whether it saw one.
+    word: AtomicU64,
+    saw: AtomicBool,
+}
+
+impl<'b, 'a> Peek<'b, 'a> {
+    /// A gate that nothing entered.
+    pub fn new(board: &'b Board<'a, Echo<'a>>) -> Self {
+        Peek {
+            board,
+            word: AtomicU64::new(0),
+            saw: AtomicBool::new(false),
+        }
+    }
+
+    /// The state word that it saw, if something entered.
+    pub fn seen(&self) -> Option<u64> {
+        self.saw
+            .load(Ordering::SeqCst)
+            .then_some(self.word.load(Ordering::SeqCst))
+    }
+}
+
+impl Gate for Peek<'_, '_> {
+    fn enter(&self, _sender: usize, _number: u64, _a: u64) {
+        if let Some(word) = self.board.state_word(0) {
+            self.word.store(word, Ordering::SeqCst);
+            self.saw.store(true, Ordering::SeqCst);
+        }
+    }
 }
 
 /// A gate that counts how often each query enters. Query `i` is number `i / senders` of sender

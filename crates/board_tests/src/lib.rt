@@ -19,6 +19,8 @@ mod machine;
 #[cfg(test)]
 mod pool;
 #[cfg(test)]
+mod ring_ends;
+#[cfg(test)]
 mod runs;
 #[cfg(test)]
 mod shapes;

@@ -9,5 +9,5 @@ invariant_of-result g c =
     record {
       client_seat = each_last (IsClientOf board) c.in_ok-board.clients.items _ c.in-Some.client c.in_ok-board.ensures.client_seats c.in-Some.ensures.items;
       worker_seat = each_last (IsWorkerOf board) c.in_ok-board.workers.items _ c.in-Some-pop.worker c.in_ok-board.ensures.worker_seats c.in-Some-pop.ensures.items;
-      same_key = c.new.ensures ∙ sym c.in_ok-board.ensures.board.key_is;
+      same_key = c.new.ensures ∙ sym c.in_ok-board.ensures.board.1;
     }

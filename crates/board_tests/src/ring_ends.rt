@@ -1,0 +1,76 @@
+//! The ends of a ring, used one after the other.
+
+ghost use Rattle.ticket_board.specs.Ring.Ends.{IsAskerOf};
+ghost use Rattle.ticket_board.specs.Ring.Takers.{IsTakerOf, HasEmptyHand};
+
+use crate::solver::{Echo, KEY};
+use std::alloc::Global;
+use std::test::Fail;
+use ticket_board::ring::{Asker, Ring, Taker};
+use ticket_board::{AskFault, BoardFault};
+use ticket_core::Shape;
+
+/// A ring with its only sender's end, and those of its two workers.
+#[derive(Drop)]
+struct Ends<'a> {
+    ring: Ring<'a, Echo<'a>>,
+    asker: Asker<Echo<'a>>,
+    first: Taker<Echo<'a>>,
+    second: Taker<Echo<'a>>,
+    ghost asker_of: { IsAskerOf ring asker },
+    ghost first_of: { IsTakerOf ring first },
+    ghost second_of: { IsTakerOf ring second },
+    ghost first_empty: { HasEmptyHand first },
+    ghost second_empty: { HasEmptyHand second },
+}
+
+/// A window of two numbers, both of which may be asked.
+const TWO_CELLS: Shape = Shape {
+    senders: 1,
+    workers: 2,
+    window: 2,
+    most: 2,
+};
+
+fn open_ends<'a>(alloc: Global, key: &'a [u8]) -> Result<Ends<'a>, BoardFault> {
+    let (ring, mut askers, mut takers) = Ring::<Echo<'a>>::open(alloc, TWO_CELLS, key)?;
+    let Some(asker) = askers.pop() else {
+        return Err(BoardFault::BadShape);
+    };
+    let Some(second) = takers.pop() else {
+        return Err(BoardFault::BadShape);
+    };
+    let Some(first) = takers.pop() else {
+        return Err(BoardFault::BadShape);
+    };
+    Ok(Ends {
+        ring,
+        asker,
+        first,
+        second,
+    })
+}
+
+/// Two workers take two numbers. One that is given back is taken again, with the same address.
+#[test]
+fn two_takers(rt: HostRuntime) -> Result<(), Fail> {
+    let Ends {
+        ring,
+        mut asker,
+        mut first,
+        mut second,
+    } = open_ends(rt.alloc(), &KEY)?;
+    assert_eq!(rt; asker.ask(&ring, 0x10), Ok(0));
+    assert_eq!(rt; asker.ask(&ring, 0x20), Ok(1));
+    assert_eq!(rt; asker.ask(&ring, 0x30), Err(AskFault::Exhausted));
+    let Some(taken) = first.take(&ring) else {
+        panic!(rt; "the first number waits")
+    };
+    assert_eq!(rt; taken, (0, 0, 0x10));
+    let taken = second.take(&ring);
+    assert_eq!(rt; taken, Some((0, 1, 0x20)));
+    assert_eq!(rt; first.give_back(&ring), (0, 0));
+    let taken = first.take(&ring);
+    assert_eq!(rt; taken, Some((0, 0, 0x10)));
+    Ok(())
+}
