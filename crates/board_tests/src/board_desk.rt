@@ -1,13 +1,13 @@
 //! A board with one client and one worker on one thread.
 
-ghost use Rattle.std.specs.Prelude.{◌≡◌};
+ghost use Rattle.std.specs.Prelude.{◌≡◌, IfOk};
 ghost use Rattle.ticket_board.specs.Seats.{IsClientOf, IsWorkerOf};
 
 use crate::gates::{Open, Peek};
 use crate::solver::Echo;
 use std::alloc::Global;
 use ticket_board::{AskFault, Board, BoardFault, Client, Next, Turn, Worker, open};
-use ticket_core::{NoMemory, Shape};
+use ticket_core::{NoMemory, Shape, Solver};
 
 /// A board of which the last client and the last worker are used, with the worker's solver.
 #[derive(Drop)]
@@ -21,6 +21,26 @@ pub struct BoardDesk<'a> {
     ghost same_key: { solver.key.now ≡ board.key },
 }
 
+/// A board with its last client and its last worker.
+fn open_last<'a, S: Solver>(
+    alloc: Global,
+    shape: Shape,
+    key: &'a [u8],
+) -> Result<(Board<'a, S>, Client<S>, Worker<S>), BoardFault>
+    ensures key { IfOk result (λ made. made.0.key ≡ key.now) }
+    ensures client { IfOk result (λ made. IsClientOf made.0 made.1) }
+    ensures worker { IfOk result (λ made. IsWorkerOf made.0 made.2) }
+{
+    let (board, mut clients, mut workers) = open::<S>(alloc, shape, key)?;
+    let Some(client) = clients.pop() else {
+        return Err(BoardFault::BadShape);
+    };
+    let Some(worker) = workers.pop() else {
+        return Err(BoardFault::BadShape);
+    };
+    Ok((board, client, worker))
+}
+
 impl<'a> BoardDesk<'a> {
     /// The solver is refused memory in so many calls.
     pub fn new(
@@ -29,13 +49,7 @@ impl<'a> BoardDesk<'a> {
         key: &'a [u8],
         refusals: u64,
     ) -> Result<Self, BoardFault> {
-        let (board, mut clients, mut workers) = open::<Echo<'a>>(alloc, shape, key)?;
-        let Some(client) = clients.pop() else {
-            return Err(BoardFault::BadShape);
-        };
-        let Some(worker) = workers.pop() else {
-            return Err(BoardFault::BadShape);
-        };
+        let (board, client, worker) = open_last::<Echo<'a>>(alloc, shape, key)?;
         Ok(BoardDesk {
             board,
             client,

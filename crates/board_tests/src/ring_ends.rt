@@ -5,18 +5,19 @@ ghost use Rattle.ticket_board.specs.Ring.Takers.{IsTakerOf, HasEmptyHand};
 
 use crate::solver::{Echo, KEY};
 use std::alloc::Global;
+use std::process::Abort;
 use std::test::Fail;
 use ticket_board::ring::{Asker, Ring, Taker};
 use ticket_board::{AskFault, BoardFault};
-use ticket_core::Shape;
+use ticket_core::{Shape, Solver};
 
 /// A ring with its only sender's end, and those of its two workers.
 #[derive(Drop)]
-struct Ends<'a> {
-    ring: Ring<'a, Echo<'a>>,
-    asker: Asker<Echo<'a>>,
-    first: Taker<Echo<'a>>,
-    second: Taker<Echo<'a>>,
+struct Ends<'a, S: Solver> {
+    ring: Ring<'a, S>,
+    asker: Asker<S>,
+    first: Taker<S>,
+    second: Taker<S>,
     ghost asker_of: { IsAskerOf ring asker },
     ghost first_of: { IsTakerOf ring first },
     ghost second_of: { IsTakerOf ring second },
@@ -32,8 +33,8 @@ const TWO_CELLS: Shape = Shape {
     most: 2,
 };
 
-fn open_ends<'a>(alloc: Global, key: &'a [u8]) -> Result<Ends<'a>, BoardFault> {
-    let (ring, mut askers, mut takers) = Ring::<Echo<'a>>::open(alloc, TWO_CELLS, key)?;
+fn open_ends<'a, S: Solver>(alloc: Global, key: &'a [u8]) -> Result<Ends<'a, S>, BoardFault> {
+    let (ring, mut askers, mut takers) = Ring::<S>::open(alloc, TWO_CELLS, key)?;
     let Some(asker) = askers.pop() else {
         return Err(BoardFault::BadShape);
     };
@@ -52,14 +53,13 @@ fn open_ends<'a>(alloc: Global, key: &'a [u8]) -> Result<Ends<'a>, BoardFault> {
 }
 
 /// Two workers take two numbers. One that is given back is taken again, with the same address.
-#[test]
-fn two_takers(rt: HostRuntime) -> Result<(), Fail> {
+fn take_two<S: Solver>(rt: &impl Abort, alloc: Global) -> Result<(), BoardFault> {
     let Ends {
         ring,
         mut asker,
         mut first,
         mut second,
-    } = open_ends(rt.alloc(), &KEY)?;
+    } = open_ends::<S>(alloc, &KEY)?;
     assert_eq!(rt; asker.ask(&ring, 0x10), Ok(0));
     assert_eq!(rt; asker.ask(&ring, 0x20), Ok(1));
     assert_eq!(rt; asker.ask(&ring, 0x30), Err(AskFault::Exhausted));
@@ -72,5 +72,11 @@ fn two_takers(rt: HostRuntime) -> Result<(), Fail> {
     assert_eq!(rt; first.give_back(&ring), (0, 0));
     let taken = first.take(&ring);
     assert_eq!(rt; taken, Some((0, 0, 0x10)));
+    Ok(())
+}
+
+#[test]
+fn two_takers(rt: HostRuntime) -> Result<(), Fail> {
+    take_two::<Echo<'_>>(&rt, rt.alloc())?;
     Ok(())
 }
