@@ -4,3 +4,4 @@ pub mod MergeLemmas
 pub mod IndexLemmas
 pub mod LawLemmas
 pub mod RunLemmas
+pub mod CountLemmas

@@ -1,6 +1,6 @@
 //! An index of ranges that finds the least owner of an address.
 
-ghost use Rattle.std.specs.Prelude.{◌≡◌, ◌≤◌, ◌*◌, ℕ, List, [], ◌∷◌, None, IfOk, map, length};
+ghost use Rattle.std.specs.Prelude.{◌≡◌, ◌≤◌, ◌<◌, ◌+◌, ◌*◌, ◌^◌, ℕ, List, [], ◌∷◌, None, IfOk, map, length};
 ghost use Rattle.dw_index.specs.Owners.{least_owner};
 ghost use Rattle.dw_index.specs.Range.{pair_shown};
 ghost use Rattle.dw_index.specs.Segments.{AreIndexOf, owner_at};
@@ -10,8 +10,10 @@ use crate::range::Range;
 use crate::run::run_of;
 use crate::search::owner_of;
 use crate::segment::Segment;
+use dw_bytes::Steps;
 use std::alloc::{AllocError, Global};
-use std::marker::Model;
+use std::marker::{Brand, Model};
+use std::sync::ledger::{Blank, Ledger};
 
 /// The segments of one range: its own, and the gap behind it.
 fn lone(alloc: Global, range: Range, owner: usize) -> Result<Vec<Segment>, AllocError>
@@ -90,6 +92,27 @@ impl Index {
     pub fn find(&self, a: u64) -> Option<usize>
         ensures { result ≡ owner_at self.now a }
     {
-        owner_of(&self.segments, a)
+        self.find_uncounted::<Brand>(a, Blank::new(1))
+    }
+
+    /// The same with steps of its own.
+    fn find_uncounted<L: Ledger>(&self, a: u64, blank: Blank) -> Option<usize>
+        requires name { blank.name ≡ L.name }
+        requires parts { blank.parts ≡ L.parts }
+        requires some { 0 < L.parts }
+        ensures { result ≡ owner_at self.now a }
+    {
+        let mut steps = Steps::<L>::new(blank);
+        self.find_counted(a, &mut steps)
+    }
+
+    /// The least owner of the ranges that hold an address, as `find` finds it. A step is a probe, one comparison
+    /// of the address with the begin of a segment: there are at most as many as the number of segments has binary
+    /// digits.
+    pub fn find_counted<L: Ledger>(&self, a: u64, steps: &mut Steps<L>) -> Option<usize>
+        ensures owner { result ≡ owner_at self.now a }
+        ensures counted { (digits : ℕ) → length self.now < 2 ^ digits → steps.new ≤ steps.old + digits }
+    {
+        owner_of(&self.segments, a, steps)
     }
 }
