@@ -11,11 +11,11 @@ use ticket_core::{NoMemory, Shape, Solver};
 
 /// A board of which the last client and the last worker are used, with the worker's solver.
 #[derive(Drop)]
-pub struct BoardDesk<'a> {
-    board: Board<'a, Echo<'a>>,
-    client: Client<Echo<'a>>,
-    worker: Worker<Echo<'a>>,
-    solver: Echo<'a>,
+pub struct BoardDesk {
+    board: Board<'static, Echo>,
+    client: Client<Echo>,
+    worker: Worker<Echo>,
+    solver: Echo,
     ghost client_seat: { IsClientOf board client },
     ghost worker_seat: { IsWorkerOf board worker },
     ghost same_key: { solver.key.now ≡ board.key },
@@ -41,15 +41,15 @@ fn open_last<'a, S: Solver>(
     Ok((board, client, worker))
 }
 
-impl<'a> BoardDesk<'a> {
+impl BoardDesk {
     /// The solver is refused memory in so many calls.
     pub fn new(
         alloc: Global,
         shape: Shape,
-        key: &'a [u8],
+        key: &'static [u8],
         refusals: u64,
     ) -> Result<Self, BoardFault> {
-        let (board, client, worker) = open_last::<Echo<'a>>(alloc, shape, key)?;
+        let (board, client, worker) = open_last::<Echo>(alloc, shape, key)?;
         Ok(BoardDesk {
             board,
             client,

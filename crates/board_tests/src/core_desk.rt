@@ -11,9 +11,9 @@ use ticket_core::{Core, CoreFault, NewFault, NoMemory, Shape, Solver};
 /// A core whose answers are the solver's. It knows what each hand holds, so a worker can finish
 /// just that.
 #[derive(Drop)]
-pub struct CoreDesk<'a> {
-    core: Core<'a, Echo<'a>>,
-    solver: Echo<'a>,
+pub struct CoreDesk {
+    core: Core<'static, Echo>,
+    solver: Echo,
     hands: Vec<Option<(usize, u64)>>,
     pub shape: Shape,
     ghost same_key: { core.key ≡ solver.key.now },
@@ -39,8 +39,8 @@ fn answer<S: Solver>(
     solver.solve(a)
 }
 
-impl<'a> CoreDesk<'a> {
-    pub fn new(alloc: Global, shape: Shape, key: &'a [u8]) -> Result<Self, NewFault>
+impl CoreDesk {
+    pub fn new(alloc: Global, shape: Shape, key: &'static [u8]) -> Result<Self, NewFault>
         ensures { IfOk result (λ desk. desk.shape ≡ shape) }
     {
         let hands = vec![in alloc; None; shape.workers]?;

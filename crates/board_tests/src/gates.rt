@@ -20,7 +20,7 @@ impl Gate for Open {
 /// A gate that looks at the first cell of a board.
 #[derive(Drop)]
 pub struct Peek<'b, 'a> {
-    board: &'b Board<'a, Echo<'a>>,
+    board: &'b Board<'a, Echo>,
     /// The state word that it saw there, and whether it saw one.
     word: AtomicU64,
     saw: AtomicBool,
@@ -28,7 +28,7 @@ pub struct Peek<'b, 'a> {
 
 impl<'b, 'a> Peek<'b, 'a> {
     /// A gate that nothing entered.
-    pub fn new(board: &'b Board<'a, Echo<'a>>) -> Self {
+    pub fn new(board: &'b Board<'a, Echo>) -> Self {
         Peek {
             board,
             word: AtomicU64::new(0),

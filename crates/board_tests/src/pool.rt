@@ -20,7 +20,7 @@ pub fn answers<R: Threads + Wait + Sync, G: Gate + Sync>(
     gate: &G,
 ) -> Result<Vec<u64>, PoolFault> {
     let maker = Echoes::new(&KEY, false, 0);
-    run_pool::<Echo<'_>, R, Echoes<'_>, G>(rt, alloc, &maker, shape, queries, gate)
+    run_pool::<Echo, R, Echoes, G>(rt, alloc, &maker, shape, queries, gate)
 }
 
 /// So many queries, all different.
@@ -100,7 +100,7 @@ fn refuses(rt: HostRuntime) -> Result<(), Fail> {
         let shape = shape(3, workers, 2, 100);
         for (refuses, refusals) in [(true, 0), (false, 1)] {
             let maker = Echoes::new(&KEY, refuses, refusals);
-            let found = run_pool::<Echo<'_>, HostRuntime, Echoes<'_>, Open>(
+            let found = run_pool::<Echo, HostRuntime, Echoes, Open>(
                 &rt,
                 rt.alloc(),
                 &maker,

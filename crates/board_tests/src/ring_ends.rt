@@ -77,6 +77,6 @@ fn take_two<S: Solver>(rt: &impl Abort, alloc: Global) -> Result<(), BoardFault>
 
 #[test]
 fn two_takers(rt: HostRuntime) -> Result<(), Fail> {
-    take_two::<Echo<'_>>(&rt, rt.alloc())?;
+    take_two::<Echo>(&rt, rt.alloc())?;
     Ok(())
 }

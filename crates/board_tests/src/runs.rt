@@ -17,7 +17,7 @@ use ticket_core::Shape;
 /// whether an answer was received.
 fn play(
     rt: &impl Abort,
-    desk: &mut CoreDesk<'_>,
+    desk: &mut CoreDesk,
     plain: &mut Plain,
     draws: &mut Draws,
 ) -> Result<bool, Misuse>
@@ -58,7 +58,7 @@ fn play(
 }
 
 /// Each sender's lists are those of the plain definition.
-fn compare(rt: &impl Abort, desk: &CoreDesk<'_>, plain: &Plain) -> Result<(), Misuse> {
+fn compare(rt: &impl Abort, desk: &CoreDesk, plain: &Plain) -> Result<(), Misuse> {
     for sender in 0..desk.shape.senders {
         let lists = plain.senders.get(sender).ok_or(Misuse)?;
         assert_eq!(rt; desk.asked(sender), lists.asked.as_slice());

@@ -34,13 +34,13 @@ fn shapes(rt: HostRuntime) {
     ];
     for (shape, fits) in table {
         assert_eq!(rt; shape.fits(), fits, "{shape:?}");
-        let core = Core::<Echo<'_>>::new(rt.alloc(), shape, &KEY);
+        let core = Core::<Echo>::new(rt.alloc(), shape, &KEY);
         assert_eq!(rt;
             core.err(),
             (!fits).then_some(NewFault::BadShape),
             "{shape:?}"
         );
-        let board = open::<Echo<'_>>(rt.alloc(), shape, &KEY);
+        let board = open::<Echo>(rt.alloc(), shape, &KEY);
         assert_eq!(rt;
             board.err(),
             (!fits).then_some(BoardFault::BadShape),

@@ -12,17 +12,17 @@ pub const KEY: [u8; 3] = [7, 8, 9];
 
 /// Answers each address with the address itself, whatever the key. Its first calls are refused memory.
 #[derive(Drop)]
-pub struct Echo<'a> {
-    key: &'a [u8],
+pub struct Echo {
+    key: &'static [u8],
     /// How many calls are refused memory.
     refusals: u64,
     /// How many were refused so far.
     refused: u64,
 }
 
-impl<'a> Echo<'a> {
+impl Echo {
     /// A solver that is refused memory so many times.
-    pub fn new(key: &'a [u8], refusals: u64) -> Self
+    pub fn new(key: &'static [u8], refusals: u64) -> Self
         ensures { result.key.now ≡ key.now }
     {
         Echo {
@@ -33,7 +33,7 @@ impl<'a> Echo<'a> {
     }
 }
 
-impl Solver for Echo<'_> {
+impl Solver for Echo {
     ghost use base.Stored.{gnum};
 
     type Answer = u64;
@@ -61,17 +61,17 @@ impl Solver for Echo<'_> {
 
 /// Makes solvers of one key.
 #[derive(Drop)]
-pub struct Echoes<'a> {
-    key: &'a [u8],
+pub struct Echoes {
+    key: &'static [u8],
     /// Whether the next solver is refused memory when it is made.
     refuses: AtomicBool,
     /// How many calls of each solver are refused memory.
     refusals: u64,
 }
 
-impl<'a> Echoes<'a> {
+impl Echoes {
     /// The first solver is refused memory when it is made or not, and each solver in so many calls.
-    pub fn new(key: &'a [u8], refuses: bool, refusals: u64) -> Self {
+    pub fn new(key: &'static [u8], refuses: bool, refusals: u64) -> Self {
         Echoes {
             key,
             refuses: AtomicBool::new(refuses),
@@ -80,14 +80,14 @@ impl<'a> Echoes<'a> {
     }
 }
 
-impl<'a> Maker<Echo<'a>> for Echoes<'a> {
+impl Maker<Echo> for Echoes {
     ghost key = { λ maker. maker.key.now };
 
     fn key(&self) -> &[u8] {
         self.key
     }
 
-    fn make(&self, _alloc: Global) -> Result<Echo<'a>, NoMemory> {
+    fn make(&self, _alloc: Global) -> Result<Echo, NoMemory> {
         if self.refuses.swap(false, Ordering::SeqCst) {
             return Err(AllocError);
         }
