@@ -1,7 +1,8 @@
 -- A table that is read, and its rows.
 use Rattle.std.proofs.Common.{◌≡◌, ℕ, ◌<◌, ◌≤◌, length, get_or, List, [], ◌∷◌, Option, Some, None, Result, Ok, Err, refl, sym, subst, ap, ◌∙◌}
-use Rattle.std.specs.Prelude.{option_map, option_and_then, slice_get}
+use Rattle.std.specs.Prelude.{Bool, true, false, cond, ◌==◌, IfSome, option_map, option_and_then, slice_get}
 use Rattle.std.specs.Result.{result_unwrap_or}
+use Rattle.std.proofs.lemmas.Bool.{eqb-true}
 use Rattle.std.proofs.lemmas.Option.{same_Some, slice_get_read, slice_get_past}
 use Rattle.dw_model.specs.Results.{◌>>=◌}
 use Rattle.dw_model.specs.Faults.{Bad, bad}
@@ -19,6 +20,10 @@ use Rattle.dw_index.specs.Segments.{owner_at}
 use Rattle.dw_line.specs.declared.checkpoints.Checkpoint.{Checkpoint}
 use Rattle.dw_line.specs.declared.checkpoints.Sequence.{Sequence}
 use Rattle.dw_line.specs.declared.checkpoints.Checkpoints.{Checkpoints}
+use Rattle.dw_line.specs.declared.search.Reached.{Reached}
+use Rattle.dw_line.specs.declared.search.Last.{Last}
+use Rattle.dw_line.specs.Search.{row_told}
+use Rattle.dw_line.specs.Reached.{told_of, last_in, IsReached, IsLast, FindsIn, FindsRow}
 use Rattle.dw_line.specs.Machine.{beginning, rows_on}
 use Rattle.dw_line.specs.Lines.{lines_of, matrix_of}
 use Rattle.dw_line.specs.Program.{IsRecorded}
@@ -70,6 +75,7 @@ of_a_unit sections unit root offset = refl
 -- the sequence that was found is kept of the rows in which the address lies
 pub record IsFound (header : LineHeader) (checkpoints : List Checkpoint) (all : List Row) (a k : ℕ) (sequence : Sequence) : Type 0 where
   pub rows : List Row
+  pub there : slice_get (used_sequences all) k ≡ Some rows
   pub row : row_of all a ≡ row_in a rows
   pub below : a < last_address rows
   pub is : IsSequence header checkpoints (length checkpoints) sequence rows
@@ -83,6 +89,7 @@ is_found header checkpoints kept read all a k sequence are found same within is 
     let one : at.sequence ≡ sequence = same_Some at.sequence sequence (sym at.there ∙ there) in
     record {
       rows = h.rows;
+      there = h.there;
       row = is-there all a k h.rows found h.there;
       below = h.below;
       is = subst (λ (s : Sequence). IsSequence header checkpoints (length checkpoints) s h.rows) one at.is;
@@ -96,3 +103,26 @@ not_past header checkpoints kept read all a k are found same past =
     let none : slice_get kept k ≡ None = ap (λ (ss : List Sequence). slice_get ss k) (sym same) ∙ slice_get_past read k past in
     let both : Some at.sequence ≡ None = sym at.there ∙ none in
     cc
+
+-- ---- the row that was found last
+
+-- what was found last in the sequence is one of its rows
+pub last_is : (header : LineHeader) (used : List (List Row)) (k : ℕ) (rows : List Row) (last : Option Last) → slice_get used k ≡ Some rows → IsLast header used last → IfSome (last_in k last) (IsReached header rows)
+last_is header used k rows None there is = tt
+last_is header used k rows (Some last) there is = by (last.number == k) refl
+  where
+    by : (same : Bool) → last.number == k ≡ same → IfSome (cond same (Some last.reached) None) (IsReached header rows)
+    by true e = subst (λ (found : Option (List Row)). IfSome found (λ rows. IsReached header rows last.reached)) (ap (slice_get used) (eqb-true last.number k e) ∙ there) is
+    by false e = tt
+
+-- what is found in the sequence of an address is found in the matrix
+pub finds_row : (header : LineHeader) (all rows : List Row) (a k : ℕ) (reached : Reached) → slice_get (used_sequences all) k ≡ Some rows → row_of all a ≡ row_in a rows → FindsIn header rows a (Some reached) → FindsRow header all a (Some (record { number = k; reached = reached }))
+finds_row header all rows a k reached there row found =
+    (
+      found.0 ∙ sym (ap (option_map row_told) row),
+      subst (λ (read : Option (List Row)). IfSome read (λ rows. IsReached header rows reached)) (sym there) found.1,
+    )
+
+pub finds_no_row : (header : LineHeader) (all rows : List Row) (a : ℕ) (found : Option Reached) → found ≡ None → row_of all a ≡ row_in a rows → FindsIn header rows a found → FindsRow header all a None
+finds_no_row header all rows a found none row finds =
+    (sym (ap (option_map told_of) none) ∙ finds.0 ∙ sym (ap (option_map row_told) row), tt)

@@ -40,7 +40,7 @@ begins header = record {
 }
 
 -- a place is given by how many bytes stand in front of it
-place_is : (program : List ℕ) (p : Place) → Passes (start program) p → (record { at = p.at; left = drop p.at program } ≡ p) × (p.at ≤ length program)
+pub place_is : (program : List ℕ) (p : Place) → Passes (start program) p → (record { at = p.at; left = drop p.at program } ≡ p) × (p.at ≤ length program)
 place_is program p s =
     let at : p.at ≡ length s.0 = omega (arith, s.1.1) in
     let left : drop p.at program ≡ p.left = ap (λ (n : ℕ). drop n program) at ∙ ap (drop (length s.0)) s.1.0 ∙ drop-append_seam s.0 p.left in

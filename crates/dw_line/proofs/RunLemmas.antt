@@ -1,31 +1,61 @@
 -- Rows that are run again, one after the other, up to the first above an address.
-use Rattle.std.proofs.Common.{◌≡◌, ℕ, zero, suc, ◌+◌, ◌-◌, ◌<◌, ◌≤◌, Bool, true, false, cond, List, [], ◌∷◌, Option, Some, None, Result, Ok, Err, refl, sym, subst, ap, ◌∙◌, arith}
+use Rattle.std.proofs.Common.{◌≡◌, ℕ, zero, suc, ◌+◌, ◌-◌, ◌<◌, ◌≤◌, Bool, true, false, cond, List, [], ◌∷◌, ◌++◌, take, drop, length, Option, Some, None, Result, Ok, Err, refl, sym, subst, ap, ◌∙◌, arith}
 use Rattle.std.specs.Prelude.{nat_lt, option_map}
 use Rattle.std.proofs.lemmas.Bool.{lt-ltb, le-ltb}
+use Rattle.std.proofs.lemmas.List.{drop-drop, take-append-drop, length-take-le}
 use Rattle.dw_model.specs.Results.{◌>>=◌}
-use Rattle.dw_model.specs.Reading.{Place}
+use Rattle.dw_model.specs.Reading.{Place, start, Spans}
 use Rattle.dw_model.specs.Faults.{Bad, bad}
 use Rattle.dw_model.specs.Answers.{Tells}
 use Rattle.dw_model.specs.LineHeader.{LineHeader}
-use Rattle.dw_model.specs.Matrix.{Row}
+use Rattle.dw_model.specs.Matrix.{Row, first_address}
 use Rattle.dw_model.specs.Registers.{row}
 use Rattle.dw_model.specs.Registers as model
 use Rattle.dw_line.specs.declared.machine.Appended.{Appended}
+use Rattle.dw_line.specs.declared.checkpoints.Checkpoint.{Checkpoint}
+use Rattle.dw_line.specs.declared.search.Reached.{Reached}
 use Rattle.dw_line.specs.Registers.{registers_shown}
 use Rattle.dw_line.specs.Machine.{State, rows_on, row_before, registers_behind, appended_row, IsNext}
-use Rattle.dw_line.specs.Search.{row_before_address}
+use Rattle.dw_line.specs.Sequences.{up_to_end, state_of, checkpoint_row}
+use Rattle.dw_line.specs.Search.{row_told, row_before_address}
+use Rattle.dw_line.specs.Reached.{told_of, FindsFrom}
+use Rattle.dw_line.proofs.MachineLemmas.{Passes, Advances, passes, passes_more}
+use Rattle.dw_line.proofs.ProgramLemmas.{place_is}
 
--- the rows from a state on, behind `i` that were run
-pub record Later (header : LineHeader) (old state : State) (a i : ℕ) (rows : List Row) : Type 0 where
+-- ---- the place of the machine
+
+abbrev pub place_of : LineHeader → Checkpoint → Place
+place_of header checkpoint = record { at = checkpoint.place; left = drop checkpoint.place header.program }
+
+-- the machine stands where a program can be run on
+pub record Stands (header : LineHeader) (here : Checkpoint) (cursor : Place) : Type 0 where
+  pub is : cursor ≡ place_of header here
+  pub within : here.place ≤ length header.program
+
+-- a place in a program is reached from its beginning
+to_place : (program : List ℕ) (k : ℕ) → k ≤ length program → Passes (start program) (record { at = k; left = drop k program })
+to_place program k h = (take k program, (sym (take-append-drop k program), omega (arith, length-take-le k program h)), tt)
+
+pub stands_on : (header : LineHeader) (here : Checkpoint) (next : Appended) (old new : Place) → Stands header here old → Advances old new → Stands header (record { registers = next.registers; place = new.at }) new
+stands_on header here next old new stands spans =
+    let passed = passes (start header.program) new (passes_more (start header.program) old new (subst (λ (p : Place). Passes (start header.program) p) (sym stands.is) (to_place header.program here.place stands.within)) spans) in
+    let is = place_is header.program new passed in
+    record { is = sym is.0; within = is.1 }
+
+-- ---- rows so far
+
+-- the rows from a row on, behind `i` that were run
+pub record Later (header : LineHeader) (first here : Checkpoint) (a i : ℕ) (rows : List Row) : Type 0 where
   pub others : List Row
-  pub appends : rows_on header state ≡ Ok others
-  pub same : row_before_address 64 a (row old.registers false) rows ≡ row_before_address (64 - i) a (row state.registers false) others
+  pub appends : rows_on header (state_of header here) ≡ Ok others
+  pub same : row_before_address 64 a (checkpoint_row first) rows ≡ row_before_address (64 - i) a (checkpoint_row here) others
+  pub rest : checkpoint_row here ∷ up_to_end others ≡ drop i (checkpoint_row first ∷ up_to_end rows)
 
-abbrev pub SoFar : LineHeader → (old state : State) → (a i : ℕ) → Type 0
-SoFar header old state a i = (rows : List Row) → rows_on header old ≡ Ok rows → Later header old state a i rows
+abbrev pub SoFar : LineHeader → (first here : Checkpoint) → (a i : ℕ) → Type 0
+SoFar header first here a i = (rows : List Row) → rows_on header (state_of header first) ≡ Ok rows → Later header first here a i rows
 
-pub begins : (header : LineHeader) (state : State) (a : ℕ) → SoFar header state state a 0
-begins header state a = λ rows e. record { others = rows; appends = e; same = refl }
+pub begins : (header : LineHeader) (first : Checkpoint) (a : ℕ) → SoFar header first first a 0
+begins header first a = λ rows e. record { others = rows; appends = e; same = refl; rest = refl }
 
 more : (i : ℕ) → i < 64 → 64 - i ≡ suc (64 - (i + 1))
 more i h = omega (arith, h)
@@ -47,41 +77,99 @@ one : (most a : ℕ) (r next : Row) (rest : List Row) (above ends : Bool) → na
 unfolding row_before_address
 one most a r next rest above ends e f = rw (e, f) refl
 
-reached : (header : LineHeader) (old state : State) (next : Appended) (new : Place) (a i : ℕ) (rows : List Row) (above ends : Bool) → i < 64 → IsNext header state next new → nat_lt a next.registers.address ≡ above → next.ends ≡ ends → (later : Later header old state a i rows)
-    → (taken : Taken (appended_row next) (rows_on header (record { registers = registers_behind (registers_shown next.registers) next.ends; place = new })) later.others)
-    → row_before_address 64 a (row old.registers false) rows ≡ cond above (Some (row state.registers false)) (cond ends None (row_before_address (64 - (i + 1)) a (appended_row next) taken.rest))
-reached header old state next new a i rows above ends h is e f later taken =
-    later.same ∙ ap (λ (n : ℕ). row_before_address n a (row state.registers false) later.others) (more i h) ∙ ap (row_before_address (suc (64 - (i + 1))) a (row state.registers false)) taken.whole
-    ∙ one (64 - (i + 1)) a (row state.registers false) (appended_row next) taken.rest above ends e f
+up_to_end-goes : (r : Row) (rows : List Row) → r.ends ≡ false → up_to_end (r ∷ rows) ≡ r ∷ up_to_end rows
+up_to_end-goes r rows e = rw e refl
 
-of_next : (header : LineHeader) (old state : State) (next : Appended) (new : Place) (a i : ℕ) (rows : List Row) → IsNext header state next new → (later : Later header old state a i rows) → Taken (appended_row next) (rows_on header (record { registers = registers_behind (registers_shown next.registers) next.ends; place = new })) later.others
-of_next header old state next new a i rows is later =
-    taken (appended_row next) (rows_on header (record { registers = registers_behind (registers_shown next.registers) next.ends; place = new })) later.others (sym is.rows ∙ later.appends)
+first-up : (r : Row) (rows : List Row) → first_address (up_to_end (r ∷ rows)) ≡ r.address
+first-up r rows = by r.ends
+  where
+    by : (ends : Bool) → first_address (cond ends (r ∷ []) (r ∷ up_to_end rows)) ≡ r.address
+    by true = refl
+    by false = refl
+
+-- the rows behind those that were run
+behind : (i : ℕ) (r : Row) (own all : List Row) → r ∷ own ≡ drop i all → own ≡ drop (i + 1) all
+behind i r own all e = ap (drop 1) e ∙ drop-drop 1 i all
+
+abbrev next_state : LineHeader → Appended → Place → State
+next_state header next new = record { registers = registers_behind (registers_shown next.registers) next.ends; place = new }
+
+of_next : (header : LineHeader) (first here : Checkpoint) (next : Appended) (new : Place) (a i : ℕ) (rows : List Row) → IsNext header (state_of header here) next new → (later : Later header first here a i rows) → Taken (appended_row next) (rows_on header (next_state header next new)) later.others
+of_next header first here next new a i rows is later =
+    taken (appended_row next) (rows_on header (next_state header next new)) later.others (sym is.rows ∙ later.appends)
+
+reached : (header : LineHeader) (first here : Checkpoint) (next : Appended) (new : Place) (a i : ℕ) (rows : List Row) (above ends : Bool) → i < 64 → nat_lt a next.registers.address ≡ above → next.ends ≡ ends → (later : Later header first here a i rows)
+    → (taken : Taken (appended_row next) (rows_on header (next_state header next new)) later.others)
+    → row_before_address 64 a (checkpoint_row first) rows ≡ cond above (Some (checkpoint_row here)) (cond ends None (row_before_address (64 - (i + 1)) a (appended_row next) taken.rest))
+reached header first here next new a i rows above ends h e f later taken =
+    later.same ∙ ap (λ (n : ℕ). row_before_address n a (checkpoint_row here) later.others) (more i h) ∙ ap (row_before_address (suc (64 - (i + 1))) a (checkpoint_row here)) taken.whole
+    ∙ one (64 - (i + 1)) a (checkpoint_row here) (appended_row next) taken.rest above ends e f
+
+-- where the state is that of the row
+abbrev pub Next : LineHeader → Checkpoint → Place → Appended → Place → Type 0
+Next header here old next new = IsNext header (record { registers = registers_shown here.registers; place = old }) next new
+
+next_of : (header : LineHeader) (here : Checkpoint) (old new : Place) (next : Appended) → Stands header here old → Next header here old next new → IsNext header (state_of header here) next new
+next_of header here old new next stands is = subst (λ (p : Place). Next header here p next new) stands.is is
+
+-- ---- how it goes on and ends
+
+-- what is known in the loop, where the first row's place is in the program
+pub record Runs (header : LineHeader) (first here : Checkpoint) (cursor : Place) (a i : ℕ) : Type 0 where
+  pub stands : Stands header here cursor
+  pub so_far : SoFar header first here a i
+
+pub goes_on : (header : LineHeader) (first here : Checkpoint) (next : Appended) (old new : Place) (a i : ℕ) → i < 64 → Next header here old next new → Runs header first here old a i → next.registers.address ≤ a → next.ends ≡ false → Runs header first (record { registers = next.registers; place = new.at }) new a (i + 1)
+goes_on header first here next old new a i h is runs below goes =
+    let stands = stands_on header here next old new runs.stands is.spans in
+    record {
+      stands = stands;
+      so_far = λ rows e.
+          let later = runs.so_far rows e in
+          let t = of_next header first here next new a i rows (next_of header here old new next runs.stands is) later in
+          let ends : registers_behind (registers_shown next.registers) next.ends ≡ registers_shown next.registers = ap (registers_behind (registers_shown next.registers)) goes in
+          let row_is : appended_row next ≡ row (registers_shown next.registers) false = ap (row (registers_shown next.registers)) goes in
+          record {
+            others = t.rest;
+            appends = ap (λ (p : Place). rows_on header (record { registers = registers_shown next.registers; place = p })) (sym stands.is) ∙ ap (λ (r : model.Registers). rows_on header (record { registers = r; place = new })) (sym ends) ∙ t.behind;
+            same = reached header first here next new a i rows false false h (le-ltb a next.registers.address below) goes later t
+                ∙ ap (λ (r : Row). row_before_address (64 - (i + 1)) a r t.rest) row_is;
+            rest = ap (λ (r : Row). r ∷ up_to_end t.rest) (sym row_is) ∙ sym (up_to_end-goes (appended_row next) t.rest goes) ∙ ap up_to_end (sym t.whole)
+                ∙ behind i (checkpoint_row here) (up_to_end later.others) (checkpoint_row first ∷ up_to_end rows) later.rest;
+          };
+    }
+
+-- a place that is told by its number
+pub placed : (header : LineHeader) (first : Checkpoint) (next : Appended) (new : Place) (a i at : ℕ) → at ≡ new.at → Runs header first (record { registers = next.registers; place = new.at }) new a i → Runs header first (record { registers = next.registers; place = at }) new a i
+placed header first next new a i at e runs = subst (λ (n : ℕ). Runs header first (record { registers = next.registers; place = n }) new a i) (sym e) runs
 
 -- the next row lies above the address
-pub stops_above : (header : LineHeader) (old state : State) (next : Appended) (new : Place) (a i : ℕ) (rows : List Row) → i < 64 → IsNext header state next new → SoFar header old state a i → a < next.registers.address → rows_on header old ≡ Ok rows → row_before_address 64 a (row old.registers false) rows ≡ Some (row state.registers false)
-stops_above header old state next new a i rows h is so_far above e =
-    let later = so_far rows e in
-    reached header old state next new a i rows true next.ends h is (lt-ltb a next.registers.address above) refl later (of_next header old state next new a i rows is later)
+pub stops_above : (header : LineHeader) (first here : Checkpoint) (next : Appended) (old new : Place) (next_checkpoint a i : ℕ) → i < 64 → Next header here old next new → (first.place ≤ length header.program → Runs header first here old a i) → a < next.registers.address
+    → FindsFrom header first next_checkpoint a (Some (record { row = here; next = next.registers.address; next_checkpoint = next_checkpoint }))
+stops_above header first here next old new next_checkpoint a i h is given above = λ there rows e.
+    let runs = given there in
+    let later = runs.so_far rows e in
+    let t = of_next header first here next new a i rows (next_of header here old new next runs.stands is) later in
+    (
+      sym (ap (option_map row_told) (reached header first here next new a i rows true next.ends h (lt-ltb a next.registers.address above) refl later t)),
+      record {
+        passed = i;
+        number = refl;
+        is = record {
+          is = record { others = later.others; appends = later.appends; rest = later.rest; within = runs.stands.within };
+          next = sym (first-up (appended_row next) t.rest) ∙ ap (λ (others : List Row). first_address (up_to_end others)) (sym t.whole)
+              ∙ ap first_address (behind i (checkpoint_row here) (up_to_end later.others) (checkpoint_row first ∷ up_to_end rows) later.rest);
+        };
+      },
+    )
 
 -- the sequence ends before the address
-pub stops_end : (header : LineHeader) (old state : State) (next : Appended) (new : Place) (a i : ℕ) (rows : List Row) → i < 64 → IsNext header state next new → SoFar header old state a i → next.registers.address ≤ a → next.ends ≡ true → rows_on header old ≡ Ok rows → row_before_address 64 a (row old.registers false) rows ≡ None
-stops_end header old state next new a i rows h is so_far below last e =
-    let later = so_far rows e in
-    reached header old state next new a i rows false true h is (le-ltb a next.registers.address below) last later (of_next header old state next new a i rows is later)
-
-pub goes_on : (header : LineHeader) (old state : State) (next : Appended) (new : Place) (a i : ℕ) → i < 64 → IsNext header state next new → SoFar header old state a i → next.registers.address ≤ a → next.ends ≡ false → SoFar header old (record { registers = registers_shown next.registers; place = new }) a (i + 1)
-goes_on header old state next new a i h is so_far below goes =
-    λ rows e.
-    let later = so_far rows e in
-    let t = of_next header old state next new a i rows is later in
-    let ends : registers_behind (registers_shown next.registers) next.ends ≡ registers_shown next.registers = ap (registers_behind (registers_shown next.registers)) goes in
-    record {
-      others = t.rest;
-      appends = ap (λ (r : model.Registers). rows_on header (record { registers = r; place = new })) (sym ends) ∙ t.behind;
-      same = reached header old state next new a i rows false false h is (le-ltb a next.registers.address below) goes later t
-          ∙ ap (λ (ends : Bool). row_before_address (64 - (i + 1)) a (row (registers_shown next.registers) ends) t.rest) goes;
-    }
+pub stops_end : (header : LineHeader) (first here : Checkpoint) (next : Appended) (old new : Place) (next_checkpoint a i : ℕ) → i < 64 → Next header here old next new → (first.place ≤ length header.program → Runs header first here old a i) → next.registers.address ≤ a → next.ends ≡ true → FindsFrom header first next_checkpoint a None
+stops_end header first here next old new next_checkpoint a i h is given below last = λ there rows e.
+    let runs = given there in
+    let later = runs.so_far rows e in
+    let t = of_next header first here next new a i rows (next_of header here old new next runs.stands is) later in
+    (sym (ap (option_map row_told) (reached header first here next new a i rows false true h (le-ltb a next.registers.address below) last later t)), tt)
 
 -- there is no row behind it
 none_of : (most a : ℕ) (r : Row) → row_before_address most a r [] ≡ None
@@ -92,23 +180,32 @@ none_of (suc most) a r = refl
 same_rows : (a b : Result (List Row) Bad) (xs ys : List Row) → a ≡ Ok xs → a ≡ Ok ys → xs ≡ ys
 same_rows a b xs ys e f = cc
 
-pub stops_none : (header : LineHeader) (old state : State) (a i : ℕ) (rows : List Row) → rows_on header state ≡ Ok [] → SoFar header old state a i → rows_on header old ≡ Ok rows → row_before_address 64 a (row old.registers false) rows ≡ None
-stops_none header old state a i rows none so_far e =
-    let later = so_far rows e in
-    let empty = same_rows (rows_on header state) (rows_on header state) later.others [] later.appends none in
-    later.same ∙ ap (row_before_address (64 - i) a (row state.registers false)) empty ∙ none_of (64 - i) a (row state.registers false)
+-- the rows from where the machine stands
+rows_here : (header : LineHeader) (here : Checkpoint) (old : Place) (read : Result (List Row) Bad) → Stands header here old → rows_on header (record { registers = registers_shown here.registers; place = old }) ≡ read → rows_on header (state_of header here) ≡ read
+rows_here header here old read stands e = ap (λ (p : Place). rows_on header (record { registers = registers_shown here.registers; place = p })) (sym stands.is) ∙ e
+
+pub stops_none : (header : LineHeader) (first here : Checkpoint) (old : Place) (next_checkpoint a i : ℕ) → rows_on header (record { registers = registers_shown here.registers; place = old }) ≡ Ok [] → (first.place ≤ length header.program → Runs header first here old a i) → FindsFrom header first next_checkpoint a None
+stops_none header first here old next_checkpoint a i none given = λ there rows e.
+    let runs = given there in
+    let later = runs.so_far rows e in
+    let empty = same_rows (rows_on header (state_of header here)) (rows_on header (state_of header here)) later.others [] later.appends (rows_here header here old (Ok []) runs.stands none) in
+    (sym (ap (option_map row_told) (later.same ∙ ap (row_before_address (64 - i) a (checkpoint_row here)) empty ∙ none_of (64 - i) a (checkpoint_row here))), tt)
 
 -- rows that could be read can be read again
-pub stops_fault : (header : LineHeader) (old state : State) (a i : ℕ) (rows : List Row) (told : Option Bad) → Tells told (rows_on header state) → SoFar header old state a i → rows_on header old ≡ Ok rows → ⊥
-stops_fault header old state a i rows None fault so_far e = fault
-stops_fault header old state a i rows (Some f) fault so_far e =
-    let later = so_far rows e in
-    let both : Ok later.others ≡ Err f = sym later.appends ∙ fault in
+no_fault : (header : LineHeader) (first here : Checkpoint) (old : Place) (a i : ℕ) (rows : List Row) (told : Option Bad) → Tells told (rows_on header (record { registers = registers_shown here.registers; place = old })) → Runs header first here old a i → rows_on header (state_of header first) ≡ Ok rows → ⊥
+no_fault header first here old a i rows None fault runs e = fault
+no_fault header first here old a i rows (Some f) fault runs e =
+    let later = runs.so_far rows e in
+    let both : Ok later.others ≡ Err f = sym later.appends ∙ rows_here header here old (Err f) runs.stands fault in
     cc
 
-pub stops_last : (header : LineHeader) (old state : State) (a i : ℕ) (rows : List Row) → 64 ≤ i → SoFar header old state a i → rows_on header old ≡ Ok rows → row_before_address 64 a (row old.registers false) rows ≡ None
+pub stops_fault : (header : LineHeader) (first here : Checkpoint) (old : Place) (next_checkpoint a i : ℕ) (told : Option Bad) → Tells told (rows_on header (record { registers = registers_shown here.registers; place = old })) → (first.place ≤ length header.program → Runs header first here old a i) → FindsFrom header first next_checkpoint a None
+stops_fault header first here old next_checkpoint a i told fault given = λ there rows e.
+    absurd (no_fault header first here old a i rows told fault (given there) e)
+
+pub stops_last : (header : LineHeader) (first here : Checkpoint) (old : Place) (next_checkpoint a i : ℕ) → 64 ≤ i → (first.place ≤ length header.program → Runs header first here old a i) → FindsFrom header first next_checkpoint a None
 unfolding row_before_address
-stops_last header old state a i rows h so_far e =
-    let later = so_far rows e in
+stops_last header first here old next_checkpoint a i h given = λ there rows e.
+    let later = (given there).so_far rows e in
     let none : 64 - i ≡ 0 = omega (arith, h) in
-    later.same ∙ ap (λ (n : ℕ). row_before_address n a (row state.registers false) later.others) none
+    (sym (ap (option_map row_told) (later.same ∙ ap (λ (n : ℕ). row_before_address n a (checkpoint_row here) later.others) none)), tt)

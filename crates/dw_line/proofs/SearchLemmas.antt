@@ -1,16 +1,19 @@
 -- The row of an address in a sequence, from one of its checkpoints on.
 use Rattle.std.proofs.Common.{◌≡◌, ℕ, zero, suc, ◌+◌, ◌-◌, ◌*◌, ◌<◌, ◌≤◌, Bool, true, false, cond, List, [], ◌∷◌, ◌++◌, length, drop, get_or, Option, Some, None, ◌⊎◌, inl, inr, refl, sym, subst, ap, ◌∙◌, arith, add-one}
-use Rattle.std.specs.Prelude.{nat_le, nat_lt, ◌&&◌}
+use Rattle.std.specs.Prelude.{nat_le, nat_lt, ◌&&◌, IfSome, option_map, slice_get}
 use Rattle.std.specs.List.Sorted.{IsNonDecreasingBy, IsPartitionPoint}
 use Rattle.std.proofs.Math.Seq.{drop-nil}
 use Rattle.std.proofs.lemmas.Bool.{leb-true, leb-false, lt-ltb, le-leb, le-ltb, ltb-true, ltb-false, and_parts}
 use Rattle.std.proofs.lemmas.List.{drop-drop, length-drop}
 use Rattle.std.proofs.lemmas.List.Sorted.{IsNonDecreasingBy-from_all_adjacent}
+use Rattle.std.proofs.lemmas.Option.{slice_get_read}
 use Rattle.dw_model.specs.LineHeader.{LineHeader}
 use Rattle.dw_model.specs.Matrix.{Row, never_falls, first_address, last_address, is_used, row_in}
 use Rattle.dw_line.specs.declared.checkpoints.Checkpoint.{Checkpoint}
+use Rattle.dw_line.specs.declared.search.Reached.{Reached}
 use Rattle.dw_line.specs.Sequences.{up_to_end, checkpoint_row, IsCheckpoint, AreCheckpoints, HasCheckpoints}
-use Rattle.dw_line.specs.Search.{row_before_address}
+use Rattle.dw_line.specs.Search.{row_told, row_before_address}
+use Rattle.dw_line.specs.Reached.{reaches, is_before, IsReached, IsPassed, FindsFrom, FindsIn}
 
 -- ---- rows that never fall
 
@@ -140,12 +143,6 @@ checkpoint_at header (c ∷ checkpoints) rows are (suc k) d h =
     let places : 64 + 64 * k ≡ 64 * suc k = omega arith in
     subst (λ (rest : List Row). IsCheckpoint header (get_or checkpoints k d) rest) (drop-drop (64 * k) 64 rows ∙ ap (λ (n : ℕ). drop n rows) places) (checkpoint_at header checkpoints (drop 64 rows) are.1 k d (omega (arith, h)))
 
--- from a checkpoint the next one is 64 rows away
-next_there : (k : ℕ) (rows own others next : List Row) (c d : Row) → c ∷ own ≡ drop (64 * k) rows → d ∷ next ≡ drop (64 * (k + 1)) rows → d ∷ next ≡ drop 63 own
-next_there k rows own others next c d e f =
-    let places : 64 * k + 64 ≡ 64 * (k + 1) = omega arith in
-    f ∙ ap (λ (n : ℕ). drop n rows) (sym places) ∙ sym (drop-drop 64 (64 * k) rows) ∙ ap (drop 64) (sym e)
-
 pub rises : (header : LineHeader) (checkpoints : List Checkpoint) (rows : List Row) → HasCheckpoints header checkpoints rows → IsNonDecreasingBy (λ checkpoint. checkpoint.registers.address) checkpoints
 rises header checkpoints rows has =
     IsNonDecreasingBy-from_all_adjacent (λ checkpoint. checkpoint.registers.address) checkpoints
@@ -169,22 +166,7 @@ none_before header (c ∷ checkpoints) rows a d has point =
     let above = leb-false c.registers.address a (point.1 0 d (omega arith) (omega arith)) in
     none_below a rows never (omega (arith, first, above))
 
-stops_soon : (header : LineHeader) (checkpoints : List Checkpoint) (rows : List Row) (a k : ℕ) (d : Checkpoint) → HasCheckpoints header checkpoints rows → k < length checkpoints → Splits checkpoints a (k + 1) → a < last_address rows → (is : IsCheckpoint header (get_or checkpoints k d) (drop (64 * k) rows)) → (get_or checkpoints k d).registers.address ≤ a → k + 1 < length checkpoints ⊎ (length checkpoints ≤ k + 1) → Stops 64 a (up_to_end is.others)
-stops_soon header checkpoints rows a k d has within point below_end is below (inl more) =
-    let other = checkpoint_at header checkpoints rows has.each (k + 1) d more in
-    let above = leb-false (get_or checkpoints (k + 1) d).registers.address a (point.1 (k + 1) d (omega arith) more) in
-    record { place = 63; row = checkpoint_row (get_or checkpoints (k + 1) d); rest = up_to_end other.others; soon = omega arith; there = next_there k rows (up_to_end is.others) [] (up_to_end other.others) (checkpoint_row (get_or checkpoints k d)) (checkpoint_row (get_or checkpoints (k + 1) d)) is.rest other.rest; above = above }
-stops_soon header checkpoints rows a k d has within point below_end is below (inr last) =
-    by (up_to_end is.others) is.rest
-  where
-    by : (own : List Row) → checkpoint_row (get_or checkpoints k d) ∷ own ≡ drop (64 * k) rows → Stops 64 a own
-    by [] rest =
-        let same : (get_or checkpoints k d).registers.address ≡ last_address rows = last_later (64 * k) rows (checkpoint_row (get_or checkpoints k d)) [] rest in
-        absurd (omega (arith, same, below, below_end))
-    by (s ∷ own) rest =
-        let same : last_address (s ∷ own) ≡ last_address rows = last_later (64 * k) rows (checkpoint_row (get_or checkpoints k d)) (s ∷ own) rest in
-        let stops = last_stops a s own (omega (arith, same, below_end)) in
-        record { place = stops.place; row = stops.row; rest = stops.rest; soon = omega (arith, stops.soon, ap length rest, length-drop (64 * k) rows, has.enough, last, within); there = stops.there; above = stops.above }
+-- ---- from a row on
 
 decide : (m n : ℕ) → (m < n) ⊎ (n ≤ m)
 decide m n = by (nat_lt m n) refl
@@ -193,15 +175,149 @@ decide m n = by (nat_lt m n) refl
     by true e = inl (ltb-true m n e)
     by false e = inr (ltb-false m n e)
 
--- the row of the address stands at the last checkpoint that isn't above it, or behind it
-pub row_is : (header : LineHeader) (checkpoints : List Checkpoint) (rows : List Row) (a k : ℕ) (d : Checkpoint) → HasCheckpoints header checkpoints rows → k < length checkpoints → Splits checkpoints a (k + 1) → a < last_address rows
-    → (is : IsCheckpoint header (get_or checkpoints k d) (drop (64 * k) rows)) → row_in a rows ≡ row_before_address 64 a (checkpoint_row (get_or checkpoints k d)) is.others
-row_is header checkpoints rows a k d has within point below_end is =
-    let never : never_falls rows ≡ true = (and_parts (never_falls rows) (nat_lt (first_address rows) (last_address rows)) has.used).0 in
-    let below = leb-true (get_or checkpoints k d).registers.address a (point.0 k d (omega arith) (omega arith)) in
-    let stops = stops_soon header checkpoints rows a k d has within point below_end is below (decide (k + 1) (length checkpoints)) in
-    row_later (64 * k) a rows (checkpoint_row (get_or checkpoints k d)) (up_to_end is.others) never is.rest below
-    ∙ run_is 64 a (checkpoint_row (get_or checkpoints k d)) is.others below stops
+-- the address lies before the checkpoint with a number, if there is one
+abbrev pub Before : List Checkpoint → (number a : ℕ) → Type 0
+Before checkpoints number a = (d : Checkpoint) → number < length checkpoints → a < (get_or checkpoints number d).registers.address
 
-pub there : (header : LineHeader) (checkpoints : List Checkpoint) (rows : List Row) (k : ℕ) (d : Checkpoint) → HasCheckpoints header checkpoints rows → k < length checkpoints → IsCheckpoint header (get_or checkpoints k d) (drop (64 * k) rows)
-there header checkpoints rows k d has within = checkpoint_at header checkpoints rows has.each k d within
+pub split_before : (checkpoints : List Checkpoint) (a next : ℕ) → Splits checkpoints a next → Before checkpoints next a
+split_before checkpoints a next point = λ d h. leb-false (get_or checkpoints next d).registers.address a (point.1 next d (omega arith) h)
+
+any : (checkpoints : List Checkpoint) (number : ℕ) (d e : Checkpoint) → number < length checkpoints → get_or checkpoints number d ≡ get_or checkpoints number e
+any [] number d e h = absurd (omega (arith, h))
+any (c ∷ checkpoints) zero d e h = refl
+any (c ∷ checkpoints) (suc number) d e h = any checkpoints number d e (omega (arith, h))
+
+pub is_before_all : (checkpoints : List Checkpoint) (number a : ℕ) → is_before a (slice_get checkpoints number) ≡ true → Before checkpoints number a
+is_before_all checkpoints number a e = λ d h.
+    let there = slice_get_read checkpoints (length checkpoints) number (get_or checkpoints number d) refl h (any checkpoints number d (get_or checkpoints number d) h) in
+    ltb-true a (get_or checkpoints number d).registers.address (sym (ap (is_before a) there) ∙ e)
+
+later_above : (rows : List Row) (place number a : ℕ) (r s : Row) (own rest : List Row) → never_falls rows ≡ true → r ∷ own ≡ drop place rows → s ∷ rest ≡ drop number rows → r.address ≤ a → a < s.address → place < number
+later_above rows place number a r s own rest e h there below above = by (decide place number)
+  where
+    by : (place < number) ⊎ (number ≤ place) → place < number
+    by (inl less) = less
+    by (inr more) =
+        let places : number + (place - number) ≡ place = omega (arith, more) in
+        let same = h ∙ ap (λ (n : ℕ). drop n rows) (sym places) ∙ sym (drop-drop (place - number) number rows) ∙ ap (drop (place - number)) (sym there) in
+        let less = first_below (place - number) s r rest own (subst (λ (rows : List Row). never_falls rows ≡ true) (sym there) (later_rises number rows e)) same in
+        absurd (omega (arith, less, below, above))
+
+stops_at : (rows : List Row) (place number a : ℕ) (r s : Row) (own rest : List Row) → r ∷ own ≡ drop place rows → s ∷ rest ≡ drop number rows → place < number → number ≤ place + 64 → a < s.address → Stops 64 a own
+stops_at rows place number a r s own rest h there less near above =
+    let n : ℕ = number - (place + 1) in
+    let places : place + (n + 1) ≡ number = omega (arith, less) in
+    record {
+      place = n;
+      row = s;
+      rest = rest;
+      soon = omega (arith, near, less);
+      there = there ∙ ap (λ (n : ℕ). drop n rows) (sym places) ∙ sym (drop-drop (n + 1) place rows) ∙ ap (drop (n + 1)) (sym h) ∙ ap (λ (m : ℕ). drop m (r ∷ own)) (one_more n);
+      above = above;
+    }
+  where
+    one_more : (n : ℕ) → n + 1 ≡ suc n
+    one_more n = omega arith
+
+stops_soon : (header : LineHeader) (checkpoints : List Checkpoint) (rows : List Row) (a place number : ℕ) (c : Checkpoint) → HasCheckpoints header checkpoints rows → a < last_address rows → (is : IsCheckpoint header c (drop place rows)) → c.registers.address ≤ a → 64 * number ≤ place + 64 → Before checkpoints number a → (number < length checkpoints) ⊎ (length checkpoints ≤ number)
+    → Stops 64 a (up_to_end is.others)
+stops_soon header checkpoints rows a place number c has below_end is below near before (inl more) =
+    let never : never_falls rows ≡ true = (and_parts (never_falls rows) (nat_lt (first_address rows) (last_address rows)) has.used).0 in
+    let other = checkpoint_at header checkpoints rows has.each number c more in
+    let s = checkpoint_row (get_or checkpoints number c) in
+    let above : a < s.address = before c more in
+    let less = later_above rows place (64 * number) a (checkpoint_row c) s (up_to_end is.others) (up_to_end other.others) never is.rest other.rest below above in
+    stops_at rows place (64 * number) a (checkpoint_row c) s (up_to_end is.others) (up_to_end other.others) is.rest other.rest less near above
+stops_soon header checkpoints rows a place number c has below_end is below near before (inr last) =
+    by (up_to_end is.others) is.rest
+  where
+    by : (own : List Row) → checkpoint_row c ∷ own ≡ drop place rows → Stops 64 a own
+    by [] rest =
+        let same : c.registers.address ≡ last_address rows = last_later place rows (checkpoint_row c) [] rest in
+        absurd (omega (arith, same, below, below_end))
+    by (s ∷ own) rest =
+        let same : last_address (s ∷ own) ≡ last_address rows = last_later place rows (checkpoint_row c) (s ∷ own) rest in
+        let stops = last_stops a s own (omega (arith, same, below_end)) in
+        record { place = stops.place; row = stops.row; rest = stops.rest; soon = omega (arith, stops.soon, ap length rest, length-drop place rows, has.enough, last, near); there = stops.there; above = stops.above }
+
+-- the row of the address stands at a row that isn't above it, or behind it and before the next checkpoint
+row_is : (header : LineHeader) (checkpoints : List Checkpoint) (rows : List Row) (a place number : ℕ) (c : Checkpoint) → HasCheckpoints header checkpoints rows → a < last_address rows → (is : IsCheckpoint header c (drop place rows)) → c.registers.address ≤ a → 64 * number ≤ place + 64 → Before checkpoints number a
+    → row_in a rows ≡ row_before_address 64 a (checkpoint_row c) is.others
+row_is header checkpoints rows a place number c has below_end is below near before =
+    let never : never_falls rows ≡ true = (and_parts (never_falls rows) (nat_lt (first_address rows) (last_address rows)) has.used).0 in
+    let stops = stops_soon header checkpoints rows a place number c has below_end is below near before (decide number (length checkpoints)) in
+    row_later place a rows (checkpoint_row c) (up_to_end is.others) never is.rest below
+    ∙ run_is 64 a (checkpoint_row c) is.others below stops
+
+-- a row behind one of the rows is one of them
+later_reached : (header : LineHeader) (rows : List Row) (place number : ℕ) (r : Row) (own : List Row) (found : Option Reached) → r ∷ own ≡ drop place rows → 64 * number ≤ place + 64 → IfSome found (IsPassed header (r ∷ own) number) → IfSome found (IsReached header rows)
+later_reached header rows place number r own None h near passed = tt
+later_reached header rows place number r own (Some reached) h near is =
+    let all : (n : ℕ) → drop n (r ∷ own) ≡ drop (place + n) rows = λ n. ap (drop n) h ∙ drop-drop n place rows in
+    let places : place + (is.passed + 1) ≡ (place + is.passed) + 1 = omega arith in
+    record {
+      passed = place + is.passed;
+      behind = omega (arith, near, is.number);
+      is = record {
+        is = subst (IsCheckpoint header reached.row) (all is.passed) is.is.is;
+        next = is.is.next ∙ ap first_address (all (is.passed + 1)) ∙ ap (λ (n : ℕ). first_address (drop n rows)) places;
+      };
+    }
+
+-- What is found from a row on, which isn't above the address, is the row of the address.
+pub finds : (header : LineHeader) (checkpoints : List Checkpoint) (rows : List Row) (a place number : ℕ) (c : Checkpoint) (found : Option Reached) → HasCheckpoints header checkpoints rows → a < last_address rows → IsCheckpoint header c (drop place rows) → c.registers.address ≤ a → 64 * number ≤ place + 64 → Before checkpoints number a
+    → FindsFrom header c number a found → FindsIn header rows a found
+finds header checkpoints rows a place number c found has below_end is below near before from =
+    let what = from is.within is.others is.appends in
+    (
+      what.0 ∙ sym (ap (option_map row_told) (row_is header checkpoints rows a place number c has below_end is below near before)),
+      later_reached header rows place number (checkpoint_row c) (up_to_end is.others) found is.rest near what.1,
+    )
+
+-- the same from the last checkpoint that isn't above the address
+pub finds_by_halves : (header : LineHeader) (checkpoints : List Checkpoint) (rows : List Row) (a k : ℕ) (d : Checkpoint) (found : Option Reached) → HasCheckpoints header checkpoints rows → a < last_address rows → k < length checkpoints → Splits checkpoints a (k + 1)
+    → FindsFrom header (get_or checkpoints k d) (k + 1) a found → FindsIn header rows a found
+finds_by_halves header checkpoints rows a k d found has below_end within point from =
+    let is = checkpoint_at header checkpoints rows has.each k d within in
+    let below = leb-true (get_or checkpoints k d).registers.address a (point.0 k d (omega arith) (omega arith)) in
+    finds header checkpoints rows a (64 * k) (k + 1) (get_or checkpoints k d) found has below_end is below (omega arith) (split_before checkpoints a (k + 1) point) from
+
+-- before the first checkpoint there is no row
+pub finds_none : (header : LineHeader) (checkpoints : List Checkpoint) (rows : List Row) (a : ℕ) (d : Checkpoint) → HasCheckpoints header checkpoints rows → Splits checkpoints a 0 → FindsIn header rows a None
+finds_none header checkpoints rows a d has point = (sym (ap (option_map row_told) (none_before header checkpoints rows a d has point)), tt)
+
+-- ---- from the row that was found last
+
+pub was_reached : (header : LineHeader) (rows : List Row) (was : Option Reached) (last : Reached) → was ≡ Some last → IfSome was (IsReached header rows) → IsReached header rows last
+was_reached header rows was last e is = subst (λ (was : Option Reached). IfSome was (IsReached header rows)) e is
+
+-- what `reaches` says
+record Within (checkpoints : List Checkpoint) (last : Reached) (a : ℕ) : Type 0 where
+  below : last.row.registers.address ≤ a
+  before : Before checkpoints last.next_checkpoint a
+
+within : (checkpoints : List Checkpoint) (last : Reached) (a : ℕ) → reaches last checkpoints a ≡ true → Within checkpoints last a
+within checkpoints last a e =
+    let parts = and_parts (nat_le last.row.registers.address a) (is_before a (slice_get checkpoints last.next_checkpoint)) e in
+    record { below = leb-true last.row.registers.address a parts.0; before = is_before_all checkpoints last.next_checkpoint a parts.1 }
+
+pub finds_onward : (header : LineHeader) (checkpoints : List Checkpoint) (rows : List Row) (a : ℕ) (last : Reached) (found : Option Reached) → HasCheckpoints header checkpoints rows → a < last_address rows → IsReached header rows last → reaches last checkpoints a ≡ true → FindsFrom header last.row last.next_checkpoint a found → FindsIn header rows a found
+finds_onward header checkpoints rows a last found has below_end is e from =
+    let w = within checkpoints last a e in
+    finds header checkpoints rows a is.passed last.next_checkpoint last.row found has below_end is.is.is w.below is.behind w.before from
+
+-- a row before whose next one the address lies is its own
+own_row : (a : ℕ) (r : Row) (own : List Row) → r.address ≤ a → a < first_address own → row_in a (r ∷ own) ≡ Some r
+unfolding row_in
+own_row a r [] below above = absurd (omega (arith, above))
+own_row a r (s ∷ own) below above = rw (le-leb r.address a below, lt-ltb a s.address above) refl
+
+pub finds_again : (header : LineHeader) (checkpoints : List Checkpoint) (rows : List Row) (a : ℕ) (last : Reached) → HasCheckpoints header checkpoints rows → IsReached header rows last → reaches last checkpoints a ≡ true → a < last.next → FindsIn header rows a (Some last)
+finds_again header checkpoints rows a last has is e above =
+    let w = within checkpoints last a e in
+    let never : never_falls rows ≡ true = (and_parts (never_falls rows) (nat_lt (first_address rows) (last_address rows)) has.used).0 in
+    let r = checkpoint_row last.row in
+    let own = up_to_end is.is.is.others in
+    let behind : own ≡ drop (is.passed + 1) rows = ap (drop 1) is.is.is.rest ∙ drop-drop 1 is.passed rows in
+    let next : a < first_address own = omega (arith, above, is.is.next, ap first_address behind) in
+    (sym (ap (option_map row_told) (row_later is.passed a rows r own never is.is.is.rest w.below ∙ own_row a r own w.below next)), is)

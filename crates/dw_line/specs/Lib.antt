@@ -6,6 +6,7 @@ pub mod Machine
 pub mod Sequences
 pub mod Recorder
 pub mod Search
+pub mod Reached
 pub mod Program
 pub mod Path
 pub mod Lines

@@ -7,6 +7,7 @@ ghost use Rattle.dw_model.specs.Path.{path};
 ghost use Rattle.dw_forms.specs.Tables.{tables_shown, bases_shown};
 ghost use Rattle.dw_line.specs.Fault.{line_fault};
 ghost use Rattle.dw_line.specs.Lines.{lines_of};
+ghost use Rattle.dw_line.specs.Reached.{IsLast, FindsRow};
 ghost use Rattle.dw_line.specs.Search.{row_told};
 ghost use Rattle.dw_line.specs.Sequences.{used_sequences, most_checkpoints};
 
@@ -16,7 +17,7 @@ use crate::header::{Header, header_at};
 use crate::path::{join, join_some};
 use crate::program::run_program;
 use crate::rows::Row;
-use crate::search::row_in_sequence;
+use crate::search::{Last, last_in, row_onward};
 use crate::sequences::{index_of, own_checkpoints};
 use dw_bytes::Steps;
 use dw_forms::{Bases, Tables};
@@ -35,6 +36,8 @@ pub struct Lines<'a> {
     sequences: Vec<Sequence>,
     /// Finds the first sequence that holds an address.
     index: Index,
+    /// The row that `row_in_order` found last.
+    last: Option<Last>,
     comp_dir: Option<&'a [u8]>,
 }
 
@@ -93,6 +96,7 @@ impl<'a> Lines<'a> {
             checkpoints,
             sequences,
             index,
+            last: None,
             comp_dir,
         })
     }
@@ -123,6 +127,57 @@ impl<'a> Lines<'a> {
         ensures row { result ≡ option_map row_told (row_of self.now.rows address) }
         ensures counted { steps.new ≤ steps.old + 64 }
     {
+        self.find_row(None, address, steps)
+            .map(|last| last.reached.told())
+    }
+
+    /// The row of an address, as `row` finds it. It takes less time where addresses are asked for in order: from
+    /// the row that was found last rows are run on, if the address lies in the same sequence, at that row or
+    /// after it, and before the next checkpoint. Takes no memory.
+    pub fn row_in_order(&mut self, address: u64) -> Option<Row>
+        ensures row { result ≡ option_map row_told (row_of self.old.rows address) }
+        ensures table { self.new ≡ self.old }
+    {
+        self.row_in_order_uncounted::<Brand>(address, Blank::new(1))
+    }
+
+    /// The same with steps of its own.
+    fn row_in_order_uncounted<L: Ledger>(&mut self, address: u64, blank: Blank) -> Option<Row>
+        requires name { blank.name ≡ L.name }
+        requires parts { blank.parts ≡ L.parts }
+        requires some { 0 < L.parts }
+        ensures row { result ≡ option_map row_told (row_of self.old.rows address) }
+        ensures table { self.new ≡ self.old }
+    {
+        let mut steps = Steps::<L>::new(blank);
+        self.row_in_order_counted(address, &mut steps)
+    }
+
+    /// The row of an address, as `row_in_order` finds it. A step is a row that is run again: there are at most 64.
+    pub fn row_in_order_counted<L: Ledger>(
+        &mut self,
+        address: u64,
+        steps: &mut Steps<L>,
+    ) -> Option<Row>
+        ensures row { result ≡ option_map row_told (row_of self.old.rows address) }
+        ensures table { self.new ≡ self.old }
+        ensures counted { steps.new ≤ steps.old + 64 }
+    {
+        let found = self.find_row(self.last, address, steps)?;
+        self.last = Some(found);
+        Some(found.reached.told())
+    }
+
+    /// The row of an address, from the row that was found last if that serves.
+    fn find_row<L: Ledger>(
+        &self,
+        last: Option<Last>,
+        address: u64,
+        steps: &mut Steps<L>,
+    ) -> Option<Last>
+        ensures row { IsLast self.now.header (used_sequences self.now.rows) last → FindsRow self.now.header self.now.rows address result }
+        ensures counted { steps.new ≤ steps.old + 64 }
+    {
         let Some(number) = self.index.find(address) else {
             return None;
         };
@@ -130,7 +185,11 @@ impl<'a> Lines<'a> {
             return None;
         };
         let checkpoints = own_checkpoints(&self.checkpoints, *sequence);
-        row_in_sequence(&self.header, checkpoints, address, steps)
+        let last = last_in(last, number);
+        let Some(reached) = row_onward(&self.header, checkpoints, last, address, steps) else {
+            return None;
+        };
+        Some(Last { number, reached })
     }
 
     /// How many checkpoints are kept: at most one for 64 rows of used sequences, and one for each of these

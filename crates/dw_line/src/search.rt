@@ -1,9 +1,10 @@
-//! The row of an address in a used sequence, from whose checkpoints rows are run again.
+//! The row of an address in a used sequence, from whose checkpoints rows are run again, or from the row that
+//! answered last.
 
-ghost use Rattle.std.specs.Prelude.{◌≡◌, ◌≤◌, ◌+◌, Some, length, drop, nat_le};
+ghost use Rattle.std.specs.Prelude.{◌≡◌, ◌≤◌, ◌<◌, ◌+◌, Some, length, drop, nat_le, option_map};
 ghost use Rattle.dw_line.specs.Header.{header_shown};
 ghost use Rattle.dw_line.specs.Machine.{RunsToNext, state_at};
-ghost use Rattle.dw_line.specs.Search.{FindsBehind, FindsFrom, FindsAmong};
+ghost use Rattle.dw_line.specs.Reached.{told_of, reaches, last_in, FindsFrom, FindsAmong, FindsOnward};
 
 use crate::checkpoints::{Checkpoint, ROWS_APART};
 use crate::fault::LineFault;
@@ -13,6 +14,59 @@ use crate::registers::Registers;
 use crate::rows::Row;
 use dw_bytes::{Cursor, Steps};
 use std::sync::ledger::Ledger;
+
+/// A row that was found.
+#[derive(Clone, Copy, Debug)]
+pub(crate) struct Reached {
+    /// The row, from which later ones are run again.
+    pub(crate) row: Checkpoint,
+    /// The address of the row after it.
+    pub(crate) next: u64,
+    /// The number of the next checkpoint after that from which it was found, among those of its sequence.
+    pub(crate) next_checkpoint: usize,
+}
+
+impl Reached {
+    /// What is told of the row.
+    pub(crate) fn told(self) -> Row
+        ensures { result ≡ told_of self }
+    {
+        let Registers {
+            file, line, column, ..
+        } = self.row.registers;
+        Row { file, line, column }
+    }
+
+    /// The address lies at the row or after it, and before the next checkpoint of its sequence, if there is one.
+    fn reaches(self, checkpoints: &[Checkpoint], address: u64) -> bool
+        ensures { result ≡ reaches self checkpoints.now address }
+    {
+        if address < self.row.registers.address {
+            return false;
+        }
+        match checkpoints.get(self.next_checkpoint) {
+            Some(next) => address < next.registers.address,
+            None => true,
+        }
+    }
+}
+
+/// The row that was found last, in the used sequence with this number.
+#[derive(Clone, Copy, Debug)]
+pub(crate) struct Last {
+    pub(crate) number: usize,
+    pub(crate) reached: Reached,
+}
+
+/// The row that was found last, if it is one of the sequence with this number.
+pub(crate) fn last_in(last: Option<Last>, number: usize) -> Option<Reached>
+    ensures { result ≡ last_in number last }
+{
+    match last {
+        Some(last) if last.number == number => Some(last.reached),
+        _ => None,
+    }
+}
 
 /// Runs the machine to its next row, which is counted.
 #[inline(always)]
@@ -29,41 +83,6 @@ fn next_counted<L: Ledger>(
     next_row(cursor, header, registers)
 }
 
-/// The row of an address at or behind that of these registers: the last one in front of the first above the
-/// address. At most as many rows are run again as lie from one checkpoint to the next.
-fn row_behind<L: Ledger>(
-    header: &Header<'_>,
-    registers: Registers,
-    cursor: &mut Cursor<'_>,
-    address: u64,
-    steps: &mut Steps<L>,
-) -> Option<Row>
-    ensures row { FindsBehind (header_shown header.now) (state_at registers cursor.old) address result }
-    ensures counted { steps.new ≤ steps.old + 64 }
-{
-    let mut last = registers;
-    for _ in 0..ROWS_APART {
-        let Ok(found) = next_counted(cursor, header, last, steps) else {
-            return None;
-        };
-        let Some(next) = found else {
-            return None;
-        };
-        if next.registers.address > address {
-            return Some(Row {
-                file: last.file,
-                line: last.line,
-                column: last.column,
-            });
-        }
-        if next.ends {
-            return None;
-        }
-        last = next.registers;
-    }
-    None
-}
-
 /// A cursor past so many bytes of a program, where they are there.
 fn cursor_at<'a>(program: &'a [u8], place: usize) -> Option<Cursor<'a>>
     ensures { place ≤ length program.now → result ≡ Some (record { at = place; left = drop place program.now }) }
@@ -73,20 +92,46 @@ fn cursor_at<'a>(program: &'a [u8], place: usize) -> Option<Cursor<'a>>
     Some(cursor)
 }
 
-/// The row of an address at or behind a checkpoint's, and before the next checkpoint's.
+/// The row of an address at or after that of a row: the last one in front of the first above the address. At
+/// most as many rows are run again as lie from one checkpoint to the next. The number is that of the checkpoint
+/// after the row.
 fn row_from<L: Ledger>(
     header: &Header<'_>,
-    checkpoint: Checkpoint,
+    row: Checkpoint,
+    next_checkpoint: usize,
     address: u64,
     steps: &mut Steps<L>,
-) -> Option<Row>
-    ensures row { FindsFrom (header_shown header.now) checkpoint address result }
+) -> Option<Reached>
+    ensures row { FindsFrom (header_shown header.now) row next_checkpoint address result }
     ensures counted { steps.new ≤ steps.old + 64 }
 {
-    let Some(mut cursor) = cursor_at(header.program, checkpoint.place) else {
+    let Some(mut cursor) = cursor_at(header.program, row.place) else {
         return None;
     };
-    row_behind(header, checkpoint.registers, &mut cursor, address, steps)
+    let mut last = row;
+    for _ in 0..ROWS_APART {
+        let Ok(found) = next_counted(&mut cursor, header, last.registers, steps) else {
+            return None;
+        };
+        let Some(next) = found else {
+            return None;
+        };
+        if next.registers.address > address {
+            return Some(Reached {
+                row: last,
+                next: next.registers.address,
+                next_checkpoint,
+            });
+        }
+        if next.ends {
+            return None;
+        }
+        last = Checkpoint {
+            registers: next.registers,
+            place: cursor.at(),
+        };
+    }
+    None
 }
 
 /// The row of an address below the end of a used sequence with these checkpoints, which are searched by
@@ -96,7 +141,7 @@ pub(crate) fn row_in_sequence<L: Ledger>(
     checkpoints: &[Checkpoint],
     address: u64,
     steps: &mut Steps<L>,
-) -> Option<Row>
+) -> Option<Reached>
     ensures row { FindsAmong (header_shown header.now) checkpoints.now address result }
     ensures counted { steps.new ≤ steps.old + 64 }
 {
@@ -108,5 +153,29 @@ pub(crate) fn row_in_sequence<L: Ledger>(
     if next == 0 {
         return None;
     }
-    row_from(header, checkpoints[next - 1], address, steps)
+    row_from(header, checkpoints[next - 1], next, address, steps)
+}
+
+/// The same as `row_in_sequence`, where a row of the sequence may have been found before: if the address lies at
+/// that row or after it, and before the next checkpoint, rows are run on from there.
+pub(crate) fn row_onward<L: Ledger>(
+    header: &Header<'_>,
+    checkpoints: &[Checkpoint],
+    last: Option<Reached>,
+    address: u64,
+    steps: &mut Steps<L>,
+) -> Option<Reached>
+    ensures row { FindsOnward (header_shown header.now) checkpoints.now last address result }
+    ensures counted { steps.new ≤ steps.old + 64 }
+{
+    let Some(last) = last else {
+        return row_in_sequence(header, checkpoints, address, steps);
+    };
+    if !last.reaches(checkpoints, address) {
+        return row_in_sequence(header, checkpoints, address, steps);
+    }
+    if address < last.next {
+        return Some(last);
+    }
+    row_from(header, last.row, last.next_checkpoint, address, steps)
 }

@@ -39,6 +39,7 @@ invariant_of-result c =
     record {
       kept = kept;
       found = λ a. c.in_ok-index.ensures a ∙ ap (λ (sequences : List Sequence). number_of sequences a) c.deref.ensures.value ∙ number_is header recorded.checkpoints.items recorded.sequences.items (used_sequences (matrix_of header)) a kept;
+      last = tt;
     }
 
 pub returns : goal.returns

@@ -1,0 +1,77 @@
+-- A row that was found in a used sequence, from which later ones are run again.
+use Rattle.std.specs.Prelude.{◌≡◌, ◌<◌, ◌≤◌, ◌*◌, ◌+◌, ℕ, Bool, true, ◌&&◌, ◌==◌, List, ◌∷◌, length, drop, Option, Some, None, IfSome, option_map, slice_get, Ok, nat_le, nat_lt, if◌then◌else◌}
+use Rattle.dw_model.specs.LineHeader.{LineHeader}
+use Rattle.dw_model.specs.Matrix.{Row, row_in, row_of, first_address, last_address}
+use Rattle.dw_line.specs.declared.checkpoints.Checkpoint.{Checkpoint}
+use Rattle.dw_line.specs.declared.rows.Row.{Row as RowTold}
+use Rattle.dw_line.specs.declared.search.Reached.{Reached}
+use Rattle.dw_line.specs.declared.search.Last.{Last}
+use Rattle.dw_line.specs.Machine.{rows_on}
+use Rattle.dw_line.specs.Search.{row_told, row_before_address}
+use Rattle.dw_line.specs.Sequences.{up_to_end, checkpoint_row, state_of, used_sequences, IsCheckpoint, HasCheckpoints}
+
+-- what is told of it
+abbrev pub told_of : Reached → RowTold
+told_of reached = row_told (checkpoint_row reached.row)
+
+-- It is one of these rows, from which those after it are run again, and the address of the next one is known.
+pub record IsRow (header : LineHeader) (rows : List Row) (passed : ℕ) (reached : Reached) : Type 0 where
+  pub is : IsCheckpoint header reached.row (drop passed rows)
+  pub next : reached.next ≡ first_address (drop (passed + 1) rows)
+
+-- One of these rows. At most 64 rows lie from it to the checkpoint whose number it tells.
+pub record IsReached (header : LineHeader) (rows : List Row) (reached : Reached) : Type 0 where
+  pub passed : ℕ
+  pub behind : 64 * reached.next_checkpoint ≤ passed + 64
+  pub is : IsRow header rows passed reached
+
+-- one of these rows, with this number of the next checkpoint
+pub record IsPassed (header : LineHeader) (rows : List Row) (next_checkpoint : ℕ) (reached : Reached) : Type 0 where
+  pub passed : ℕ
+  pub number : reached.next_checkpoint ≡ next_checkpoint
+  pub is : IsRow header rows passed reached
+
+-- What is found from a row on is the row of the address at or behind it, where the rows from there on can be read.
+abbrev pub FindsFrom : LineHeader → Checkpoint → ℕ → ℕ → Option Reached → Type 0
+FindsFrom header row next_checkpoint a found =
+    row.place ≤ length header.program → (rows : List Row) → rows_on header (state_of header row) ≡ Ok rows
+    → (option_map told_of found ≡ option_map row_told (row_before_address 64 a (checkpoint_row row) rows))
+    × IfSome found (IsPassed header (checkpoint_row row ∷ up_to_end rows) next_checkpoint)
+
+-- What is found is the row of the address.
+abbrev pub FindsIn : LineHeader → List Row → ℕ → Option Reached → Type 0
+FindsIn header rows a found = (option_map told_of found ≡ option_map row_told (row_in a rows)) × IfSome found (IsReached header rows)
+
+-- the same in the used sequence that has these checkpoints, of an address below its end
+abbrev pub FindsAmong : LineHeader → List Checkpoint → ℕ → Option Reached → Type 0
+FindsAmong header checkpoints a found =
+    (rows : List Row) → HasCheckpoints header checkpoints rows → a < last_address rows → FindsIn header rows a found
+
+-- the same where a row of the sequence may have been found before
+abbrev pub FindsOnward : LineHeader → List Checkpoint → Option Reached → ℕ → Option Reached → Type 0
+FindsOnward header checkpoints last a found =
+    (rows : List Row) → HasCheckpoints header checkpoints rows → a < last_address rows → IfSome last (IsReached header rows) → FindsIn header rows a found
+
+-- the address lies before a checkpoint, if there is one
+abbrev pub is_before : ℕ → Option Checkpoint → Bool
+is_before a None = true
+is_before a (Some checkpoint) = nat_lt a checkpoint.registers.address
+
+-- the address lies at the row or after it, and before the next checkpoint of its sequence
+abbrev pub reaches : Reached → List Checkpoint → ℕ → Bool
+reaches reached checkpoints a =
+    nat_le reached.row.registers.address a && is_before a (slice_get checkpoints reached.next_checkpoint)
+
+-- the row that was found last, if it is one of the sequence with this number
+abbrev pub last_in : ℕ → Option Last → Option Reached
+last_in number None = None
+last_in number (Some last) = if last.number == number then Some last.reached else None
+
+-- What was found last is a row of the used sequence with its number.
+abbrev pub IsLast : LineHeader → List (List Row) → Option Last → Type 0
+IsLast header used last = IfSome last (λ last. IfSome (slice_get used last.number) (λ rows. IsReached header rows last.reached))
+
+-- What is found is the row of the address in a matrix, and is a row of the used sequence whose number it tells.
+abbrev pub FindsRow : LineHeader → List Row → ℕ → Option Last → Type 0
+FindsRow header rows a found =
+    (option_map (λ last. told_of last.reached) found ≡ option_map row_told (row_of rows a)) × IsLast header (used_sequences rows) found
