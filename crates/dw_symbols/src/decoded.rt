@@ -116,12 +116,11 @@ impl<'a> Decoded<'a> {
     {
         self.fill_lines(alloc, image, i)?;
         let unit = image.units().unit(i).offset;
-        let lines = match &self.lines {
-            Some(Ok(lines)) => lines,
+        let location = match &mut self.lines {
+            Some(Ok(lines)) => row_location(alloc, lines, a)?,
             Some(Err(code)) => return Ok(Answer::Fault { unit, code: *code }),
             None => unreachable!(),
         };
-        let location = row_location(alloc, lines, a)?;
         let frames = vec![in alloc;
             Frame {
                 name: None,
@@ -151,13 +150,14 @@ impl<'a> Decoded<'a> {
             return Ok(Answer::Fault { unit, code: *code });
         }
         self.fill_lines(alloc, image, i)?;
-        let Some(Ok(tree)) = &self.tree else {
+        let location = match &mut self.lines {
+            Some(Ok(lines)) => row_location(alloc, lines, a)?,
+            Some(Err(code)) => return Ok(Answer::Fault { unit, code: *code }),
+            None => unreachable!(),
+        };
+        let (Some(Ok(tree)), Some(Ok(lines))) = (&self.tree, &self.lines) else {
             unreachable!()
         };
-        match &self.lines {
-            Some(Ok(lines)) => answer_of(alloc, unit, tree, lines, a),
-            Some(Err(code)) => Ok(Answer::Fault { unit, code: *code }),
-            None => unreachable!(),
-        }
+        answer_of(alloc, unit, tree, lines, location, a)
     }
 }

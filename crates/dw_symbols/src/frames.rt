@@ -10,7 +10,7 @@ ghost use Rattle.dw_frames.specs.Tree.{function_at, nodes_of, IsTreeOf};
 ghost use Rattle.dw_symbols.specs.Answer.{location_shown, frame_shown, answer_shown};
 
 use crate::answer::{Answer, Frame, Location};
-use crate::location::{call_location, row_location};
+use crate::location::call_location;
 use dw_frames::{Described, EntryId, Tree};
 use dw_line::Lines;
 use std::alloc::{AllocError, Global};
@@ -49,17 +49,17 @@ pub(crate) fn frames_of<'a>(
     Ok(frames)
 }
 
-/// What an address means in a unit, by its functions and its line table.
+/// What an address means in a unit, by its functions and its line table, which says where the address comes from.
 pub(crate) fn answer_of<'a>(
     alloc: Global,
     unit: u64,
     tree: &Tree<'a>,
     lines: &Option<Lines<'_>>,
+    location: Location,
     a: u64,
 ) -> Result<Answer<'a>, AllocError>
-    ensures { IfOk result (λ answer. (s : Sections) (of : DwarfUnit) → IsTreeOf s of tree.now → answer_shown answer ≡ model.found unit (model.frames (λ entry. name s (record { unit = of; entry = entry })) lines.now (model.row_location lines.now (model.row_at lines.now a)) (chain s of (nodes_of s of) a))) }
+    ensures { IfOk result (λ answer. (s : Sections) (of : DwarfUnit) → IsTreeOf s of tree.now → answer_shown answer ≡ model.found unit (model.frames (λ entry. name s (record { unit = of; entry = entry })) lines.now (location_shown location) (chain s of (nodes_of s of) a))) }
 {
-    let location = row_location(alloc, lines, a)?;
     let ids = tree.chain(alloc, a)?;
     let frames = frames_of(alloc, tree, lines, &ids, location)?;
     Ok(Answer::Found { unit, frames })

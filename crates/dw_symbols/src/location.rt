@@ -84,21 +84,23 @@ fn file_path(
     }
 }
 
-/// The location of an address, by its row.
+/// The location of an address, by its row. The table is the same afterwards; it finds the row sooner where
+/// addresses are asked for in order.
 pub(crate) fn row_location(
     alloc: Global,
-    lines: &Option<Lines<'_>>,
+    lines: &mut Option<Lines<'_>>,
     a: u64,
 ) -> Result<Location, AllocError>
-    ensures { IfOk result (λ location. location_shown location ≡ model.row_location lines.now (model.row_at lines.now a)) }
+    ensures location { IfOk result (λ location. location_shown location ≡ model.row_location lines.old (model.row_at lines.old a)) }
+    ensures table { lines.new ≡ lines.old }
 {
     let Some(table) = lines else {
         return Ok(nowhere());
     };
-    let Some(row) = table.row(a) else {
+    let Some(row) = table.row_in_order(a) else {
         return Ok(nowhere());
     };
-    let path = file_path(alloc, lines, row.file)?;
+    let path = table.path(alloc, row.file)?;
     Ok(location_at(path, Some(row.line), Some(row.column)))
 }
 
