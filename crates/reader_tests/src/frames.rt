@@ -21,6 +21,9 @@ pub const INLINED: &[Wanted<'_>] = &[
     (Some(b"main"), Some(b"/w/z.c"), Some(20), Some(7)),
 ];
 
+/// The frames at 0x401000 of the sample.
+pub const IN_MAIN: &[Wanted<'_>] = &[(Some(b"main"), Some(b"/w/a.c"), Some(3), Some(0))];
+
 const LINE: &[Wanted<'_>] = &[(None, Some(b"/w/a.c"), Some(4), Some(0))];
 
 /// The frame where nothing is known.

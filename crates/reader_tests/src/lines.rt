@@ -1,5 +1,6 @@
 //! Line tables, worked out by hand from the standard's tables.
 
+use crate::draws::Draws;
 use crate::files::line_table;
 use dw_forms::{Bases, Tables};
 use dw_line::{LineFault, Lines, Row};
@@ -230,21 +231,20 @@ fn each_opcode(rt: HostRuntime) -> Result<(), Fail> {
     Ok(())
 }
 
-/// A program of one sequence with so many rows: row i, from 1 on, at 0x1000 + i with line 1 + i. It ends
-/// one byte behind the last.
-fn rows_in_turn(alloc: Global, count: usize) -> Result<Vec<u8>, AllocError> {
-    let mut program = Vec::new(alloc);
-    program.extend_from_slice(&[0, 9, 2, 0, 0x10, 0, 0, 0, 0, 0, 0])?;
+/// Appends a sequence with so many rows to a program: row i, from 1 on, at 0x1000 + first + i with line 1 + i. It
+/// ends one byte after the last.
+fn push_rows(program: &mut Vec<u8>, first: u8, count: usize) -> Result<(), AllocError> {
+    program.extend_from_slice(&[0, 9, 2, first, 0x10, 0, 0, 0, 0, 0, 0])?;
     for _ in 0..count {
         program.push(0x21)?;
     }
-    program.extend_from_slice(&[2, 1, 0, 1, 1])?;
-    Ok(program)
+    program.extend_from_slice(&[2, 1, 0, 1, 1])
 }
 
 #[test]
 fn rows_behind_checkpoints(rt: HostRuntime) -> Result<(), Fail> {
-    let program = rows_in_turn(rt.alloc(), 200)?;
+    let mut program = Vec::new(rt.alloc());
+    push_rows(&mut program, 0, 200)?;
     let section = line_table(rt.alloc(), HEADER, &program)?;
     let lines = read(rt.alloc(), &section, None)?;
     assert_eq!(rt; lines.kept(), 4);
@@ -260,6 +260,46 @@ fn rows_behind_checkpoints(rt: HostRuntime) -> Result<(), Fail> {
         assert_eq!(rt;
             lines.row(address).map(|row| row.line),
             line,
+            "address {address:#x}"
+        );
+    }
+    Ok(())
+}
+
+/// The line of an address where a sequence with 200 rows from 0x1000 on stands before one from 0x1080 on.
+fn line_of_two(address: u64) -> Option<u64> {
+    match address {
+        0x1001..=0x10c8 => Some(address - 0xfff),
+        0x10c9..=0x1148 => Some(address - 0x107f),
+        _ => None,
+    }
+}
+
+/// From the row that was found last, whatever was asked before: in order, backwards, the same address twice, and in a
+/// drawn order.
+#[test]
+fn rows_in_order(rt: HostRuntime) -> Result<(), Fail> {
+    let mut program = Vec::new(rt.alloc());
+    push_rows(&mut program, 0, 200)?;
+    push_rows(&mut program, 0x80, 200)?;
+    let section = line_table(rt.alloc(), HEADER, &program)?;
+    let mut lines = read(rt.alloc(), &section, None)?;
+    let mut addresses = Vec::new(rt.alloc());
+    for i in 0..0x160 {
+        addresses.push(0x0ff0 + i)?;
+    }
+    for i in 0..0x160 {
+        addresses.push(0x1150 - i)?;
+        addresses.push(0x1150 - i)?;
+    }
+    let mut draws = Draws::new(27);
+    for _ in 0..1000 {
+        addresses.push(0x0ff0 + draws.below(0x160) as u64)?;
+    }
+    for address in addresses {
+        assert_eq!(rt;
+            lines.row_in_order(address).map(|row| row.line),
+            line_of_two(address),
             "address {address:#x}"
         );
     }

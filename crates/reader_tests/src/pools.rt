@@ -1,7 +1,7 @@
 //! Pools of two workers, each of which waits for the other.
 
 use crate::files::sample;
-use crate::frames::{INLINED, Wanted, expect_frames};
+use crate::frames::{INLINED, IN_MAIN, expect_frames};
 use crate::texts::{Asked, PLAIN, status_of};
 use a2l_lines::{Status, run_pool};
 use dw_symbols::Image;
@@ -64,9 +64,6 @@ impl Gate for Meeting {
 /// Each of two numbers entered once, and the limit wasn't reached.
 const BOTH_ENTERED: (u64, u64, u64) = (1, 1, 0);
 
-/// The frames at 0x401000.
-const MAIN: &[Wanted<'_>] = &[(Some(b"main"), Some(b"/w/a.c"), Some(3), Some(0))];
-
 #[test]
 fn two_workers_at_once(rt: HostRuntime) -> Result<(), Fail> {
     let file = sample(rt.alloc())?;
@@ -80,7 +77,7 @@ fn two_workers_at_once(rt: HostRuntime) -> Result<(), Fail> {
     };
     let answers = run_pool(&rt, rt.alloc(), &image, shape, &[0x401000, 0x401004], &gate)?;
     assert_eq!(rt; answers.len(), 2);
-    expect_frames(&rt, &answers[0], 0, MAIN);
+    expect_frames(&rt, &answers[0], 0, IN_MAIN);
     expect_frames(&rt, &answers[1], 0, INLINED);
     assert_eq!(rt; gate.counts(), BOTH_ENTERED);
     Ok(())

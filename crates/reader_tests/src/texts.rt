@@ -69,7 +69,7 @@ impl<'a> Compared<'a> {
 
 /// A gate that stands open.
 #[derive(Drop)]
-struct Open;
+pub struct Open;
 
 impl Gate for Open {
     fn enter(&self, _sender: usize, _number: u64, _a: u64) {}
