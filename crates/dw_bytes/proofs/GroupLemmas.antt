@@ -1,6 +1,6 @@
 -- The number of groups of seven bits, from the last group on.
 use Rattle.std.proofs.Common.{◌≡◌, ℕ, zero, suc, ◌+◌, ◌-◌, ◌*◌, ◌%◌, ◌^◌, ◌<◌, ◌≤◌, pos, negsuc, Bool, true, false, List, [], ◌∷◌, length, drop, get_or, Some, None, cond, w64, to_z, of_z, refl, sym, arith}
-use Rattle.std.specs.Prelude.{nat_lt, nat_le, ◌-ℤ◌}
+use Rattle.std.specs.Prelude.{nat_lt, nat_le, ◌-ℤ◌, position}
 use Rattle.std.proofs.lemmas.Bool.{le-ltb}
 use Rattle.std.proofs.lemmas.Option.{same_Some}
 use Rattle.std.proofs.Math.Nat.{pow-succ'}
@@ -84,3 +84,16 @@ pub below_some : (bytes : List ℕ) (below : ℕ) → is_negative bytes ≡ true
 below_some bytes below e h =
     let l = low (complements bytes) below (nat_lt (complements bytes) (2 ^ 63)) refl h in
     rw (negative_is bytes e, fits_by (complements bytes) true l.0) (grind (arith, l.1, l.0))
+
+-- ---- numbers of one byte
+
+pub first_is_last : (bytes : List ℕ) → 0 < length bytes → get_or bytes 0 0 < 128 → Some 0 ≡ position (λ b. nat_lt b 128) bytes
+first_is_last [] some small = absurd (omega (arith, some))
+first_is_last (b ∷ bytes) some small = grind (arith, small)
+
+-- a group in two's complement
+pub one_group_positive : (b : ℕ) → b % 128 < 64 → fits_signed (signed_groups (b ∷ [])) ≡ Some (pos (b % 128))
+one_group_positive b small = grind (arith, small)
+
+pub one_group_negative : (b : ℕ) → 64 ≤ b % 128 → fits_signed (signed_groups (b ∷ [])) ≡ Some (pos (b % 128) -ℤ pos 128)
+one_group_negative b above = grind (arith, above)

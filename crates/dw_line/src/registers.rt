@@ -23,6 +23,7 @@ pub(crate) struct Registers {
 
 /// The address advance of a special opcode, which lies `n` above the first one, in bytes (section
 /// 6.2.5.1).
+#[inline(always)]
 fn special_advance_of(header: &Header<'_>, n: u8) -> u64
     ensures { result ≡ special_advance (header_shown header.now) n }
 {
@@ -30,6 +31,7 @@ fn special_advance_of(header: &Header<'_>, n: u8) -> u64
 }
 
 /// What an instruction adds to the address, modulo 2^64.
+#[inline(always)]
 fn address_advance_of(header: &Header<'_>, instruction: Instruction) -> u64
     ensures { result ≡ address_advance (header_shown header.now) (instruction_shown instruction) % 2 ^ 64 }
 {
@@ -43,6 +45,7 @@ fn address_advance_of(header: &Header<'_>, instruction: Instruction) -> u64
 }
 
 /// What an instruction adds to the line.
+#[inline(always)]
 fn line_advance_of(header: &Header<'_>, instruction: Instruction) -> i64
     ensures { result ≡ line_advance (header_shown header.now) (instruction_shown instruction) }
 {
@@ -67,6 +70,7 @@ impl Registers {
     }
 
     /// The address when the instruction is done.
+    #[inline(always)]
     fn next_address(&self, header: &Header<'_>, instruction: Instruction) -> u64
         ensures { result ≡ next_address (header_shown header.now) (instruction_shown instruction) self.now.address }
     {
@@ -79,6 +83,7 @@ impl Registers {
     }
 
     /// The line when the instruction is done.
+    #[inline(always)]
     fn next_line(&self, header: &Header<'_>, instruction: Instruction) -> u64
         ensures { result ≡ next_line (header_shown header.now) (instruction_shown instruction) self.now.line }
     {
@@ -87,6 +92,7 @@ impl Registers {
     }
 
     /// The registers when the instruction is done.
+    #[inline(always)]
     pub(crate) fn step(&self, header: &Header<'_>, instruction: Instruction) -> Self
         ensures { registers_shown result ≡ model.step (header_shown header.now) (instruction_shown instruction) (registers_shown self.now) }
     {
