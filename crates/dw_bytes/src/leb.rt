@@ -22,14 +22,17 @@ fn later_last_byte(bytes: &[u8]) -> Option<usize>
 }
 
 /// The place of the first byte whose top bit isn't set: the last of a number.
-#[tactic(auto, using(crate::proofs::GroupLemmas::first_is_last))]
+#[tactic(auto, using(crate::proofs::GroupLemmas::first_is_last, crate::proofs::GroupLemmas::second_is_last))]
 #[inline(always)]
 pub(crate) fn last_byte(bytes: &[u8]) -> Option<usize>
     ensures { result ≡ position (λ byte. nat_lt byte 128) bytes.now }
 {
-    // Most numbers have one byte.
+    // Most numbers have one byte or two.
     if !bytes.is_empty() && bytes[0] < 128 {
         return Some(0);
+    }
+    if bytes.len() > 1 && bytes[1] < 128 {
+        return Some(1);
     }
     later_last_byte(bytes)
 }
@@ -39,9 +42,12 @@ pub(crate) fn last_byte(bytes: &[u8]) -> Option<usize>
 pub(crate) fn unsigned(bytes: &[u8]) -> Option<u64>
     ensures { result ≡ fits_u64 (groups bytes.now) }
 {
-    // Most numbers have one byte.
+    // Most numbers have one byte or two.
     if bytes.len() == 1 {
         return Some((bytes[0] % 128) as u64);
+    }
+    if bytes.len() == 2 {
+        return Some((bytes[0] % 128) as u64 + 128 * (bytes[1] % 128) as u64);
     }
     long_unsigned(bytes)
 }
@@ -99,14 +105,31 @@ fn signed_group(byte: u8) -> i64
     group - 128
 }
 
+/// The number of two groups in two's complement.
+#[tactic(auto, using(crate::proofs::GroupLemmas::pair_positive, crate::proofs::GroupLemmas::pair_negative))]
+#[inline(always)]
+fn signed_pair(low: u8, high: u8) -> i64
+    ensures { fits_signed (signed_groups (low ∷ high ∷ [])) ≡ Some result }
+{
+    let group = (high % 128) as i64;
+    let number = (low % 128) as i64 + 128 * group;
+    if group < 64 {
+        return number;
+    }
+    number - 16384
+}
+
 /// The number of these groups in two's complement, where it fits 64 bits.
 #[inline(always)]
 pub(crate) fn signed(bytes: &[u8]) -> Option<i64>
     ensures { result ≡ fits_signed (signed_groups bytes.now) }
 {
-    // Most numbers have one byte.
+    // Most numbers have one byte or two.
     if bytes.len() == 1 {
         return Some(signed_group(bytes[0]));
+    }
+    if bytes.len() == 2 {
+        return Some(signed_pair(bytes[0], bytes[1]));
     }
     long_signed(bytes)
 }
