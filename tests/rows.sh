@@ -1,20 +1,23 @@
 #!/usr/bin/env bash
-# How long a row of a line program takes (`Lines::read` over its rows), beside the Rust crate gimli, all in one run: over
-# all line tables of a large program, and over one table of 7.75 MB that is made of their programs. The first word is as
-# for bench.sh, and a program's tables of version 5 count alone. Each run is a process of its own, and is made as often as
-# the second word says (15 without), in turn; the least time counts, without that of a run that only goes over the lengths
-# of the tables. gimli keeps nothing of a row, `Lines::read` keeps checkpoints and makes the index of the sequences. gimli
-# is built from Debian's packages (librust-gimli-dev). Run it after `rt run` in crates/a2l has built the crates. It prints
-# a table, and tests that as many checkpoints are kept as follow from gimli's rows.
+# How long a row of a line program takes while a table is read (`Lines::read`), beside the Rust crate gimli, and how long a
+# row is searched for (`Lines::row`), all in one run: over the line tables of a large program, and over one table of 7.75 MB
+# that is made of their programs. The first word is as for bench.sh; tables of version 5 count alone. Each run is a process
+# of its own, in turn, and is made as often as the second word says (15 without); the least time counts, without that of a
+# run that only goes over the lengths of the tables, and memory with what the section takes. `Lines::read` keeps checkpoints
+# and makes the index of the sequences, gimli keeps nothing of a row. gimli is built from Debian's packages
+# (librust-gimli-dev). Run it after `rt run` in crates/a2l has built the crates. It prints a table, and tests that as many
+# checkpoints are kept as follow from gimli's rows.
 . "$(dirname "$0")/programs.sh"
 large=${1:-60}
 times=${2:-15}
+[ -x /usr/bin/time ] || { echo "no /usr/bin/time here, which measures memory"; exit 1; }
 need_large "$large"
 
-# the tables of version 5, and the one that is made of their programs: those of the first header's kind, again and again
+# the tables of version 5, the one that is made of their programs, those of the first header's kind, again and again, and
+# random addresses of the code
 objcopy -O binary --only-section=.debug_line --set-section-flags .debug_line=alloc,readonly "$program" section
 cat > tables.py <<'END_PY'
-import struct
+import random, re, struct, subprocess, sys
 section = open('section', 'rb').read()
 at, tables = 0, []
 while at < len(section):
@@ -39,8 +42,13 @@ with open('all', 'wb') as out:
 with open('one', 'wb') as out:
     out.write(struct.pack('<I', len(front) - 4 + size) + front[4:])
     out.writelines(made)
+random.seed(1)
+shown = subprocess.run(['readelf', '--wide', '--section-headers', sys.argv[1]], check=True, capture_output=True, text=True).stdout
+begin, size = (int(n, 16) for n in re.search(r'\] \.text +PROGBITS +(\w+) \w+ (\w+)', shown).groups())
+with open('addresses', 'wb') as out:
+    out.writelines(struct.pack('<Q', random.randrange(begin, begin + size)) for _ in range(100_000))
 END_PY
-python3 tables.py
+python3 tables.py "$program"
 
 copy_proved dw_model dw_index dw_bytes dw_forms dw_line
 mkdir -p copy/crates/rows/src
@@ -160,34 +168,36 @@ peer=$work/gimli/target/release/peer
 
 cat > measure.py <<'END_PY'
 import os, subprocess, sys, time
-tools, times = {'dw_line': sys.argv[1], 'gimli': sys.argv[2]}, int(sys.argv[3])
-least, peak, told = {}, {}, {}
+tools, times = {'dw_line': [sys.argv[1]], 'gimli': [sys.argv[2]]}, int(sys.argv[3])
+least, told = {}, {}
+def words(tool, how, name):
+    return tools[tool] + [how, name] + ['addresses'] * (tool == 'dw_line')
 def run(*key):
-    tool, how, name = key
     begin = time.perf_counter()
-    process = subprocess.Popen([tools[tool], how, name], stdout=subprocess.PIPE)
-    told[key] = list(map(int, process.stdout.read().split()))
-    _, status, usage = os.wait4(process.pid, 0)
-    seconds = time.perf_counter() - begin
-    if status != 0:
-        raise SystemExit(f'{tool} {how} {name} fails')
-    least[key] = min(least.get(key, seconds), seconds)
-    peak[key] = usage.ru_maxrss / 1000
+    shown = subprocess.run(words(*key), check=True, capture_output=True, text=True).stdout
+    least[key] = min(least.get(key, 1e9), time.perf_counter() - begin)
+    told[key] = list(map(int, shown.split()))
+def megabytes(*key):
+    shown = subprocess.run(['/usr/bin/time', '-f', '%M'] + words(*key), check=True, capture_output=True, text=True).stderr
+    return int(shown) / 1000
 for _ in range(times):
     for name in ('all', 'one'):
-        for how in ('open', 'rows'):
-            for tool in tools:
-                run(tool, how, name)
+        for key in (('dw_line', 'open'), ('gimli', 'open'), ('dw_line', 'rows'), ('gimli', 'rows'), ('dw_line', 'find')):
+            run(*key, name)
 print(f'the least of {times} times')
-print(f'{"tables":30} {"rows":>10} {"tool":8} {"ms":>8} {"ns a row":>9} {"ratio":>6} {"MB":>7} {"read alone, MB":>15}')
+print(f'{"tables":28} {"rows":>10} {"tool":8} {"ms":>8} {"ns a row":>9} {"ratio":>6} {"MB":>6} {"section, MB":>12}')
 for name in ('all', 'one'):
     run('gimli', 'count', name)
     count, kept, rows, _ = told['gimli', 'count', name]
-    if told['dw_line', 'rows', name] != [count, kept]:
+    if told['dw_line', 'rows', name] != [count, kept, 0]:
         raise SystemExit('other checkpoints are kept than follow from the rows of gimli')
     taken = {tool: least[tool, 'rows', name] - least[tool, 'open', name] for tool in tools}
     what = f'{count} tables' if name == 'all' else f'one of {os.path.getsize(name) / 1e6:.2f} MB'
     for tool in tools:
-        print(f'{what:30} {rows:10} {tool:8} {taken[tool] * 1e3:8.2f} {taken[tool] / rows * 1e9:9.1f} {taken[tool] / taken["gimli"]:6.2f} {peak[tool, "rows", name]:7.1f} {peak[tool, "open", name]:15.1f}')
+        print(f'{what:28} {rows:10} {tool:8} {taken[tool] * 1e3:8.2f} {taken[tool] / rows * 1e9:9.1f} '
+              f'{taken[tool] / taken["gimli"]:6.2f} {megabytes(tool, "rows", name):6.1f} {os.path.getsize(name) / 1e6:12.1f}')
+asked = os.path.getsize('addresses') // 8
+searched = least['dw_line', 'find', 'one'] - least['dw_line', 'rows', 'one']
+print(f'{told["dw_line", "find", "one"][2]} rows of {asked} random addresses found in the one table: {searched / asked * 1e9:.0f} ns each')
 END_PY
-taskset -c "${CPUS:-0-$(($(nproc) - 1))}" python3 measure.py "$ours" "$peer" "$times"
+python3 measure.py "$ours" "$peer" "$times"
