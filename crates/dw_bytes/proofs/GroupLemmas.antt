@@ -1,6 +1,6 @@
 -- The number of groups of seven bits, from the last group on.
 use Rattle.std.proofs.Common.{◌≡◌, ℕ, zero, suc, ◌+◌, ◌-◌, ◌*◌, ◌%◌, ◌^◌, ◌<◌, ◌≤◌, pos, negsuc, Bool, true, false, List, [], ◌∷◌, length, drop, get_or, Some, None, cond, w64, to_z, of_z, refl, sym, arith}
-use Rattle.std.specs.Prelude.{nat_lt, nat_le, ◌-ℤ◌}
+use Rattle.std.specs.Prelude.{nat_lt, nat_le, ◌-ℤ◌, position}
 use Rattle.std.proofs.lemmas.Bool.{le-ltb}
 use Rattle.std.proofs.lemmas.Option.{same_Some}
 use Rattle.std.proofs.Math.Nat.{pow-succ'}
@@ -84,3 +84,27 @@ pub below_some : (bytes : List ℕ) (below : ℕ) → is_negative bytes ≡ true
 below_some bytes below e h =
     let l = low (complements bytes) below (nat_lt (complements bytes) (2 ^ 63)) refl h in
     rw (negative_is bytes e, fits_by (complements bytes) true l.0) (grind (arith, l.1, l.0))
+
+-- ---- numbers of one byte
+
+pub first_is_last : (bytes : List ℕ) → 0 < length bytes → get_or bytes 0 0 < 128 → Some 0 ≡ position (λ b. nat_lt b 128) bytes
+first_is_last [] some small = absurd (omega (arith, some))
+first_is_last (b ∷ bytes) some small = grind (arith, small)
+
+pub second_is_last : (bytes : List ℕ) → 1 < length bytes → 128 ≤ get_or bytes 0 0 → get_or bytes 1 0 < 128 → Some 1 ≡ position (λ b. nat_lt b 128) bytes
+second_is_last [] some large small = absurd (omega (arith, some))
+second_is_last (b ∷ []) some large small = absurd (omega (arith, some))
+second_is_last (b ∷ c ∷ bytes) some large small = grind (arith, large, small)
+
+-- a group in two's complement
+pub one_group_positive : (b : ℕ) → b % 128 < 64 → fits_signed (signed_groups (b ∷ [])) ≡ Some (pos (b % 128))
+one_group_positive b small = grind (arith, small)
+
+pub one_group_negative : (b : ℕ) → 64 ≤ b % 128 → fits_signed (signed_groups (b ∷ [])) ≡ Some (pos (b % 128) -ℤ pos 128)
+one_group_negative b above = grind (arith, above)
+
+pub pair_positive : (b c : ℕ) → c % 128 < 64 → fits_signed (signed_groups (b ∷ c ∷ [])) ≡ Some (pos (b % 128 + 128 * (c % 128)))
+pair_positive b c small = grind (arith, small)
+
+pub pair_negative : (b c : ℕ) → 64 ≤ c % 128 → fits_signed (signed_groups (b ∷ c ∷ [])) ≡ Some (pos (b % 128 + 128 * (c % 128)) -ℤ pos 16384)
+pair_negative b c above = grind (arith, above)

@@ -157,6 +157,7 @@ impl<'a> Cursor<'a> {
     /// A signed LEB128 number (section 7.6), in any spelling. `End` where the bytes stop before it
     /// does, else `Wide` where it doesn't fit 64 bits.
     #[tactic(auto, unfolding(dw_model::specs::Leb::sleb_at))]
+    #[inline(always)]
     pub fn sleb(&mut self) -> Result<i64, Leb>
         ensures { ReadsOrTells (λ x. x) leb_fault result (sleb_at self.old) self.old self.new }
     {

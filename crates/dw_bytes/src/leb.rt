@@ -1,6 +1,6 @@
 //! LEB128 numbers, by section 7.6 of DWARF 5.
 
-ghost use Rattle.std.specs.Prelude.{◌≡◌, position, nat_lt};
+ghost use Rattle.std.specs.Prelude.{◌≡◌, ◌<◌, ◌∷◌, [], Some, position, nat_lt};
 ghost use Rattle.dw_model.specs.Leb.{groups, signed_groups, is_negative};
 ghost use Rattle.dw_bytes.specs.Leb.{fits_u64, fits_u63, fits_signed, complements};
 
@@ -13,12 +13,28 @@ pub enum Leb {
     Wide,
 }
 
+/// The place of the first byte whose top bit isn't set, among any bytes.
+#[inline(never)]
+fn later_last_byte(bytes: &[u8]) -> Option<usize>
+    ensures { result ≡ position (λ byte. nat_lt byte 128) bytes.now }
+{
+    bytes.iter().position(|byte| *byte < 128)
+}
+
 /// The place of the first byte whose top bit isn't set: the last of a number.
+#[tactic(auto, using(crate::proofs::GroupLemmas::first_is_last, crate::proofs::GroupLemmas::second_is_last))]
 #[inline(always)]
 pub(crate) fn last_byte(bytes: &[u8]) -> Option<usize>
     ensures { result ≡ position (λ byte. nat_lt byte 128) bytes.now }
 {
-    bytes.iter().position(|byte| *byte < 128)
+    // Most numbers have one byte or two.
+    if !bytes.is_empty() && bytes[0] < 128 {
+        return Some(0);
+    }
+    if bytes.len() > 1 && bytes[1] < 128 {
+        return Some(1);
+    }
+    later_last_byte(bytes)
 }
 
 /// The number of these groups, where it fits 64 bits.
@@ -26,10 +42,21 @@ pub(crate) fn last_byte(bytes: &[u8]) -> Option<usize>
 pub(crate) fn unsigned(bytes: &[u8]) -> Option<u64>
     ensures { result ≡ fits_u64 (groups bytes.now) }
 {
-    // Most numbers have one byte.
+    // Most numbers have one byte or two.
     if bytes.len() == 1 {
         return Some((bytes[0] % 128) as u64);
     }
+    if bytes.len() == 2 {
+        return Some((bytes[0] % 128) as u64 + 128 * (bytes[1] % 128) as u64);
+    }
+    long_unsigned(bytes)
+}
+
+/// The same of any groups.
+#[inline(never)]
+fn long_unsigned(bytes: &[u8]) -> Option<u64>
+    ensures { result ≡ fits_u64 (groups bytes.now) }
+{
     let mut value: u64 = 0;
     for i in 0..bytes.len() {
         if value > u64::MAX >> 7 {
@@ -65,15 +92,58 @@ fn negative(bytes: &[u8]) -> bool
     !bytes.is_empty() && bytes[bytes.len() - 1] % 128 >= 64
 }
 
+/// The number of one group in two's complement.
+#[tactic(auto, using(crate::proofs::GroupLemmas::one_group_positive, crate::proofs::GroupLemmas::one_group_negative))]
+#[inline(always)]
+fn signed_group(byte: u8) -> i64
+    ensures { fits_signed (signed_groups (byte ∷ [])) ≡ Some result }
+{
+    let group = (byte % 128) as i64;
+    if group < 64 {
+        return group;
+    }
+    group - 128
+}
+
+/// The number of two groups in two's complement.
+#[tactic(auto, using(crate::proofs::GroupLemmas::pair_positive, crate::proofs::GroupLemmas::pair_negative))]
+#[inline(always)]
+fn signed_pair(low: u8, high: u8) -> i64
+    ensures { fits_signed (signed_groups (low ∷ high ∷ [])) ≡ Some result }
+{
+    let group = (high % 128) as i64;
+    let number = (low % 128) as i64 + 128 * group;
+    if group < 64 {
+        return number;
+    }
+    number - 16384
+}
+
 /// The number of these groups in two's complement, where it fits 64 bits.
+#[inline(always)]
 pub(crate) fn signed(bytes: &[u8]) -> Option<i64>
+    ensures { result ≡ fits_signed (signed_groups bytes.now) }
+{
+    // Most numbers have one byte or two.
+    if bytes.len() == 1 {
+        return Some(signed_group(bytes[0]));
+    }
+    if bytes.len() == 2 {
+        return Some(signed_pair(bytes[0], bytes[1]));
+    }
+    long_signed(bytes)
+}
+
+/// The same of any groups.
+#[inline(never)]
+fn long_signed(bytes: &[u8]) -> Option<i64>
     ensures { result ≡ fits_signed (signed_groups bytes.now) }
 {
     if negative(bytes) {
         let below = below_zero(bytes)?;
         return Some(-1 - below as i64);
     }
-    let value = unsigned(bytes)?;
+    let value = long_unsigned(bytes)?;
     if value > i64::MAX as u64 {
         return None;
     }

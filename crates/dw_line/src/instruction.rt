@@ -40,6 +40,7 @@ pub(crate) enum Instruction {
 
 /// So many operands of an opcode that the standard doesn't name, which are read over.
 #[tactic(auto, unfolding(dw_model::specs::Instruction::unknown_at))]
+#[inline(never)]
 fn unknown(cursor: &mut Cursor<'_>, count: u8) -> Result<Instruction, LineFault>
     ensures { ReadsOn instruction_shown line_fault result (unknown_at count cursor.old) cursor.new }
 {
@@ -51,6 +52,7 @@ fn unknown(cursor: &mut Cursor<'_>, count: u8) -> Result<Instruction, LineFault>
 
 /// What an extended opcode does by its bytes (section 6.2.5.3).
 #[tactic(auto, unfolding(dw_model::specs::Instruction::extended))]
+#[inline(always)]
 fn extended_of(bytes: &[u8]) -> Result<Instruction, LineFault>
     ensures { Gives instruction_shown line_fault result (extended bytes.now) }
 {
@@ -72,6 +74,7 @@ fn extended_of(bytes: &[u8]) -> Result<Instruction, LineFault>
 
 /// An extended opcode, which takes exactly its length.
 #[tactic(auto, unfolding(dw_model::specs::Instruction::extended_at))]
+#[inline(always)]
 fn extended_opcode(cursor: &mut Cursor<'_>) -> Result<Instruction, LineFault>
     ensures { ReadsOn instruction_shown line_fault result (extended_at cursor.old) cursor.new }
 {
@@ -80,8 +83,26 @@ fn extended_opcode(cursor: &mut Cursor<'_>) -> Result<Instruction, LineFault>
     extended_of(bytes)
 }
 
+/// The same of an opcode. They are read by a cursor of its own, so that the machine's, of which no address is
+/// taken, is kept in registers.
+#[inline(always)]
+fn unknown_behind(
+    cursor: &mut Cursor<'_>,
+    header: &Header<'_>,
+    opcode: u8,
+) -> Result<Instruction, LineFault>
+    ensures { ReadsOn instruction_shown line_fault result (unknown_at (slice_index (header_shown header.now).standard_opcode_lengths (opcode - 1)) cursor.old) cursor.new }
+{
+    let count = operand_count(header.standard_opcode_lengths, opcode);
+    let mut operands = cursor.fork();
+    let instruction = unknown(&mut operands, count)?;
+    *cursor = operands;
+    Ok(instruction)
+}
+
 /// The rest of an instruction behind a standard opcode (section 6.2.5.2). One that the standard
 /// doesn't name has as many operands as the header says.
+#[inline(always)]
 fn standard_opcode(
     cursor: &mut Cursor<'_>,
     header: &Header<'_>,
@@ -108,10 +129,7 @@ fn standard_opcode(
         | DW_LNS_set_basic_block
         | DW_LNS_set_prologue_end
         | DW_LNS_set_epilogue_begin => Ok(Instruction::NoEffect),
-        _ => unknown(
-            cursor,
-            operand_count(header.standard_opcode_lengths, opcode),
-        ),
+        _ => unknown_behind(cursor, header, opcode),
     }
 }
 
@@ -128,6 +146,7 @@ fn operand_count(lengths: &[u8], opcode: u8) -> u8
 
 /// The rest of an instruction behind its opcode.
 #[tactic(auto, unfolding(dw_model::specs::Instruction::opcode_at))]
+#[inline(always)]
 fn opcode_of(
     cursor: &mut Cursor<'_>,
     header: &Header<'_>,
@@ -146,6 +165,7 @@ fn opcode_of(
 
 /// The next instruction of a program; `None` at its end.
 #[tactic(auto, unfolding(dw_model::specs::Instruction::next_instruction))]
+#[inline(always)]
 pub(crate) fn next_instruction(
     cursor: &mut Cursor<'_>,
     header: &Header<'_>,

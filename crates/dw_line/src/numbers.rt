@@ -15,6 +15,7 @@ use dw_bytes::Cursor;
 use dw_forms::{Value, read_value};
 
 /// An unsigned LEB128 number (section 7.6).
+#[inline(always)]
 pub(crate) fn uleb(cursor: &mut Cursor<'_>) -> Result<u64, LineFault>
     ensures { ReadsOn (λ x. x) line_fault result (or_fault bad (uleb_at cursor.old)) cursor.new }
 {
@@ -25,6 +26,7 @@ pub(crate) fn uleb(cursor: &mut Cursor<'_>) -> Result<u64, LineFault>
 }
 
 /// A signed LEB128 number (section 7.6).
+#[inline(always)]
 pub(crate) fn sleb(cursor: &mut Cursor<'_>) -> Result<i64, LineFault>
     ensures { ReadsOn (λ x. x) line_fault result (or_fault bad (sleb_at cursor.old)) cursor.new }
 {

@@ -1,6 +1,6 @@
 use Rattle.std.proofs.Common.{◌∙◌, sym}
 use Rattle.dw_bytes.proofs.GroupLemmas.{below_none, below_some}
-use Rattle.dw_bytes.proofs.leb.signed.Goals as goal
+use Rattle.dw_bytes.proofs.leb.long_signed.Goals as goal
 
 pub returns-in_err-below : goal.returns-in_err-below
 returns-in_err-below c =
