@@ -1,7 +1,6 @@
 -- Items are passed over one after the other, as a loop does.
-use Rattle.std.proofs.Common.{◌≡◌, ℕ, Bool, true, false, List, Option, Some, None, Result, Ok, Err, refl, sym, ap, subst}
+use Rattle.std.proofs.Common.{◌≡◌, ℕ, Bool, true, false, List, Option, Some, None, Result, Ok, Err, sym, ap, subst}
 use Rattle.std.specs.Prelude.{is_some, MatchOption, IsOk}
-use Rattle.dw_model.specs.Results.{◌>>=◌}
 use Rattle.dw_model.specs.Reading.{Place, made, items}
 use Rattle.dw_model.specs.Answers.{Tells}
 use Rattle.dw_model.proofs.StepLemmas.{ok_is, ok-err}

@@ -1,7 +1,6 @@
 use Rattle.std.proofs.Common.{◌≡◌, ◌++◌, ◌∷◌, [], ◌∙◌, true, false, Ok, ap, rules}
-use Rattle.std.specs.Prelude.{is_some}
 use Rattle.std.proofs.lemmas.Result.{err_from_is_err_and}
-use Rattle.dw_model.specs.Reading.{made, items}
+use Rattle.dw_model.specs.Reading.{items}
 use Rattle.dw_model.specs.Abbrev.{next_declaration}
 use Rattle.dw_model.proofs.AdvanceLemmas.{declarations_advance}
 use Rattle.dw_model.proofs.ItemsLemmas.{with_front-nil, loop_more, loop_done}
