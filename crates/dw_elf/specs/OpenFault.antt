@@ -29,6 +29,10 @@ Refuses fault refusal = IsSome refusal × (refusal_of fault ≡ refusal)
 abbrev pub RefusesUnlessMemory : OpenFault → Option Refusal → Type 0
 RefusesUnlessMemory fault refusal = MatchOption (refusal_of fault) (Unit {0}) (λ told. refusal ≡ Some told)
 
+-- Out of memory hides none of these refusals: it is told only where there is none.
+abbrev pub HidesNoRefusal : OpenFault → Option Refusal → Type 0
+HidesNoRefusal fault refusal = MatchOption (refusal_of fault) (refusal ≡ None) (λ told. Unit {0})
+
 -- the numbers of the errors
 abbrev pub number_of : OpenFault → ℕ
 number_of NotElf = 1

@@ -3,3 +3,4 @@ pub mod FindLemmas
 pub mod SizeLemmas
 pub mod TextLemmas
 pub mod FirstsLemmas
+pub mod PassLemmas

@@ -1,17 +1,18 @@
 //! A table of abbreviation declarations, by section 7.5.3 of DWARF 5.
 
-ghost use Rattle.std.specs.Prelude.{◌≡◌, ◌≤◌, ◌<◌, ◌+◌, ◌&&◌, ℕ, IfOk, Some, map, length, nat_le, nat_lt, option_map};
+ghost use Rattle.std.specs.Prelude.{◌≡◌, ◌≤◌, ◌<◌, ◌+◌, ◌&&◌, ℕ, IfOk, IfErr, Err, MatchOption, Some, map, length, nat_le, nat_lt, option_map};
 ghost use Rattle.std.specs.Ordering.{nat_cmp};
 ghost use Rattle.std.specs.BTreeMap as tree;
 ghost use Rattle.dw_model.specs.Reading.{items};
 ghost use Rattle.dw_model.specs.Abbrev.{next_declaration, abbreviations, declared};
 ghost use Rattle.dw_model.specs.Answers.{GivesUnlessMemory, ReadsUnlessMemory};
-ghost use Rattle.dw_forms.specs.Fault.{form_fault};
+ghost use Rattle.dw_forms.specs.Fault.{form_fault, HidesNoFault};
 ghost use Rattle.dw_forms.specs.Declaration.{declaration_shown};
 ghost use Rattle.dw_forms.specs.Abbrevs.{code_at, IsFirst};
 
 use crate::declaration::{Decl, next_decl};
 use crate::fault::FormFault;
+use crate::passing::pass_table;
 use dw_bytes::Cursor;
 use std::alloc::{AllocError, Global};
 use std::collections::BTreeMap;
@@ -27,6 +28,17 @@ fn declarations_of(alloc: Global, cursor: &mut Cursor<'_>) -> Result<Vec<Decl>, 
             return Ok(declarations);
         };
         declarations.push(declaration)?;
+    }
+}
+
+/// Why a table isn't read: its first fault, or `Memory` where it has none.
+fn fault_in_table(cursor: &mut Cursor<'_>) -> FormFault
+    ensures fault { MatchOption (form_fault result) (Unit {0}) (λ told. items (λ p. p.left) next_declaration cursor.old ≡ Err told) }
+    ensures memory { HidesNoFault result (items (λ p. p.left) next_declaration cursor.old) }
+{
+    match pass_table(cursor) {
+        Ok(()) => FormFault::Memory,
+        Err(fault) => fault,
     }
 }
 
@@ -92,11 +104,12 @@ impl Model for Abbrevs {
 }
 
 impl Abbrevs {
-    /// Reads the table at an offset of .debug_abbrev. An offset past the section's end is `End`;
-    /// `Memory` comes only where a growth was refused.
+    /// Reads the table at an offset of .debug_abbrev. An offset past the section's end is `End`.
+    /// `Memory` comes only where a growth was refused, and the table can be read.
     #[tactic(auto, unfolding(dw_model::specs::Abbrev::abbreviations))]
     pub fn read(alloc: Global, section: &[u8], offset: u64) -> Result<Self, FormFault>
-        ensures { GivesUnlessMemory (λ abbrevs. abbrevs) form_fault result (abbreviations section.now offset) }
+        ensures read { GivesUnlessMemory (λ abbrevs. abbrevs) form_fault result (abbreviations section.now offset) }
+        ensures memory { IfErr result (λ fault. HidesNoFault fault (abbreviations section.now offset)) }
     {
         if offset > section.len() as u64 {
             return Err(FormFault::End);
@@ -105,7 +118,9 @@ impl Abbrevs {
         let Some(_) = cursor.take(offset as usize) else {
             return Err(FormFault::End);
         };
-        let declarations = declarations_of(alloc, &mut cursor)?;
+        let Ok(declarations) = declarations_of(alloc, &mut cursor.fork()) else {
+            return Err(fault_in_table(&mut cursor));
+        };
         let in_order = count_in_order(&declarations);
         let others = first_places(alloc, &declarations, in_order)?;
         Ok(Abbrevs {

@@ -8,7 +8,7 @@ ghost use Rattle.dw_forms.specs.Firsts.{known_of, AreAllFirsts};
 mod reading;
 
 use crate::firsts::Firsts;
-pub(crate) use reading::next_decl;
+pub(crate) use reading::{next_decl, next_spec};
 use smallvec::SmallVec;
 
 /// An attribute's name and form, and its number where that stands in the declaration.

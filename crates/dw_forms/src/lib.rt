@@ -6,6 +6,7 @@ mod declaration;
 mod fault;
 mod firsts;
 mod form;
+mod passing;
 mod size;
 mod tables;
 mod text;

@@ -1,11 +1,11 @@
 //! A file that is open: its units, and which of them answers an address.
 
 ghost use Rattle.std.specs.Prelude.{◌≡◌, ◌<◌, false, None, OnOk, IfOk, IfErr, IfSome, length, option_and_then, slice_get};
-ghost use Rattle.dw_model.specs.Section.{sections};
+ghost use Rattle.dw_model.specs.Section.{sections, elf_refusal};
 ghost use Rattle.dw_model.specs.Unit.{is_skipped, units};
 ghost use Rattle.dw_model.specs.Answer.{unit_of};
 ghost use Rattle.dw_model.specs.Refusal.{refusal};
-ghost use Rattle.dw_elf.specs.OpenFault.{RefusesUnlessMemory};
+ghost use Rattle.dw_elf.specs.OpenFault.{RefusesUnlessMemory, HidesNoRefusal};
 
 use crate::cover::unit_pairs;
 use dw_elf::{Elf, Name, OpenFault};
@@ -43,12 +43,14 @@ impl<'a> Image<'a> {
     /// Opens a file: tests its sections, cuts it into units, reads their first entries and the ranges
     /// of these. Nothing of the file is copied.
     ///
-    /// The error is the first condition that fails, or `Memory` where a growth was refused.
+    /// The error is the first condition that fails, or `Memory` where a growth was refused; that is told only of
+    /// a file whose header, sections and their compression fail no condition.
     #[tactic(auto, unfolding(dw_model::specs::Refusal::refusal))]
     pub fn open(alloc: Global, file: &'a [u8]) -> Result<Self, OpenFault>
         ensures file { IfOk result (λ image. image ≡ file.now) }
         ensures accepted { OnOk result (refusal file.now ≡ None) }
         ensures refused { IfErr result (λ fault. RefusesUnlessMemory fault (refusal file.now)) }
+        ensures memory { IfErr result (λ fault. HidesNoRefusal fault (elf_refusal file.now)) }
     {
         let elf = Elf::open(file)?;
         let units = Units::read(alloc, &elf)?;

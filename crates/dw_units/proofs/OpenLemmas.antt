@@ -1,6 +1,6 @@
 -- What a unit's first entry has to be.
 use Rattle.std.proofs.Common.{◌≡◌, ◌∙◌, ℕ, Bool, true, false, cond, List, Option, Some, None, Result, Ok, Err, refl, sym, ap, subst}
-use Rattle.std.specs.Prelude.{MatchOption, option_and_then, option_map, is_none, nat_lt, nat_le, ◌||◌, ◌&&◌, not}
+use Rattle.std.specs.Prelude.{MatchOption, IsOk, option_and_then, option_map, is_none, nat_lt, nat_le, ◌||◌, ◌&&◌, not}
 use Rattle.std.specs.Result.{result_ok}
 use Rattle.dw_model.specs.Results.{◌>>=◌, refuse_if}
 use Rattle.dw_model.specs.Reading.{Place}
@@ -79,6 +79,20 @@ entry-told s unit (Some fault) e = root-fault s unit fault e
 pub declarations-told : (s : Sections) (unit : DwarfUnit) (section : List ℕ) (told : Option Fault) → section ≡ s.abbrevs → MatchOption told (Unit {0}) (λ fault. abbreviations section unit.debug_abbrev_offset ≡ Err fault) → MatchOption told (Unit {0}) (λ fault. root s unit ≡ None)
 declarations-told s unit section None same e = tt
 declarations-told s unit section (Some fault) same e = root-undeclared s unit fault (rw (sym same) e)
+
+-- ---- out of memory hides no table
+
+pub hides-table : (s : Sections) (unit : DwarfUnit) (section : List ℕ) (told : Option Fault) (refusal : Option Refusal) → refusal ≡ told_as told unit.offset → is_skipped unit.kind ≡ false → section ≡ s.abbrevs
+    → MatchOption told (IsOk (abbreviations section unit.debug_abbrev_offset)) (λ fault. Unit {0}) → MatchOption refusal ((is_skipped unit.kind ≡ false) × IsOk (abbreviations s.abbrevs unit.debug_abbrev_offset)) (λ told. Unit {0})
+hides-table s unit section None refusal is kept same read = rw is (kept, let t = sym same in rw t read)
+hides-table s unit section (Some fault) refusal is kept same read = rw is tt
+
+pub has-table : (s : Sections) (unit : DwarfUnit) (section : List ℕ) (table : List Declaration) (refusal : Option Refusal) → is_skipped unit.kind ≡ false → section ≡ s.abbrevs → abbreviations section unit.debug_abbrev_offset ≡ Ok table
+    → MatchOption refusal ((is_skipped unit.kind ≡ false) × IsOk (abbreviations s.abbrevs unit.debug_abbrev_offset)) (λ told. Unit {0})
+has-table s unit section table None kept same read =
+    let there : abbreviations s.abbrevs unit.debug_abbrev_offset ≡ Ok table = ap (λ (section : List ℕ). abbreviations section unit.debug_abbrev_offset) (sym same) ∙ read in
+    (kept, rw there refl)
+has-table s unit section table (Some told) kept same read = tt
 
 -- ---- a unit that is opened
 

@@ -8,7 +8,6 @@ use Rattle.dw_model.specs.Unit.{DwarfUnit, is_skipped}
 use Rattle.dw_model.specs.Root.{place_in}
 use Rattle.dw_model.specs.Entry.{Entry}
 use Rattle.dw_model.specs.Tree.{is_function}
-use Rattle.dw_model.specs.Answers.{Tells}
 use Rattle.dw_forms.specs.declared.fault.FormFault.{FormFault}
 use Rattle.dw_forms.specs.Fault.{form_fault}
 use Rattle.dw_units.specs.declared.entries.Next.{Next}
@@ -44,8 +43,3 @@ IsBefore _ old kept new = kept ≡ old
 abbrev pub ReadsNext : Result Next FormFault → CodeEntry → Result (Option Entry × Place) Fault → Place → Type 0
 ReadsNext (Ok next) kept given new = (found : Option Entry) × (given ≡ Ok (found, new)) × IsNext next kept found
 ReadsNext (Err fault) kept given new = MatchOption (form_fault fault) (Unit {0}) (λ told. given ≡ Err told)
-
--- values were passed over: the definition reads them; that takes no memory
-abbrev pub Passes : {A : Type 0} → Result (Unit {0}) FormFault → Result (A × Place) Fault → Place → Type 0
-Passes {A} (Ok done) given new = (found : A) × (given ≡ Ok (found, new))
-Passes (Err fault) given new = Tells (form_fault fault) given

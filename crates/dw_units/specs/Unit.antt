@@ -1,9 +1,12 @@
 -- What a unit stands for.
-use Rattle.std.specs.Prelude.{◌≡◌, ◌≤◌, ℕ, true, false, length, take, Option, Some, None, option_map}
+use Rattle.std.specs.Prelude.{◌≡◌, ◌≤◌, ℕ, true, false, length, take, Option, Some, None, option_map, IsOk, MatchOption}
 use Rattle.dw_model.specs.declared.dwarf.TheConstants.{OFFSET_SIZE_32}
 use Rattle.dw_model.specs.Unit.{DwarfUnit, is_skipped}
 use Rattle.dw_model.specs.Section.{Sections}
+use Rattle.dw_model.specs.Abbrev.{abbreviations}
 use Rattle.dw_model.specs.Root as model
+use Rattle.dw_elf.specs.declared.fault.OpenFault.{OpenFault}
+use Rattle.dw_elf.specs.OpenFault.{refusal_of}
 use Rattle.dw_forms.specs.Tables.{bases_shown}
 use Rattle.dw_units.specs.declared.unit.Unit.{Unit}
 use Rattle.dw_units.specs.Header.{kind_shown}
@@ -38,3 +41,8 @@ pub record IsOpened (sections : Sections) (read : Read) (unit : Unit) : Type 0 w
   pub first : HasFirst sections unit
   pub bases : bases_shown unit.bases ≡ model.bases sections (unit_shown unit)
   pub table : HasEntries sections read (unit_shown unit) unit.table
+
+-- Out of memory hides no table: it is told only of a unit that isn't skipped and whose declarations can be read.
+abbrev pub HidesNoTable : OpenFault → Sections → DwarfUnit → Type 0
+HidesNoTable fault sections unit =
+    MatchOption (refusal_of fault) ((is_skipped unit.kind ≡ false) × IsOk (abbreviations sections.abbrevs unit.debug_abbrev_offset)) (λ told. Prim.Unit {0})

@@ -1,10 +1,10 @@
 //! The attributes of entries, by section 7.5.3 of DWARF 5.
 
-ghost use Rattle.std.specs.Prelude.{◌≡◌, ◌==◌, [], find, length, map, option_map};
+ghost use Rattle.std.specs.Prelude.{◌≡◌, ◌==◌, [], Err, IfErr, MatchOption, find, length, map, option_map};
 ghost use Rattle.dw_model.specs.declared.dwarf.TheConstants.{OFFSET_SIZE_32};
 ghost use Rattle.dw_model.specs.Entry.{attributes_at};
 ghost use Rattle.dw_model.specs.Answers.{ReadsUnlessMemory};
-ghost use Rattle.dw_forms.specs.Fault.{form_fault};
+ghost use Rattle.dw_forms.specs.Fault.{form_fault, HidesNoFault, Passes};
 ghost use Rattle.dw_forms.specs.Declaration.{spec_shown};
 ghost use Rattle.dw_units.specs.Attribute.{attribute_shown};
 
@@ -40,23 +40,45 @@ impl<'a> Model for Attributes<'a> {
     ghost invariant = { ArePlaced };
 }
 
+/// Passes over the values that a declaration asks for.
+pub(crate) fn pass_attributes(cursor: &mut Cursor<'_>, specs: &[Spec]) -> Result<(), FormFault>
+    ensures { Passes result (attributes_at OFFSET_SIZE_32 (map spec_shown specs.now) cursor.old) cursor.new }
+{
+    for spec in specs {
+        read_value(cursor, spec.form, spec.implicit)?;
+    }
+    Ok(())
+}
+
+/// Why values can't be read where memory was refused: their first fault, or `Memory` where they have none.
+fn fault_in_values(cursor: &mut Cursor<'_>, specs: &[Spec]) -> FormFault
+    ensures fault { MatchOption (form_fault result) (Unit {0}) (λ told. attributes_at OFFSET_SIZE_32 (map spec_shown specs.now) cursor.old ≡ Err told) }
+    ensures memory { HidesNoFault result (attributes_at OFFSET_SIZE_32 (map spec_shown specs.now) cursor.old) }
+{
+    match pass_attributes(cursor, specs) {
+        Ok(()) => FormFault::Memory,
+        Err(fault) => fault,
+    }
+}
+
 /// Reads the values that a declaration asks for, in place of those that were kept.
 fn read_attributes<'a>(
     attributes: &mut Vec<Attribute<'a>>,
     cursor: &mut Cursor<'a>,
     specs: &[Spec],
 ) -> Result<(), FormFault>
-    ensures { ReadsUnlessMemory (λ _. map attribute_shown attributes.new.items) form_fault result (attributes_at OFFSET_SIZE_32 (map spec_shown specs.now) cursor.old) cursor.new }
+    ensures read { ReadsUnlessMemory (λ _. map attribute_shown attributes.new.items) form_fault result (attributes_at OFFSET_SIZE_32 (map spec_shown specs.now) cursor.old) cursor.new }
+    ensures memory { IfErr result (λ fault. HidesNoFault fault (attributes_at OFFSET_SIZE_32 (map spec_shown specs.now) cursor.old)) }
 {
     attributes.clear();
     // A cursor of its own stays in registers.
     let mut place = cursor.fork();
     for spec in specs {
         let value = read_value(&mut place, spec.form, spec.implicit)?;
-        attributes.push(Attribute {
-            name: spec.name,
-            value,
-        })?;
+        let name = spec.name;
+        let Ok(()) = attributes.push(Attribute { name, value }) else {
+            return Err(fault_in_values(&mut cursor.fork(), specs));
+        };
     }
     *cursor = place;
     Ok(())
@@ -119,7 +141,8 @@ impl<'a> Attributes<'a> {
         cursor: &mut Cursor<'a>,
         declaration: &Decl,
     ) -> Result<(), FormFault>
-        ensures { ReadsUnlessMemory (λ _. map attribute_shown self.new) form_fault result (attributes_at OFFSET_SIZE_32 (map spec_shown declaration.now.specs.items) cursor.old) cursor.new }
+        ensures read { ReadsUnlessMemory (λ _. map attribute_shown self.new) form_fault result (attributes_at OFFSET_SIZE_32 (map spec_shown declaration.now.specs.items) cursor.old) cursor.new }
+        ensures memory { IfErr result (λ fault. HidesNoFault fault (attributes_at OFFSET_SIZE_32 (map spec_shown declaration.now.specs.items) cursor.old)) }
     {
         self.firsts = Firsts::unknown();
         read_attributes(&mut self.list, cursor, declaration.specs.as_slice())?;

@@ -1,14 +1,16 @@
 //! The entries of a unit, one after the other.
 
-ghost use Rattle.std.specs.Prelude.{◌≡◌, ◌==◌, ◌||◌, IfOk, length, map, OnErr};
+ghost use Rattle.std.specs.Prelude.{◌≡◌, ◌==◌, ◌||◌, IfOk, IfErr, length, map, OnErr};
 ghost use Rattle.dw_model.specs.declared.dwarf.TheConstants.{OFFSET_SIZE_32};
 ghost use Rattle.dw_model.specs.Entry.{attributes_at, entry_at};
 ghost use Rattle.dw_forms.specs.Declaration.{spec_shown};
-ghost use Rattle.dw_units.specs.Entries.{ReadsNext, IsBefore, Passes};
+ghost use Rattle.dw_forms.specs.Fault.{HidesNoFault, Passes};
+ghost use Rattle.dw_units.specs.Entries.{ReadsNext, IsBefore};
 
+use crate::attributes::pass_attributes;
 use crate::entry::Entry;
 use dw_bytes::Cursor;
-use dw_forms::{Abbrevs, Decl, FormFault, Spec, read_value};
+use dw_forms::{Abbrevs, Decl, FormFault};
 use dw_model::dwarf::{DW_TAG_inlined_subroutine, DW_TAG_subprogram};
 use std::alloc::Global;
 use std::marker::Model;
@@ -36,6 +38,7 @@ pub struct Entries<'b, 'a> {
 }
 
 impl<'b, 'a> Model for Entries<'b, 'a> {
+    ghost use Rattle.dw_forms.specs.Fault.{HidesNoFault, Passes};
     ghost use Rattle.dw_units.specs.Entries.{Walk};
 
     ghost Value = { Walk };
@@ -50,16 +53,6 @@ fn is_function(tag: u64) -> bool
     ensures { result ≡ (tag == DW_TAG_subprogram || tag == DW_TAG_inlined_subroutine) }
 {
     tag == DW_TAG_subprogram || tag == DW_TAG_inlined_subroutine
-}
-
-/// Passes over the values that a declaration asks for.
-fn pass_attributes(cursor: &mut Cursor<'_>, specs: &[Spec]) -> Result<(), FormFault>
-    ensures { Passes result (attributes_at OFFSET_SIZE_32 (map spec_shown specs.now) cursor.old) cursor.new }
-{
-    for spec in specs {
-        read_value(cursor, spec.form, spec.implicit)?;
-    }
-    Ok(())
 }
 
 /// Passes over the values of an entry, in one step where its declaration tells how far.
@@ -85,6 +78,7 @@ fn next_of<'a>(
 ) -> Result<Next, FormFault>
     ensures next { ReadsNext result kept.new (entry_at OFFSET_SIZE_32 abbrevs.now cursor.old) cursor.new }
     ensures past { IfOk result (λ next. IsBefore next kept.old kept.new cursor.new) }
+    ensures memory { IfErr result (λ fault. HidesNoFault fault (entry_at OFFSET_SIZE_32 abbrevs.now cursor.old)) }
 {
     let offset = cursor.at() as u64;
     let code = cursor.uleb()?;
@@ -130,6 +124,7 @@ impl<'b, 'a> Entries<'b, 'a> {
         ensures next { ReadsNext result kept.new (entry_at OFFSET_SIZE_32 self.old.declarations self.old.place) self.new.place }
         ensures past { IfOk result (λ next. IsBefore next kept.old kept.new self.new.place) }
         ensures stays { OnErr result (self.new.place ≡ self.old.place) }
+        ensures memory { IfErr result (λ fault. HidesNoFault fault (entry_at OFFSET_SIZE_32 self.old.declarations self.old.place)) }
     {
         let mut place = self.cursor.fork();
         let next = next_of(&mut place, self.abbrevs, kept)?;

@@ -1,13 +1,13 @@
 //! Entries of units, by sections 7.5.2 to 7.5.6 of DWARF 5.
 
-ghost use Rattle.std.specs.Prelude.{◌≡◌, ◌<◌, true, false, Ok, IfOk, length, option_map, take, MatchOption};
+ghost use Rattle.std.specs.Prelude.{◌≡◌, ◌<◌, true, false, Ok, IfOk, IfErr, length, option_map, take, MatchOption};
 ghost use Rattle.dw_model.specs.declared.dwarf.TheConstants.{OFFSET_SIZE_32};
 ghost use Rattle.dw_model.specs.Entry.{entry_at};
 ghost use Rattle.dw_model.specs.Entry as model;
 ghost use Rattle.dw_model.specs.Abbrev.{abbreviations};
 ghost use Rattle.dw_model.specs.Root.{place_in, entry};
 ghost use Rattle.dw_model.specs.Answers.{ReadsUnlessMemory};
-ghost use Rattle.dw_forms.specs.Fault.{form_fault};
+ghost use Rattle.dw_forms.specs.Fault.{form_fault, HidesNoFault};
 ghost use Rattle.dw_forms.specs.Value.{value_shown};
 ghost use Rattle.dw_units.specs.Entry.{entry_shown, shown_where, unread, FindsEntry, ReadsEntry};
 ghost use Rattle.dw_units.specs.Header.{header_shown};
@@ -46,6 +46,7 @@ pub(crate) fn read_entry<'a>(
     ensures entry { ReadsUnlessMemory (λ found. shown_where found kept.new) form_fault result (entry_at OFFSET_SIZE_32 abbrevs.now cursor.old) cursor.new }
     ensures next { IfOk result (λ found. found ≡ true → kept.new.next ≡ cursor.new.at) }
     ensures stays { IfOk result (λ found. found ≡ false → kept.new ≡ kept.old) }
+    ensures memory { IfErr result (λ fault. HidesNoFault fault (entry_at OFFSET_SIZE_32 abbrevs.now cursor.old)) }
 {
     let offset = cursor.at() as u64;
     let code = cursor.uleb()?;
@@ -125,6 +126,7 @@ pub(crate) fn read_in<'a>(
     requires { abbreviations sections.now.abbrevs.now unit.now.debug_abbrev_offset ≡ Ok abbrevs.now }
     ensures entry { ReadsEntry result kept.new (entry (sections_shown sections.now) (header_shown unit.now) offset) }
     ensures stays { IfOk result (λ found. found ≡ false → kept.new ≡ kept.old) }
+    ensures memory { IfErr result (λ fault. HidesNoFault fault (entry (sections_shown sections.now) (header_shown unit.now) offset)) }
 {
     if offset < unit.first_entry || offset >= unit.end {
         return Err(FormFault::End);
@@ -145,7 +147,8 @@ pub(crate) fn entry_in<'a>(
     offset: u64,
 ) -> Result<Option<Entry<'a>>, FormFault>
     requires { abbreviations sections.now.abbrevs.now unit.now.debug_abbrev_offset ≡ Ok abbrevs.now }
-    ensures { FindsEntry result (entry (sections_shown sections.now) (header_shown unit.now) offset) }
+    ensures entry { FindsEntry result (entry (sections_shown sections.now) (header_shown unit.now) offset) }
+    ensures memory { IfErr result (λ fault. HidesNoFault fault (entry (sections_shown sections.now) (header_shown unit.now) offset)) }
 {
     let mut found = Entry::unread(alloc);
     let is_some = read_in(&mut found, sections, unit, abbrevs, offset)?;

@@ -2,7 +2,7 @@
 
 ghost use Rattle.std.specs.Prelude.{◌≡◌, ◌<◌, Some, Err, IfOk, IfErr, MatchOption, length, slice_get};
 ghost use Rattle.dw_model.specs.Abbrev.{abbreviations};
-ghost use Rattle.dw_forms.specs.Fault.{form_fault};
+ghost use Rattle.dw_forms.specs.Fault.{form_fault, HidesNoFault};
 ghost use Rattle.dw_units.specs.Shared.{HasTable, IsKept};
 
 use dw_forms::{Abbrevs, FormFault};
@@ -49,6 +49,7 @@ impl<'a> Shared<'a> {
         ensures kept { IsKept self.old self.new }
         ensures found { IfOk result (λ k. HasTable self.new offset k) }
         ensures fault { IfErr result (λ fault. MatchOption (form_fault fault) (Unit {0}) (λ told. abbreviations self.old.section offset ≡ Err told)) }
+        ensures memory { IfErr result (λ fault. HidesNoFault fault (abbreviations self.old.section offset)) }
     {
         if let Some(place) = self.places.get(&offset) {
             return Ok(*place);

@@ -1,6 +1,6 @@
 //! A unit of .debug_info with what its first entry says of it, by section 7.5 of DWARF 5.
 
-ghost use Rattle.std.specs.Prelude.{◌≡◌, IfOk, option_map};
+ghost use Rattle.std.specs.Prelude.{◌≡◌, IfOk, IfErr, option_map};
 ghost use Rattle.dw_model.specs.declared.dwarf.TheConstants.{OFFSET_SIZE_32};
 ghost use Rattle.dw_model.specs.Text.{bases_in};
 ghost use Rattle.dw_model.specs.Root.{has_root};
@@ -13,7 +13,7 @@ ghost use Rattle.dw_units.specs.Entry.{entry_shown};
 ghost use Rattle.dw_units.specs.Header.{header_shown, IsWhole};
 ghost use Rattle.dw_units.specs.Sections.{sections_shown};
 ghost use Rattle.dw_units.specs.Shared.{IsKept};
-ghost use Rattle.dw_units.specs.Unit.{unit_shown, IsOpened};
+ghost use Rattle.dw_units.specs.Unit.{unit_shown, IsOpened, HidesNoTable};
 
 use crate::bases::bases_of;
 use crate::entry::{Entry, entry_in};
@@ -96,7 +96,7 @@ fn root_fault(offset: u64, fault: FormFault) -> OpenFault
 
 /// The unit of a header. Its declarations and its first entry are read where it isn't skipped.
 ///
-/// The error is `Root` where they can't be read, or `Memory`.
+/// The error is `Root` where they can't be read, or `Memory`; that is told only of a unit whose declarations can be read.
 pub(crate) fn open_unit<'a>(
     alloc: Global,
     sections: &Sections<'a>,
@@ -110,6 +110,7 @@ pub(crate) fn open_unit<'a>(
     ensures header { IfOk result (λ unit. unit_shown unit ≡ header_shown header) }
     ensures opened { IfOk result (λ unit. IsOpened (sections_shown sections.now) shared.new unit) }
     ensures root { GivesUnlessMemory (λ _. tt) refusal_of result (has_root (sections_shown sections.now) (header_shown header)) }
+    ensures memory { IfErr result (λ fault. HidesNoTable fault (sections_shown sections.now) (header_shown header)) }
 {
     if header.kind.is_skipped() {
         return Ok(Unit::new(header, None, None));

@@ -7,6 +7,7 @@ ghost use Rattle.dw_model.specs.Unit.{units};
 ghost use Rattle.dw_model.specs.Name.{holding};
 ghost use Rattle.dw_model.specs.Root as model;
 ghost use Rattle.dw_elf.specs.OpenFault.{RefusesUnlessMemory};
+ghost use Rattle.dw_forms.specs.Fault.{HidesNoFault};
 ghost use Rattle.dw_forms.specs.Tables.{bases_shown, tables_shown};
 ghost use Rattle.dw_units.specs.Entry.{entry_shown, FindsEntry, ReadsEntry};
 ghost use Rattle.dw_units.specs.Entries.{WalksFrom};
@@ -128,7 +129,7 @@ impl<'a> Units<'a> {
     ///
     /// The error is `End` where the offset doesn't lie between the unit's first entry and its end,
     /// and where the entry runs past that; `Code` where the unit has no declaration of the entry's
-    /// code; else the fault of its first value that can't be read; or `Memory`.
+    /// code; else the fault of its first value that can't be read; or `Memory`, which hides none of these.
     pub fn entry(
         &self,
         alloc: Global,
@@ -136,7 +137,8 @@ impl<'a> Units<'a> {
         offset: u64,
     ) -> Result<Option<Entry<'a>>, FormFault>
         requires { i < length (units self.now.info) }
-        ensures { IfSome (slice_get (units self.now.info) i) (λ unit. FindsEntry result (model.entry self.now unit offset)) }
+        ensures entry { IfSome (slice_get (units self.now.info) i) (λ unit. FindsEntry result (model.entry self.now unit offset)) }
+        ensures memory { IfErr result (λ fault. IfSome (slice_get (units self.now.info) i) (λ unit. HidesNoFault fault (model.entry self.now unit offset))) }
     {
         let unit = &self.units[i];
         let Some(table) = unit.table else {
@@ -158,6 +160,7 @@ impl<'a> Units<'a> {
         requires { i < length (units self.now.info) }
         ensures stays { IfOk result (λ found. found ≡ false → kept.new ≡ kept.old) }
         ensures entry { IfSome (slice_get (units self.now.info) i) (λ unit. ReadsEntry result kept.new (model.entry self.now unit offset)) }
+        ensures memory { IfErr result (λ fault. IfSome (slice_get (units self.now.info) i) (λ unit. HidesNoFault fault (model.entry self.now unit offset))) }
     {
         let unit = &self.units[i];
         let Some(table) = unit.table else {

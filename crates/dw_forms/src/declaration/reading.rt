@@ -41,7 +41,7 @@ impl Decl {
 
 /// The next pair of a declaration; `None` for the pair 0, 0, which ends them.
 #[tactic(auto, unfolding(dw_model::specs::Abbrev::next_specification))]
-fn next_spec(cursor: &mut Cursor<'_>) -> Result<Option<Spec>, FormFault>
+pub(crate) fn next_spec(cursor: &mut Cursor<'_>) -> Result<Option<Spec>, FormFault>
     ensures { ReadsOn (option_map spec_shown) form_fault result (next_specification cursor.old) cursor.new }
 {
     let name = cursor.uleb()?;

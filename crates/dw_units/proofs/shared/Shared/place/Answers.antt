@@ -18,7 +18,7 @@ pub invariant_of-self-2 : goal.invariant_of-self-2
 invariant_of-self-2 c offset place e =
     let len = c.len-place.result in
     let size : length c.self.inside.tables.items ≡ len = omega (arith, c.len-place.ensures) in
-    let here : HasTable (record { section = c.self.inside.section.now; tables = c.self.inside.tables.items ++ c.in_ok-table.table ∷ [] }) c.args.offset len = new_table c.self.inside.section.now c.self.inside.tables.items c.in_ok-table.table c.args.offset len size c.in_ok-table.ensures in
+    let here : HasTable (record { section = c.self.inside.section.now; tables = c.self.inside.tables.items ++ c.in_ok-table.table ∷ [] }) c.args.offset len = new_table c.self.inside.section.now c.self.inside.tables.items c.in_ok-table.table c.args.offset len size c.in_ok-table.ensures.read in
     rw (c.in_ok-push.ensures.items) (placed (record { section = c.self.inside.section.now; tables = c.self.inside.tables.items ++ c.in_ok-table.table ∷ [] }) c.args.offset offset len place (tree.get nat_cmp c.self.inside.places offset) (nat_cmp c.args.offset offset) refl (sym (c.in_ok-insert.ensures.updates.0 offset) ∙ e) here
     (λ before. still c.self.inside.section.now c.self.inside.tables.items c.in_ok-table.table offset place (c.self.invariant offset place before)))
 
@@ -30,4 +30,4 @@ returns-clause-kept c k table e =
 pub returns-clause-found : goal.returns-clause-found
 returns-clause-found c =
     let size : length c.self.inside.tables.items ≡ c.len-place.result = omega (arith, c.len-place.ensures) in
-    rw (c.in_ok-push.ensures.items) (new_table c.self.inside.section.now c.self.inside.tables.items c.in_ok-table.table c.args.offset c.len-place.result size c.in_ok-table.ensures)
+    rw (c.in_ok-push.ensures.items) (new_table c.self.inside.section.now c.self.inside.tables.items c.in_ok-table.table c.args.offset c.len-place.result size c.in_ok-table.ensures.read)

@@ -11,8 +11,8 @@ use Rattle.dw_units.specs.Unit.{unit_shown}
 use Rattle.dw_units.proofs.UnitsLemmas.{unit-in, of-unit, no-entry, its-table}
 use Rattle.dw_units.proofs.units.Units.entry.Goals as goal
 
-pub returns-in_default : goal.returns-in_default
-returns-in_default c =
+pub returns-in_default-clause-entry : goal.returns-in_default-clause-entry
+returns-in_default-clause-entry c =
     let unit = unit-in (sections_shown c.self.inside.sections) c.args.self.now c.self.inside.shared c.self.inside.units.items c.args.i c.index-unit.result.now c.self.view_is c.self.invariant.cut c.self.invariant.opened c.requires c.index-unit.ensures in
     of-unit (λ unit. entry c.args.self.now unit c.args.offset ≡ Err ends_early) (slice_get (units c.args.self.now.info) c.args.i) (unit_shown c.index-unit.result.now) unit.0 (no-entry c.args.self.now c.self.inside.shared c.index-unit.result.now c.args.offset unit.1 c.in_default.is)
 
@@ -22,9 +22,9 @@ get-requires c =
     let table = its-table c.args.self.now c.self.inside.shared c.index-unit.result.now c.in-Some.table unit.1 c.in-Some.is in
     slice_get_within c.self.inside.shared.tables c.in-Some.table table.0 table.1
 
-pub returns : goal.returns
-returns c =
+pub returns-clause-entry : goal.returns-clause-entry
+returns-clause-entry c =
     let unit = unit-in (sections_shown c.self.inside.sections) c.args.self.now c.self.inside.shared c.self.inside.units.items c.args.i c.index-unit.result.now c.self.view_is c.self.invariant.cut c.self.invariant.opened c.requires c.index-unit.ensures in
-    let seen = subst (λ s. FindsEntry c.entry_in.result (entry s (header_shown c.header.result) c.args.offset)) c.self.view_is c.entry_in.ensures in
+    let seen = subst (λ s. FindsEntry c.entry_in.result (entry s (header_shown c.header.result) c.args.offset)) c.self.view_is c.entry_in.ensures.entry in
     let found = subst (λ unit. FindsEntry c.entry_in.result (entry c.args.self.now unit c.args.offset)) c.header.ensures seen in
     of-unit (λ unit. FindsEntry c.entry_in.result (entry c.args.self.now unit c.args.offset)) (slice_get (units c.args.self.now.info) c.args.i) (unit_shown c.index-unit.result.now) unit.0 found

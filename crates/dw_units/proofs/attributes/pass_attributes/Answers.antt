@@ -9,7 +9,7 @@ use Rattle.dw_forms.specs.Fault.{form_fault}
 use Rattle.dw_units.specs.declared.attributes.Attribute.{Attribute}
 use Rattle.dw_units.specs.Entry.{attribute_shown}
 use Rattle.dw_units.proofs.EntryLemmas.{starts, goes_on, stops-exactly, ends}
-use Rattle.dw_units.proofs.entries.pass_attributes.Goals as goal
+use Rattle.dw_units.proofs.attributes.pass_attributes.Goals as goal
 
 -- what stands in the place of a specification behind the last one
 abbrev none : Spec
