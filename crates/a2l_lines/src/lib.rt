@@ -2,6 +2,7 @@
 //! and the lines of `--units`.
 #![tactic(auto)]
 
+mod blocks;
 mod count;
 mod ends;
 mod fault;
@@ -9,8 +10,10 @@ mod input;
 mod listing;
 mod options;
 mod order;
+mod pieces;
 mod pool;
 mod reading;
+mod sharing;
 mod symbolizing;
 mod text;
 mod writing;
