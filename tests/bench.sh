@@ -2,7 +2,8 @@
 # How long a2l takes, and how much memory, beside GNU addr2line, llvm-symbolizer and the Rust crate addr2line, on
 # a large C++ program of many units, all in one run. The program is built of as many units of templates as the first
 # word says (60 without, about 100 MB), which takes some minutes; or the first word is the path of one that is there.
-# Each task is run by each tool in turn, as often as the second word says (3 without), and the least time counts. The
+# Each task is run by each tool in turn, as often as the second word says (3 without), and the least time counts; the tasks
+# of a million addresses are run by a2l and the crate alone. The
 # crate is built from Debian's packages (librust-addr2line-dev), and what is missing is said. Run it after `rt run` in
 # crates/a2l has built a2l. It prints a table, and tests only that a2l's answers are the same at any order and number
 # of workers.
@@ -68,7 +69,11 @@ random.seed(1)
 shown = subprocess.run(['readelf', '--wide', '--section-headers', sys.argv[1]], check=True, capture_output=True, text=True).stdout
 begin, size = (int(n, 16) for n in re.search(r'\] \.text +PROGBITS +(\w+) \w+ (\w+)', shown).groups())
 asked = [random.randrange(begin, begin + size) for _ in range(10000)]
-for name, addresses in (('one', asked[:1]), ('sorted', sorted(asked)), ('random', asked)):
+million = random.sample(range(begin, begin + size), min(size, 1000000))
+# a profile: of 20,000 addresses each comes as often as one by its rank
+hot = random.sample(range(begin, begin + size), min(size, 20000))
+samples = random.choices(hot, [1 / (rank + 1) for rank in range(len(hot))], k=1000000)
+for name, addresses in (('one', asked[:1]), ('sorted', sorted(asked)), ('random', asked), ('samples', samples), ('million', million)):
     with open(name, 'w') as out:
         out.writelines(f'{a:#x}\n' for a in addresses)
 END_PY
@@ -87,20 +92,24 @@ megabytes() { awk -v k="$1" 'BEGIN { printf "%.0f", k / 1000 }'; }
 info=$((16#$(objdump -h "$program" | awk '$2 == ".debug_info" { print $3 }')))
 echo "a program of $(megabytes "$(($(stat -Lc %s "$program") / 1000))") MB with $((info / 1000000)) MB of .debug_info in $("$a2l" -e "$program" --units | wc -l) units; the least of $times times"
 printf '%-34s %-6s %10s %8s %8s\n' task tool seconds ratio MB
-for task in one sorted random; do
+for task in one sorted random samples million; do
     case $task in
         one) what='one address' ;;
         sorted) what='10,000 addresses in order' ;;
         random) what='10,000 addresses in random order' ;;
+        samples) what='a million samples of 20,000' ;;
+        million) what='a million addresses, random order' ;;
     esac
-    all=("${tools[@]}")
-    [ "$task" = one ] || all+=(a2l-4)
+    all=("${tools[@]}" a2l-4)
+    case $task in
+        samples|million) all=(a2l a2l-4); [[ " ${tools[*]} " != *' crate '* ]] || all+=(crate) ;;
+    esac
     for tool in "${all[@]}"; do
         measure $task "$tool"
         ratio=$(awk -v a="${least[$task.a2l]}" -v b="${least[$task.$tool]}" 'BEGIN { if (b > 0) printf "%.2f", a / b; else print "-" }')
         printf '%-34s %-6s %10s %8s %8s\n' "$what" "$tool" "${least[$task.$tool]}" "$ratio" "$(megabytes "${peak[$task.$tool]}")"
     done
-    [ "$task" = one ] || cmp "$task.a2l" "$task.a2l-4"
+    cmp "$task.a2l" "$task.a2l-4"
 done
 echo "ratio: a2l's time with 1 worker by the tool's; a2l-4: with 4 workers"
 python3 - <<'END_PY'

@@ -1,25 +1,25 @@
 #!/usr/bin/env bash
-# How long a pool takes to answer with one worker and with four, and one context without a pool, on a large C++ program
-# with addresses in order; and four processes of one context each, which is what the machine gives at most. The first word
-# is as for bench.sh; the others are numbers of addresses, which are spread evenly over .text (100,000, a million and eight
-# million without: the last take 8 GB). What is timed is answering alone, with the threads and the contexts that are made
-# for it. The least of two times counts. Run it after `rt run` in crates/a2l has built the crates. It prints a table, and
+# How long a pool takes to answer with one worker and with four, and one context without a pool, on a large program with
+# random addresses of .text, in the order in which a2l asks them; and four processes of one context each, which is what the
+# machine gives at most. The first word is as for bench.sh, best a program of over 500 units; the others are numbers of
+# addresses (10,000, 100,000 and a million without). What is timed is answering alone, with the threads and the contexts
+# that are made for it; beside it stands the processors' time. The least of three times counts. Run it after `rt run` in crates/a2l has built the crates. It prints a table, and
 # tests that no run fails.
 . "$(dirname "$0")/programs.sh"
 large=${1:-60}
 [ $# -gt 0 ] && shift
-[ $# -gt 0 ] || set -- 100000 1000000 8000000
+[ $# -gt 0 ] || set -- 10000 100000 1000000
 need_large "$large"
 
 copy_proved dw_model dw_index dw_bytes ticket_core ticket_board dw_elf dw_forms dw_units dw_ranges dw_line dw_frames dw_symbols a2l_lines
 mkdir -p copy/crates/pool_time/src
 echo 'pool_time: dw_symbols ticket_core ticket_board a2l_lines' >> copy/crates.txt
 cat > copy/crates/pool_time/src/main.rt <<'END'
-//! Answers addresses of a file by a pool of so many workers, or by one context for 0: so many addresses, spread from one to
+//! Answers addresses of a file by a pool of so many workers, or by one context for 0: so many random addresses, from one to
 //! another. It says when it begins and when it has ended.
 #![tactic(auto)]
 
-use a2l_lines::run_pool;
+use a2l_lines::{in_order, order_of, run_pool};
 use dw_symbols::{Answer, Context, Image};
 use std::alloc::{AllocError, Global};
 use std::io::Write;
@@ -38,14 +38,18 @@ impl Gate for Open {
     fn enter(&self, _sender: usize, _number: u64, _a: u64) {}
 }
 
-/// So many addresses, in order.
-fn addresses(alloc: Global, count: u64, begin: u64, end: u64) -> Result<Vec<u64>, AllocError> {
-    let mut queries = Vec::new(alloc);
+/// So many random addresses, in the order in which they are best asked.
+fn addresses(alloc: Global, image: &Image<'_>, count: u64, begin: u64, end: u64) -> Result<Vec<u64>, AllocError> {
+    let mut drawn = Vec::new(alloc);
     let size = end.wrapping_sub(begin);
-    for i in 0..count {
-        let distance = size.wrapping_mul(i).checked_div(count).unwrap_or(0);
-        queries.push(begin.wrapping_add(distance))?;
+    let mut state = 1u64;
+    for _ in 0..count {
+        state = state.wrapping_mul(6364136223846793005).wrapping_add(1442695040888963407);
+        let distance = (state >> 20).checked_rem(size).unwrap_or(0);
+        drawn.push(begin.wrapping_add(distance))?;
     }
+    let order = order_of(alloc, image, &drawn)?;
+    let queries = in_order(alloc, &drawn, &order)?;
     Ok(queries)
 }
 
@@ -74,7 +78,7 @@ fn answered<T: Threads + Wait + Sync>(rt: &HostRuntime, threads: &T, words: &[St
     let count = words.get(2)?.parse::<u64>().ok()?;
     let begin = words.get(3)?.parse::<u64>().ok()?;
     let end = words.get(4)?.parse::<u64>().ok()?;
-    let queries = addresses(rt.alloc(), count, begin, end).ok()?;
+    let queries = addresses(rt.alloc(), &image, count, begin, end).ok()?;
     let shape = Shape {
         senders: 1,
         workers: workers as usize,
@@ -110,7 +114,7 @@ END
 (cd copy/crates/pool_time && rt run -- "$program" 1 1 0 1) > log 2>&1 || { tail -20 log; exit 1; }
 
 cat > time.py <<'END_PY'
-import subprocess, sys, time
+import os, subprocess, sys, time
 tool, program, begin, end, *counts = sys.argv[1:]
 
 def begin_run(workers, count):
@@ -118,23 +122,31 @@ def begin_run(workers, count):
     assert run.stdout.readline() == 'begun\n'
     return run, time.monotonic()
 
+def processor_time(run):
+    """Of all its threads, those that ended too, in seconds."""
+    with open(f'/proc/{run.pid}/stat') as stat:
+        fields = stat.read().rsplit(')', 1)[1].split()
+    return (int(fields[11]) + int(fields[12])) / os.sysconf('SC_CLK_TCK')
+
 def end_run(run, began):
+    used = processor_time(run)
     assert run.stdout.readline() == 'ended\n'
     seconds = time.monotonic() - began
+    used = processor_time(run) - used
     assert run.wait() == 0
-    return seconds
+    return seconds, used
 
 def timed(workers, count):
-    return min(end_run(*begin_run(workers, count)) for _ in range(2))
+    return min(end_run(*begin_run(workers, count)) for _ in range(3))
 
-print(f"{'addresses':>10} {'no pool':>10} {'one worker':>12} {'four workers':>14}   four beside one")
+print(f"{'addresses':>10} {'no pool':>10} {'one worker':>12} {'four workers':>14}   four beside one, in time and in processor time")
 for count in counts:
-    none, one, four = timed(0, count), timed(1, count), timed(4, count)
-    print(f'{count:>10} {none:8.2f} s {one:10.2f} s {four:12.2f} s {one / four:10.2f} times', flush=True)
+    (none, _), (one, one_used), (four, four_used) = timed(0, count), timed(1, count), timed(4, count)
+    print(f'{count:>10} {none:8.3f} s {one:10.3f} s {four:12.3f} s {one / four:10.2f} times as fast {four_used / max(one_used, 0.01):10.2f} times', flush=True)
 count = counts[len(counts) // 2]
-alone = timed(0, count)
+alone = timed(0, count)[0]
 runs = [begin_run(0, count) for _ in range(4)]
-together = max(end_run(*run) for run in runs)
+together = max(end_run(*run)[0] for run in runs)
 print(f'four processes without a pool, {count} addresses each: {4 * alone / together:.2f} times the answers of one')
 END_PY
 read -r begin end < <(objdump -h "$program" | awk '$2 == ".text" { print $4, $3 }')

@@ -5,3 +5,5 @@ pub mod InputLemmas
 pub mod TextLemmas
 pub mod SymbolizeLemmas
 pub mod OrderLemmas
+pub mod SharingLemmas
+pub mod PiecesLemmas

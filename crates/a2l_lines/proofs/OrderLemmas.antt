@@ -17,13 +17,15 @@ use Rattle.a2l_lines.specs.Order.{IsOrder, IsAnswered, asked_in}
 
 -- ---- the order
 
-pub contains-more : (queries : List ℕ) (order new : List (ℕ × ℕ)) (i : ℕ) → new ≡ order ++ (slice_index queries i, i) ∷ []
-    → ((j : ℕ) → j < i → Contains order (slice_index queries j, j)) → (j : ℕ) → j < i + 1 → Contains new (slice_index queries j, j)
-contains-more queries order new i push so_far j within = rw push (by_place (eq-or-lt_of_le (omega (arith, within))))
+pub contains-more : (order new : List (ℕ × ℕ)) (turn i : ℕ) → new ≡ order ++ (turn, i) ∷ []
+    → ((j : ℕ) → j < i → (t : ℕ) × Contains order (t, j)) → (j : ℕ) → j < i + 1 → (t : ℕ) × Contains new (t, j)
+contains-more order new turn i push so_far j within = by_place (eq-or-lt_of_le (omega (arith, within)))
   where
-    by_place : (j ≡ i) ⊎ (j < i) → Contains (order ++ (slice_index queries i, i) ∷ []) (slice_index queries j, j)
-    by_place (inl same) = rw same (Contains-push order (slice_index queries i, i))
-    by_place (inr below) = Contains-append_left order ((slice_index queries i, i) ∷ []) (slice_index queries j, j) (so_far j below)
+    by_place : (j ≡ i) ⊎ (j < i) → (t : ℕ) × Contains new (t, j)
+    by_place (inl same) = (turn, rw (push, same) (Contains-push order (turn, i)))
+    by_place (inr below) =
+        let before = so_far j below in
+        (before.0, rw push (Contains-append_left order ((turn, i) ∷ []) (before.0, j) before.1))
 
 pub within-more : (queries : List ℕ) (order new : List (ℕ × ℕ)) (q i : ℕ) → new ≡ order ++ (q, i) ∷ [] → i < length queries
     → All (λ pair. pair.1 < length queries) order → All (λ pair. pair.1 < length queries) new
@@ -33,11 +35,11 @@ pub length-more : {X : Type 0} (xs new : List X) (x : X) (i : ℕ) → new ≡ x
 length-more xs new x i push len = rw (push, length-append xs (x ∷ []), len) refl
 
 pub sorted : (queries : List ℕ) (order new : List (ℕ × ℕ)) (i : ℕ) → length queries ≤ i → i ≤ length queries → IsPermutation order new → length order ≡ i → All (λ pair. pair.1 < length queries) order
-    → ((j : ℕ) → j < i → Contains order (slice_index queries j, j)) → IsOrder queries new
+    → ((j : ℕ) → j < i → (t : ℕ) × Contains order (t, j)) → IsOrder queries new
 sorted queries order new i all end moved len within found = record {
   len = omega (arith, length_permutation order new moved, len, all, end);
   within = All-permutation (λ (pair : ℕ × ℕ). pair.1 < length queries) order new moved within;
-  all = λ j below. Contains-permutation order new (slice_index queries j, j) moved (found j (omega (arith, below, all)));
+  all = λ j below. let before = found j (omega (arith, below, all)) in (before.0, Contains-permutation order new (before.0, j) moved before.1);
 }
 
 -- ---- the answers
@@ -71,7 +73,7 @@ pub all-answered : (means : ℕ → model.Answer) (queries : List ℕ) (order : 
     → All (λ pair. IsAnswered means queries answers pair.1) order → map answer_shown answers ≡ map means queries
 all-answered means queries order answers is len answered =
     same-maps answer_shown means answers queries NotCovered 0 len
-    (λ j below. All-contains (λ (pair : ℕ × ℕ). IsAnswered means queries answers pair.1) order (slice_index queries j, j) answered (is.all j below))
+    (λ j below. All-contains (λ (pair : ℕ × ℕ). IsAnswered means queries answers pair.1) order ((is.all j below).0, j) answered (is.all j below).1)
 
 -- what was not moved yet
 pub left-more : (found first : List Answer) (new : Answer) (i : ℕ) → ((j : ℕ) → i ≤ j → get_or found j NotCovered ≡ get_or first j NotCovered)

@@ -6,11 +6,11 @@ use Rattle.dw_symbols.specs.Answer.{answer_shown}
 use Rattle.dw_symbols.specs.declared.answer.Answer.{Answer}
 use Rattle.dw_symbols.specs.declared.answer.Answer.TheVariants.{NotCovered}
 
--- queries with their places: as many, each place is one of theirs, and each query is there
+-- The places of queries in an order, each behind its turn: as many, each is one of theirs, and each of theirs is there.
 pub record IsOrder (queries : List ℕ) (order : List (ℕ × ℕ)) : Type 0 where
   pub len : length order ≡ length queries
   pub within : All (λ pair. pair.1 < length queries) order
-  pub all : (j : ℕ) → j < length queries → Contains order (slice_index queries j, j)
+  pub all : (j : ℕ) → j < length queries → (turn : ℕ) × Contains order (turn, j)
 
 -- the queries in that order
 abbrev pub asked_in : List ℕ → List (ℕ × ℕ) → List ℕ

@@ -1,5 +1,5 @@
 -- The text of inputs whose answers are known.
-use Rattle.std.specs.Prelude.{ℕ, Bool, true, false, ◌||◌, List, [], ◌∷◌, ◌++◌, drop, Option, Some, None, option_map, unwrap_or, codes, decimal}
+use Rattle.std.specs.Prelude.{ℕ, Bool, true, false, ◌||◌, List, ◌++◌, Option, Some, None, option_map, unwrap_or, codes, decimal}
 use denote.Ref.{Bor}
 use Rattle.std.specs.List.{list_any}
 use Rattle.dw_model.specs.Answer.{Answer}
@@ -13,28 +13,6 @@ options_shown options = record {
   inlines = options.inlines;
   addresses = options.addresses;
 }
-
--- the addresses among some inputs
-unfoldable pub addresses : List (Option ℕ) → List ℕ
-addresses [] = []
-addresses (None ∷ inputs) = addresses inputs
-addresses (Some a ∷ inputs) = a ∷ addresses inputs
-
--- the lines of one input, with the answers that are left
-abbrev pub input_text : model.Options → Option ℕ → List Answer → List ℕ
-input_text options None answers = model.bad_address_line
-input_text options (Some a) [] = []
-input_text options (Some a) (answer ∷ answers) = model.address_lines options a answer
-
--- the answers that are left behind an input: an address takes one
-abbrev pub left_after : Option ℕ → List Answer → List Answer
-left_after None answers = answers
-left_after (Some a) answers = drop 1 answers
-
--- the lines of some inputs, with the answers of those that are addresses
-unfoldable pub lines_of : model.Options → List (Option ℕ) → List Answer → List ℕ
-lines_of options [] answers = []
-lines_of options (input ∷ inputs) answers = input_text options input answers ++ lines_of options inputs (left_after input answers)
 
 abbrev pub is_bad : Option ℕ → Bool
 is_bad None = true

@@ -6,18 +6,25 @@ ghost use Rattle.dw_model.specs.Answer as model;
 ghost use Rattle.dw_symbols.specs.Answer.{answer_shown};
 ghost use Rattle.a2l_lines.specs.Order.{IsOrder, asked_in};
 
-use dw_symbols::Answer;
+use crate::turns::Turns;
+use dw_symbols::{Answer, Image};
 use std::alloc::{AllocError, Global};
 use std::mem;
 
-/// Each query with its place, in order of address.
-pub fn order_of(alloc: Global, queries: &[u64]) -> Result<Vec<(u64, usize)>, AllocError>
+/// The order in which queries are best asked by a pool: the place of each, behind its turn. Those of a
+/// unit are asked together, of 16 units at a time, the largest first; of these 16 the first query of each
+/// comes first, and the others are evenly mixed.
+pub fn order_of(
+    alloc: Global,
+    image: &Image<'_>,
+    queries: &[u64],
+) -> Result<Vec<(u64, usize)>, AllocError>
     ensures { IfOk result (λ order. IsOrder queries.now order.items) }
 {
+    let mut turns = Turns::new(alloc, image, queries)?;
     let mut order = Vec::new(alloc);
     for i in 0..queries.len() {
-        let query = queries[i];
-        order.push((query, i))?;
+        order.push((turns.next(i), i))?;
     }
     order.sort_unstable();
     Ok(order)

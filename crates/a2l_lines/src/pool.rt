@@ -7,12 +7,13 @@ ghost use Rattle.ticket_board.specs.Pool.{PoolFits, RefusesPool};
 ghost use Rattle.a2l_lines.specs.Order.{IsOrder};
 
 use crate::order::{in_order, in_place, order_of};
+use crate::owners::owners_of;
 use dw_symbols::{Answer, Context, Image, law_of_shown};
 use std::alloc::{AllocError, Global};
 use std::num::NonZeroUsize;
 use std::sync::Wait;
 use std::thread::Threads;
-use ticket_board::{Gate, Maker, PoolFault};
+use ticket_board::{Gate, Maker, PoolFault, Queries, pool_fits};
 use ticket_core::{NoMemory, Shape};
 
 /// How many units each worker keeps that it read.
@@ -39,7 +40,8 @@ impl<'b, 'a> Maker<Context<'b, 'a>> for Contexts<'b, 'a> {
 
 /// What each of some addresses means: the answer at `i` is that of `queries[i]`. There is a thread for
 /// each sender and each worker of the shape, query `i` is asked by sender `i % senders`, and each worker
-/// has a context of its own. The gate is entered for each query that a worker took.
+/// has a context of its own. The gate is entered for each query that a worker took. Where the queries stand in
+/// the order of `order_of`, each unit is read by one worker.
 ///
 /// The error is `BadShape` exactly where the shape is past its limits, or some sender would have more
 /// than `most` queries; else `Memory` where a growth or a thread was refused.
@@ -55,6 +57,14 @@ pub fn run_pool<'a, R: Threads + Wait + Sync, G: Gate + Sync>(
     ensures fits { OnOk result (PoolFits shape (length queries.now)) }
     ensures refusal { IfErr result (λ fault. RefusesPool fault shape (length queries.now)) }
 {
+    if !pool_fits(&shape, queries.len()) {
+        return Err(PoolFault::BadShape);
+    }
+    let owners = owners_of(alloc, image, queries, shape.workers)?;
+    let queries = Queries {
+        addresses: queries,
+        owners: &owners,
+    };
     let maker = Contexts { image };
     law_of_shown();
     let answers = ticket_board::run_pool::<Context<'_, 'a>, R, _, G>(
@@ -63,8 +73,8 @@ pub fn run_pool<'a, R: Threads + Wait + Sync, G: Gate + Sync>(
     Ok(answers)
 }
 
-/// What each of some addresses means, in their order. They are asked in order of address, so that what
-/// one unit answers is asked at one time.
+/// What each of some addresses means, in their order. They are asked in the order of `order_of`, so that
+/// what one unit answers is asked at one time, and the workers share the units.
 pub fn answers_of<'a, R: Threads + Wait + Sync, G: Gate + Sync>(
     rt: &R,
     alloc: Global,
@@ -76,7 +86,7 @@ pub fn answers_of<'a, R: Threads + Wait + Sync, G: Gate + Sync>(
     requires { PoolFits shape (length queries.now) }
     ensures { IfOk result (λ answers. map answer_shown answers.items ≡ map (model.answer image.now) queries.now) }
 {
-    let order = order_of(alloc, queries)?;
+    let order = order_of(alloc, image, queries)?;
     let asked = in_order(alloc, queries, &order)?;
     let found = match run_pool(rt, alloc, image, shape, &asked, gate) {
         Ok(found) => found,

@@ -1,24 +1,25 @@
 //! Answering addresses.
 
-ghost use Rattle.std.specs.Prelude.{◌≡◌, ◌≢◌, ◌<◌, ◌≤◌, ◌^◌, length, List, [], map, Err, OnErr, IfOk, IsErrOf};
+ghost use Rattle.std.specs.Prelude.{◌≡◌, ◌≢◌, ◌<◌, ◌≤◌, List, [], map, Err, OnErr, IfOk, IsErrOf};
 ghost use Rattle.std.specs.List.{list_any};
 ghost use Rattle.dw_model.specs.Output.{is_fault};
 ghost use Rattle.dw_symbols.specs.Answer.{answer_shown};
 ghost use Rattle.a2l_lines.specs.Input.{input_shown, word_shown};
-ghost use Rattle.a2l_lines.specs.Text.{options_shown, addresses, is_bad, some_fault};
-ghost use Rattle.a2l_lines.specs.Pool.{shape_of};
+ghost use Rattle.a2l_lines.specs.Text.{options_shown, is_bad, some_fault};
+ghost use Rattle.a2l_lines.specs.Pool.{shape_of, workers_for};
 ghost use Rattle.a2l_lines.specs.Symbolize.{Asks, Symbolizes, SymbolizesBeginning, status_for};
 
+use crate::blocks::write_picked;
 use crate::ends::{Failed, Sink, Source};
 use crate::fault::RunFault;
 use crate::input::{Input, inputs_of_lines, inputs_of_words};
 use crate::options::Options;
+use crate::pieces::pieces_of;
 use crate::pool::answers_of;
 use crate::reading::read_all;
-use crate::text::text_of;
-use crate::writing::write_all;
+use crate::sharing::sharing_of;
 use dw_symbols::{Answer, Image};
-use std::alloc::{AllocError, Global};
+use std::alloc::Global;
 use std::sync::Wait;
 use std::thread::Threads;
 use ticket_board::Gate;
@@ -29,6 +30,9 @@ const WINDOW: usize = 16;
 
 /// How many queries each sender asks at most.
 const MOST: u64 = 1 << 60;
+
+/// How many bytes are written at a time, or fewer, where the next piece doesn't fit.
+const BLOCK: usize = 65536;
 
 /// How a run ends whose text was written.
 #[derive(Clone, Copy, Debug, PartialEq, Eq)]
@@ -58,25 +62,6 @@ fn inputs_of<R: Source>(
     let bytes = read_all(alloc, reader)?;
     let inputs = inputs_of_lines(alloc, &bytes)?;
     Ok(inputs)
-}
-
-/// The addresses among some inputs. There are no more than one sender may ask, as no memory holds
-/// more.
-fn addresses(alloc: Global, inputs: &[Input]) -> Result<Vec<u64>, AllocError>
-    ensures found { IfOk result (λ found. found.items ≡ addresses (map input_shown inputs.now)) }
-    ensures most { IfOk result (λ found. length found.items ≤ 2 ^ 60) }
-{
-    let mut addresses = Vec::new(alloc);
-    for input in inputs {
-        let Input::Address(address) = input else {
-            continue;
-        };
-        addresses.push(*address)?;
-    }
-    if addresses.len() as u64 > MOST {
-        return Err(AllocError);
-    }
-    Ok(addresses)
 }
 
 /// Whether some input is a bad address.
@@ -113,13 +98,14 @@ fn outcome(inputs: &[Input], answers: &[Answer<'_>]) -> Status
     Status::Clean
 }
 
-/// The shape of the pool that some options ask for.
-fn shape_of(options: &Options<'_>) -> Shape
-    ensures { result ≡ shape_of options.now.senders options.now.workers }
+/// The shape of the pool that some options ask for, with no more workers than there are queries, but
+/// with one at least.
+fn shape_of(options: &Options<'_>, queries: usize) -> Shape
+    ensures { result ≡ shape_of options.now.senders (workers_for options.now.workers queries) }
 {
     Shape {
         senders: usize::from(options.senders),
-        workers: usize::from(options.workers),
+        workers: usize::from(options.workers).min(queries).max(1),
         window: WINDOW,
         most: MOST,
     }
@@ -151,11 +137,14 @@ pub fn symbolize<'a, T: Threads + Wait + Sync, R: Source, W: Sink, G: Gate + Syn
     ensures words { options.now.words.items ≢ [] → reader.new ≡ reader.old }
 {
     let inputs = inputs_of(alloc, reader, &options.words)?;
-    let queries = addresses(alloc, &inputs)?;
-    let answers = answers_of(rt, alloc, image, shape_of(options), &queries, gate)?;
-    let text = text_of(alloc, options, &inputs, &answers)?;
-    match write_all(writer, &text) {
-        Ok(()) => Ok(outcome(&inputs, &answers)),
+    let sharing = sharing_of(alloc, &inputs)?;
+    let shape = shape_of(options, sharing.asked.len());
+    let answers = answers_of(rt, alloc, image, shape, &sharing.asked, gate)?;
+    let status = outcome(&inputs, &answers);
+    let pieces = pieces_of(alloc, options, &sharing.asked, answers)?;
+    let mut block = Vec::with_capacity(alloc, BLOCK)?;
+    match write_picked(writer, &mut block, &pieces, &sharing.picks) {
+        Ok(()) => Ok(status),
         Err(Failed) => Err(RunFault::Write),
     }
 }

@@ -1,12 +1,10 @@
 //! The lines that are written for inputs.
 
-ghost use Rattle.std.specs.Prelude.{◌≡◌, ◌≤◌, ◌++◌, length, drop, if◌then◌else◌, [], OnOk, IfOk, map, flat_map, string_bytes, option_map, decimal};
+ghost use Rattle.std.specs.Prelude.{◌≡◌, ◌++◌, if◌then◌else◌, [], OnOk, IfOk, map, flat_map, string_bytes, option_map, decimal};
 ghost use Rattle.dw_model.specs.Output.{newline, name_text, location_text, frame_lines, unknown_frame, shown, fault_line, address_line, address_lines, answer_lines};
 ghost use Rattle.dw_symbols.specs.Answer.{answer_shown, frame_shown, code_shown, location_shown};
-ghost use Rattle.a2l_lines.specs.Input.{input_shown};
-ghost use Rattle.a2l_lines.specs.Text.{options_shown, lines_of, line_text, path_text, name_shown, input_text, left_after};
+ghost use Rattle.a2l_lines.specs.Text.{options_shown, line_text, path_text, name_shown};
 
-use crate::input::Input;
 use crate::options::Options;
 use dw_symbols::{Answer, Frame, Location, UnitFault};
 use itoa::Buffer;
@@ -177,7 +175,7 @@ fn push_address_line(
 }
 
 /// Adds the lines of an address: with `-a` the address itself, then its answer.
-fn push_address(
+pub fn push_address(
     alloc: Global,
     text: &mut Vec<u8>,
     options: &Options<'_>,
@@ -188,47 +186,4 @@ fn push_address(
 {
     push_address_line(alloc, text, options, address)?;
     push_answer(alloc, text, options, answer)
-}
-
-/// Adds the lines of an input, and tells how many of the answers that are left it took: an address
-/// takes the first.
-fn push_input(
-    alloc: Global,
-    text: &mut Vec<u8>,
-    options: &Options<'_>,
-    input: Input,
-    answers: &[Answer<'_>],
-) -> Result<usize, AllocError>
-    ensures text { OnOk result (text.new.items ≡ text.old.items ++ input_text (options_shown options.now) (input_shown input) (map answer_shown answers.now)) }
-    ensures within { IfOk result (λ more. more ≤ length answers.now) }
-    ensures left { IfOk result (λ more. drop more (map answer_shown answers.now) ≡ left_after (input_shown input) (map answer_shown answers.now)) }
-{
-    let Input::Address(address) = input else {
-        text.extend_from_slice(b"!bad address\n")?;
-        return Ok(0);
-    };
-    if answers.is_empty() {
-        return Ok(0);
-    }
-    push_address(alloc, text, options, address, &answers[0])?;
-    Ok(1)
-}
-
-/// The lines of inputs, with the answers of those that are addresses, in order.
-pub fn text_of(
-    alloc: Global,
-    options: &Options<'_>,
-    inputs: &[Input],
-    answers: &[Answer<'_>],
-) -> Result<Vec<u8>, AllocError>
-    ensures { IfOk result (λ text. text.items ≡ lines_of (options_shown options.now) (map input_shown inputs.now) (map answer_shown answers.now)) }
-{
-    let mut text = Vec::new(alloc);
-    let mut taken = 0usize;
-    for input in inputs {
-        let left = answers.split_at(taken).1;
-        let more = push_input(alloc, &mut text, options, *input, left)?;
-        taken += more;
-    }
-    Ok(text)
 }

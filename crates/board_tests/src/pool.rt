@@ -8,8 +8,16 @@ use std::alloc::{AllocError, Global};
 use std::sync::Wait;
 use std::test::Fail;
 use std::thread::Threads;
-use ticket_board::{Gate, PoolFault, run_pool};
+use ticket_board::{Gate, PoolFault, Queries, run_pool};
 use ticket_core::Shape;
+
+/// Queries of which each is meant for any worker.
+fn for_all(addresses: &[u64]) -> Queries<'_> {
+    Queries {
+        addresses,
+        owners: &[],
+    }
+}
 
 /// The answers of a pool to which nothing is refused.
 pub fn answers<R: Threads + Wait + Sync, G: Gate + Sync>(
@@ -20,7 +28,7 @@ pub fn answers<R: Threads + Wait + Sync, G: Gate + Sync>(
     gate: &G,
 ) -> Result<Vec<u64>, PoolFault> {
     let maker = Echoes::new(&KEY, false, 0);
-    run_pool::<Echo, R, Echoes, G>(rt, alloc, &maker, shape, queries, gate)
+    run_pool::<Echo, R, Echoes, G>(rt, alloc, &maker, shape, for_all(queries), gate)
 }
 
 /// So many queries, all different.
@@ -92,6 +100,54 @@ fn two_workers_at_once(rt: HostRuntime) -> Result<(), Fail> {
     Ok(())
 }
 
+/// The answers are the same whichever worker they are meant for, also one that isn't there.
+#[test]
+fn same_for_all_owners(rt: HostRuntime) -> Result<(), Fail> {
+    let queries = some_queries(rt.alloc(), 60)?;
+    let maker = Echoes::new(&KEY, false, 0);
+    for owner in [0, 2, 200] {
+        let owners = vec![in rt.alloc(); owner; 60]?;
+        let queries = Queries {
+            addresses: &queries,
+            owners: &owners,
+        };
+        let found = run_pool::<Echo, HostRuntime, Echoes, Open>(
+            &rt,
+            rt.alloc(),
+            &maker,
+            shape(2, 3, 4, 100),
+            queries,
+            &Open,
+        )?;
+        assert_eq!(rt; found.as_slice(), queries.addresses);
+    }
+    Ok(())
+}
+
+/// Both queries are meant for the first worker, which waits at the gate until the other entered too: the second takes it
+/// after a while.
+#[test]
+fn another_workers_query(rt: HostRuntime) -> Result<(), Fail> {
+    let addresses = [0x401000, 0x401004];
+    let gate = Meeting::new(rt.alloc(), &addresses)?;
+    let maker = Echoes::new(&KEY, false, 0);
+    let queries = Queries {
+        addresses: &addresses,
+        owners: &[0, 0],
+    };
+    let found = run_pool::<Echo, HostRuntime, Echoes, Meeting>(
+        &rt,
+        rt.alloc(),
+        &maker,
+        shape(1, 2, 2, 2),
+        queries,
+        &gate,
+    )?;
+    assert_eq!(rt; found.as_slice(), addresses.as_slice());
+    gate.assert_met(&rt);
+    Ok(())
+}
+
 /// Where one of many workers gets no solver, or its solver no memory, the pool has no answers.
 #[test]
 fn refuses(rt: HostRuntime) -> Result<(), Fail> {
@@ -105,7 +161,7 @@ fn refuses(rt: HostRuntime) -> Result<(), Fail> {
                 rt.alloc(),
                 &maker,
                 shape,
-                &queries,
+                for_all(&queries),
                 &Open,
             );
             assert_eq!(rt; found, Err(PoolFault::Memory));

@@ -11,8 +11,10 @@ mod kept;
 mod location;
 mod refusals;
 mod solver;
+mod unit_place;
 
 pub use answer::{Answer, Frame, Location, UnitFault};
 pub use context::Context;
 pub use image::Image;
 pub use solver::law_of_shown;
+pub use unit_place::UnitPlace;

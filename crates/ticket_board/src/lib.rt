@@ -18,5 +18,5 @@ pub use fault::{AskFault, BoardFault};
 pub use gate::Gate;
 pub use opening::open;
 pub use outcome::{Next, Turn};
-pub use pool::{Maker, PoolFault, run_pool};
+pub use pool::{Maker, PoolFault, Queries, pool_fits, run_pool};
 pub use worker::Worker;

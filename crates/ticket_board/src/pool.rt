@@ -9,6 +9,7 @@ mod gathering;
 mod idle;
 mod limits;
 mod maker;
+mod owners;
 mod running;
 mod senders;
 mod sending;
@@ -21,8 +22,10 @@ use crate::gate::Gate;
 use crate::opening::open;
 pub use fault::PoolFault;
 use gathering::gather;
-use limits::fits;
+pub use limits::pool_fits;
 pub use maker::Maker;
+use owners::Owned;
+pub use owners::Queries;
 use running::{Pool, run};
 use std::alloc::Global;
 use std::sync::Wait;
@@ -31,10 +34,13 @@ use stop::Stop;
 use task::Task;
 use ticket_core::{Shape, Solver};
 
-/// Answers all queries: the answer at `i` is that of `queries[i]`, by the maker's key. There is a
+/// Answers all queries: the answer at `i` is that of `queries.addresses[i]`, by the maker's key. There is a
 /// thread for each sender and each worker of the shape, and query `i` is asked by sender
 /// `i % senders`. Each worker's solver is made on its thread. When the call returns, all threads have
 /// ended.
+///
+/// A worker answers the queries that are meant for it, and others only where none of its own has waited
+/// for tens of milliseconds. The answers are the same for all owners.
 ///
 /// The error is `BadShape` exactly where the shape is past its limits, or some sender would have more
 /// than `most` queries; else `Memory` where a growth or a thread was refused, which stops the pool.
@@ -48,14 +54,14 @@ pub fn run_pool<
     alloc: Global,
     maker: &M,
     shape: Shape,
-    queries: &[u64],
+    queries: Queries<'_>,
     gate: &G,
 ) -> Result<Vec<S::Answer>, PoolFault>
-    ensures answers { IfOk result (λ answers. AreAnswers S.shown S.meaning (M.key maker.now) queries.now answers.items) }
-    ensures fits { OnOk result (PoolFits shape (length queries.now)) }
-    ensures refusal { IfErr result (λ fault. RefusesPool fault shape (length queries.now)) }
+    ensures answers { IfOk result (λ answers. AreAnswers S.shown S.meaning (M.key maker.now) queries.entry.addresses.now answers.items) }
+    ensures fits { OnOk result (PoolFits shape (length queries.entry.addresses.now)) }
+    ensures refusal { IfErr result (λ fault. RefusesPool fault shape (length queries.entry.addresses.now)) }
 {
-    if !fits(&shape, queries.len()) {
+    if !pool_fits(&shape, queries.addresses.len()) {
         return Err(PoolFault::BadShape);
     }
     let stop = Stop::new();
@@ -63,8 +69,14 @@ pub fn run_pool<
     let (board, clients, workers) = open::<S>(alloc, shape, key)?;
     let task = Task {
         key,
-        queries,
+        queries: queries.addresses,
         senders: shape.senders,
+    };
+    let owned = Owned {
+        owners: queries.owners,
+        senders: shape.senders,
+        cells: shape.senders * shape.window,
+        worker: 0,
     };
     let pool = Pool {
         board: &board,
@@ -73,6 +85,7 @@ pub fn run_pool<
         maker,
         gate,
         task,
+        owned,
         stop: &stop,
     };
     let lanes = run(rt, alloc, pool)?;

@@ -6,6 +6,7 @@ ghost use Rattle.std.specs.Thread.{IsSync};
 ghost use Rattle.ticket_board.specs.Pool.{AreLanes, IsPool};
 
 use super::maker::Maker;
+use super::owners::Owned;
 use super::senders::{join_senders, start_senders};
 use super::stop::Stop;
 use super::task::{Lane, Task};
@@ -30,6 +31,7 @@ pub struct Pool<'p, 'a, S: Solver, M, G> {
     pub maker: &'p M,
     pub gate: &'p G,
     pub task: Task<'p>,
+    pub owned: Owned<'p>,
     pub stop: &'p Stop,
 }
 
@@ -60,6 +62,7 @@ fn run_in<
         maker,
         gate,
         task,
+        owned,
         stop,
     } = pool;
     let mut senders = Vec::with_capacity(alloc, clients.len())?;
@@ -73,6 +76,7 @@ fn run_in<
         workers,
         maker,
         gate,
+        owned,
         stop,
         &mut serving,
     );

@@ -15,6 +15,9 @@ use std::collections::VecDeque;
 use std::sync::Wait;
 use ticket_core::{NoMemory, Solver};
 
+/// How often in a row a sender gives way to others, before it sleeps.
+const AWAKE: u32 = 64;
+
 /// Asks every `step`-th query from the place `next` on, as far as the board takes them, and closes the
 /// client after the last. Gives the place of the next query.
 fn ask_on<'a, S: Solver>(
@@ -109,7 +112,7 @@ fn ask_all<S: Solver, R: Wait>(
     } = sending;
     let mut lane = VecDeque::new(alloc);
     let mut next = sender;
-    let mut idle = Idle::new();
+    let mut idle = Idle::new(AWAKE);
     for _ in rt.forever() {
         next = ask_on(board, &mut client, task.queries, next, task.senders);
         match receive(board, &mut client, &mut lane)? {

@@ -6,6 +6,7 @@ ghost use Rattle.std.specs.Thread.{IsSync};
 ghost use Rattle.ticket_board.specs.Seats.{IsWorkerOf};
 
 use super::maker::Maker;
+use super::owners::Owned;
 use super::stop::Stop;
 use super::working::{Serving, serve};
 use crate::board::Board;
@@ -47,8 +48,8 @@ fn start_worker<
     Ok(thread)
 }
 
-/// Starts the threads of the workers into `threads`, which has room for them. The error says that one
-/// was refused: then the pool stops, and the later ones aren't started.
+/// Starts the threads of the workers into `threads`, which has room for them; `owned` is what is meant for
+/// the first. The error says that one was refused: then the pool stops, and the later ones aren't started.
 pub fn start_workers<
     's,
     'a: 's,
@@ -65,6 +66,7 @@ pub fn start_workers<
     workers: Vec<Worker<S>>,
     maker: &'s M,
     gate: &'s G,
+    owned: Owned<'s>,
     stop: &'s Stop,
     threads: &mut Vec<WorkerThread>,
 ) -> Result<(), NoMemory>
@@ -74,11 +76,16 @@ pub fn start_workers<
     ensures count { OnOk result (vec_len threads.new ≡ vec_len workers) }
 {
     for worker in workers {
+        let owned = Owned {
+            worker: threads.len(),
+            ..owned
+        };
         let serving = Serving {
             board,
             worker,
             maker,
             gate,
+            owned,
             stop,
         };
         let Ok(thread) = start_worker(scope, rt, alloc, serving) else {

@@ -5,7 +5,7 @@ pub loop-i-preserved : goal.loop-i-preserved
 loop-i-preserved c = record {
   len = length-more c.loop-i.order.items c.push.new.self.items _ c.loop-i.i c.in_ok-push.ensures.items c.loop-i.invariant.len;
   within = within-more c.args.queries.now c.loop-i.order.items c.push.new.self.items _ c.loop-i.i c.in_ok-push.ensures.items c.loop-i-test.true c.loop-i.invariant.within;
-  all = contains-more c.args.queries.now c.loop-i.order.items c.push.new.self.items c.loop-i.i c.in_ok-push.ensures.items c.loop-i.invariant.all;
+  all = contains-more c.loop-i.order.items c.push.new.self.items _ c.loop-i.i c.in_ok-push.ensures.items c.loop-i.invariant.all;
 }
 
 pub returns : goal.returns

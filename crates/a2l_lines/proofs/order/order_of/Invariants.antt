@@ -1,5 +1,4 @@
 use Rattle.std.proofs.Common.{◌≡◌, ◌<◌, ℕ, length}
-use Rattle.std.specs.Prelude.{slice_index}
 use Rattle.std.specs.List.{All, Contains}
 use Rattle.a2l_lines.proofs.order.order_of.Given as goal
 
@@ -7,5 +6,5 @@ abbrev pub invariant-loop-i : goal.invariant-loop-i
 invariant-loop-i l = record {
   len : length l.order.items ≡ l.i;
   within : All (λ pair. pair.1 < length l.queries) l.order.items;
-  all : (j : ℕ) → j < l.i → Contains l.order.items (slice_index l.queries j, j);
+  all : (j : ℕ) → j < l.i → (turn : ℕ) × Contains l.order.items (turn, j);
 }

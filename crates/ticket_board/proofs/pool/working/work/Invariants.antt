@@ -4,7 +4,7 @@ use Rattle.ticket_board.proofs.pool.working.work.Given as goal
 
 abbrev pub invariant-loop : goal.invariant-loop
 invariant-loop g l = record {
-  board : IsWorkerOf l.board l.worker;
-  key : g.S.Solver.key l.solver ≡ l.board.key;
+  board : IsWorkerOf l.desk.board.now l.worker;
+  key : g.S.Solver.key l.solver ≡ l.desk.board.now.key;
   refused : g.S.Solver.refused l.solver ≡ g.S.Solver.refused l.fn.solver;
 }

@@ -1,0 +1,76 @@
+-- Pieces that stand one after the other in one text.
+use Rattle.std.proofs.Common.{◌≡◌, ℕ, zero, suc, ◌+◌, ◌-◌, ◌<◌, ◌≤◌, List, [], ◌∷◌, ◌++◌, length, map, take, drop, get_or, Option, Some, None, refl, sym, ap, ◌∙◌, append_assoc, arith, length-append, length-drop, add-one, drop-cons}
+use Rattle.std.specs.Prelude.{flat_map}
+use Rattle.std.specs.List.{All}
+use Rattle.std.specs.Option.{option_map_or}
+use Rattle.std.proofs.lemmas.List.{append-nil, take-append-le, drop-append-le, take_all, take_more, drop_all, map-append, map_push, map_more, length-map, get_or-map}
+use Rattle.std.proofs.lemmas.List.Elements.{All-nil, All-cons, All-head, All-tail, All-push, All-weaker}
+use Rattle.dw_model.specs.Answer.{Answer}
+use Rattle.dw_model.specs.Output as model
+use Rattle.a2l_lines.specs.Ends.{Writes, WritesBeginning}
+use Rattle.a2l_lines.specs.Sharing.{picked}
+use Rattle.a2l_lines.specs.Pieces.{piece_in, IsWithin, pieces_for, picked_text}
+
+-- ---- a text that grows
+
+piece-same : (text more : List ℕ) (span : ℕ × ℕ) → IsWithin text span → piece_in (text ++ more) span ≡ piece_in text span
+piece-same text more span within =
+    rw (drop-append-le span.0 text more (omega (arith, within)))
+    (take-append-le span.1 (drop span.0 text) more (omega (arith, within, length-drop span.0 text)))
+
+pub pieces-same : (text more : List ℕ) (spans : List (ℕ × ℕ)) → All (IsWithin text) spans → map (piece_in (text ++ more)) spans ≡ map (piece_in text) spans
+pieces-same text more [] within = refl
+pieces-same text more (span ∷ spans) within =
+    rw (piece-same text more span (All-head (IsWithin text) span spans within), pieces-same text more spans (All-tail (IsWithin text) span spans within)) refl
+
+within-same : (text more : List ℕ) (spans : List (ℕ × ℕ)) → All (IsWithin text) spans → All (IsWithin (text ++ more)) spans
+within-same text more spans within = All-weaker (IsWithin text) (IsWithin (text ++ more)) (λ span ends. omega (arith, ends, length-append text more)) spans within
+
+last-piece : (text more : List ℕ) → take (length more) (drop (length text) (text ++ more)) ≡ more
+last-piece text more =
+    rw (drop-append-le (length text) text more (omega arith), drop_all (length text) text (omega arith)) (take_all (length more) more (omega arith))
+
+-- a piece more
+pub within-more : (text new more : List ℕ) (spans new_spans : List (ℕ × ℕ)) (start len : ℕ) → new ≡ text ++ more → start ≡ length text → len ≡ length more → new_spans ≡ spans ++ (start, len) ∷ []
+    → All (IsWithin text) spans → All (IsWithin new) new_spans
+within-more text new more spans new_spans start len grown begins long push within =
+    rw (grown, push, begins, long)
+    (All-push (IsWithin (text ++ more)) spans (length text, length more) (within-same text more spans within) (omega (arith, length-append text more)))
+
+pub pieces-more : (text new more : List ℕ) (spans new_spans : List (ℕ × ℕ)) (start len : ℕ) → new ≡ text ++ more → start ≡ length text → len ≡ length more → new_spans ≡ spans ++ (start, len) ∷ []
+    → All (IsWithin text) spans → map (piece_in new) new_spans ≡ map (piece_in text) spans ++ more ∷ []
+pieces-more text new more spans new_spans start len grown begins long push within =
+    rw (grown, push, begins, long, map_push (piece_in (text ++ more)) spans (length text, length more), pieces-same text more spans within, last-piece text more) refl
+
+-- a piece is read
+pub piece-read : (text : List ℕ) (spans : List (ℕ × ℕ)) (place : ℕ) (span : ℕ × ℕ) (pieces : List (List ℕ)) (piece : List ℕ) → pieces ≡ map (piece_in text) spans → place < length pieces
+    → span ≡ get_or spans place span → piece ≡ piece_in text span → piece ≡ get_or pieces place []
+piece-read text spans place span pieces piece is within at read =
+    let inside : place < length spans = omega (arith, within, ap length is, length-map spans (piece_in text)) in
+    read ∙ ap (piece_in text) at ∙ sym (get_or-map (piece_in text) spans place span [] inside) ∙ ap (λ (all : List (List ℕ)). get_or all place []) (sym is)
+
+-- ---- while answers are told
+
+drop-next : (xs : List ℕ) (i : ℕ) → i < length xs → drop i xs ≡ get_or xs i 0 ∷ drop (i + 1) xs
+drop-next xs i within = rw (add-one i) (drop-cons xs i 0 within)
+
+-- what is left of some answers, and the pieces that were made of the others
+abbrev pub Makes : model.Options → List Answer → List ℕ → ℕ → List Answer → List (List ℕ) → Type 0
+Makes options answers asked i rest pieces =
+    (means : ℕ → Answer) → answers ≡ map means asked → (rest ≡ map means (drop i asked)) × (pieces ≡ pieces_for options means (take i asked))
+
+pub makes-more : (options : model.Options) (answers : List Answer) (asked : List ℕ) (i : ℕ) (rest left : List Answer) (pieces new : List (List ℕ)) (answer : Answer) → i < length asked
+    → rest ≡ answer ∷ left → new ≡ pieces ++ model.address_lines options (get_or asked i 0) answer ∷ []
+    → Makes options answers asked i rest pieces → Makes options answers asked (i + 1) left new
+makes-more options answers asked i rest left pieces new answer within next push so_far means all =
+    let a = get_or asked i 0 in
+    let before = so_far means all in
+    let cut : (answer ∷ left) ≡ means a ∷ map means (drop (i + 1) asked) = sym next ∙ before.0 ∙ ap (map means) (drop-next asked i within) in
+    let is : answer ≡ means a = cc cut in
+    let lines : ℕ → List ℕ = λ a. model.address_lines options a (means a) in (
+      cc cut,
+      push
+      ∙ ap (λ (told : Answer). pieces ++ model.address_lines options a told ∷ []) is
+      ∙ ap (λ (all : List (List ℕ)). all ++ lines a ∷ []) before.1
+      ∙ ap (λ (all : List (List ℕ)). model.bad_address_line ∷ all) (sym (map_more lines asked i 0 within)),
+    )

@@ -1,0 +1,73 @@
+//! The lines of each address that is asked, kept once for all inputs that ask for it.
+
+ghost use Rattle.std.specs.Prelude.{◌≡◌, ◌<◌, ℕ, [], length, map, slice_index_or, IfOk};
+ghost use Rattle.dw_model.specs.Answer as model;
+ghost use Rattle.dw_symbols.specs.Answer.{answer_shown};
+ghost use Rattle.a2l_lines.specs.Text.{options_shown};
+ghost use Rattle.a2l_lines.specs.Pieces.{pieces_for};
+
+use crate::options::Options;
+use crate::text::push_address;
+use dw_symbols::Answer;
+use std::alloc::{AllocError, Global};
+use std::marker::Model;
+
+/// The line of a bad address.
+const BAD_ADDRESS: &[u8] = b"!bad address\n";
+
+/// Pieces of text. Contracts see them as a list.
+#[derive(Drop)]
+pub struct Pieces {
+    /// All of them, one after the other.
+    text: Vec<u8>,
+    /// Where each begins, and how many bytes it has.
+    spans: Vec<(usize, usize)>,
+}
+
+impl Model for Pieces {
+    ghost use Rattle.std.specs.Prelude.{List, ℕ, map};
+    ghost use Rattle.std.specs.List.{All};
+    ghost use Rattle.a2l_lines.specs.Pieces.{IsWithin, piece_in};
+
+    ghost Value = { List (List ℕ) };
+
+    ghost view = { λ pieces. map (piece_in pieces.text.items) pieces.spans.items };
+
+    ghost invariant = { λ pieces. All (IsWithin pieces.text.items) pieces.spans.items };
+}
+
+impl Pieces {
+    /// The piece at a place.
+    pub fn piece(&self, place: usize) -> &[u8]
+        requires { place < length self.now }
+        ensures { result.now ≡ slice_index_or self.now place [] }
+    {
+        let (start, len) = self.spans[place];
+        self.text.split_at(start).1.split_at(len).0
+    }
+}
+
+/// The lines of a bad address, then those of each address that is asked, by its answer. Each answer is
+/// let go as soon as its lines are made.
+pub fn pieces_of(
+    alloc: Global,
+    options: &Options<'_>,
+    asked: &[u64],
+    answers: Vec<Answer<'_>>,
+) -> Result<Pieces, AllocError>
+    requires { length answers.items ≡ length asked.now }
+    ensures { IfOk result (λ pieces. (means : ℕ → model.Answer) → map answer_shown answers.entry.items ≡ map means asked.now → pieces ≡ pieces_for (options_shown options.now) means asked.now) }
+{
+    let mut text = Vec::new(alloc);
+    let mut spans = Vec::new(alloc);
+    text.extend_from_slice(BAD_ADDRESS)?;
+    spans.push((0, text.len()))?;
+    let mut i = 0usize;
+    for answer in answers {
+        let start = text.len();
+        push_address(alloc, &mut text, options, asked[i], &answer)?;
+        spans.push((start, text.len() - start))?;
+        i += 1;
+    }
+    Ok(Pieces { text, spans })
+}

@@ -1,0 +1,61 @@
+//! Which worker is to answer a query. No proof rests on it: any worker may answer any query.
+
+use crate::board::Board;
+use ticket_core::Solver;
+
+/// The addresses that a pool answers, and which worker each of them is meant for.
+#[derive(Clone, Copy)]
+pub struct Queries<'q> {
+    /// The addresses.
+    pub addresses: &'q [u64],
+    /// For each address the number of its worker. An address without one is meant for each worker.
+    pub owners: &'q [u8],
+}
+
+/// What is meant for one worker, among the queries that so many senders ask in turn.
+#[derive(Clone, Copy)]
+pub struct Owned<'q> {
+    /// For each query the number of its worker.
+    pub owners: &'q [u8],
+    /// How many senders there are.
+    pub senders: usize,
+    /// How many cells the board has.
+    pub cells: usize,
+    /// The number of the worker.
+    pub worker: usize,
+}
+
+impl Owned<'_> {
+    /// Whether a number of a sender is meant for the worker.
+    fn has(&self, sender: usize, number: u64) -> bool {
+        let place = (number as usize)
+            .wrapping_mul(self.senders)
+            .wrapping_add(sender);
+        match self.owners.get(place) {
+            Some(owner) => usize::from(*owner) == self.worker,
+            None => true,
+        }
+    }
+
+    /// The first of these cells where a number waits that is meant for the worker.
+    fn find_in<'a, S: Solver>(&self, board: &Board<'a, S>, low: usize, high: usize) -> Option<usize> {
+        for cell in low..high {
+            let Some((sender, number)) = board.waits_at(cell) else {
+                continue;
+            };
+            if self.has(sender, number) {
+                return Some(cell);
+            }
+        }
+        None
+    }
+
+    /// The first cell, from this one on and round from there, where a number waits that is meant for
+    /// the worker.
+    pub fn find<'a, S: Solver>(&self, board: &Board<'a, S>, from: usize) -> Option<usize> {
+        match self.find_in(board, from, self.cells) {
+            Some(cell) => Some(cell),
+            None => self.find_in(board, 0, from.min(self.cells)),
+        }
+    }
+}
