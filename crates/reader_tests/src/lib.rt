@@ -5,6 +5,8 @@
 #[cfg(test)]
 mod bytes;
 #[cfg(test)]
+mod damaged;
+#[cfg(test)]
 mod draws;
 #[cfg(test)]
 mod files;
