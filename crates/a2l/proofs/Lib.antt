@@ -1,2 +1,2 @@
-pub mod ListingLemmas
+pub mod CommandLemmas
 pub mod ServingLemmas

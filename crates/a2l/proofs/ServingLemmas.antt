@@ -1,28 +1,36 @@
--- Answering by the file that was loaded.
-use Rattle.std.proofs.Common.{◌≡◌, inl, inr, ℕ, List, Option, Some, None, Result, Ok, Err, refl, subst}
-use Rattle.std.specs.Prelude.{IfOk, IfSome, OnOk}
+-- Doing what was asked for, by the file that was loaded.
+use Rattle.std.proofs.Common.{◌≡◌, ◌∙◌, inl, inr, ℕ, Bool, true, false, List, Option, Some, None, Result, Ok, Err, refl, sym, subst}
+use Rattle.std.specs.Prelude.{IfOk, IfSome, OnOk, codes}
 use Rattle.std.specs.Io.KnownBytes.{append_known}
+use Rattle.clap.specs.Words.{Row, Text, first_of}
 use Rattle.dw_model.specs.Refusal.{refusal, listing_refusal}
 use Rattle.dw_model.specs.Output.{Options, listing}
 use Rattle.a2l_lines.specs.declared.symbolizing.Status.{Status}
 use Rattle.a2l_lines.specs.Symbolize.{Symbolizes}
-use Rattle.a2l.specs.Serving.{ServesSome, number_of}
-use Rattle.a2l.proofs.ListingLemmas.{lists_loaded}
+use Rattle.a2l.specs.CommandLine.{is_set, options_in, words_in}
+use Rattle.a2l.specs.Serving.{ServesFound, number_of}
 
-abbrev Answers : Options → List (List ℕ) → (left old new : Option (List ℕ)) → Status → List ℕ → Type 0
-Answers options words left old new ended file = (refusal file ≡ None) × Symbolizes options file words left old new ended
-
+-- what holds of what was loaded holds of the file, where that is known
 if_known : (known : Option (List ℕ)) (loaded : List ℕ) (P : List ℕ → Type 0) → IfSome known (λ file. loaded ≡ file) → P loaded → IfSome known P
 if_known None loaded P same h = tt
 if_known (Some file) loaded P same h = subst P same h
 
-pub answers-loaded : {E : Type 0} (r : Result Status E) (known : List ℕ → Option (List ℕ)) (path loaded : List ℕ) (options : Options) (words : List (List ℕ)) (left old new : Option (List ℕ)) → IfSome (known path) (λ file. loaded ≡ file)
-    → OnOk r (refusal loaded ≡ None) → IfOk r (Symbolizes options loaded words left old new) → IfOk r (λ status. ServesSome known left old new (number_of status))
-answers-loaded (Ok status) known path loaded options words left old new same accepted written =
-    inr (status, refl, (path, options, words, if_known (known path) loaded (Answers options words left old new status) same (accepted, written)))
-answers-loaded (Err e) known path loaded options words left old new same accepted written = tt
+abbrev Answers : Options → List Text → (left old new : Option (List ℕ)) → Status → List ℕ → Type 0
+Answers options words left old new ended file = (refusal file ≡ None) × Symbolizes options file words left old new ended
 
-pub lists-loaded : (known : List ℕ → Option (List ℕ)) (path loaded : List ℕ) (left old new : Option (List ℕ)) → IfSome (known path) (λ file. loaded ≡ file)
-    → listing_refusal loaded ≡ None → new ≡ append_known old (listing loaded) → ServesSome known left old new 0
-lists-loaded known path loaded left old new same accepted written =
-    inl (lists_loaded {A = Unit {0}} {E = Unit {0}} (Ok (tt {0})) known path loaded old new same accepted written, refl)
+pub answers-loaded : {E : Type 0} (r : Result Status E) (known : List ℕ → Option (List ℕ)) (rows : List Row) (units : Bool) (path loaded : List ℕ) (options : Options) (words : List Text) (left old new : Option (List ℕ)) → first_of (codes "file") rows ≡ Some path
+    → units ≡ is_set (codes "units") rows → units ≡ false → options ≡ options_in rows → words ≡ words_in rows → IfSome (known path) (λ file. loaded ≡ file)
+    → OnOk r (refusal loaded ≡ None) → IfOk r (Symbolizes options loaded words left old new) → IfOk r (λ status. ServesFound known rows left old new (number_of status))
+answers-loaded (Err e) known rows units path loaded options words left old new named are not_asked as_asked asked same accepted written = tt
+answers-loaded (Ok status) known rows units path loaded options words left old new named are not_asked as_asked asked same accepted written =
+    let here = subst (λ (options : Options). Symbolizes options loaded words left old new status) as_asked written in
+    let there = subst (λ (words : List Text). Symbolizes (options_in rows) loaded words left old new status) asked here in
+    (path, named, inr (sym are ∙ not_asked, status, refl, if_known (known path) loaded (Answers (options_in rows) (words_in rows) left old new status) same (accepted, there)))
+
+abbrev Lists : (old new : Option (List ℕ)) → List ℕ → Type 0
+Lists old new file = (listing_refusal file ≡ None) × (new ≡ append_known old (listing file))
+
+pub lists-loaded : (known : List ℕ → Option (List ℕ)) (rows : List Row) (units : Bool) (path loaded : List ℕ) (left old new : Option (List ℕ)) → first_of (codes "file") rows ≡ Some path → units ≡ is_set (codes "units") rows → units ≡ true
+    → IfSome (known path) (λ file. loaded ≡ file) → listing_refusal loaded ≡ None → new ≡ append_known old (listing loaded) → ServesFound known rows left old new 0
+lists-loaded known rows units path loaded left old new named are asked same accepted written =
+    (path, named, inl (sym are ∙ asked, if_known (known path) loaded (Lists old new) same (accepted, written), refl))

@@ -4,7 +4,6 @@ use Rattle.std.specs.Io.KnownBytes.{append_known}
 use Rattle.dw_model.specs.Refusal.{listing_refusal}
 use Rattle.dw_model.specs.Output.{listing}
 
--- the file at some path is accepted, and its listing was written
-abbrev pub ListsSome : (List ℕ → Option (List ℕ)) → Option (List ℕ) → Option (List ℕ) → Type 0
-ListsSome known old new =
-    (path : List ℕ) × IfSome (known path) (λ file. (listing_refusal file ≡ None) × (new ≡ append_known old (listing file)))
+-- the file at a path is accepted, and its listing was written
+abbrev pub ListsAt : (List ℕ → Option (List ℕ)) → List ℕ → (old new : Option (List ℕ)) → Type 0
+ListsAt known path old new = IfSome (known path) (λ file. (listing_refusal file ≡ None) × (new ≡ append_known old (listing file)))

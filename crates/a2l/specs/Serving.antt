@@ -1,23 +1,32 @@
 -- What a run that is served writes.
-use Rattle.std.specs.Prelude.{◌≡◌, ◌⊎◌, ℕ, List, Option, None, IfSome}
+use Rattle.std.specs.Prelude.{◌≡◌, ◌⊎◌, ℕ, true, false, List, Option, Some, None, IfSome, codes}
+use Rattle.clap.specs.Words.{Row, Text, first_of}
 use Rattle.dw_model.specs.Refusal.{refusal}
 use Rattle.dw_model.specs.Output.{Options}
-use Rattle.a2l.specs.Listing.{ListsSome}
 use Rattle.a2l_lines.specs.Symbolize.{Symbolizes}
 use Rattle.a2l_lines.specs.declared.symbolizing.Status.{Status}
 use Rattle.a2l_lines.specs.declared.symbolizing.Status.TheVariants.{Clean, Faults}
+use Rattle.a2l.specs.CommandLine.{found_in, is_set, options_in, words_in}
+use Rattle.a2l.specs.Listing.{ListsAt}
 
 -- the status of the program
 abbrev pub number_of : Status → ℕ
 number_of Clean = 0
 number_of Faults = 1
 
--- the file at some path is accepted, and the addresses that some words or the reader ask for were answered by it
-abbrev pub SymbolizesSome : (List ℕ → Option (List ℕ)) → (left old new : Option (List ℕ)) → Status → Type 0
-SymbolizesSome known left old new ended =
-    (path : List ℕ) × (options : Options) × (words : List (List ℕ)) × IfSome (known path) (λ file. (refusal file ≡ None) × Symbolizes options file words left old new ended)
+-- the file at a path is accepted, and the addresses that some words or the reader ask for were answered by it
+abbrev pub SymbolizesAt : (List ℕ → Option (List ℕ)) → (path : List ℕ) → Options → (words : List Text) → (left old new : Option (List ℕ)) → Status → Type 0
+SymbolizesAt known path options words left old new ended =
+    IfSome (known path) (λ file. (refusal file ≡ None) × Symbolizes options file words left old new ended)
 
--- the units of a file were listed, or addresses were answered by it
-abbrev pub ServesSome : (List ℕ → Option (List ℕ)) → (left old new : Option (List ℕ)) → ℕ → Type 0
-ServesSome known left old new status =
-    (ListsSome known old new × (status ≡ 0)) ⊎ ((ended : Status) × (status ≡ number_of ended) × SymbolizesSome known left old new ended)
+-- The units of the file that was named were listed where that was asked for, and else addresses were answered by it as was asked for.
+abbrev pub ServesFound : (List ℕ → Option (List ℕ)) → List Row → (left old new : Option (List ℕ)) → ℕ → Type 0
+ServesFound known rows left old new status =
+    (path : List ℕ) × (first_of (codes "file") rows ≡ Some path)
+    × (((is_set (codes "units") rows ≡ true) × ListsAt known path old new × (status ≡ 0))
+    ⊎ ((is_set (codes "units") rows ≡ false) × (ended : Status) × (status ≡ number_of ended)
+    × SymbolizesAt known path (options_in rows) (words_in rows) left old new ended))
+
+-- what words ask for was done
+abbrev pub Serves : (List ℕ → Option (List ℕ)) → (words : List Text) → (left old new : Option (List ℕ)) → ℕ → Type 0
+Serves known words left old new status = ServesFound known (found_in words) left old new status

@@ -1,8 +1,14 @@
 //! The command line.
 
-ghost use Rattle.std.specs.Prelude.{◌≡◌, ◌≤◌, IfOk};
-ghost use Rattle.clap.specs.Words.{first_value, found_of};
+ghost use Rattle.std.specs.Prelude.{◌≡◌, ◌≤◌, false, IfOk, Some, [], codes, map, option_map, unwrap_or};
+ghost use Rattle.std.specs.Option.{option_eq};
+ghost use Rattle.std.specs.Str.{bytes_eq};
+ghost use Rattle.clap.specs.Words.{app_of, first_value, found_of, matched_of, raw_values, rule_of};
+ghost use Rattle.a2l_lines.specs.Input.{word_shown};
 ghost use Rattle.a2l.specs.Command.{IsCount, AsksFor};
+ghost use Rattle.a2l.specs.CommandLine as line;
+ghost use Rattle.a2l.specs.CommandLine.{command_line};
+ghost use Rattle.a2l.specs.Named.{IsNamed};
 
 use a2l_lines::Options;
 use clap::error::ErrorKind;
@@ -66,17 +72,25 @@ impl From<clap::Error> for ParseFault {
 }
 
 /// A word that is there or not.
-fn flag(alloc: Global, id: &'static str) -> Arg<'static> {
+fn flag(alloc: Global, id: &'static str) -> Arg<'static>
+    ensures rule { rule_of result ≡ line.flag id.entry.now }
+    ensures global { result.global ≡ false }
+{
     Arg::new(alloc, id).action(ArgAction::SetTrue)
 }
 
 /// A word with a value behind it.
-fn option(alloc: Global, id: &'static str) -> Arg<'static> {
+fn option(alloc: Global, id: &'static str) -> Arg<'static>
+    ensures rule { rule_of result ≡ line.option id.entry.now }
+    ensures global { result.global ≡ false }
+{
     Arg::new(alloc, id).action(ArgAction::Set)
 }
 
 /// The command line, as `clap` reads it.
-fn command<'a>(alloc: Global) -> Result<Command<'a>, AllocError> {
+fn command<'a>(alloc: Global) -> Result<Command<'a>, AllocError>
+    ensures { IfOk result (λ command. app_of command ≡ command_line) }
+{
     Command::new(alloc, "a2l")
         .no_binary_name(true)
         .disable_help_flag(true)
@@ -93,6 +107,26 @@ fn command<'a>(alloc: Global) -> Result<Command<'a>, AllocError> {
                 .action(ArgAction::Append)
                 .num_args(0..),
         )
+}
+
+/// A flag is there.
+fn is_set(matches: &ArgMatches<'_>, id: &str) -> bool
+    ensures { result ≡ option_eq bytes_eq (first_value (found_of matches.now) id.now) (Some (codes "true")) }
+{
+    match matches.get_str(id) {
+        None => false,
+        Some(text) => text == "true",
+    }
+}
+
+/// The words that are no option and no flag.
+fn words_of<'a>(alloc: Global, matches: &ArgMatches<'a>) -> Result<Vec<&'a str>, AllocError>
+    ensures { IfOk result (λ words. map word_shown words.items ≡ unwrap_or (option_map raw_values (matched_of (found_of matches.now) (codes "words"))) []) }
+{
+    let Some(words) = matches.get_strs("words") else {
+        return Ok(Vec::new(alloc));
+    };
+    Vec::from_slice(alloc, words)
 }
 
 /// How many threads an option asks for.
@@ -112,6 +146,7 @@ fn count(matches: &ArgMatches<'_>, id: &str, default: u8) -> Result<u8, ParseFau
 
 /// Reads a command line, whose words are without the program's own name.
 pub fn parse<'a, S: AsStr>(alloc: Global, words: &'a [S]) -> Result<Job<'a>, ParseFault>
+    ensures named { IfOk result (IsNamed (map S.text words.now)) }
     ensures workers { IfOk result (λ job. IsCount job.options.workers) }
     ensures senders { IfOk result (λ job. IsCount job.options.senders) }
 {
@@ -122,19 +157,16 @@ pub fn parse<'a, S: AsStr>(alloc: Global, words: &'a [S]) -> Result<Job<'a>, Par
     };
     let workers = count(&matches, "workers", DEFAULT_WORKERS)?;
     let senders = count(&matches, "senders", DEFAULT_SENDERS)?;
-    let words = match matches.get_strs("words") {
-        Some(words) => Vec::from_slice(alloc, words)?,
-        None => Vec::new(alloc),
-    };
+    let words = words_of(alloc, &matches)?;
     let options = Options {
-        functions: matches.get_flag("functions"),
-        inlines: matches.get_flag("inlines"),
-        addresses: matches.get_flag("addresses"),
+        functions: is_set(&matches, "functions"),
+        inlines: is_set(&matches, "inlines"),
+        addresses: is_set(&matches, "addresses"),
         workers,
         senders,
         words,
     };
-    let units = matches.get_flag("units");
+    let units = is_set(&matches, "units");
     Ok(Job {
         file,
         units,

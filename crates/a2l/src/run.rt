@@ -1,9 +1,9 @@
 //! The whole program, over any ends.
 
-ghost use Rattle.std.specs.Prelude.{◌≡◌, ◌≢◌, ◌<◌, ◌≤◌, [], IfOk, IsErrOf};
+ghost use Rattle.std.specs.Prelude.{◌≡◌, ◌≢◌, ◌<◌, ◌≤◌, [], IfOk, IsErrOf, map};
 ghost use Rattle.std.specs.Io.KnownBytes.{append_known};
 ghost use Rattle.a2l.specs.Fault.{usage_line, EndsBadly};
-ghost use Rattle.a2l.specs.Serving.{ServesSome, number_of};
+ghost use Rattle.a2l.specs.Serving.{Serves, number_of};
 ghost use Rattle.a2l_lines.specs.declared.symbolizing.Status.TheVariants.{Clean};
 
 use crate::answering::symbolize_file;
@@ -31,7 +31,7 @@ pub fn run<T: Threads + Wait + Sync, S: AsStr, L: Load, R: Source, W: Sink, E: S
 ) -> u8
     ensures status { result ≤ 3 }
     ensures no_words { words.now ≡ [] → result ≡ 0 → W.told writer.new ≡ append_known (W.told writer.old) usage_line }
-    ensures served { words.now ≢ [] → result ≤ 1 → ServesSome (L.known loader.old) (R.left reader.old) (W.told writer.old) (W.told writer.new) result }
+    ensures served { words.now ≢ [] → result ≤ 1 → Serves (L.known loader.old) (map S.text words.now) (R.left reader.old) (W.told writer.old) (W.told writer.new) result }
     ensures well { result ≤ 1 → errors.new ≡ errors.old }
     ensures badly { 1 < result → EndsBadly result (E.told errors.old) (E.told errors.new) (E.failures errors.old) (E.failures errors.new) }
 {
@@ -52,7 +52,7 @@ fn answer<T: Threads + Wait + Sync, S: AsStr, L: Load, R: Source, W: Sink>(
     writer: &mut W,
 ) -> Result<Status, Fault>
     ensures no_words { words.now ≡ [] → IfOk result (λ status. (status ≡ Clean) × (W.told writer.new ≡ append_known (W.told writer.old) usage_line)) }
-    ensures served { words.now ≢ [] → IfOk result (λ status. ServesSome (L.known loader.old) (R.left reader.old) (W.told writer.old) (W.told writer.new) (number_of status)) }
+    ensures served { words.now ≢ [] → IfOk result (λ status. Serves (L.known loader.old) (map S.text words.now) (R.left reader.old) (W.told writer.old) (W.told writer.new) (number_of status)) }
     ensures write { IsErrOf result Fault.Write → W.failures writer.old < W.failures writer.new }
 {
     if words.is_empty() {

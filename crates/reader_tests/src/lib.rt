@@ -7,6 +7,8 @@ mod boards;
 #[cfg(test)]
 mod bytes;
 #[cfg(test)]
+mod damaged;
+#[cfg(test)]
 mod draws;
 #[cfg(test)]
 mod files;

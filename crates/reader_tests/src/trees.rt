@@ -171,6 +171,13 @@ fn sixteen_references(rt: HostRuntime) -> Result<(), Fail> {
 }
 
 #[test]
+fn references_in_a_ring(rt: HostRuntime) -> Result<(), Fail> {
+    let info = unit_of(rt.alloc(), &[1, 2, 18, 0, 0, 0, 2, 13, 0, 0, 0, 0])?;
+    expect_name(&rt, rt.alloc(), &info, SHORT, 13, None)?;
+    expect_name(&rt, rt.alloc(), &info, SHORT, 18, None)
+}
+
+#[test]
 fn lists_ended_by_the_unit(rt: HostRuntime) -> Result<(), Fail> {
     let info = unit_of(rt.alloc(), &[1, 4, 4, 3, b'n', 0])?;
     expect_name(&rt, rt.alloc(), &info, SHORT, 15, Some(b"n"))

@@ -5,9 +5,9 @@ use dw_elf::{Elf, OpenFault};
 use dw_forms::{FormFault, Value};
 use dw_model::dwarf::{
     DW_AT_abstract_origin, DW_AT_call_column, DW_AT_call_file, DW_AT_call_line, DW_AT_high_pc,
-    DW_AT_low_pc, DW_AT_name, DW_TAG_inlined_subroutine, DW_TAG_partial_unit,
+    DW_AT_low_pc, DW_AT_name, DW_TAG_compile_unit, DW_TAG_inlined_subroutine, DW_TAG_partial_unit,
 };
-use dw_units::{Entry, Next, Units};
+use dw_units::{Entry, Kind, Next, Units};
 use std::alloc::{AllocError, Global};
 use std::test::Fail;
 
@@ -250,6 +250,107 @@ fn faults_of_entries(rt: HostRuntime) -> Result<(), Fail> {
             assert_eq!(rt; found.err(), Some(fault));
         }
         assert_eq!(rt; fault_of_walk(rt.alloc(), &units)?, Some(fault));
+    }
+    Ok(())
+}
+
+/// Tables of abbreviations that can't be read: one that ends in a code, in a tag, before the flag for children, in a
+/// pair, and behind a pair; a tag of 65 bits; and a number of 65 bits that stands in the declaration.
+const UNREADABLE_TABLES: [&[u8]; 7] = [
+    &[0x80],
+    &[1],
+    &[1, 0x11],
+    &[1, 0x11, 1, 3],
+    &[1, 0x11, 1, 3, 8],
+    &[
+        1, 0xff, 0xff, 0xff, 0xff, 0xff, 0xff, 0xff, 0xff, 0xff, 2, 1, 0, 0, 0,
+    ],
+    &[
+        1, 0x11, 1, 3, 0x21, 0xff, 0xff, 0xff, 0xff, 0xff, 0xff, 0xff, 0xff, 0xff, 2, 0, 0, 0,
+    ],
+];
+
+/// The abbreviations of a unit can't be read where anything in their table can't be, and that isn't out of memory.
+#[test]
+fn unreadable_tables(rt: HostRuntime) -> Result<(), Fail> {
+    let info = unit_of(rt.alloc(), &[1, 0])?;
+    for (i, table) in UNREADABLE_TABLES.iter().enumerate() {
+        let file = file_of(rt.alloc(), &info, table)?;
+        assert_eq!(rt;
+            units_of(rt.alloc(), &file).err(),
+            Some(OpenFault::Root(0)),
+            "table {i}"
+        );
+        // The first declaration is the one that the unit asks for, and what follows can't be read.
+        let mut behind = Vec::from_slice(rt.alloc(), &[1, 0x11, 1, 0, 0])?;
+        behind.extend_from_slice(table)?;
+        let file = file_of(rt.alloc(), &info, &behind)?;
+        assert_eq!(rt;
+            units_of(rt.alloc(), &file).err(),
+            Some(OpenFault::Root(0)),
+            "behind a declaration, table {i}"
+        );
+    }
+    let past_the_end = poked(rt.alloc(), &info, 8, 99)?;
+    let file = file_of(rt.alloc(), &past_the_end, DECLARATIONS)?;
+    assert_eq!(rt; units_of(rt.alloc(), &file).err(), Some(OpenFault::Root(0)));
+    Ok(())
+}
+
+/// First entries of a unit that aren't one, for the declarations above: none at all, a null entry, a code without a
+/// declaration, and entries that end early, have an unknown form and a number of 65 bits.
+const NO_ROOTS: [&[u8]; 6] = [
+    &[],
+    &[0],
+    &[9],
+    &[2, 5, b'f', 0],
+    &[3, 1],
+    &[4, 0xff, 0xff, 0xff, 0xff, 0xff, 0xff, 0xff, 0xff, 0xff, 2],
+];
+
+#[test]
+fn units_without_a_root(rt: HostRuntime) -> Result<(), Fail> {
+    for (i, entries) in NO_ROOTS.iter().enumerate() {
+        let info = unit_of(rt.alloc(), entries)?;
+        let file = file_of(rt.alloc(), &info, DECLARATIONS)?;
+        assert_eq!(rt;
+            units_of(rt.alloc(), &file).err(),
+            Some(OpenFault::Root(0)),
+            "first entry {i}"
+        );
+    }
+    Ok(())
+}
+
+/// A skeleton unit, whose header has a number of eight bytes more, and behind it one of version 4 that is skipped.
+const SKELETON: &[u8] = &[
+    0x12, 0, 0, 0, 5, 0, 4, 8, 0, 0, 0, 0, 1, 2, 3, 4, 5, 6, 7, 8, 1, 0, 0x0a, 0, 0, 0, 4, 0, 0, 0,
+    0, 0, 8, 1, 0, 0,
+];
+
+#[test]
+fn skeleton_and_skipped_units(rt: HostRuntime) -> Result<(), Fail> {
+    let file = file_of(rt.alloc(), SKELETON, DECLARATIONS)?;
+    let units = units_of(rt.alloc(), &file)?;
+    if units.len() != 2 {
+        return Err(Fail::from("two units"));
+    }
+    assert!(rt; matches!(units.unit(0).kind, Kind::Skeleton));
+    assert_eq!(rt; units.unit(0).first_entry, 20);
+    for way in WAYS {
+        let root = entry_at(rt.alloc(), &units, 0, 20, way)??;
+        let root = root.ok_or("a first entry")?;
+        assert_eq!(rt; (root.tag, root.next), (DW_TAG_compile_unit, 21));
+    }
+    assert!(rt; matches!(units.unit(1).kind, Kind::Skipped));
+    assert!(rt; units.unit(1).root.is_none());
+    assert!(rt; units.entries(1).is_none());
+    let mut kept = Entry::unread(rt.alloc());
+    for offset in [0, 22, 33, 35, 36, u64::MAX] {
+        let found = units.entry(rt.alloc(), 1, offset);
+        assert_eq!(rt; found.err(), Some(FormFault::End), "at {offset}");
+        let read = units.read_entry(1, offset, &mut kept);
+        assert_eq!(rt; read, Err(FormFault::End), "at {offset}");
     }
     Ok(())
 }
