@@ -1,6 +1,6 @@
 //! Which worker each address is meant for, so that each unit is read by one worker. No promise rests on it.
 
-use crate::survey::{Load, survey};
+use crate::survey::{Load, survey_of};
 use crate::turns::WAVE;
 use dw_symbols::Image;
 use std::alloc::{AllocError, Global};
@@ -62,7 +62,7 @@ impl Hands {
         if let Some(work) = self.work.get_mut(worker) {
             *work = work.wrapping_add(load.size).wrapping_add(load.count.wrapping_mul(ANSWER));
         }
-        worker as u8
+        (worker % 64) as u8
     }
 
     /// The worker of a unit, which gets one where it has none.
@@ -92,7 +92,7 @@ pub fn owners_of(
     addresses: &[u64],
     workers: usize,
 ) -> Result<Vec<u8>, AllocError> {
-    let survey = survey(alloc, image, addresses)?;
+    let survey = survey_of(alloc, image, addresses)?;
     let mut hands = Hands::new(alloc, survey.loads.len(), workers)?;
     let mut owners = Vec::new(alloc);
     for unit in &survey.units {

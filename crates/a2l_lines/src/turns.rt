@@ -1,6 +1,6 @@
 //! When each address is asked, so that workers share the units. No promise rests on it.
 
-use crate::survey::{Load, Survey, survey};
+use crate::survey::{Load, Survey, survey_of};
 use dw_symbols::Image;
 use std::alloc::{AllocError, Global};
 
@@ -55,7 +55,7 @@ fn turn(rank: usize, seen: u64, count: u64) -> u64 {
 impl Turns {
     /// No address has a turn yet.
     pub fn new(alloc: Global, image: &Image<'_>, addresses: &[u64]) -> Result<Self, AllocError> {
-        let survey = survey(alloc, image, addresses)?;
+        let survey = survey_of(alloc, image, addresses)?;
         let ranks = ranks_of(alloc, &survey.loads)?;
         let seen = vec![in alloc; 0u64; survey.loads.len()]?;
         Ok(Turns {
