@@ -186,6 +186,20 @@ fn lines_of_frames(rt: HostRuntime) -> Result<(), Fail> {
     Ok(())
 }
 
+/// Addresses that are asked more than once, with bad addresses between them.
+#[test]
+fn the_same_address_again(rt: HostRuntime) -> Result<(), Fail> {
+    let file = sample(rt.alloc())?;
+    let asked = Asked {
+        flags: PLAIN,
+        words: &["401004", "zz", "401000", "401004", "2", "zz", "2", "401000"],
+        text: "/w/a.c:4\n!bad address\n/w/a.c:3\n/w/a.c:4\n??:0\n!bad address\n??:0\n/w/a.c:3\n",
+    };
+    let status = status_of(&rt, rt.alloc(), &file, &asked, &Open)?;
+    assert_eq!(rt; status, Some(Status::Faults));
+    Ok(())
+}
+
 /// 0x401000 line 0, 0x401001 line 20 in file 9, which isn't there, end 0x40100e.
 const UNKNOWN: &[u8] = &[
     0, 9, 2, 0, 0x10, 0x40, 0, 0, 0, 0, 0, 3, 0x7f, 1, 2, 1, 4, 9, 3, 20, 1, 2, 0x0d, 0, 1, 1,

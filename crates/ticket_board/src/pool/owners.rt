@@ -38,7 +38,12 @@ impl Owned<'_> {
     }
 
     /// The first of these cells where a number waits that is meant for the worker.
-    fn find_in<'a, S: Solver>(&self, board: &Board<'a, S>, low: usize, high: usize) -> Option<usize> {
+    fn find_in<'a, S: Solver>(
+        &self,
+        board: &Board<'a, S>,
+        low: usize,
+        high: usize,
+    ) -> Option<usize> {
         for cell in low..high {
             let Some((sender, number)) = board.waits_at(cell) else {
                 continue;
