@@ -1,5 +1,5 @@
 -- What was found of words, as the calls of `clap` tell it.
-use Rattle.std.proofs.Common.{◌≡◌, ◌∙◌, ℕ, Bool, true, false, List, [], Option, Some, None, map, option_map, refl, sym, ap, ap₂, codes}
+use Rattle.std.proofs.Common.{◌≡◌, ◌∙◌, ℕ, Bool, true, false, List, [], Option, Some, None, option_map, refl, ap, ap₂, codes}
 use denote.Ref.{Bor}
 use Rattle.std.specs.Prelude.{IsSomeAnd, unwrap_or}
 use Rattle.std.specs.Option.{option_eq}
@@ -11,7 +11,7 @@ use Rattle.clap.specs.declared.parser.matches.ArgMatches.{ArgMatches}
 use Rattle.clap.specs.declared.parser.matches.Found.{Found}
 use Rattle.clap.proofs.WalkLemmas.{first_value-rows, raw_values-rows}
 use Rattle.dw_model.specs.Output.{Options}
-use Rattle.a2l.specs.CommandLine.{command_line, found_in, is_set, options_in, words_in}
+use Rattle.a2l.specs.CommandLine.{command_line, found_in, is_set, words_in}
 
 -- one more argument
 pub adds : (old new : Command) (arg : Arg) (app : App) (rule : Rule) → AddsArg old arg new → arg.global ≡ false → app_of old ≡ app → rule_of arg ≡ rule → app_of new ≡ with_rule app rule

@@ -1,5 +1,5 @@
 -- The command line as `clap` has it, and what words name on it.
-use Rattle.std.specs.Prelude.{◌≡◌, Bool, true, List, [], ◌∷◌, Some, codes, unwrap_or}
+use Rattle.std.specs.Prelude.{Bool, true, List, [], ◌∷◌, Some, codes, unwrap_or}
 use Rattle.std.specs.Option.{option_eq}
 use Rattle.std.specs.Str.{bytes_eq}
 use Rattle.clap.specs.Lexer.{usize_max}

@@ -1,15 +1,11 @@
 -- Pieces that stand one after the other in one text.
-use Rattle.std.proofs.Common.{◌≡◌, ℕ, zero, suc, ◌+◌, ◌-◌, ◌<◌, ◌≤◌, List, [], ◌∷◌, ◌++◌, length, map, take, drop, get_or, Option, Some, None, refl, sym, ap, ◌∙◌, append_assoc, arith, length-append, length-drop, add-one, drop-cons}
-use Rattle.std.specs.Prelude.{flat_map}
+use Rattle.std.proofs.Common.{◌≡◌, ℕ, ◌+◌, ◌-◌, ◌<◌, List, [], ◌∷◌, ◌++◌, length, map, take, drop, get_or, refl, sym, ap, ◌∙◌, arith, length-append, length-drop, add-one, drop-cons}
 use Rattle.std.specs.List.{All}
-use Rattle.std.specs.Option.{option_map_or}
-use Rattle.std.proofs.lemmas.List.{append-nil, take-append-le, drop-append-le, take_all, take_more, drop_all, map-append, map_push, map_more, length-map, get_or-map}
-use Rattle.std.proofs.lemmas.List.Elements.{All-nil, All-cons, All-head, All-tail, All-push, All-weaker}
+use Rattle.std.proofs.lemmas.List.{take-append-le, drop-append-le, take_all, drop_all, map_push, map_more, length-map, get_or-map}
+use Rattle.std.proofs.lemmas.List.Elements.{All-head, All-tail, All-push, All-weaker}
 use Rattle.dw_model.specs.Answer.{Answer}
 use Rattle.dw_model.specs.Output as model
-use Rattle.a2l_lines.specs.Ends.{Writes, WritesBeginning}
-use Rattle.a2l_lines.specs.Sharing.{picked}
-use Rattle.a2l_lines.specs.Pieces.{piece_in, IsWithin, pieces_for, picked_text}
+use Rattle.a2l_lines.specs.Pieces.{piece_in, IsWithin, pieces_for}
 
 -- ---- a text that grows
 
@@ -70,7 +66,7 @@ makes-more options answers asked i rest left pieces new answer within next push 
     let lines : ℕ → List ℕ = λ a. model.address_lines options a (means a) in (
       cc cut,
       push
-      ∙ ap (λ (told : Answer). pieces ++ model.address_lines options a told ∷ []) is
-      ∙ ap (λ (all : List (List ℕ)). all ++ lines a ∷ []) before.1
-      ∙ ap (λ (all : List (List ℕ)). model.bad_address_line ∷ all) (sym (map_more lines asked i 0 within)),
+          ∙ ap (λ (told : Answer). pieces ++ model.address_lines options a told ∷ []) is
+          ∙ ap (λ (all : List (List ℕ)). all ++ lines a ∷ []) before.1
+          ∙ ap (λ (all : List (List ℕ)). model.bad_address_line ∷ all) (sym (map_more lines asked i 0 within)),
     )

@@ -1,17 +1,16 @@
 -- Addresses that are asked once for all inputs that ask for them.
 use Rattle.std.proofs.Common.{◌≡◌, ◌⊎◌, inl, inr, ℕ, zero, suc, ◌+◌, ◌-◌, ◌<◌, ◌≤◌, Bool, true, false, List, [], ◌∷◌, ◌++◌, length, map, take, get_or, set, replicate, Option, Some, None, refl, sym, ap, ◌∙◌, arith}
-use Rattle.std.specs.Prelude.{cond, slice_index, is_ok, nat_lt, ◌==◌, ◌&&◌}
+use Rattle.std.specs.Prelude.{cond, nat_lt, ◌==◌, ◌&&◌}
 use Rattle.std.specs.List.{All, Contains}
 use Rattle.std.specs.List.Sorted.{IsPermutation, IsSorted, IsStrictlyIncreasing}
 use Rattle.std.specs.Ordering.{is_lt, nat_cmp, ordering_then}
 use Rattle.std.specs.declared.cmp.Ordering.{Ordering}
-use Rattle.std.specs.declared.cmp.Ordering.TheVariants.{Less, Equal, Greater}
 use Rattle.std.proofs.Math.Nat.{eq-or-lt_of_le}
 use Rattle.std.proofs.Math.Dec.{eqb, ltb}
 use Rattle.std.proofs.lemmas.Bool.{eqb-true, eq-eqb, true≢false, ltb-true, ltb-false, lt-ltb}
 use Rattle.std.proofs.lemmas.List.{get_or-set_same, get_or-set_other, get_or-map, get_or_append_left, get_or_push, get_or_past, length_push, length-map, length-set, length-replicate, take_all, ext_get_or}
 use Rattle.std.proofs.lemmas.List.Elements.{All-push, All-more, All-contains, All-nil, All-get_or, All-replicate, All-set, All-weaker, Contains-get_or, Contains-push, Contains-append_left}
-use Rattle.std.proofs.lemmas.List.Sorted.{All-permutation, Contains-permutation, length_permutation}
+use Rattle.std.proofs.lemmas.List.Sorted.{All-permutation, Contains-permutation}
 use Rattle.a2l_lines.specs.Sharing.{picked, Shares, ArePairs, AreInOrder, is_last, added}
 
 -- ---- pairs

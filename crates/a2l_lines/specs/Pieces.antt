@@ -1,6 +1,5 @@
 -- The lines of each address that is asked, kept once, and the text that inputs pick of them.
 use Rattle.std.specs.Prelude.{ℕ, ◌+◌, ◌≤◌, List, [], ◌∷◌, length, map, take, drop, flat_map, slice_index_or}
-use Rattle.std.specs.List.{All}
 use Rattle.dw_model.specs.Answer.{Answer}
 use Rattle.dw_model.specs.Output as model
 

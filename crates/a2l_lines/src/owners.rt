@@ -60,7 +60,9 @@ impl Hands {
         self.units = self.units.wrapping_add(1);
         let worker = least(&self.work);
         if let Some(work) = self.work.get_mut(worker) {
-            *work = work.wrapping_add(load.size).wrapping_add(load.count.wrapping_mul(ANSWER));
+            *work = work
+                .wrapping_add(load.size)
+                .wrapping_add(load.count.wrapping_mul(ANSWER));
         }
         (worker % 64) as u8
     }

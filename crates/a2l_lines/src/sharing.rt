@@ -63,11 +63,7 @@ fn add(asked: &mut Vec<u64>, address: u64) -> Result<(), AllocError>
 }
 
 /// The addresses of pairs in order, each once, and what each input picks of them.
-fn shared(
-    alloc: Global,
-    inputs: &[Input],
-    pairs: &[(u64, usize)],
-) -> Result<Sharing, AllocError>
+fn shared(alloc: Global, inputs: &[Input], pairs: &[(u64, usize)]) -> Result<Sharing, AllocError>
     requires pairs { ArePairs (map input_shown inputs.now) pairs.now }
     requires order { AreInOrder pairs.now }
     ensures { IfOk result (λ sharing. Shares (map input_shown inputs.now) sharing.asked.items sharing.picks.items) }

@@ -39,7 +39,11 @@ fn counted(image: &Image<'_>, loads: &mut [Load], address: u64) -> usize {
 }
 
 /// The units of some addresses, by the index of a file.
-pub fn survey_of(alloc: Global, image: &Image<'_>, addresses: &[u64]) -> Result<Survey, AllocError> {
+pub fn survey_of(
+    alloc: Global,
+    image: &Image<'_>,
+    addresses: &[u64],
+) -> Result<Survey, AllocError> {
     let mut loads = vec![in alloc; Load { size: 0, count: 0 }; image.unit_count()]?;
     let mut units = Vec::new(alloc);
     for address in addresses {

@@ -1,5 +1,5 @@
 -- A table that is read, and its rows.
-use Rattle.std.proofs.Common.{◌≡◌, ℕ, ◌<◌, ◌≤◌, length, get_or, List, [], ◌∷◌, Option, Some, None, Result, Ok, Err, refl, sym, subst, ap, ◌∙◌}
+use Rattle.std.proofs.Common.{◌≡◌, ℕ, ◌<◌, ◌≤◌, length, get_or, List, [], Option, Some, None, Result, Ok, Err, refl, sym, subst, ap, ◌∙◌}
 use Rattle.std.specs.Prelude.{Bool, true, false, cond, ◌==◌, IfSome, option_map, option_and_then, slice_get}
 use Rattle.std.specs.Result.{result_unwrap_or}
 use Rattle.std.proofs.lemmas.Bool.{eqb-true}
@@ -10,13 +10,12 @@ use Rattle.dw_model.specs.Text.{Tables, Bases, text}
 use Rattle.dw_model.specs.LineHeader.{LineHeader, line_header}
 use Rattle.dw_model.specs.Instruction.{Instruction, instructions}
 use Rattle.dw_model.specs.Matrix.{Row, matrix, row_in, row_of, last_address}
-use Rattle.dw_model.specs.Answer.{Lines, lines_at}
+use Rattle.dw_model.specs.Answer.{lines_at}
 use Rattle.dw_model.specs.declared.dwarf.TheConstants.{DW_AT_comp_dir}
 use Rattle.dw_model.specs.Section.{Sections}
 use Rattle.dw_model.specs.Unit.{DwarfUnit}
 use Rattle.dw_model.specs.Root.{bases}
 use Rattle.dw_model.specs.Entry.{Entry, attribute}
-use Rattle.dw_index.specs.Segments.{owner_at}
 use Rattle.dw_line.specs.declared.checkpoints.Checkpoint.{Checkpoint}
 use Rattle.dw_line.specs.declared.checkpoints.Sequence.{Sequence}
 use Rattle.dw_line.specs.declared.checkpoints.Checkpoints.{Checkpoints}
@@ -29,7 +28,7 @@ use Rattle.dw_line.specs.Lines.{lines_of, matrix_of}
 use Rattle.dw_line.specs.Program.{IsRecorded}
 use Rattle.dw_line.specs.Sequences.{used_sequences, number_among, number_of, IsSequence, AreKept}
 use Rattle.dw_line.proofs.MachineLemmas.{matrix_rows, program_bad}
-use Rattle.dw_line.proofs.SequenceLemmas.{number-by_rows, Held, held, Kept, kept_at, is-there}
+use Rattle.dw_line.proofs.SequenceLemmas.{number-by_rows, held, kept_at, is-there}
 
 -- ---- reading
 
@@ -117,11 +116,10 @@ last_is header used k rows (Some last) there is = by (last.number == k) refl
 
 -- what is found in the sequence of an address is found in the matrix
 pub finds_row : (header : LineHeader) (all rows : List Row) (a k : ℕ) (reached : Reached) → slice_get (used_sequences all) k ≡ Some rows → row_of all a ≡ row_in a rows → FindsIn header rows a (Some reached) → FindsRow header all a (Some (record { number = k; reached = reached }))
-finds_row header all rows a k reached there row found =
-    (
-      found.0 ∙ sym (ap (option_map row_told) row),
-      subst (λ (read : Option (List Row)). IfSome read (λ rows. IsReached header rows reached)) (sym there) found.1,
-    )
+finds_row header all rows a k reached there row found = (
+  found.0 ∙ sym (ap (option_map row_told) row),
+  subst (λ (read : Option (List Row)). IfSome read (λ rows. IsReached header rows reached)) (sym there) found.1,
+)
 
 pub finds_no_row : (header : LineHeader) (all rows : List Row) (a : ℕ) (found : Option Reached) → found ≡ None → row_of all a ≡ row_in a rows → FindsIn header rows a found → FindsRow header all a None
 finds_no_row header all rows a found none row finds =

@@ -1,22 +1,21 @@
 -- Running a program for the first time: what is recorded, and which rows are still appended.
-use Rattle.std.proofs.Common.{◌≡◌, ℕ, ◌+◌, ◌<◌, ◌≤◌, Bool, true, false, List, [], ◌∷◌, ◌++◌, length, drop, Option, Some, None, Result, Ok, Err, refl, sym, subst, ap, ◌∙◌, length-append, arith}
+use Rattle.std.proofs.Common.{◌≡◌, ℕ, ◌≤◌, Bool, true, false, List, [], ◌∷◌, length, drop, Option, Some, None, Ok, Err, sym, subst, ap, ◌∙◌, length-append, arith}
 use Rattle.std.proofs.Math.Seq.{drop-append_seam}
 use Rattle.dw_model.specs.Reading.{Place, start}
-use Rattle.dw_model.specs.Faults.{Bad, bad}
+use Rattle.dw_model.specs.Faults.{bad}
 use Rattle.dw_model.specs.LineHeader.{LineHeader}
 use Rattle.dw_model.specs.Matrix.{Row}
 use Rattle.dw_model.specs.Registers.{row}
 use Rattle.dw_model.specs.Registers as model
 use Rattle.dw_line.specs.declared.registers.Registers.{Registers}
-use Rattle.dw_line.specs.declared.checkpoints.Pending.{Pending}
 use Rattle.dw_line.specs.declared.machine.Appended.{Appended}
 use Rattle.dw_line.specs.Registers.{registers_shown}
 use Rattle.dw_line.specs.Machine.{State, beginning, rows_on, row_before, registers_behind, appended_row, IsNext, RunsToNext}
-use Rattle.dw_line.specs.Sequences.{used_sequences, state_of, AreKept}
+use Rattle.dw_line.specs.Sequences.{used_sequences, AreKept}
 use Rattle.dw_line.specs.Program.{IsRecorded}
 use Rattle.dw_line.specs.Recorder.{Recorder, recorder_shown, empty, recorded, finished}
 use Rattle.dw_line.specs.declared.checkpoints.Checkpoints.{Checkpoints}
-use Rattle.dw_line.proofs.MachineLemmas.{Passes, Advances, passes, passes_more, passes_none}
+use Rattle.dw_line.proofs.MachineLemmas.{Passes, passes, passes_more, passes_none}
 use Rattle.dw_line.proofs.RecorderLemmas as records
 use Rattle.dw_line.proofs.RecorderLemmas.{Records}
 

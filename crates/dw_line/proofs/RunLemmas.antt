@@ -1,11 +1,11 @@
 -- Rows that are run again, one after the other, up to the first above an address.
-use Rattle.std.proofs.Common.{◌≡◌, ℕ, zero, suc, ◌+◌, ◌-◌, ◌<◌, ◌≤◌, Bool, true, false, cond, List, [], ◌∷◌, ◌++◌, take, drop, length, Option, Some, None, Result, Ok, Err, refl, sym, subst, ap, ◌∙◌, arith}
+use Rattle.std.proofs.Common.{◌≡◌, ℕ, zero, suc, ◌+◌, ◌-◌, ◌<◌, ◌≤◌, Bool, true, false, cond, List, [], ◌∷◌, take, drop, length, Option, Some, None, Result, Ok, Err, refl, sym, subst, ap, ◌∙◌, arith}
 use Rattle.std.specs.Prelude.{nat_lt, option_map}
 use Rattle.std.proofs.lemmas.Bool.{lt-ltb, le-ltb}
 use Rattle.std.proofs.lemmas.List.{drop-drop, take-append-drop, length-take-le}
 use Rattle.dw_model.specs.Results.{◌>>=◌}
-use Rattle.dw_model.specs.Reading.{Place, start, Spans}
-use Rattle.dw_model.specs.Faults.{Bad, bad}
+use Rattle.dw_model.specs.Reading.{Place, start}
+use Rattle.dw_model.specs.Faults.{Bad}
 use Rattle.dw_model.specs.Answers.{Tells}
 use Rattle.dw_model.specs.LineHeader.{LineHeader}
 use Rattle.dw_model.specs.Matrix.{Row, first_address}
@@ -13,12 +13,11 @@ use Rattle.dw_model.specs.Registers.{row}
 use Rattle.dw_model.specs.Registers as model
 use Rattle.dw_line.specs.declared.machine.Appended.{Appended}
 use Rattle.dw_line.specs.declared.checkpoints.Checkpoint.{Checkpoint}
-use Rattle.dw_line.specs.declared.search.Reached.{Reached}
 use Rattle.dw_line.specs.Registers.{registers_shown}
 use Rattle.dw_line.specs.Machine.{State, rows_on, row_before, registers_behind, appended_row, IsNext}
 use Rattle.dw_line.specs.Sequences.{up_to_end, state_of, checkpoint_row}
 use Rattle.dw_line.specs.Search.{row_told, row_before_address}
-use Rattle.dw_line.specs.Reached.{told_of, FindsFrom}
+use Rattle.dw_line.specs.Reached.{FindsFrom}
 use Rattle.dw_line.proofs.MachineLemmas.{Passes, Advances, passes, passes_more}
 use Rattle.dw_line.proofs.ProgramLemmas.{place_is}
 
@@ -149,8 +148,7 @@ pub stops_above : (header : LineHeader) (first here : Checkpoint) (next : Append
 stops_above header first here next old new next_checkpoint a i h is given above = λ there rows e.
     let runs = given there in
     let later = runs.so_far rows e in
-    let t = of_next header first here next new a i rows (next_of header here old new next runs.stands is) later in
-    (
+    let t = of_next header first here next new a i rows (next_of header here old new next runs.stands is) later in (
       sym (ap (option_map row_told) (reached header first here next new a i rows true next.ends h (lt-ltb a next.registers.address above) refl later t)),
       record {
         passed = i;

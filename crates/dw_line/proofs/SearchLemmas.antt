@@ -1,5 +1,5 @@
 -- The row of an address in a sequence, from one of its checkpoints on.
-use Rattle.std.proofs.Common.{◌≡◌, ℕ, zero, suc, ◌+◌, ◌-◌, ◌*◌, ◌<◌, ◌≤◌, Bool, true, false, cond, List, [], ◌∷◌, ◌++◌, length, drop, get_or, Option, Some, None, ◌⊎◌, inl, inr, refl, sym, subst, ap, ◌∙◌, arith, add-one}
+use Rattle.std.proofs.Common.{◌≡◌, ℕ, zero, suc, ◌+◌, ◌-◌, ◌*◌, ◌<◌, ◌≤◌, Bool, true, false, cond, List, [], ◌∷◌, length, drop, get_or, Option, Some, None, ◌⊎◌, inl, inr, refl, sym, subst, ap, ◌∙◌, arith}
 use Rattle.std.specs.Prelude.{nat_le, nat_lt, ◌&&◌, IfSome, option_map, slice_get}
 use Rattle.std.specs.List.Sorted.{IsNonDecreasingBy, IsPartitionPoint}
 use Rattle.std.proofs.Math.Seq.{drop-nil}
@@ -8,7 +8,7 @@ use Rattle.std.proofs.lemmas.List.{drop-drop, length-drop}
 use Rattle.std.proofs.lemmas.List.Sorted.{IsNonDecreasingBy-from_all_adjacent}
 use Rattle.std.proofs.lemmas.Option.{slice_get_read}
 use Rattle.dw_model.specs.LineHeader.{LineHeader}
-use Rattle.dw_model.specs.Matrix.{Row, never_falls, first_address, last_address, is_used, row_in}
+use Rattle.dw_model.specs.Matrix.{Row, never_falls, first_address, last_address, row_in}
 use Rattle.dw_line.specs.declared.checkpoints.Checkpoint.{Checkpoint}
 use Rattle.dw_line.specs.declared.search.Reached.{Reached}
 use Rattle.dw_line.specs.Sequences.{up_to_end, checkpoint_row, IsCheckpoint, AreCheckpoints, HasCheckpoints}
@@ -268,8 +268,7 @@ later_reached header rows place number r own (Some reached) h near is =
 pub finds : (header : LineHeader) (checkpoints : List Checkpoint) (rows : List Row) (a place number : ℕ) (c : Checkpoint) (found : Option Reached) → HasCheckpoints header checkpoints rows → a < last_address rows → IsCheckpoint header c (drop place rows) → c.registers.address ≤ a → 64 * number ≤ place + 64 → Before checkpoints number a
     → FindsFrom header c number a found → FindsIn header rows a found
 finds header checkpoints rows a place number c found has below_end is below near before from =
-    let what = from is.within is.others is.appends in
-    (
+    let what = from is.within is.others is.appends in (
       what.0 ∙ sym (ap (option_map row_told) (row_is header checkpoints rows a place number c has below_end is below near before)),
       later_reached header rows place number (checkpoint_row c) (up_to_end is.others) found is.rest near what.1,
     )

@@ -32,7 +32,10 @@ impl Reached {
         ensures { result ≡ told_of self }
     {
         let Registers {
-            file, line, column, ..
+            file,
+            line,
+            column,
+            ..
         } = self.row.registers;
         Row { file, line, column }
     }

@@ -3,7 +3,7 @@
 ghost use Rattle.std.specs.Prelude.{◌≡◌};
 
 use crate::files::sample;
-use crate::frames::{INLINED, IN_MAIN, expect_frames};
+use crate::frames::{IN_MAIN, INLINED, expect_frames};
 use crate::texts::Open;
 use dw_symbols::{Context, Image};
 use std::alloc::Global;
@@ -39,13 +39,19 @@ fn answers_of<S: Solver>(
     assert_eq!(rt; client.ask(&board, 0x40_1000), Ok(0));
     assert_eq!(rt; client.ask(&board, 0x40_1004), Err(AskFault::Full));
     assert!(rt; matches!(client.next(&board), Next::Pending));
-    assert_eq!(rt; worker.turn(&board, solver, &Open), Ok(Turn::Answered(0, 0)));
+    assert_eq!(rt;
+        worker.turn(&board, solver, &Open),
+        Ok(Turn::Answered(0, 0))
+    );
     assert!(rt; client.ready(&board));
     let Next::Answer(0, first) = client.next(&board) else {
         return Err(BoardFault::BadShape.into());
     };
     assert_eq!(rt; client.ask(&board, 0x40_1004), Ok(1));
-    assert_eq!(rt; worker.turn(&board, solver, &Open), Ok(Turn::Answered(0, 1)));
+    assert_eq!(rt;
+        worker.turn(&board, solver, &Open),
+        Ok(Turn::Answered(0, 1))
+    );
     let Next::Answer(1, second) = client.next(&board) else {
         return Err(BoardFault::BadShape.into());
     };

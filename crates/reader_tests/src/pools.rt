@@ -1,7 +1,7 @@
 //! Pools of two workers, each of which waits for the other.
 
 use crate::files::sample;
-use crate::frames::{INLINED, IN_MAIN, expect_frames};
+use crate::frames::{IN_MAIN, INLINED, expect_frames};
 use crate::texts::{Asked, PLAIN, status_of};
 use a2l_lines::{Status, run_pool};
 use dw_symbols::Image;

@@ -1,4 +1,4 @@
-use Rattle.std.proofs.Common.{◌≡◌, ◌∙◌, Some, Ok, map, option_map, sym, ap, subst, codes}
+use Rattle.std.proofs.Common.{◌≡◌, ◌∙◌, Ok, map, option_map, sym, ap, subst, codes}
 use Rattle.clap.specs.Words.{app_of, found_of, rows_of}
 use Rattle.a2l.specs.Command.{AsksFor}
 use Rattle.a2l.specs.CommandLine.{found_in, options_in}

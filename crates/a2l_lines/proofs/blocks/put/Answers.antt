@@ -1,4 +1,4 @@
-use Rattle.std.proofs.Common.{◌≡◌, ◌∙◌, [], sym}
+use Rattle.std.proofs.Common.{◌≡◌, ◌∙◌, []}
 use Rattle.a2l_lines.proofs.WriteLemmas.{Writes-long, Writes-long-begins, Writes-block-begins, on_ok-map, on_err}
 use Rattle.a2l_lines.proofs.blocks.put.Goals as goal
 

@@ -22,9 +22,9 @@ loop-answer-preserved-in_ok-push-2 c =
       place = omega (arith, i.place, c.in-Some.ensures.steps);
       within = within-more text new more spans c.push-in-loop-answer.new.self.items c.len-start.result _ grown begins long c.in_ok-push-2.ensures.items i.within;
       made = makes-more (options_shown c.args.options.now) (map answer_shown c.args.answers.items) c.args.asked.now c.loop-answer.i _ _ _ _ (answer_shown c.in-Some.answer) inside
-      (ap (map answer_shown) c.in-Some.ensures.steps.0)
-      (pieces-more text new more spans c.push-in-loop-answer.new.self.items c.len-start.result _ grown begins long c.in_ok-push-2.ensures.items i.within)
-      i.made;
+          (ap (map answer_shown) c.in-Some.ensures.steps.0)
+          (pieces-more text new more spans c.push-in-loop-answer.new.self.items c.len-start.result _ grown begins long c.in_ok-push-2.ensures.items i.within)
+          i.made;
     }
 
 pub loop-answer-preserved : goal.loop-answer-preserved
@@ -43,7 +43,7 @@ loop-answer-preserved c =
       place = omega (arith, i.place, c.in-Some.ensures.steps);
       within = within-more text new more spans c.push-in-loop-answer.new.self.items c.len-start.result _ grown begins long c.in_ok-push-2.ensures.items i.within;
       made = makes-more (options_shown c.args.options.now) (map answer_shown c.args.answers.items) c.args.asked.now c.loop-answer.i _ _ _ _ (answer_shown c.in-Some.answer) inside
-      (ap (map answer_shown) c.in-Some.ensures.steps.0)
-      (pieces-more text new more spans c.push-in-loop-answer.new.self.items c.len-start.result _ grown begins long c.in_ok-push-2.ensures.items i.within)
-      i.made;
+          (ap (map answer_shown) c.in-Some.ensures.steps.0)
+          (pieces-more text new more spans c.push-in-loop-answer.new.self.items c.len-start.result _ grown begins long c.in_ok-push-2.ensures.items i.within)
+          i.made;
     }

@@ -1,7 +1,7 @@
-use Rattle.std.proofs.Common.{◌≡◌, ◌<◌, ◌∙◌, None, Some, map, get_or, ap, arith}
+use Rattle.std.proofs.Common.{◌≡◌, ◌∙◌, None, Some, map, get_or, ap}
 use Rattle.std.proofs.lemmas.List.{get_or-map}
 use Rattle.a2l_lines.specs.Input.{input_shown}
-use Rattle.a2l_lines.proofs.SharingLemmas.{pairs-more, found-more, found-same, all-pairs}
+use Rattle.a2l_lines.proofs.SharingLemmas.{pairs-more, found-more, found-same}
 use Rattle.a2l_lines.proofs.sharing.pairs_of.Goals as goal
 
 pub loop-i-preserved-in_default : goal.loop-i-preserved-in_default

@@ -1,4 +1,4 @@
-use Rattle.std.proofs.Common.{◌∙◌, map, sym, ap}
+use Rattle.std.proofs.Common.{◌∙◌, map, ap}
 use Rattle.std.specs.Io.KnownBytes.{append_known}
 use Rattle.dw_model.specs.Answer as model
 use Rattle.dw_symbols.specs.Answer.{answer_shown}

@@ -1,9 +1,9 @@
-use Rattle.std.proofs.Common.{◌∙◌, ap, sym, ◌≡◌, ◌≤◌, ◌+◌, arith}
+use Rattle.std.proofs.Common.{◌+◌, arith}
 use Rattle.dw_line.specs.Fault.{line_fault}
 use Rattle.dw_line.specs.Header.{header_shown}
 use Rattle.dw_line.specs.Machine.{state_at}
 use Rattle.dw_line.proofs.ProgramLemmas.{none_left, one_more}
-use Rattle.dw_line.proofs.RunLemmas.{begins, stops_above, stops_end, goes_on, placed, stops_none, stops_fault, stops_last}
+use Rattle.dw_line.proofs.RunLemmas.{stops_above, stops_end, goes_on, placed, stops_none, stops_fault, stops_last}
 use Rattle.dw_line.proofs.search.row_from.Goals as goal
 
 pub returns-in_default-next_counted-clause-row : goal.returns-in_default-next_counted-clause-row

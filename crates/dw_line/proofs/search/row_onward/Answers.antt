@@ -1,7 +1,5 @@
-use Rattle.std.proofs.Common.{◌≡◌, Some, sym, subst, ◌∙◌}
-use Rattle.std.specs.Prelude.{IfSome}
+use Rattle.std.proofs.Common.{sym, ◌∙◌}
 use Rattle.dw_line.specs.Header.{header_shown}
-use Rattle.dw_line.specs.Reached.{IsReached}
 use Rattle.dw_line.proofs.SearchLemmas.{finds_onward, finds_again, was_reached}
 use Rattle.dw_line.proofs.search.row_onward.Goals as goal
 
