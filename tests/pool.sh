@@ -3,8 +3,8 @@
 # random addresses of .text, in the order in which a2l asks them; and four processes of one context each, which is what the
 # machine gives at most. The first word is as for bench.sh, best a program of over 500 units; the others are numbers of
 # addresses (10,000, 100,000 and a million without). What is timed is answering alone, with the threads and the contexts
-# that are made for it; beside it stands the processors' time. The least of three times counts. Run it after `rt run` in crates/a2l has built the crates. It prints a table, and
-# tests that no run fails.
+# that are made for it; beside it stands the processors' time. The least of three times counts. Run it after `rt run` in
+# crates/a2l has built the crates. It prints a table, and tests that no run fails.
 . "$(dirname "$0")/programs.sh"
 large=${1:-60}
 [ $# -gt 0 ] && shift
