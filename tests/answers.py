@@ -19,6 +19,13 @@ def shown(words):
     return ran.stdout.split('\n')
 
 
+def shown_for(words, given):
+    """The lines that are written for an input."""
+    ran = output(words, input=given)
+    assert ran.returncode == 0, (words, ran.stderr[:300])
+    return ran.stdout.split('\n')[:-1]
+
+
 class Entry:
     """A function, or a place where one was inlined."""
 
@@ -41,6 +48,7 @@ class Unit:
         self.root, self.subprograms = None, []
         self.is_supplied = False  # some value stands in a supplementary file
         self.is_type = False
+        self.is_wide = False  # of the 64-bit format
 
     def is_read(self):
         return self.version == 5 and self.kind in ('compile', 'skeleton')
@@ -65,9 +73,10 @@ class Least:
 
 
 class Table:
-    """A line table: its paths and its used sequences."""
+    """A line table: its paths and its used sequences, and whether it has the 64-bit format."""
 
     def __init__(self, text):
+        self.is_wide = bool(re.search(r'^ +format: DWARF64$', text, re.M))
         directories = re.findall(r'^include_directories\[ *\d+\] = "(.*)"$', text, re.M)
         files = re.findall(r'^file_names\[ *\d+\]:\n +name: "(.*)"\n +dir_index: (\d+)$', text, re.M)
         self.paths = []
@@ -119,6 +128,9 @@ class Program:
                 if found and values is not None:
                     unit.is_supplied |= found[2].startswith('GNU_')
                     text = re.sub(r'^\((?:offset|index|addr_index|alt indirect string, offset): \w+\): ', '', found[3])
+                    if found[2] == 'ref8':
+                        # readelf shows other references in angle brackets
+                        text = re.sub(r'^(0x[0-9a-f]+).*', r'<\1>', text)
                     values.setdefault(found[1], (found[2], text.rstrip()))
             elif line.startswith(' <'):
                 found = re.match(r' <(\w+)><(\w+)>: Abbrev Number: (\d+)(?: \((\w+)\))?', line)
@@ -143,6 +155,8 @@ class Program:
             elif of_info and 'Compilation Unit @ offset' in line:
                 unit, around, values = Unit(int(line.split()[-1].rstrip(':'), 16)), [], None
                 self.units.append(unit)
+            elif of_info and line.startswith('   Length:'):
+                unit.is_wide = line.rstrip().endswith('(64-bit)')
             elif of_info and line.startswith('   Version:'):
                 unit.version = int(line.split()[1])
             elif of_info and line.startswith('   Unit Type:') and unit.version == 5:
@@ -314,10 +328,22 @@ def gnu(path, addresses):
     return in_pairs(blocks(['addr2line', '-e', path, '-a', '-f', '-i'], addresses))
 
 
-def llvm(path, addresses):
+def llvm_symbols(path, addresses):
+    """What llvm-symbolizer says of each address: its frames, innermost first, or none."""
     ran = output(['llvm-symbolizer', '-e', path, '--output-style=JSON', '--no-demangle'],
                  input=''.join(f'{a:#x}\n' for a in addresses))
     found = [json.loads(line) for line in ran.stdout.split('\n')[:-1]]
     assert len(found) == len(addresses), (path, len(found), ran.stderr[:300])
-    return [[(s['FunctionName'] or '??', s['FileName'] or '??', s['Line']) for s in answer['Symbol']]
-            if 'Symbol' in answer else [NONE] for answer in found]
+    return [answer.get('Symbol', []) for answer in found]
+
+
+def llvm(path, addresses):
+    return [[(s['FunctionName'] or '??', s['FileName'] or '??', s['Line']) for s in symbols] or [NONE]
+            for symbols in llvm_symbols(path, addresses)]
+
+
+def llvm_places(path, addresses):
+    """The location of each address as a2l writes it, and its column."""
+    return [(f"{s['FileName'] or '??'}:{s['Line'] or ('?' if s['FileName'] else 0)}", s['Column'])
+            for s in (symbols[0] if symbols else {'FileName': '', 'Line': 0, 'Column': 0}
+                      for symbols in llvm_symbols(path, addresses))]

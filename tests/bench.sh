@@ -1,7 +1,8 @@
 #!/usr/bin/env bash
 # How long a2l takes, and how much memory, beside GNU addr2line, llvm-symbolizer and the Rust crate addr2line, on
 # a large C++ program of many units, all in one run. The program is built of as many units of templates as the first
-# word says (60 without, about 100 MB), which takes some minutes; or the first word is the path of one that is there.
+# word says (60 without, about 100 MB), or of 530 units of very different sizes where it says `many`, which takes some
+# minutes; or the first word is the path of one that is there.
 # Each task is run by each tool in turn, as often as the second word says (3 without), and the least time counts; the tasks
 # of a million addresses are run by a2l and the crate alone. The
 # crate is built from Debian's packages (librust-addr2line-dev), and what is missing is said. Run it after `rt run` in

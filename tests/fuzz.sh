@@ -77,6 +77,9 @@ for cc in gcc clang; do
     for level in 0 2; do add $cc-O$level $cc -g -gdwarf-5 -O$level $alone small.c other.c; done
     add $cc-parts $cc -g -gdwarf-5 -O2 -ffunction-sections -Wl,--gc-sections $alone small.c other.c
     add $cc-split $cc -g -gdwarf-5 -O2 -gsplit-dwarf $alone small.c other.c
+    add $cc-wide $cc -g -gdwarf-5 -gdwarf64 -O2 $alone small.c other.c
+    $cc -g -gdwarf-5 -gdwarf64 -O2 -c other.c -o other64.o
+    add $cc-both $cc -g -gdwarf-5 -O2 $alone small.c other64.o
     $cc -g -gdwarf-4 -O2 -c other.c -o other4.o
     add $cc-mixed $cc -g -gdwarf-5 -O2 $alone small.c other4.o
 done

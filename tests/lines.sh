@@ -71,12 +71,13 @@ END
 python3 wanted.py "${programs[@]}" > count
 
 copy_crates dw_model dw_index dw_bytes dw_elf dw_forms dw_line
-echo 'line_rows: dw_forms dw_line' >> copy/crates.txt
+echo 'line_rows: dw_bytes dw_forms dw_line' >> copy/crates.txt
 mkdir -p copy/crates/line_rows/src
 cat > copy/crates/line_rows/src/main.rt <<'END'
 //! Compares the tables of one program with the lines of a file.
 #![tactic(auto)]
 
+use dw_bytes::Width;
 use dw_forms::{Bases, Tables};
 use dw_line::{LineFault, Lines, Row};
 use std::process::ExitCode;
@@ -116,7 +117,7 @@ fn differs(rt: &HostRuntime, words: &[String]) -> io::Result<Option<String>> {
     let str = fs::read(rt, words[2].as_str())?;
     let wanted = fs::read_to_string(rt, words[3].as_str())?;
     let tables = Tables { str: &str, line_str: &line_str, str_offsets: &[], addr: &[], rnglists: &[] };
-    let bases = Bases { str_offsets: None, addr: None, rnglists: None };
+    let bases = Bases { str_offsets: None, addr: None, rnglists: None, width: Width::Four };
     let mut table = None;
     for line in wanted.lines() {
         let mut words = line.split(' ');

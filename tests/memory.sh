@@ -33,4 +33,5 @@ head -c 685 "$here/samples/inlined.elf" > "$work/cut.elf"
 refuse -e "$work/cut.elf" --units
 refuse -e "$here/samples/inlined.elf" -fia --workers 1 401000 401004 zz
 refuse -e "$here/samples/inlined.elf" -fia --workers 3 --senders 2 401000 401004 zz
+refuse -e "$here/samples/inlined.elf" -a --workers 2 401003 400000-500000 401002-401006 401006-401002
 refuse -x

@@ -1,10 +1,10 @@
 #!/usr/bin/env bash
 # Compares what a2l writes for whole programs, its listings and its answers, with what the model of tests/model does,
 # byte for byte: programs of gcc, clang and rustc, built and linked in several ways, at every address at which a row,
-# or a range of a unit or of a function, begins or ends, and the address before (of more than 2,000 it picks so many).
-# The first word may say how many; further words may name more programs. Run it after `rt run` in crates/a2l has built
-# a2l. It needs python3, and says which compilers it lacks. It fails where a byte differs; its last line counts the
-# answers.
+# or a range of a unit or of a function, begins or ends, and the address before (of more than 2,000 it picks so many);
+# and 100 spans between such addresses, and that of all addresses. The first word may say how many addresses; further
+# words may name more programs. Run it after `rt run` in crates/a2l has built a2l. It needs python3, and says which
+# compilers it lacks. It fails where a byte differs; its last line counts the answers.
 . "$(dirname "$0")/programs.sh"
 need_a2l
 write_sources
@@ -25,6 +25,9 @@ for cc in gcc clang; do
     add $cc-shared $cc $five -O2 -shared -fPIC calls.c other.c
     add $cc-split $cc $five -O2 -gsplit-dwarf calls.c other.c
     add $cc-few $cc -g1 -gdwarf-5 -O2 calls.c other.c
+    for level in 0 2; do add $cc-wide-O$level $cc $five -gdwarf64 -O$level calls.c other.c; done
+    $cc $five -gdwarf64 -O2 -c calls.c -o calls64.o
+    add $cc-both $cc $five -O2 calls64.o other.c
     $cc -g -gdwarf-4 -O2 -c other.c -o other4.o
     add $cc-mixed $cc $five -O2 calls.c other4.o
 done

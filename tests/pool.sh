@@ -1,7 +1,7 @@
 #!/usr/bin/env bash
 # How long a pool takes to answer with one worker and with four, and one context without a pool, on a large program with
 # random addresses of .text, in the order in which a2l asks them; and four processes of one context each, which is what the
-# machine gives at most. The first word is as for bench.sh, best a program of over 500 units; the others are numbers of
+# machine gives at most. The first word is as for bench.sh, best `many`; the others are numbers of
 # addresses (10,000, 100,000 and a million without). What is timed is answering alone, with the threads and the contexts
 # that are made for it; beside it stands the processors' time. The least of three times counts. Run it after `rt run` in
 # crates/a2l has built the crates. It prints a table, and tests that no run fails.
@@ -29,24 +29,24 @@ use std::sync::Wait;
 use std::thread::Threads;
 use std::{env, fs, io};
 use ticket_board::Gate;
-use ticket_core::Shape;
+use ticket_core::{Query, Shape};
 
 /// A gate that stands open.
 struct Open;
 
 impl Gate for Open {
-    fn enter(&self, _sender: usize, _number: u64, _a: u64) {}
+    fn enter(&self, _sender: usize, _number: u64, _query: Query) {}
 }
 
 /// So many random addresses, in the order in which they are best asked.
-fn addresses(alloc: Global, image: &Image<'_>, count: u64, begin: u64, end: u64) -> Result<Vec<u64>, AllocError> {
+fn addresses(alloc: Global, image: &Image<'_>, count: u64, begin: u64, end: u64) -> Result<Vec<Query>, AllocError> {
     let mut drawn = Vec::new(alloc);
     let size = end.wrapping_sub(begin);
     let mut state = 1u64;
     for _ in 0..count {
         state = state.wrapping_mul(6364136223846793005).wrapping_add(1442695040888963407);
         let distance = (state >> 20).checked_rem(size).unwrap_or(0);
-        drawn.push(begin.wrapping_add(distance))?;
+        drawn.push(Query::address(begin.wrapping_add(distance)))?;
     }
     let order = order_of(alloc, image, &drawn)?;
     let queries = in_order(alloc, &drawn, &order)?;
@@ -61,12 +61,12 @@ fn say(rt: &HostRuntime, word: &str) -> Option<()> {
 }
 
 /// Without a pool.
-fn direct<'a>(alloc: Global, image: &Image<'a>, queries: &[u64]) -> Option<Vec<Answer<'a>>> {
+fn direct<'a>(alloc: Global, image: &Image<'a>, queries: &[Query]) -> Option<Vec<Answer<'a>>> {
     let capacity = NonZeroUsize::MIN.saturating_add(15);
     let mut context = Context::new(alloc, image, capacity).ok()?;
     let mut answers = Vec::new(alloc);
-    for a in queries {
-        answers.push(context.find_frames(*a).ok()?).ok()?;
+    for query in queries {
+        answers.push(context.find_frames(query.first()).ok()?).ok()?;
     }
     Some(answers)
 }

@@ -145,11 +145,12 @@ END_CC
     echo '; }' >> main.cc
 }
 
-# Builds that program under the name that the second word says.
-build_large() {
-    write_large "$1"
+# Builds a program of `unit1.cc` and so on, and `main.cc`, under the name that the word says.
+build_units() {
     ls ./unit*.cc main.cc | xargs -P "$(nproc)" -I{} g++ -std=c++17 -g -gdwarf-5 -O1 -c {} -o {}.o
-    g++ ./unit*.cc.o main.cc.o -o "$2"
+    # as a response file, since there may be many
+    ls ./unit*.cc.o main.cc.o > objects
+    g++ @objects -o "$1"
 }
 
 # Copies crates into copy/crates, so that a script may add to them: their code, definitions and proofs, and their
@@ -205,11 +206,13 @@ END_C
     cc -shared -fPIC -o "$work/refuse.so" "$work/refuse.c" -ldl
 }
 
-# A large program, as `program`: the one whose path is the word, where it is there, else one that is built of as
-# many units as the word says.
+# A large program, as `program`: the one whose path is the word, where it is there; for the word `many` one of 530 units of
+# very different sizes, which takes some minutes; else one of as many units of one size as the word says.
 need_large() {
     program=$work/large
-    if [ -e "$1" ]; then program=$(realpath "$1"); else build_large "$1" large; fi
+    if [ -e "$1" ]; then program=$(realpath "$1"); return; fi
+    if [ "$1" = many ]; then python3 "$here/tests/many_units.py" 530; else write_large "$1"; fi
+    build_units large
 }
 
 # Builds a program over the Rust crate of a name, from Debian's packages, in the folder of that name. Its source comes

@@ -1,6 +1,6 @@
 #!/usr/bin/env bash
 # Compares the answers of a2l with those of GNU addr2line and llvm-symbolizer on programs of this machine's
-# compilers: C, C++ and Rust, at -O0 and -O2, and linked in many ways. Of each program it asks addresses at which
+# compilers: C, C++ and Rust, at -O0 and -O2, of the 32-bit and the 64-bit format, and linked in many ways. Of each program it asks addresses at which
 # rows begin, random ones in its code and some outside, for functions, files, lines and inlined callers. Each
 # difference has to have a reason of tests/reasons.py, which the file itself bears out; and each answer has to be
 # the one that readelf and llvm-dwarfdump show by tests/answers.py. Further programs may be named as words. Run it
@@ -46,6 +46,20 @@ for cc in gcc clang; do
     $cc -g -gdwarf-5 -c twiced.s -o twiced.o
     add $cc-mixed $cc calls5.o other4.o twiced.o
 done
+for cc in gcc clang; do
+    has "the 64-bit format of $cc" "$cc" || continue
+    for level in 0 2; do
+        add $cc-wide-O$level $cc $five -gdwarf64 -O$level $c
+        $cc $five -gdwarf64 -O$level -c calls.c -o $cc-wide-O$level.o
+        $cc $five -O$level -c other.c -o $cc-narrow-O$level.o
+    done
+done
+if has "both formats in one program" gcc clang; then
+    for level in 0 2; do
+        add gcc-and-clang-O$level gcc gcc-wide-O$level.o clang-narrow-O$level.o
+        add clang-and-gcc-O$level clang clang-wide-O$level.o gcc-narrow-O$level.o
+    done
+fi
 if has "link-time optimization of gcc" gcc; then add gcc-lto gcc $five -O2 -flto $c; fi
 if has "link-time optimization of clang" clang ld.lld; then add clang-lto clang $five -O2 -flto -fuse-ld=lld $c; fi
 if has "a range for each block" clang++ ld.lld; then add clang++-blocks clang++ $five -O2 -fbasic-block-sections=all -fuse-ld=lld sizes.cc; fi
@@ -55,9 +69,11 @@ for cc in g++ clang++; do
     add $cc-O2 $cc $five -O2 sizes.cc
     add $cc-parts $cc $five -O2 -ffunction-sections -Wl,--gc-sections sizes.cc
     add $cc-types $cc $five -O2 -fdebug-types-section sizes.cc
+    add $cc-wide $cc $five -gdwarf64 -O2 sizes.cc
 done
 if has "templates of many units" g++; then
-    build_large 2 g++-units
+    write_large 2
+    build_units g++-units
     programs+=(g++-units)
     if has "partial units, and a supplementary file" dwz; then
         cp g++-units dwz-units

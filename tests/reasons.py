@@ -18,6 +18,7 @@ SAID = {
     'no linkage name': 'the function has no DW_AT_linkage_name: GNU names it by the symbol table, and not by DW_AT_name',
     'no row': 'no row is at the address: the peer names the file by the symbol table',
     'no function': 'no function holds the address: GNU names it by the symbol table',
+    'other format': 'the unit names a line table of the other format, which GNU reads by the format of the unit',
     'outermost': 'LLVM names the outermost frame by the symbol table',
 }
 
@@ -99,6 +100,9 @@ def reasons(peer, program, a, ours, theirs):
             return ['no range']
         named = name == '??' or bare(name) in program.symbols_at(a)
         return ['no unit'] if named and not others and line == 0 and path in program.files else []
+    table = program.table(a)
+    if peer == 'gnu' and table and table.is_wide != program.units[program.unit_at[a]].is_wide:
+        return ['other format'] if all(path == '??' or path in program.files for _, path, _ in theirs) else []
     why = []
     chain = of_chain(peer, program, a, theirs, why)
     if chain is None:

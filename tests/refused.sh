@@ -3,7 +3,7 @@
 # refusal. It has to pass each time. The words are crates; without any they are the crates of tests. Run it after
 # `rt test` in each of these has built its tests.
 . "$(dirname "$0")/programs.sh"
-[ $# -gt 0 ] || set -- reader_tests board_tests
+[ $# -gt 0 ] || set -- reader_tests answer_tests board_tests
 build_refuser
 
 # Refuses each allocation of a test in turn: the built tests of a crate, and its name.

@@ -58,7 +58,7 @@ cat > copy/crates/rows/src/main.rt <<'END'
 //! finds the rows of addresses, of 8 bytes each in a file.
 #![tactic(auto)]
 
-use dw_bytes::Cursor;
+use dw_bytes::{Cursor, Width};
 use dw_forms::{Bases, Tables};
 use dw_line::Lines;
 use std::io::Write;
@@ -89,7 +89,7 @@ fn read(
 ) -> Option<(usize, usize, usize)> {
     let section = fs::read(rt, path).ok()?;
     let tables = Tables { str: &[], line_str: &[], str_offsets: &[], addr: &[], rnglists: &[] };
-    let bases = Bases { str_offsets: None, addr: None, rnglists: None };
+    let bases = Bases { str_offsets: None, addr: None, rnglists: None, width: Width::Four };
     let mut cursor = Cursor::new(&section);
     let mut count: usize = 0;
     let mut kept: usize = 0;

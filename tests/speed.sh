@@ -4,7 +4,8 @@
 # in crates/a2l has built a2l. It prints times and ratios of one run, and tests nothing.
 . "$(dirname "$0")/programs.sh"
 need_a2l
-build_large "${1:-60}" large
+write_large "${1:-60}"
+build_units large
 
 # the least of five times, in milliseconds
 least() {

@@ -13,7 +13,9 @@ from model.program import Outcome, run
 LIMIT = 10  # seconds after which a run is given up
 
 MARKS = [0, 1, 0x401000, 0x401004, 0x40100e, 2 ** 63, 2 ** 64 - 2, 2 ** 64 - 1]
-BAD = ['', '0x', 'zz', '0x10000000000000000', '00000000000000001', '+1', '0x1 ', '1\r']
+LAST = 2 ** 64 - 1
+MOST_SPANS = 6  # of one run
+BAD = ['', '0x', 'zz', '0x10000000000000000', '00000000000000001', '+1', '0x1 ', '1\r', '2-1', '1-1', '1-', '1-2-3', '1-z']
 
 
 class GivenUp(Exception):
@@ -91,8 +93,36 @@ def addresses(random, image, most):
     return asked + random.sample(MARKS, 2)
 
 
+def border_near(random, found):
+    """A border, or an address beside one, or a mark."""
+    near = random.choice(found) + random.choice([-1, 0, 0, 0, 1]) if found and random.random() < 0.9 else random.choice(MARKS)
+    return min(max(near, 0), LAST)
+
+
+def spans(random, image, most):
+    """Short spans and long ones, mostly between borders, and all addresses."""
+    found = sorted(borders(image)) if image else []
+    asked = []
+    for _ in range(random.choice([0, 0, 1, 2, most])):
+        low = border_near(random, found)
+        high = random.choice([
+            lambda: min(low + random.randrange(1, 40), LAST),
+            lambda: border_near(random, found),
+            lambda: random.randrange(2 ** 64),
+            lambda: LAST,
+        ])()
+        ends = (low, high) if random.random() < 0.1 else (min(low, high), max(low, high))
+        asked.append(ends if random.random() < 0.8 else (0, LAST))
+    return asked
+
+
 def spelled(random, address):
     return random.choice(['%x', '0x%x', '0x%x', '0X%X', '%016x', '0x%016X']) % address
+
+
+def spelled_span(random, span):
+    low, high = span
+    return spelled(random, low) + '-' + spelled(random, high)
 
 
 @dataclass
@@ -107,6 +137,8 @@ def question(random, path, image, most):
     threads = random.choice([['--workers', '1'], ['--workers=1'], ['--workers', '3', '--senders', '2'], []])
     words = ['-e', path, *flags, *threads]
     asked = [spelled(random, address) for address in addresses(random, image, most)]
+    for span in spans(random, image, MOST_SPANS):
+        asked.insert(random.randrange(len(asked) + 1), spelled_span(random, span))
     if random.random() < 0.1:
         asked.insert(random.randrange(len(asked) + 1), random.choice(BAD))
     if random.random() < 0.8:

@@ -28,9 +28,11 @@ WIDE = [b'\xff' * 9 + b'\x02', b'\x80' * 9 + b'\x02', b'\x80' * 10 + b'\x01', b'
         b'\x80' * 9 + b'\x01', b'\xff' * 9 + b'\x01', b'\x80' * 9 + b'\x7f', b'\xff' * 8 + b'\x40',
         b'\x80' * 12 + b'\0']
 TEXTS = [b'', b'/', b'a/', b'/abs', b'x' * 200, b'\xff\xfe', b'two\nlines', b'.', b'..']
-# the field that says how many bytes follow it: the initial lengths of units and tables, and header_length
-LENGTHS = {(b'.debug_info', ('piece_at', 0)), (b'.debug_line', ('line_header', 0)),
-           (b'.debug_line', ('line_header', 4))}
+# the fields that say how many bytes follow them: the initial lengths of units and tables of both formats, and
+# header_length
+SHORT, LONG = ('initial_length', 0), ('initial_length', 1)
+LENGTHS = {(section, role) for section in (b'.debug_info', b'.debug_line') for role in (SHORT, LONG)}
+LENGTHS.add((b'.debug_line', ('line_header', 3)))
 
 
 @dataclass
@@ -169,21 +171,35 @@ def change_byte(random, base):
     return [Edit(section.name, at, section.content[at:at + 1], bytes([new]), 'changed a byte')]
 
 
+def is_length(field):
+    """It says how many bytes follow it, and isn't the escape before such a field."""
+    return (field.section, field.role) in LENGTHS and (field.role != SHORT or field.value < DW_LENGTH_RESERVED)
+
+
+def beginning(field):
+    """Where an initial length begins: a long one has the escape before it."""
+    return field.at - 4 if field.role == LONG else field.at
+
+
 def edit_units(random, base):
-    """A unit stands there twice, or not, or padding stands before it."""
-    fields = base.fields.get(b'.debug_info', {}).get('piece_at')
-    fields = [field for field in fields or [] if field.role == ('piece_at', 0)]
+    """A unit stands there twice, or not, or with a length of the other format, or padding stands before it."""
+    fields = [field for field in base.fields.get(b'.debug_info', {}).get('initial_length', []) if is_length(field)]
     if not fields:
         return change(random, base)
     field, other = random.choice(fields), random.choice(fields)
     content = content_of(base, field.section)
-    piece = content[field.at:field.end() + field.value]
+    at, length = beginning(field), content[beginning(field):field.end()]
+    piece = content[at:field.end() + field.value]
+    escape = number(DW_LENGTH_64BIT, 4)
     return [random.choice([
-        Edit(field.section, other.at, b'', piece, 'doubled a unit'),
-        Edit(field.section, field.at, piece, b'', 'dropped a unit'),
-        Edit(field.section, field.at, b'', bytes(4), 'padding'),
-        Edit(field.section, field.at, b'', bytes([3, 0, 0, 0, 5, 0, 6]), 'a split unit'),
-        Edit(field.section, field.at, b'', bytes([2, 0, 0, 0, random.randrange(6), 0]), 'a short unit'),
+        Edit(field.section, beginning(other), b'', piece, 'doubled a unit'),
+        Edit(field.section, at, piece, b'', 'dropped a unit'),
+        Edit(field.section, at, b'', bytes(4), 'padding'),
+        Edit(field.section, at, b'', escape + bytes(random.choice([4, 8, 8])), 'padding of the 64-bit format'),
+        Edit(field.section, at, length, escape + number(field.value, 8), 'the 64-bit format'),
+        Edit(field.section, at, length, number(field.value, 4), 'the 32-bit format'),
+        Edit(field.section, at, b'', bytes([3, 0, 0, 0, 5, 0, 6]), 'a split unit'),
+        Edit(field.section, at, b'', bytes([2, 0, 0, 0, random.randrange(6), 0]), 'a short unit'),
     ])]
 
 
@@ -202,7 +218,7 @@ def mended(base, edits):
         by = len(edit.new) - len(edit.old)
         for fields in base.fields.get(edit.section, {}).values() if by else ():
             for field in fields:
-                if (field.section, field.role) in LENGTHS and field.end() <= edit.at < field.end() + field.value:
+                if is_length(field) and field.end() <= edit.at < field.end() + field.value:
                     found.append(Edit(edit.section, field.at, field.raw, by, 'mended'))
     return found
 

@@ -1,5 +1,5 @@
-"""Makes small programs at random, most of which are accepted: units of all kinds with entries of all forms, range
-lists, line tables, and references across units."""
+"""Makes small programs at random, most of which are accepted: units of all kinds and both formats with entries of all
+forms, range lists, line tables of both formats, and references across units."""
 from model.dwarf import *
 
 from assemble import Section, elf_file, number, sleb, uleb
@@ -21,18 +21,24 @@ OTHER_FORMS = [DW_FORM_block, DW_FORM_block1, DW_FORM_block2, DW_FORM_block4, DW
                DW_FORM_sec_offset]
 SIZES = {DW_FORM_data1: 1, DW_FORM_data2: 2, DW_FORM_data4: 4, DW_FORM_data8: 8, DW_FORM_strx1: 1, DW_FORM_strx2: 2,
          DW_FORM_strx3: 3, DW_FORM_strx4: 4, DW_FORM_addrx1: 1, DW_FORM_addrx2: 2, DW_FORM_addrx3: 3,
-         DW_FORM_addrx4: 4, DW_FORM_ref1: 1, DW_FORM_ref2: 2, DW_FORM_ref4: 4, DW_FORM_ref8: 8, DW_FORM_ref_addr: 4,
-         DW_FORM_flag: 1, DW_FORM_flag_present: 0, DW_FORM_data16: 16, DW_FORM_ref_sig8: 8, DW_FORM_ref_sup4: 4,
-         DW_FORM_ref_sup8: 8, DW_FORM_strp_sup: 4, DW_FORM_GNU_ref_alt: 4, DW_FORM_GNU_strp_alt: 4,
-         DW_FORM_sec_offset: 4}
+         DW_FORM_addrx4: 4, DW_FORM_ref1: 1, DW_FORM_ref2: 2, DW_FORM_ref4: 4, DW_FORM_ref8: 8, DW_FORM_flag: 1,
+         DW_FORM_flag_present: 0, DW_FORM_data16: 16, DW_FORM_ref_sig8: 8, DW_FORM_ref_sup4: 4, DW_FORM_ref_sup8: 8}
+OFFSETS = {DW_FORM_ref_addr, DW_FORM_strp_sup, DW_FORM_GNU_ref_alt, DW_FORM_GNU_strp_alt, DW_FORM_sec_offset}
 COUNTS = {DW_FORM_block1: 1, DW_FORM_block2: 2, DW_FORM_block4: 4}
 IN_ULEB = {DW_FORM_udata, DW_FORM_strx, DW_FORM_addrx, DW_FORM_loclistx, DW_FORM_rnglistx}
 DW_TAG_compile_unit, DW_TAG_lexical_block, DW_TAG_variable = 0x11, 0x0b, 0x34
 RANGE_LISTS = 6  # that each unit names by index
 
 
-def spelled(form, value):
-    """A number by its form; where that stands in the declaration, nothing."""
+def initial_length(length, offset_size):
+    """A length of the format whose offsets have so many bytes."""
+    return number(length, 4) if offset_size == OFFSET_SIZE_32 else number(DW_LENGTH_64BIT, 4) + number(length, 8)
+
+
+def spelled(form, value, offset_size):
+    """A number by its form, where offsets have so many bytes; where it stands in the declaration, nothing."""
+    if form in OFFSETS:
+        return number(value, offset_size)
     if form in SIZES:
         return number(value, SIZES[form])
     if form in IN_ULEB:
@@ -48,7 +54,7 @@ class Generator:
         self.info, self.abbrev, self.line = bytearray(), bytearray(), bytearray()
         self.str, self.line_str = bytearray(b'\0'), bytearray(b'\0')
         self.str_offsets, self.addr, self.rnglists = bytearray(8), bytearray(8), bytearray(12)
-        self.references = []  # the places of references, each with its form and its unit's offset
+        self.references = []  # the places of references, each with its form, its unit's offset and that's offset size
         self.entries = []     # the offsets of entries
         self.tables = []      # the offsets of line tables
 
@@ -69,25 +75,30 @@ class Generator:
 
     def unit(self, index):
         self.offset = len(self.info)
+        # of the offsets that are spelled, and of those that the unit names by index
+        self.offset_size = self.indexed_size = self.random.choice([OFFSET_SIZE_32, OFFSET_SIZE_32, OFFSET_SIZE_64])
         self.low, self.high = 0x1000 * (index + 1), 0x1000 * (index + 1) + 0x100
         self.str_base, self.addr_base, self.ranges_base = len(self.str_offsets), len(self.addr), len(self.rnglists)
-        self.rnglists += self.random.randbytes(4 * RANGE_LISTS)
+        size = self.offset_size
+        self.rnglists += self.random.randbytes(size * RANGE_LISTS)
         for i in range(RANGE_LISTS):
-            self.rnglists[self.ranges_base + 4 * i:self.ranges_base + 4 * i + 4] = number(
-                self.range_list(self.low, self.high) - self.ranges_base, 4)
+            at = self.ranges_base + size * i
+            self.rnglists[at:at + size] = number(self.range_list(self.low, self.high) - self.ranges_base, size)
         unit_type = self.random.choice([1, 1, 1, 1, 1, 3, 4, 4, 2, 5])
         version = 4 if self.flip(12) else 5
         abbrev_offset = len(self.abbrev)
         self.declare()
         more = {4: 8, 5: 8, 2: 12}.get(unit_type, 0)
-        header = number(version, 2) + bytes([unit_type, 8]) + number(abbrev_offset, 4) + self.random.randbytes(more)
-        self.info += bytes(4) + header
+        header = number(version, 2) + bytes([unit_type, 8]) + number(abbrev_offset, size) + self.random.randbytes(more)
+        unfilled = initial_length(0, size)
+        self.info += unfilled + header
         self.entry(1, 0, self.low, self.high)
         if self.flip(6):
             self.info += bytes(self.random.randrange(4))
-        self.info[self.offset:self.offset + 4] = number(len(self.info) - self.offset - 4, 4)
+        behind = self.offset + len(unfilled)
+        self.info[self.offset:behind] = initial_length(len(self.info) - behind, size)
         if self.flip(8):
-            self.info += bytes(4)
+            self.info += initial_length(0, self.random.choice([OFFSET_SIZE_32, OFFSET_SIZE_64]))
 
     def declare(self):
         """The declarations of a unit: the first entry's, and some others. Code 1 is the root's."""
@@ -175,41 +186,41 @@ class Generator:
         if form in ADDRESS_FORMS:
             return self.address(form, high if name == DW_AT_high_pc else low)
         if form in REFERENCE_FORMS:
-            self.references.append((len(self.info), form, self.offset))
-            return spelled(form, 0)
+            self.references.append((len(self.info), form, self.offset, self.offset_size))
+            return spelled(form, 0, self.offset_size)
         if name == DW_AT_high_pc and form in CONSTANT_FORMS:
-            return spelled(form, high - low)
+            return spelled(form, high - low, self.offset_size)
         if form == DW_FORM_sec_offset:
-            return number(self.section_offset(name, low, high), 4)
+            return number(self.section_offset(name, low, high), self.offset_size)
         if form == DW_FORM_rnglistx:
             return uleb(self.random.randrange(RANGE_LISTS + self.flip(10)))
         if form == DW_FORM_sdata and self.flip(5):
             return sleb(-self.random.randrange(100))
-        if form in SIZES and form not in CONSTANT_FORMS:
-            return self.random.randbytes(SIZES[form])
+        if form in OFFSETS or form in SIZES and form not in CONSTANT_FORMS:
+            return self.random.randbytes(len(spelled(form, 0, self.offset_size)))
         if form in COUNTS or form in (DW_FORM_block, DW_FORM_exprloc):
             content = self.random.randbytes(self.random.randrange(5))
             return (number(len(content), COUNTS[form]) if form in COUNTS else uleb(len(content))) + content
-        return spelled(form, self.random.choice([0, 1, 1, 2, 3, 5, 30, 127, 200]))
+        return spelled(form, self.random.choice([0, 1, 1, 2, 3, 5, 30, 127, 200]), self.offset_size)
 
     def text(self, form, text):
         if form == DW_FORM_string:
             return text + b'\0'
         if form == DW_FORM_line_strp:
             self.line_str += text + b'\0'
-            return number(len(self.line_str) - len(text) - 1, 4)
+            return number(len(self.line_str) - len(text) - 1, self.offset_size)
         self.str += text + b'\0'
-        offset = number(len(self.str) - len(text) - 1, 4)
+        offset, size = len(self.str) - len(text) - 1, self.indexed_size
         if form == DW_FORM_strp:
-            return offset
-        self.str_offsets += offset
-        return spelled(form, (len(self.str_offsets) - 4 - self.str_base) // 4)
+            return number(offset, self.offset_size)
+        self.str_offsets += number(offset, size)
+        return spelled(form, (len(self.str_offsets) - size - self.str_base) // size, self.offset_size)
 
     def address(self, form, address):
         if form == DW_FORM_addr:
             return number(address, 8)
         self.addr += number(address, 8)
-        return spelled(form, (len(self.addr) - 8 - self.addr_base) // 8)
+        return spelled(form, (len(self.addr) - 8 - self.addr_base) // 8, self.offset_size)
 
     def section_offset(self, name, low, high):
         if name == DW_AT_stmt_list:
@@ -224,9 +235,9 @@ class Generator:
         return bases.get(name, self.random.randrange(64))
 
     def settle_references(self):
-        for at, form, unit in self.references:
+        for at, form, unit, offset_size in self.references:
             target = self.random.choice(self.entries) + (self.random.randrange(-3, 4) if self.flip(12) else 0)
-            new = spelled(form, target if form == DW_FORM_ref_addr else max(0, target - unit))
+            new = spelled(form, target if form == DW_FORM_ref_addr else max(0, target - unit), offset_size)
             self.info[at:at + len(new)] = new
 
     # ---- range lists
@@ -255,6 +266,8 @@ class Generator:
     # ---- line tables
 
     def line_table(self):
+        """Adds a table, in a format of its own."""
+        self.offset_size = self.random.choice([OFFSET_SIZE_32, OFFSET_SIZE_64, self.indexed_size, self.indexed_size])
         self.opcode_base = self.random.choice([13, 13, 13, 10, 14, 16, 1, 4])
         self.line_range = self.random.choice([14, 14, 12, 1, 255])
         lengths = bytes([0, 1, 1, 1, 1, 0, 0, 0, 1, 0, 0, 1, 2, 0, 1])[:self.opcode_base - 1]
@@ -265,8 +278,9 @@ class Generator:
         program = b''.join(self.sequence() for _ in range(self.random.randrange(1, 4)))
         if self.flip(4):
             program += b'\x01'
-        table = number(5, 2) + bytes([8, 0]) + number(len(fields), 4) + fields + program
-        self.line += number(len(table), 4) + table
+        table = number(5, 2) + bytes([8, 0]) + number(len(fields), self.offset_size) + fields + program
+        self.line += initial_length(len(table), self.offset_size) + table
+        self.offset_size = self.indexed_size
 
     def entry_list(self, count):
         formats = [(DW_LNCT_path, self.random.choice(TEXT_FORMS))] if not self.flip(20) else []
@@ -284,7 +298,7 @@ class Generator:
                 elif form in (DW_FORM_data16, DW_FORM_block):
                     found += self.value(0, form, 0, 1)
                 else:
-                    found += spelled(form, self.random.randrange(4))
+                    found += spelled(form, self.random.randrange(4), self.offset_size)
         return found
 
     def sequence(self):

@@ -32,12 +32,15 @@ def section_of(file, section):
 # ---- whole runs: a file, words behind `-e FILE`, the input, and what is written
 
 
-def overlapping(units):
-    """A unit over 0x1000 to 0x3000 without lines, and one over 0x2000 to 0x2010 with lines, in some order."""
+def overlapping(units, program='14' '0210' '000101'):
+    """A unit over 0x1000 to 0x3000 without lines, and one over 0x2000 to 0x2010 with the lines of a program that begins
+    at 0x2000, in some order; those of capital letters have the 64-bit format."""
     abbrev = hex_of('011100110112060000' '021100101711011206000000')
     made = {'x': unit(hex_of('01' '0010000000000000' '00200000')),
-            'y': unit(hex_of('02' '00000000' '0020000000000000' '10000000'))}
-    table = line_table(hex_of('000902' '0020000000000000' '14' '0210' '000101'))
+            'y': unit(hex_of('02' '00000000' '0020000000000000' '10000000')),
+            'X': unit(hex_of('01' '0010000000000000' '00200000'), offset_size=8),
+            'Y': unit(hex_of('02' '0000000000000000' '0020000000000000' '10000000'), offset_size=8)}
+    table = line_table(hex_of('000902' '0020000000000000') + hex_of(program))
     return file_of(b''.join(made[one] for one in units), abbrev, table)
 
 
@@ -63,6 +66,10 @@ def answers(inlined, mixed):
         (poked(inlined, (64 + 0x23, b'\x63')), '401000', '', 1, '!unit 0x0 fault 1\n'),
         (overlapping('xy'), '-f 2000', '', 0, '??\n??:0\n'),
         (overlapping('yx'), '-f 2000', '', 0, '??\n/w/a.c:3\n'),
+        (overlapping('Xy'), '-f 2000', '', 0, '??\n??:0\n'),
+        (overlapping('Yx'), '-f 2000', '', 0, '??\n/w/a.c:3\n'),
+        (overlapping('Xy'), '--units', '', 0, '0x0 version 5 compile\n0x25 version 5 compile\n'),
+        (overlapping('Yx'), '--units', '', 0, '0x0 version 5 compile\n0x2d version 5 compile\n'),
         (file_of(info + more, abbrev, line), '-f -i 401004 500001 401004 500004', '', 0, (inner + '??\n??:0\n') * 2),
         (faulty, '-f', '0x401000\nzz\n\n0x500001\n', 1, '!unit 0x0 fault 1\n!bad address\n!bad address\n??\n??:0\n'),
         (faulty, '-f --workers 64 --senders 3', '0x401000\n500001', 1, '!unit 0x0 fault 1\n??\n??:0\n'),
@@ -90,11 +97,60 @@ def answers(inlined, mixed):
     ]
 
 
+def piece(begin, end, location):
+    return f'0x{begin:016x}-0x{end:016x} {location}\n'
+
+
+def spans(inlined):
+    """The same of runs that ask for spans."""
+    both = piece(0x401000, 0x401004, '/w/a.c:3') + piece(0x401004, 0x40100e, '/w/a.c:4')
+    one = piece(0x2000, 0x2010, '/w/a.c:3')
+    bad = '!bad address\n'
+    return [
+        (inlined, '400000-500000', '', 0, both),
+        (inlined, '-f -i 0-ffffffffffffffff', '', 0, both),
+        (inlined, '401002-401006', '', 0, piece(0x401002, 0x401004, '/w/a.c:3') + piece(0x401004, 0x401006, '/w/a.c:4')),
+        (inlined, '400000-401000', '', 0, '??:0\n'),
+        (inlined, '-a 400000-401000', '', 0, '0x0000000000400000-0x0000000000401000\n??:0\n'),
+        (inlined, '-a -f', '0x401003-0X401004\r\n401000\n', 0, '0x0000000000401003-0x0000000000401004\n'
+         + piece(0x401003, 0x401004, '/w/a.c:3') + '0x0000000000401000\nmain\n/w/a.c:3\n'),
+        # the first isn't below the second; one of them is no address, or there are more than two
+        *((inlined, word, '', 1, bad) for word in (
+            '401000-401000', '401004-401000', '401000-', '401000-zz', 'zz-401000', '401000-10000000000000000',
+            '401000--401004', '401000-401004-401008', '401000-401004-', '401000_401004')),
+        (inlined, '', '-401000\n401000 -401004\n-\n', 1, bad * 3),
+        # the unit that stands first answers, whichever covers more
+        (overlapping('yx'), '1000-3000', '', 0, one),
+        (overlapping('xy'), '1000-3000', '', 0, '??:0\n'),
+        (overlapping('YX'), '1000-3000', '', 0, one),
+        # two rows of one location are one piece, two of different columns are two, and line 0 takes its column away
+        (overlapping('y', '14' '20' '020f' '000101'), '2000-2010', '', 0, one),
+        (overlapping('y', '14' '0504' '20' '020f' '000101'), '2000-2010', '', 0,
+         piece(0x2000, 0x2001, '/w/a.c:3') + piece(0x2001, 0x2010, '/w/a.c:3')),
+        (overlapping('y', '037f' '01' '0504' '0202' '01' '020e' '000101'), '2000-2010', '', 0,
+         piece(0x2000, 0x2010, '/w/a.c:?')),
+        # of one file and of one that isn't there
+        (overlapping('y', '14' '0402' '20' '020f' '000101'), '2000-2010', '', 0,
+         piece(0x2000, 0x2001, '/w/a.c:3') + piece(0x2001, 0x2010, '??:3')),
+        # a sequence that ends before the unit, and one behind it that touches it
+        (overlapping('y', '14' '0204' '000101' '000902' '0420000000000000' '14' '0204' '000101'), '0-ffffffffffffffff',
+         '', 0, piece(0x2000, 0x2008, '/w/a.c:3')),
+        # no .debug_line: the fault of the first address of the unit, and none where the span has none
+        (poked(inlined, (354, b'x')), '400000-401001', '', 1, '!unit 0x0 fault 4\n'),
+        (poked(inlined, (354, b'x')), '-a -i 40100d-40100e 40100e-401010', '', 1,
+         '0x000000000040100d-0x000000000040100e\n!unit 0x0 fault 4\n'
+         '0x000000000040100e-0x0000000000401010\n??:0\n'),
+        # entries that can't be read are no fault of a span
+        (poked(inlined, (64 + 0x23, b'\x63')), '401003-401005 401003', '', 1,
+         piece(0x401003, 0x401004, '/w/a.c:3') + piece(0x401004, 0x401005, '/w/a.c:4') + '!unit 0x0 fault 1\n'),
+    ]
+
+
 def refusals(inlined):
     """The first sample changed at a place, and why it is refused; behind these, of a run that answers alone."""
     changed = [(0, b'\0', '1 NotElf'), (4, b'\1', '2 NotElf64Little'), (5, b'\2', '2 NotElf64Little'),
                (16, b'\1', '3 Relocatable'), (58, b'\x3f', '4 SectionTable'), (64, b'\x58', '7 UnitHeader 0x5c'),
-               (64, b'\xff\xff\xff\xff', '8 WideFormat 0x0'), (71, b'\4', '9 AddressSize 0x0'),
+               (64, b'\xff\xff\xff\xff', '7 UnitHeader 0x0'), (71, b'\4', '9 AddressSize 0x0'),
                (567, b'\x08', '6 Compressed .debug_line'), (344, b'.zdebug_line\0', '6 Compressed .debug_line'),
                (366 + 3 * 64 + 33, b'\4', '5 SectionRange .debug_line'), (174, b'\x08', '10 Root 0x0'),
                (167, b'\0', '10 Root 0x5b'), (167, b'\x09', '10 Root 0x5b'), (167, b'\2', '10 Root 0x5b')]
@@ -117,7 +173,7 @@ SPELLINGS = ['-eFILE --units', '--units -fia -e FILE', '--units --workers=64 --s
 
 def runs(inlined, mixed):
     """A file, words, an input, and the outcome."""
-    for file, words, given, status, text in answers(inlined, mixed):
+    for file, words, given, status, text in answers(inlined, mixed) + spans(inlined):
         yield file, ['-e', 'FILE', *words.split()], given, Outcome(text.encode(), b'', status)
     for file, words, why in refusals(inlined):
         yield file, ['-e', 'FILE', *words.split()], '', Outcome(b'', f'a2l: file refused: {why}\n'.encode(), 2)
@@ -181,6 +237,10 @@ VALUES = [
     (DW_FORM_GNU_ref_alt, '01020304', (Kind.UNUSED, 0x04030201)),
     (DW_FORM_GNU_strp_alt, '01020304', (Kind.UNUSED, 0x04030201)), (DW_FORM_indirect, '160b07', (Kind.UNSIGNED, 7)),
 ]
+# the forms whose values have eight bytes in the 64-bit format, and four in the 32-bit one
+OFFSETS = [(DW_FORM_ref_addr, Kind.SECTION_REF), (DW_FORM_strp, Kind.STR), (DW_FORM_line_strp, Kind.LINE_STR),
+           (DW_FORM_sec_offset, Kind.SECTION_OFFSET), (DW_FORM_strp_sup, Kind.UNUSED),
+           (DW_FORM_GNU_ref_alt, Kind.UNUSED), (DW_FORM_GNU_strp_alt, Kind.UNUSED)]
 NO_VALUES = [(0, '01'), (2, '01'), (0x2d, '01'), (0x1f01, '01020304'), (0x1f02, '01020304'), (DW_FORM_indirect, '2101'),
              (DW_FORM_indirect, '1616'), (DW_FORM_block, '0501'), (DW_FORM_string, '6162'),
              (DW_FORM_udata, 'ff' * 9 + '02'), (DW_FORM_udata, 'ff' * 10), (DW_FORM_sdata, '80' * 9 + '01')]
@@ -199,16 +259,19 @@ def is_read(read, *words):
 def check_values():
     for form, spelling, value in VALUES:
         reader = Reader(hex_of(spelling))
-        assert value_at(reader, form, None) == value and reader.left() == 0, form
-        assert is_read(value_at, Reader(hex_of(spelling)[:-1]), form, None) is None, form
+        assert value_at(reader, form, None, 4) == value and reader.left() == 0, form
+        assert is_read(value_at, Reader(hex_of(spelling)[:-1]), form, None, 4) is None, form
     for form, spelling in NO_VALUES:
-        assert is_read(value_at, Reader(hex_of(spelling)), form, 1) is None, form
-    assert value_at(Reader(b''), DW_FORM_flag_present, None) == (Kind.FLAG, 1)
-    assert value_at(Reader(b''), DW_FORM_implicit_const, -3) == (Kind.SIGNED, -3)
-    assert is_read(value_at, Reader(b''), DW_FORM_implicit_const, None) is None
+        assert is_read(value_at, Reader(hex_of(spelling)), form, 1, 4) is None, form
+    assert value_at(Reader(b''), DW_FORM_flag_present, None, 4) == (Kind.FLAG, 1)
+    assert value_at(Reader(b''), DW_FORM_implicit_const, -3, 4) == (Kind.SIGNED, -3)
+    assert is_read(value_at, Reader(b''), DW_FORM_implicit_const, None, 4) is None
+    for form, kind in OFFSETS:
+        reader = Reader(hex_of('0102030405060708'))
+        assert value_at(reader, form, None, 8) == (kind, 0x0807060504030201) and reader.left() == 0, form
     for kind, spelling, value in LEBS:
         assert getattr(Reader(hex_of(spelling)), kind)() == value, spelling
-    return len(VALUES) + len(NO_VALUES) + len(LEBS) + 3
+    return len(VALUES) + len(NO_VALUES) + len(LEBS) + len(OFFSETS) + 3
 
 
 # ---- ranges: units with the bases 8 of addresses and 4 of range lists, with none, and with these and an address

@@ -2,6 +2,8 @@
 programs of compilers."""
 import os
 
+from model.dwarf import DW_LENGTH_64BIT, OFFSET_SIZE_32, OFFSET_SIZE_64
+
 from assemble import Section, elf_file, number
 from damage import base_of
 from fields import fields_of
@@ -10,15 +12,19 @@ TABLE = bytes.fromhex('010101fb0e0d00010101010000000100000101010801' '2f77000201
 PROGRAM = bytes.fromhex('0009020010400000000000144b020a000101')  # 0x401000 line 3, 0x401004 line 4, end 0x40100e
 
 
-def line_table(program, fields=TABLE):
+def line_table(program, fields=TABLE, offset_size=OFFSET_SIZE_32):
     """Directory 0 is `/w`; file 0 is `z.c` and file 1 is `a.c`, in it."""
-    table = number(5, 2) + bytes([8, 0]) + number(len(fields), 4) + fields + program
-    return number(len(table), 4) + table
+    table = number(5, 2) + bytes([8, 0]) + number(len(fields), offset_size) + fields + program
+    return initial_length(len(table), offset_size) + table
 
 
-def unit(entries, unit_type=1, abbrev=0):
-    body = number(5, 2) + bytes([unit_type, 8]) + number(abbrev, 4) + entries
-    return number(len(body), 4) + body
+def initial_length(length, offset_size):
+    return number(length, 4) if offset_size == OFFSET_SIZE_32 else number(DW_LENGTH_64BIT, 4) + number(length, 8)
+
+
+def unit(entries, unit_type=1, abbrev=0, offset_size=OFFSET_SIZE_32):
+    body = number(5, 2) + bytes([unit_type, 8]) + number(abbrev, offset_size) + entries
+    return initial_length(len(body), offset_size) + body
 
 
 def file_of(info, abbrev, line=b'', **more):
@@ -69,11 +75,33 @@ def pathed(directories, files, comp_dir):
     return file_of(unit(b'\x01' + bytes(4) + number(0x401000, 8) + number(14, 4) + comp_dir + b'\0'), abbrev, table)
 
 
+def formats(widths):
+    """Units of these offset sizes over one table of abbreviations, each with a function that has the name of the one
+    before it, a text by index, a range list by index and a line table of its own size or of the other one."""
+    abbrev = bytes.fromhex('011101' '1017' '7217' '7417' '5523' '0325' '0000' '022e00' '1101' '1206' '3110' '0310' '0000'
+                           '032e00' '1101' '1206' '0325' '0000' '00')
+    info, line, str_offsets, rnglists = b'', b'', b'', b''
+    for i, size in enumerate(widths):
+        at, before = 0x1000 * (i + 1), len(info)
+        root = b'\x01' + b''.join(number(n, size) for n in (len(line), len(str_offsets), len(rnglists))) + b'\1\0'
+        named = b'\x03' + number(at, 8) + number(8, 4) + b'\1'
+        origin = before + (12 if size == OFFSET_SIZE_32 else 24) + len(root)
+        other = b'\x02' + number(at + 8, 8) + number(8, 4) + number(origin, size) + number(0, size)
+        info += unit(root + named + other + b'\0', offset_size=size)
+        str_offsets += number(i, size) + number(i + 3, size)
+        rnglists += number(0, size) + number(2 * size, size) + b'\x07' + number(at, 8) + b'\x10\0'
+        program = b'\0\x09\x02' + number(at, 8) + b'\x14\x4b\x02\x0c\0\x01\x01'
+        line += line_table(program, offset_size=widths[i - 1])
+    return file_of(info, abbrev, line, str=b'first\0second\0third\0', str_offsets=str_offsets, rnglists=rnglists)
+
+
 def handmade(sample):
     """Files by name, of which some have parts of the first sample."""
     sections = {section.name: section.content for section in base_of('', sample, lambda file: {}).sections}
     info, abbrev, line = (sections[name] for name in (b'.debug_info', b'.debug_abbrev', b'.debug_line'))
     return {
+        'formats': formats([OFFSET_SIZE_64, OFFSET_SIZE_32]),
+        'formats-of-four': formats([OFFSET_SIZE_32, OFFSET_SIZE_64, OFFSET_SIZE_64, OFFSET_SIZE_32]),
         'followed': file_of(followed(info, 3), abbrev, line),
         'skeletons': file_of(skeletons(), abbrev, line),
         'deep-512': deep(512), 'deep-513': deep(513),

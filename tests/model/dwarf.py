@@ -2,9 +2,9 @@
 
 DWARF_VERSION = 5
 ADDRESS_SIZE = 8
-OFFSET_SIZE = 4  # of the 32-bit format (section 7.4)
-DW_LENGTH_RESERVED = 0xfffffff0  # the first initial length that is none (section 7.4)
-DW_LENGTH_64BIT = 0xffffffff
+OFFSET_SIZE_32, OFFSET_SIZE_64 = 4, 8  # of the two formats (section 7.4)
+DW_LENGTH_RESERVED = 0xfffffff0  # the first initial length that is none (section 7.2.2)
+DW_LENGTH_64BIT = 0xffffffff  # the escape before a length of the 64-bit format (section 7.4)
 
 # unit types (table 7.2)
 DW_UT_compile, DW_UT_partial, DW_UT_skeleton = 0x01, 0x03, 0x04

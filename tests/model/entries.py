@@ -73,22 +73,26 @@ class Kind(Enum):
 
 
 def fixed(size, kind):
-    return lambda reader, constant: (kind, reader.number(size))
+    return lambda reader, constant, offset_size: (kind, reader.number(size))
+
+
+def offset(kind):
+    return lambda reader, constant, offset_size: (kind, reader.number(offset_size))
 
 
 def in_uleb(kind):
-    return lambda reader, constant: (kind, reader.uleb())
+    return lambda reader, constant, offset_size: (kind, reader.uleb())
 
 
 def counted(size):
-    return lambda reader, constant: (Kind.BYTES, reader.take(reader.number(size)))
+    return lambda reader, constant, offset_size: (Kind.BYTES, reader.take(reader.number(size)))
 
 
-def uleb_counted(reader, constant):
+def uleb_counted(reader, constant, offset_size):
     return Kind.BYTES, reader.take(reader.uleb())
 
 
-def implicit(reader, constant):
+def implicit(reader, constant, offset_size):
     if constant is None:
         raise Unreadable
     return Kind.SIGNED, constant
@@ -102,29 +106,29 @@ FORMS = {
     DW_FORM_data2: fixed(2, Kind.UNSIGNED),
     DW_FORM_data4: fixed(4, Kind.UNSIGNED),
     DW_FORM_data8: fixed(8, Kind.UNSIGNED),
-    DW_FORM_string: lambda reader, constant: (Kind.INLINE, reader.text()),
+    DW_FORM_string: lambda reader, constant, offset_size: (Kind.INLINE, reader.text()),
     DW_FORM_block: uleb_counted,
     DW_FORM_block1: counted(1),
     DW_FORM_data1: fixed(1, Kind.UNSIGNED),
     DW_FORM_flag: fixed(1, Kind.FLAG),
-    DW_FORM_sdata: lambda reader, constant: (Kind.SIGNED, reader.sleb()),
-    DW_FORM_strp: fixed(OFFSET_SIZE, Kind.STR),
+    DW_FORM_sdata: lambda reader, constant, offset_size: (Kind.SIGNED, reader.sleb()),
+    DW_FORM_strp: offset(Kind.STR),
     DW_FORM_udata: in_uleb(Kind.UNSIGNED),
-    DW_FORM_ref_addr: fixed(OFFSET_SIZE, Kind.SECTION_REF),
+    DW_FORM_ref_addr: offset(Kind.SECTION_REF),
     DW_FORM_ref1: fixed(1, Kind.UNIT_REF),
     DW_FORM_ref2: fixed(2, Kind.UNIT_REF),
     DW_FORM_ref4: fixed(4, Kind.UNIT_REF),
     DW_FORM_ref8: fixed(8, Kind.UNIT_REF),
     DW_FORM_ref_udata: in_uleb(Kind.UNIT_REF),
-    DW_FORM_sec_offset: fixed(OFFSET_SIZE, Kind.SECTION_OFFSET),
+    DW_FORM_sec_offset: offset(Kind.SECTION_OFFSET),
     DW_FORM_exprloc: uleb_counted,
-    DW_FORM_flag_present: lambda reader, constant: (Kind.FLAG, 1),
+    DW_FORM_flag_present: lambda reader, constant, offset_size: (Kind.FLAG, 1),
     DW_FORM_strx: in_uleb(Kind.STR_INDEX),
     DW_FORM_addrx: in_uleb(Kind.ADDRESS_INDEX),
     DW_FORM_ref_sup4: fixed(4, Kind.UNUSED),
-    DW_FORM_strp_sup: fixed(OFFSET_SIZE, Kind.UNUSED),
-    DW_FORM_data16: lambda reader, constant: (Kind.BYTES, reader.take(16)),
-    DW_FORM_line_strp: fixed(OFFSET_SIZE, Kind.LINE_STR),
+    DW_FORM_strp_sup: offset(Kind.UNUSED),
+    DW_FORM_data16: lambda reader, constant, offset_size: (Kind.BYTES, reader.take(16)),
+    DW_FORM_line_strp: offset(Kind.LINE_STR),
     DW_FORM_ref_sig8: fixed(8, Kind.UNUSED),
     DW_FORM_implicit_const: implicit,
     DW_FORM_loclistx: in_uleb(Kind.UNUSED),
@@ -138,20 +142,20 @@ FORMS = {
     DW_FORM_addrx2: fixed(2, Kind.ADDRESS_INDEX),
     DW_FORM_addrx3: fixed(3, Kind.ADDRESS_INDEX),
     DW_FORM_addrx4: fixed(4, Kind.ADDRESS_INDEX),
-    DW_FORM_GNU_ref_alt: fixed(OFFSET_SIZE, Kind.UNUSED),
-    DW_FORM_GNU_strp_alt: fixed(OFFSET_SIZE, Kind.UNUSED),
+    DW_FORM_GNU_ref_alt: offset(Kind.UNUSED),
+    DW_FORM_GNU_strp_alt: offset(Kind.UNUSED),
 }
 
 
-def value_at(reader, form, constant):
-    """The value of a form: its kind, and its number or bytes. Behind DW_FORM_indirect stands another form, which has no
-    number in the declaration (section 7.5.6)."""
+def value_at(reader, form, constant, offset_size):
+    """The value of a form: its kind, and its number or bytes, where offsets have so many bytes. Behind DW_FORM_indirect
+    stands another form, which has no number in the declaration (section 7.5.6)."""
     while form == DW_FORM_indirect:
         form, constant = reader.uleb(), None
     spelled_at = FORMS.get(form)
     if spelled_at is None:
         raise Unreadable
-    return spelled_at(reader, constant)
+    return spelled_at(reader, constant, offset_size)
 
 
 # ---- entries (section 7.5.2)
@@ -167,8 +171,8 @@ class Entry:
     attributes: list
 
 
-def entry_at(reader, declarations):
-    """The entry at a place; none at code 0, a null entry, which ends a list of children."""
+def entry_at(reader, declarations, offset_size):
+    """The entry at a place, where offsets have so many bytes; none at code 0, a null entry, which ends a list of children."""
     offset = reader.at
     code = reader.uleb()
     if code == 0:
@@ -176,7 +180,8 @@ def entry_at(reader, declarations):
     declaration = declarations.get(code)
     if declaration is None:
         raise Unreadable
-    attributes = [(one.name, value_at(reader, one.form, one.constant)) for one in declaration.specifications]
+    attributes = [(one.name, value_at(reader, one.form, one.constant, offset_size))
+                  for one in declaration.specifications]
     return Entry(offset, declaration.tag, declaration.children, attributes)
 
 

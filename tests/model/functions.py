@@ -68,7 +68,7 @@ class Tree:
 
     def next_entry(self, reader):
         try:
-            return entry_at(reader, self.info.abbreviations(self.unit))
+            return entry_at(reader, self.info.abbreviations(self.unit), self.unit.offset_size)
         except Unreadable:
             raise Faulty(Fault.ENTRY) from None
 

@@ -46,27 +46,29 @@ def formats_at(reader):
     return formats
 
 
-def entry_list(reader, info, bases):
-    """Directories or files: their formats, how many entries there are, and those, a value of each format. A number of
-    entries above that of the bytes left is bad (section 6.2.4.1)."""
+def entry_list(reader, info, bases, offset_size):
+    """Directories or files: their formats, how many entries there are, and those, a value of each format, where offsets
+    have so many bytes. A number of entries above that of the bytes left is bad (section 6.2.4.1)."""
     formats = formats_at(reader)
     count = reader.uleb()
     if count > reader.left():
         raise Unreadable
-    return [line_entry(info, bases, [(content, value_at(reader, form, None)) for content, form in formats])
+    return [line_entry(info, bases, [(content, value_at(reader, form, None, offset_size))
+                                     for content, form in formats])
             for _ in range(count)]
 
 
 def line_header(info, bases, offset):
-    """The header of the table at an offset of .debug_line. The program begins header_length bytes behind that field,
-    and what stands between the header's fields and the program is passed by."""
+    """The header of the table at an offset of .debug_line, in the format of its own length. The program begins
+    header_length bytes behind that field, and what stands between the header's fields and the program is passed
+    by."""
     reader = Reader(info.line, offset)
-    unit_length = reader.number(4)
-    if unit_length >= DW_LENGTH_RESERVED or unit_length > reader.left():
+    unit_length, offset_size = reader.initial_length()
+    if unit_length > reader.left():
         raise Unreadable
     table = Reader(info.line, reader.at, reader.at + unit_length)
     version, address_size, segment_selector_size = table.number(2), table.number(1), table.number(1)
-    header_length = table.number(OFFSET_SIZE)
+    header_length = table.number(offset_size)
     if header_length > table.left() or version != DWARF_VERSION or address_size != ADDRESS_SIZE:
         raise Unreadable
     fields = Reader(info.line, table.at, table.at + header_length)
@@ -77,8 +79,8 @@ def line_header(info, bases, offset):
     if maximum_operations_per_instruction != 1 or line_range == 0 or opcode_base == 0:
         raise Unreadable
     standard_opcode_lengths = fields.take(opcode_base - 1)
-    directories = entry_list(fields, info, bases)
-    files = entry_list(fields, info, bases)
+    directories = entry_list(fields, info, bases, offset_size)
+    files = entry_list(fields, info, bases, offset_size)
     return LineHeader(minimum_instruction_length, line_base, line_range, opcode_base, standard_opcode_lengths,
                       directories, files, program)
 

@@ -101,6 +101,22 @@ def address_in(text):
     return None if found is None else int(found[1], 16)
 
 
+@dataclass
+class Span:
+    """The addresses from `low` on and before `high`."""
+    low: int
+    high: int
+
+
+def query_in(text):
+    """An address, or a span `LOW-HIGH` of two addresses with the first below the second; else nothing is asked."""
+    first, dash, second = text.partition(b'-')
+    if not dash:
+        return address_in(text)
+    low, high = address_in(first), address_in(second)
+    return Span(low, high) if low is not None and high is not None and low < high else None
+
+
 # ---- the text
 
 
@@ -122,25 +138,46 @@ def frame_lines(options, frame):
     return (name + b'\n' if options.functions else b'') + location_text(frame.location) + b'\n'
 
 
-def answer_lines(options, address, answer):
-    """The address with -a; then the fault of its unit, or its frames, or without -i the innermost alone."""
-    before = b'0x%016x\n' % address if options.addresses else b''
+def span_text(low, high):
+    return b'0x%016x-0x%016x' % (low, high)
+
+
+def piece_lines(pieces):
+    """For each piece its addresses and its location; without pieces, what an address is of which nothing is known."""
+    lines = (b'%s %s\n' % (span_text(piece.begin, piece.end), location_text(piece.location)) for piece in pieces)
+    return b''.join(lines) or b'??:0\n'
+
+
+def query_line(query):
+    """The address or the span itself."""
+    return (span_text(query.low, query.high) if isinstance(query, Span) else b'0x%016x' % query) + b'\n'
+
+
+def answer_lines(options, answer):
+    """The fault of a unit; or the pieces of a span; or the frames of an address, without -i the innermost alone."""
     if answer.fault is not None:
-        return before + b'!unit 0x%x fault %d\n' % (answer.unit.offset, answer.fault)
+        return b'!unit 0x%x fault %d\n' % (answer.unit.offset, answer.fault)
+    if answer.pieces is not None:
+        return piece_lines(answer.pieces)
     frames = answer.frames if options.inlines else answer.frames[:1]
-    return before + b''.join(frame_lines(options, frame) for frame in frames)
+    return b''.join(frame_lines(options, frame) for frame in frames)
+
+
+def answer_of(image, query):
+    return image.pieces(query.low, query.high) if isinstance(query, Span) else image.answer(query)
 
 
 def text(options, image, asked):
-    """What is written for these inputs, and whether some input is no address or has a fault for an answer."""
+    """What is written for these inputs, and whether some input is a bad address or has a fault for an answer."""
     written, has_faults = [], False
-    for address in map(address_in, asked):
-        if address is None:
+    for query in map(query_in, asked):
+        if query is None:
             written.append(b'!bad address\n')
             has_faults = True
         else:
-            answer = image.answer(address)
-            written.append(answer_lines(options, address, answer))
+            answer = answer_of(image, query)
+            before = query_line(query) if options.addresses else b''
+            written.append(before + answer_lines(options, answer))
             has_faults |= answer.fault is not None
     return b''.join(written), has_faults
 

@@ -22,7 +22,8 @@ def list_offset(info, bases, value):
         return what
     if bases.rnglists is None:
         raise Unreadable
-    return bases.rnglists + Reader(info.rnglists, bases.rnglists + OFFSET_SIZE * what).number(OFFSET_SIZE)
+    size = bases.offset_size
+    return bases.rnglists + Reader(info.rnglists, bases.rnglists + size * what).number(size)
 
 
 def list_ranges(info, unit, value):

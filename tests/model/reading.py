@@ -1,4 +1,5 @@
 """Reading bytes from the front (docs/MEANING.md, 'Reading')."""
+from .dwarf import DW_LENGTH_64BIT, DW_LENGTH_RESERVED, OFFSET_SIZE_32, OFFSET_SIZE_64
 
 
 class Unreadable(Exception):
@@ -22,6 +23,16 @@ class Reader:
     def number(self, size):
         """An unsigned number of so many bytes, the lowest first."""
         return int.from_bytes(self.take(size), 'little')
+
+    def initial_length(self):
+        """A length, and how many bytes the offsets behind it have: four bytes, or eight behind the escape (section
+        7.4)."""
+        length = self.number(4)
+        if length == DW_LENGTH_64BIT:
+            return self.number(8), OFFSET_SIZE_64
+        if length >= DW_LENGTH_RESERVED:
+            raise Unreadable
+        return length, OFFSET_SIZE_32
 
     def take(self, count):
         """The next bytes, so many."""

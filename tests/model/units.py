@@ -29,6 +29,7 @@ class Unit:
     end: int
     version: int
     kind: UnitKind
+    offset_size: int
     debug_abbrev_offset: int
     first_entry: int
 
@@ -44,47 +45,47 @@ def condition(number, name, offset):
     return Refused(number, name, b'0x%x' % offset)
 
 
-def unit_behind(reader, offset):
+def unit_behind(reader, offset, offset_size):
     """The unit whose bytes behind its length are these (section 7.5.1). The version is needed in each, the type in
     those of version 5, and the other fields in those that aren't skipped."""
     version = reader.number(2)
     kind = KINDS.get(reader.number(1), UnitKind.SKIPPED) if version == DWARF_VERSION else UnitKind.SKIPPED
     if kind is UnitKind.SKIPPED:
-        return Unit(offset, reader.end, version, kind, 0, reader.end)
-    address_size, debug_abbrev_offset = reader.number(1), reader.number(OFFSET_SIZE)
+        return Unit(offset, reader.end, version, kind, offset_size, 0, reader.end)
+    address_size, debug_abbrev_offset = reader.number(1), reader.number(offset_size)
     if kind is UnitKind.SKELETON:
         reader.take(DWO_ID_SIZE)
     if address_size != ADDRESS_SIZE:
         raise condition(9, 'AddressSize', offset)
-    return Unit(offset, reader.end, version, kind, debug_abbrev_offset, reader.at)
+    return Unit(offset, reader.end, version, kind, offset_size, debug_abbrev_offset, reader.at)
 
 
 def piece_at(reader):
     """A piece of .debug_info, an initial length (section 7.4) and as many bytes: a unit, or none where the length is
     0."""
     offset = reader.at
-    length = reader.number(4)
-    if length == DW_LENGTH_64BIT:
-        raise condition(8, 'WideFormat', offset)
-    if length >= DW_LENGTH_RESERVED or length > reader.left():
+    length, offset_size = reader.initial_length()
+    if length > reader.left():
         raise Unreadable
     behind = Reader(reader.bytes, reader.at, reader.at + length)
     reader.take(length)
-    return None if length == 0 else unit_behind(behind, offset)
+    return None if length == 0 else unit_behind(behind, offset, offset_size)
 
 
 @dataclass
 class Bases:
-    """Where a unit's entries begin in .debug_str_offsets, .debug_addr and .debug_rnglists."""
+    """Where a unit's entries begin in .debug_str_offsets, .debug_addr and .debug_rnglists, and how many bytes its
+    offsets have."""
     str_offsets: int | None
     addr: int | None
     rnglists: int | None
+    offset_size: int
 
 
-def bases_in(root):
-    """The bases that a unit's first entry names (sections 7.26 to 7.28)."""
+def bases_in(root, offset_size):
+    """The bases that a unit's first entry names, where offsets have so many bytes (sections 7.26 to 7.28)."""
     found = [attribute(root, name) for name in (DW_AT_str_offsets_base, DW_AT_addr_base, DW_AT_rnglists_base)]
-    return Bases(*(None if value is None else value[1] for value in found))
+    return Bases(*(None if value is None else value[1] for value in found), offset_size)
 
 
 class DebugInfo:
@@ -125,7 +126,7 @@ class DebugInfo:
         if root is None:
             raise condition(10, 'Root', unit.offset)
         self.roots[unit] = root
-        self.based[unit] = bases_in(root)
+        self.based[unit] = bases_in(root, unit.offset_size)
 
     # ---- entries
 
@@ -140,7 +141,7 @@ class DebugInfo:
         """The entry at an offset between a unit's first entry and its end, and none for a null one."""
         if not unit.first_entry <= offset < unit.end:
             raise Unreadable
-        return entry_at(Reader(self.info, offset, unit.end), self.abbreviations(unit))
+        return entry_at(Reader(self.info, offset, unit.end), self.abbreviations(unit), unit.offset_size)
 
     def root(self, unit):
         """The first entry of a unit that isn't skipped."""
@@ -164,7 +165,8 @@ class DebugInfo:
             if kind is Kind.LINE_STR:
                 return Reader(self.line_str, what).text()
             if kind is Kind.STR_INDEX and bases.str_offsets is not None:
-                offset = Reader(self.str_offsets, bases.str_offsets + OFFSET_SIZE * what).number(OFFSET_SIZE)
+                size = bases.offset_size
+                offset = Reader(self.str_offsets, bases.str_offsets + size * what).number(size)
                 return Reader(self.str, offset).text()
         except Unreadable:
             pass

@@ -20,7 +20,7 @@ flag id = record (new_rule id) { action = Some SetTrue }
 abbrev pub file : Rule
 file = record (option (codes "file")) { short = Some 101; required = true }
 
--- all other words: the addresses
+-- all other words: the addresses and spans
 abbrev pub words : Rule
 words = record (new_rule (codes "words")) {
   action = Some Append;
@@ -60,11 +60,11 @@ found_in words = matches_of command_line words
 abbrev pub is_set : Text → List Row → Bool
 is_set id rows = option_eq bytes_eq (first_of id rows) (Some (codes "true"))
 
--- the addresses that words name, as they are written
+-- the addresses and spans that words name, as they are written
 abbrev pub words_in : List Row → List Text
 words_in rows = unwrap_or (all_of (codes "words") rows) []
 
--- how they ask for addresses to be answered
+-- how they ask for these to be answered
 abbrev pub options_in : List Row → Options
 options_in rows = record {
   functions = is_set (codes "functions") rows;

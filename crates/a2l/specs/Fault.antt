@@ -4,7 +4,7 @@ use Rattle.std.specs.Io.KnownBytes.{append_known}
 use Rattle.dw_model.specs.Faults.{Refusal}
 use Rattle.dw_model.specs.Output.{hexadecimal}
 use Rattle.dw_elf.specs.declared.fault.OpenFault.{OpenFault}
-use Rattle.dw_elf.specs.declared.fault.OpenFault.TheVariants.{NotElf, NotElf64Little, Relocatable, SectionTable, SectionRange, Compressed, UnitHeader, WideFormat, AddressSize, Root, RootRanges, Memory}
+use Rattle.dw_elf.specs.declared.fault.OpenFault.TheVariants.{NotElf, NotElf64Little, Relocatable, SectionTable, SectionRange, Compressed, UnitHeader, AddressSize, Root, RootRanges, Memory}
 use Rattle.dw_elf.specs.OpenFault.{Refuses, number_of, name_of}
 use Rattle.dw_elf.specs.Name.{text_of}
 use Rattle.a2l.specs.declared.fault.Fault.{Fault}
@@ -27,7 +27,6 @@ subject_of SectionTable = []
 subject_of (SectionRange name) = codes " " ++ text_of name
 subject_of (Compressed name) = codes " " ++ text_of name
 subject_of (UnitHeader offset) = at_offset offset
-subject_of (WideFormat offset) = at_offset offset
 subject_of (AddressSize offset) = at_offset offset
 subject_of (Root offset) = at_offset offset
 subject_of (RootRanges offset) = at_offset offset

@@ -14,12 +14,12 @@ abbrev pub number_of : Status → ℕ
 number_of Clean = 0
 number_of Faults = 1
 
--- the file at a path is accepted, and the addresses that some words or the reader ask for were answered by it
+-- the file at a path is accepted, and what some words or the reader ask for was answered by it
 abbrev pub SymbolizesAt : (List ℕ → Option (List ℕ)) → (path : List ℕ) → Options → (words : List Text) → (left old new : Option (List ℕ)) → Status → Type 0
 SymbolizesAt known path options words left old new ended =
     IfSome (known path) (λ file. (refusal file ≡ None) × Symbolizes options file words left old new ended)
 
--- The units of the file that was named were listed where that was asked for, and else addresses were answered by it as was asked for.
+-- The units of the file that was named were listed where that was asked for, and else it was asked, and what it means was written, as was asked for.
 abbrev pub ServesFound : (List ℕ → Option (List ℕ)) → List Row → (left old new : Option (List ℕ)) → ℕ → Type 0
 ServesFound known rows left old new status =
     (path : List ℕ) × (first_of (codes "file") rows ≡ Some path)

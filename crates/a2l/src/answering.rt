@@ -1,11 +1,9 @@
-//! Answering the addresses of a file.
+//! Answering what is asked of a file.
 
-ghost use Rattle.std.specs.Prelude.{◌≡◌, ◌≢◌, ◌<◌, ◌≤◌, [], None, OnOk, OnErr, IfOk, IfErr, IsErrOf, map};
+ghost use Rattle.std.specs.Prelude.{◌≡◌, ◌≢◌, ◌<◌, ◌≤◌, [], None, OnOk, OnErr, IfOk, IfErr, IsErrOf};
 ghost use Rattle.dw_model.specs.Refusal.{refusal};
-ghost use Rattle.a2l_lines.specs.Input.{word_shown};
-ghost use Rattle.a2l_lines.specs.Text.{options_shown};
 ghost use Rattle.a2l.specs.Fault.{IsRefused, SymbolizeFails};
-ghost use Rattle.a2l_lines.specs.Symbolize.{Symbolizes, SymbolizesBeginning};
+ghost use Rattle.a2l_lines.specs.Symbolize.{Answers, AnswersBeginning};
 
 use crate::fault::Fault;
 use a2l_lines::{Options, Sink, Source, Status, symbolize};
@@ -14,15 +12,16 @@ use std::alloc::Global;
 use std::sync::Wait;
 use std::thread::Threads;
 use ticket_board::Gate;
+use ticket_core::Query;
 
 /// A gate that stands open.
 struct Open;
 
 impl Gate for Open {
-    fn enter(&self, _sender: usize, _number: u64, _a: u64) {}
+    fn enter(&self, _sender: usize, _number: u64, _query: Query) {}
 }
 
-/// Answers the addresses that are asked for of a file. After an error a beginning of the text was
+/// Answers the addresses and spans that are asked for of a file. After an error a beginning of the text was
 /// written, after a read that failed or a refused file nothing; the reader is read only where there
 /// are no words.
 pub fn symbolize_file<T: Threads + Wait + Sync, R: Source, W: Sink>(
@@ -36,11 +35,14 @@ pub fn symbolize_file<T: Threads + Wait + Sync, R: Source, W: Sink>(
     requires workers { (1 ≤ options.now.workers) × (options.now.workers ≤ 64) }
     requires senders { (1 ≤ options.now.senders) × (options.now.senders ≤ 64) }
     ensures accepted { OnOk result (refusal file.now ≡ None) }
-    ensures written { IfOk result (Symbolizes (options_shown options.now) file.now (map word_shown options.now.words.items) (R.left reader.old) (W.told writer.old) (W.told writer.new)) }
-    ensures beginning { OnErr result (SymbolizesBeginning (options_shown options.now) file.now (map word_shown options.now.words.items) (R.left reader.old) (W.told writer.old) (W.told writer.new)) }
+    ensures written { IfOk result
+        (Answers options.now file.now (R.left reader.old) (W.told writer.old) (W.told writer.new)) }
+    ensures beginning { OnErr result
+        (AnswersBeginning options.now file.now (R.left reader.old) (W.told writer.old) (W.told writer.new)) }
     ensures nothing { IsErrOf result Fault.Read → writer.new ≡ writer.old }
     ensures words { options.now.words.items ≢ [] → reader.new ≡ reader.old }
-    ensures fault { IfErr result (λ fault. SymbolizeFails fault (refusal file.now) (R.failures reader.old) (R.failures reader.new) (W.failures writer.old) (W.failures writer.new)) }
+    ensures fault { IfErr result (λ fault. SymbolizeFails fault (refusal file.now)
+        (R.failures reader.old) (R.failures reader.new) (W.failures writer.old) (W.failures writer.new)) }
     ensures refused { IfErr result (λ fault. IsRefused fault → writer.new ≡ writer.old) }
 {
     let image = Image::open(alloc, file)?;

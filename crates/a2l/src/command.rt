@@ -121,7 +121,8 @@ fn is_set(matches: &ArgMatches<'_>, id: &str) -> bool
 
 /// The words that are no option and no flag.
 fn words_of<'a>(alloc: Global, matches: &ArgMatches<'a>) -> Result<Vec<&'a str>, AllocError>
-    ensures { IfOk result (λ words. map word_shown words.items ≡ unwrap_or (option_map raw_values (matched_of (found_of matches.now) (codes "words"))) []) }
+    ensures { IfOk result (λ words. map word_shown words.items
+        ≡ unwrap_or (option_map raw_values (matched_of (found_of matches.now) (codes "words"))) []) }
 {
     let Some(words) = matches.get_strs("words") else {
         return Ok(Vec::new(alloc));

@@ -119,7 +119,6 @@ fn subject(alloc: Global, fault: &OpenFault) -> Result<String, AllocError>
             format!(in alloc; " {section}")
         }
         OpenFault::UnitHeader(offset)
-        | OpenFault::WideFormat(offset)
         | OpenFault::AddressSize(offset)
         | OpenFault::Root(offset)
         | OpenFault::RootRanges(offset) => {
@@ -169,7 +168,8 @@ fn told(alloc: Global, fault: Fault) -> (Fault, CowStr<'static>)
 /// Tells a fault on the error stream, and answers the status of the run. A failure of that stream
 /// changes no status.
 pub fn report<E: Sink>(alloc: Global, errors: &mut E, fault: Fault) -> u8
-    ensures { Reports fault result (E.told errors.old) (E.told errors.new) (E.failures errors.old) (E.failures errors.new) }
+    ensures { Reports fault result
+        (E.told errors.old) (E.told errors.new) (E.failures errors.old) (E.failures errors.new) }
 {
     let (told, line) = told(alloc, fault);
     let _ = write_all(errors, line.as_str().as_bytes());

@@ -17,9 +17,9 @@ use std::convert::AsStr;
 use std::sync::Wait;
 use std::thread::Threads;
 
-/// Runs the program on the words of a command line, which are without its own name, and answers its
-/// status: 0 where all is well, 1 where an input is a bad address or its unit can't be read, 2 where the command line or the file is refused, and 3 where the
-/// file, the input or the output failed, or memory did.
+/// Runs the program on the words of a command line, which are without its own name, and returns its
+/// status: 0 where all is well, 1 where an input is a bad address or its unit can't be read, 2 where the
+/// command line or the file is refused, and 3 where the file, the input or the output failed, or memory did.
 pub fn run<T: Threads + Wait + Sync, S: AsStr, L: Load, R: Source, W: Sink, E: Sink>(
     rt: &T,
     alloc: Global,
@@ -31,9 +31,11 @@ pub fn run<T: Threads + Wait + Sync, S: AsStr, L: Load, R: Source, W: Sink, E: S
 ) -> u8
     ensures status { result ≤ 3 }
     ensures no_words { words.now ≡ [] → result ≡ 0 → W.told writer.new ≡ append_known (W.told writer.old) usage_line }
-    ensures served { words.now ≢ [] → result ≤ 1 → Serves (L.known loader.old) (map S.text words.now) (R.left reader.old) (W.told writer.old) (W.told writer.new) result }
+    ensures served { words.now ≢ [] → result ≤ 1 → Serves (L.known loader.old) (map S.text words.now)
+        (R.left reader.old) (W.told writer.old) (W.told writer.new) result }
     ensures well { result ≤ 1 → errors.new ≡ errors.old }
-    ensures badly { 1 < result → EndsBadly result (E.told errors.old) (E.told errors.new) (E.failures errors.old) (E.failures errors.new) }
+    ensures badly { 1 < result → EndsBadly result
+        (E.told errors.old) (E.told errors.new) (E.failures errors.old) (E.failures errors.new) }
 {
     match answer(rt, alloc, words, loader, reader, writer) {
         Ok(Status::Clean) => 0,
@@ -51,8 +53,10 @@ fn answer<T: Threads + Wait + Sync, S: AsStr, L: Load, R: Source, W: Sink>(
     reader: &mut R,
     writer: &mut W,
 ) -> Result<Status, Fault>
-    ensures no_words { words.now ≡ [] → IfOk result (λ status. (status ≡ Clean) × (W.told writer.new ≡ append_known (W.told writer.old) usage_line)) }
-    ensures served { words.now ≢ [] → IfOk result (λ status. Serves (L.known loader.old) (map S.text words.now) (R.left reader.old) (W.told writer.old) (W.told writer.new) (number_of status)) }
+    ensures no_words { words.now ≡ [] → IfOk result (λ status. (status ≡ Clean)
+        × (W.told writer.new ≡ append_known (W.told writer.old) usage_line)) }
+    ensures served { words.now ≢ [] → IfOk result (λ status. Serves (L.known loader.old) (map S.text words.now)
+        (R.left reader.old) (W.told writer.old) (W.told writer.new) (number_of status)) }
     ensures write { IsErrOf result Fault.Write → W.failures writer.old < W.failures writer.new }
 {
     if words.is_empty() {

@@ -6,6 +6,7 @@ mod frames;
 mod input;
 mod listing;
 mod samples;
+mod spans;
 
 ghost use Rattle.std.specs.Prelude.{◌≡◌, ◌<◌};
 

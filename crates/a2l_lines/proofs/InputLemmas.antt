@@ -1,4 +1,4 @@
--- Addresses and lines.
+-- Addresses, spans and lines.
 use Rattle.std.proofs.Common.{◌≡◌, ◌^◌, ℕ, ◌+◌, ◌*◌, ◌<◌, ◌≤◌, Bool, true, false, List, [], ◌∷◌, ◌++◌, length, map, take, drop, Option, Some, None, refl, ap, ◌∙◌, append_assoc, arith, w64, Fits, add-one}
 use Rattle.std.specs.Prelude.{cond, nat_lt, ◌==◌}
 use Rattle.std.specs.List.{position_or_len, slice_split, All}
@@ -10,8 +10,9 @@ use Rattle.std.proofs.lemmas.List.{map_push}
 use Rattle.std.proofs.lemmas.List.Elements.{All-from_get_or}
 use Rattle.std.proofs.lemmas.List.Splits.{slice_split_first, slice_split_none, length-slice_split}
 use Rattle.std.proofs.lemmas.List.Sums.{fails_before_first}
-use Rattle.dw_model.specs.Output.{address_in}
-use Rattle.a2l_lines.specs.Input.{input_shown, first_line, after_line}
+use Rattle.dw_model.specs.Output.{query_in}
+use Rattle.dw_model.specs.Query.{Query}
+use Rattle.a2l_lines.specs.Input.{asked_by, first_line, after_line}
 use Rattle.a2l_lines.specs.declared.input.Input.{Input}
 
 -- ---- digits
@@ -60,9 +61,9 @@ lines-step : (bs : List ℕ) → 0 < length bs → lines bs ≡ first_line bs �
 lines-step bs some = step bs (nat_lt (place bs) (length bs)) refl some
 
 -- what a line more asks for
-pub lines-more : (inputs new : List Input) (input : Input) (left line rest : List ℕ) (all : List (Option ℕ)) → 0 < length left → line ≡ first_line left → rest ≡ after_line left
-    → input_shown input ≡ address_in line → new ≡ inputs ++ input ∷ [] → map input_shown inputs ++ map address_in (lines left) ≡ all → map input_shown new ++ map address_in (lines rest) ≡ all
+pub lines-more : (inputs new : List Input) (input : Input) (left line rest : List ℕ) (all : List (Option Query)) → 0 < length left → line ≡ first_line left → rest ≡ after_line left
+    → asked_by input ≡ query_in line → new ≡ inputs ++ input ∷ [] → map asked_by inputs ++ map query_in (lines left) ≡ all → map asked_by new ++ map query_in (lines rest) ≡ all
 lines-more inputs new input left line rest all some first after asked push so_far =
-    let shown : input_shown input ≡ address_in (first_line left) = asked ∙ ap address_in first in
+    let shown : asked_by input ≡ query_in (first_line left) = asked ∙ ap query_in first in
     let before = rw (lines-step left some) at so_far in
-    rw (push, map_push input_shown inputs input, shown, after) (append_assoc (map input_shown inputs) (address_in (first_line left) ∷ []) (map address_in (lines (after_line left))) ∙ before)
+    rw (push, map_push asked_by inputs input, shown, after) (append_assoc (map asked_by inputs) (query_in (first_line left) ∷ []) (map query_in (lines (after_line left))) ∙ before)

@@ -1,11 +1,15 @@
 -- Pieces that stand one after the other in one text.
-use Rattle.std.proofs.Common.{◌≡◌, ℕ, ◌+◌, ◌-◌, ◌<◌, List, [], ◌∷◌, ◌++◌, length, map, take, drop, get_or, refl, sym, ap, ◌∙◌, arith, length-append, length-drop, add-one, drop-cons}
+use Rattle.std.proofs.Common.{◌≡◌, ℕ, ◌+◌, ◌<◌, List, [], ◌∷◌, ◌++◌, length, map, take, drop, get_or, refl, sym, ap, ◌∙◌, arith, length-append, length-drop, add-one, drop-cons}
 use Rattle.std.specs.List.{All}
 use Rattle.std.proofs.lemmas.List.{take-append-le, drop-append-le, take_all, drop_all, map_push, map_more, length-map, get_or-map}
 use Rattle.std.proofs.lemmas.List.Elements.{All-head, All-tail, All-push, All-weaker}
 use Rattle.dw_model.specs.Answer.{Answer}
 use Rattle.dw_model.specs.Output as model
-use Rattle.a2l_lines.specs.Pieces.{piece_in, IsWithin, pieces_for}
+use Rattle.dw_symbols.specs.Told.{query_shown}
+use Rattle.ticket_core.specs.declared.query.Query.{Query}
+use Rattle.ticket_core.specs.declared.query.QueryKind.TheVariants.{Address}
+use Rattle.a2l_lines.specs.Queries.{query_at}
+use Rattle.a2l_lines.specs.Pieces.{piece_in, IsWithin, lines_of, pieces_for}
 
 -- ---- a text that grows
 
@@ -47,26 +51,25 @@ piece-read text spans place span pieces piece is within at read =
 
 -- ---- while answers are told
 
-drop-next : (xs : List ℕ) (i : ℕ) → i < length xs → drop i xs ≡ get_or xs i 0 ∷ drop (i + 1) xs
-drop-next xs i within = rw (add-one i) (drop-cons xs i 0 within)
+drop-next : (queries : List Query) (i : ℕ) → i < length queries → drop i queries ≡ query_at queries i ∷ drop (i + 1) queries
+drop-next queries i within = rw (add-one i) (drop-cons queries i (Address 0) within)
 
 -- what is left of some answers, and the pieces that were made of the others
-abbrev pub Makes : model.Options → List Answer → List ℕ → ℕ → List Answer → List (List ℕ) → Type 0
+abbrev pub Makes : model.Options → List Answer → List Query → ℕ → List Answer → List (List ℕ) → Type 0
 Makes options answers asked i rest pieces =
-    (means : ℕ → Answer) → answers ≡ map means asked → (rest ≡ map means (drop i asked)) × (pieces ≡ pieces_for options means (take i asked))
+    (means : Query → Answer) → answers ≡ map means asked → (rest ≡ map means (drop i asked)) × (pieces ≡ pieces_for options means (take i asked))
 
-pub makes-more : (options : model.Options) (answers : List Answer) (asked : List ℕ) (i : ℕ) (rest left : List Answer) (pieces new : List (List ℕ)) (answer : Answer) → i < length asked
-    → rest ≡ answer ∷ left → new ≡ pieces ++ model.address_lines options (get_or asked i 0) answer ∷ []
+pub makes-more : (options : model.Options) (answers : List Answer) (asked : List Query) (i : ℕ) (rest left : List Answer) (pieces new : List (List ℕ)) (answer : Answer) → i < length asked
+    → rest ≡ answer ∷ left → new ≡ pieces ++ model.query_lines options (query_shown (query_at asked i)) answer ∷ []
     → Makes options answers asked i rest pieces → Makes options answers asked (i + 1) left new
 makes-more options answers asked i rest left pieces new answer within next push so_far means all =
-    let a = get_or asked i 0 in
+    let query = query_at asked i in
     let before = so_far means all in
-    let cut : (answer ∷ left) ≡ means a ∷ map means (drop (i + 1) asked) = sym next ∙ before.0 ∙ ap (map means) (drop-next asked i within) in
-    let is : answer ≡ means a = cc cut in
-    let lines : ℕ → List ℕ = λ a. model.address_lines options a (means a) in (
+    let cut : (answer ∷ left) ≡ means query ∷ map means (drop (i + 1) asked) = sym next ∙ before.0 ∙ ap (map means) (drop-next asked i within) in
+    let is : answer ≡ means query = cc cut in (
       cc cut,
       push
-          ∙ ap (λ (told : Answer). pieces ++ model.address_lines options a told ∷ []) is
-          ∙ ap (λ (all : List (List ℕ)). all ++ lines a ∷ []) before.1
-          ∙ ap (λ (all : List (List ℕ)). model.bad_address_line ∷ all) (sym (map_more lines asked i 0 within)),
+          ∙ ap (λ (told : Answer). pieces ++ model.query_lines options (query_shown query) told ∷ []) is
+          ∙ ap (λ (all : List (List ℕ)). all ++ lines_of options means query ∷ []) before.1
+          ∙ ap (λ (all : List (List ℕ)). model.bad_address_line ∷ all) (sym (map_more (lines_of options means) asked i (Address 0) within)),
     )

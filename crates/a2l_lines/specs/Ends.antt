@@ -26,3 +26,15 @@ pub record Writes (old new : Option (List ℕ)) (text rest : List ℕ) : Type 0 
 -- a beginning of the text was written
 abbrev pub WritesBeginning : Option (List ℕ) → Option (List ℕ) → List ℕ → Type 0
 WritesBeginning old new text = (rest : List ℕ) × Writes old new text rest
+
+-- a piece after a block was written, but for what is left of it
+abbrev pub Puts : (old new : Option (List ℕ)) → (block piece left : List ℕ) → Type 0
+Puts old new block piece left = Writes old new (block ++ piece) left
+
+-- a beginning of both was written
+abbrev pub PutsBeginning : (old new : Option (List ℕ)) → (block piece : List ℕ) → Type 0
+PutsBeginning old new block piece = WritesBeginning old new (block ++ piece)
+
+-- all of a text was written
+abbrev pub WritesAll : (old new : Option (List ℕ)) → List ℕ → Type 0
+WritesAll old new text = new ≡ append_known old text

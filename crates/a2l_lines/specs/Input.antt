@@ -1,15 +1,22 @@
 -- What is asked for.
-use Rattle.std.specs.Prelude.{◌≡◌, ◌+◌, ◌==◌, ℕ, List, [], take, drop, position, Option, Some, None, IfSome}
+use Rattle.std.specs.Prelude.{◌≡◌, ◌+◌, ◌==◌, ℕ, List, [], take, drop, position, Option, Some, None, IfSome, option_map}
 use Rattle.std.specs.Option.{option_map_or}
 use denote.Ref.{Bor}
 use Rattle.std.specs.Str.Lines.{strip_carriage_return}
 use Rattle.a2l_lines.specs.declared.input.Input.{Input}
-use Rattle.a2l_lines.specs.declared.input.Input.TheVariants.{Address, Bad}
+use Rattle.a2l_lines.specs.declared.input.Input.TheVariants.{Asked, Bad}
+use Rattle.ticket_core.specs.declared.query.Query.{Query}
+use Rattle.dw_model.specs.Query as model
+use Rattle.dw_symbols.specs.Told.{query_shown}
 
--- an input by its address; a bad address by none
-abbrev pub input_shown : Input → Option ℕ
-input_shown (Address a) = Some a
+-- an input by its query; a bad address by none
+abbrev pub input_shown : Input → Option Query
+input_shown (Asked query) = Some query
 input_shown Bad = None
+
+-- the same as a query of a file
+abbrev pub asked_by : Input → Option model.Query
+asked_by input = option_map query_shown (input_shown input)
 
 -- a word of the command line by its bytes
 abbrev pub word_shown : Bor (List ℕ) → List ℕ

@@ -1,5 +1,7 @@
 pub mod Ends
 pub mod Input
+pub mod Queries
+pub mod Listing
 pub mod Text
 pub mod Sharing
 pub mod Pieces

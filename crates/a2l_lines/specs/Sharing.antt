@@ -1,35 +1,57 @@
--- What is asked for some inputs: each address once, and for each input which answer is its own.
-use Rattle.std.specs.Prelude.{◌≡◌, ◌==◌, ◌&&◌, if◌then◌else◌, nat_lt, ◌+◌, ◌-◌, ◌<◌, ◌≤◌, ℕ, zero, suc, Bool, List, [], ◌∷◌, ◌++◌, length, map, get_or, Option, Some, None, slice_index}
+-- What is asked for some inputs: each query once, and for each input which answer is its own.
+use Rattle.std.specs.Prelude.{◌≡◌, ◌==◌, ◌&&◌, if◌then◌else◌, nat_lt, ◌+◌, ◌-◌, ◌<◌, ◌≤◌, ℕ, zero, suc, Bool, List, [], ◌∷◌, ◌++◌, length, map, get_or, Option, Some, None}
 use Rattle.std.specs.List.{All, Contains}
-use Rattle.std.specs.List.Sorted.{IsStrictlyIncreasing}
+use Rattle.ticket_core.specs.declared.query.Query.{Query}
+use Rattle.ticket_core.specs.declared.query.QueryKind.TheVariants.{Address}
+use Rattle.ticket_core.specs.Query.{first_word, second_word}
+use Rattle.a2l_lines.specs.declared.input.Input.{Input}
+use Rattle.a2l_lines.specs.declared.sharing.Sharing.{Sharing}
+use Rattle.a2l_lines.specs.Input.{input_shown}
+use Rattle.a2l_lines.specs.Queries.{query_at, IsUpTo, AreRising}
 
--- what an input with this pick asks for: none is a bad address, k + 1 the address at k among those asked
-abbrev pub picked : List ℕ → ℕ → Option ℕ
+-- what an input with this pick asks for: none is a bad address, k + 1 the query at k among those asked
+abbrev pub picked : List Query → ℕ → Option Query
 picked asked zero = None
-picked asked (suc k) = Some (slice_index asked k)
+picked asked (suc k) = Some (query_at asked k)
 
--- The addresses among some inputs, each once and in order, and the way back, which is a pick for each input.
-pub record Shares (inputs : List (Option ℕ)) (asked picks : List ℕ) : Type 0 where
-  pub rising : IsStrictlyIncreasing asked
-  pub needed : All (λ a. Contains inputs (Some a)) asked
+-- The queries among some inputs, each once and in order, and the way back, which is a pick for each input.
+pub record Shares (inputs : List (Option Query)) (asked : List Query) (picks : List ℕ) : Type 0 where
+  pub rising : AreRising asked
+  pub needed : All (λ query. Contains inputs (Some query)) asked
   pub within : All (λ pick. pick ≤ length asked) picks
   pub back : map (picked asked) picks ≡ inputs
 
+-- the same of inputs and what is kept of their sharing
+abbrev pub IsSharing : List Input → Sharing → Type 0
+IsSharing inputs sharing = Shares (map input_shown inputs) sharing.asked.items sharing.picks.items
+
 -- ---- on the way there
 
--- each address among some inputs, with the place of its input
-pub record ArePairs (inputs : List (Option ℕ)) (pairs : List (ℕ × ℕ)) : Type 0 where
-  pub right : All (λ pair. get_or inputs pair.1 None ≡ Some pair.0) pairs
-  pub all : (j a : ℕ) → get_or inputs j None ≡ Some a → Contains pairs (a, j)
+-- a query and the place of an input
+abbrev pub Pair : Type 0
+Pair = Query × ℕ
 
--- the addresses don't fall
-abbrev pub AreInOrder : List (ℕ × ℕ) → Type 0
-AreInOrder pairs = (k : ℕ) → k + 1 < length pairs → (get_or pairs k (0, 0)).0 ≤ (get_or pairs (k + 1) (0, 0)).0
+abbrev pub pair_at : List Pair → ℕ → Pair
+pair_at pairs k = get_or pairs k (Address 0, 0)
+
+-- each query among some inputs, with the place of its input
+pub record ArePairs (inputs : List (Option Query)) (pairs : List Pair) : Type 0 where
+  pub right : All (λ pair. get_or inputs pair.1 None ≡ Some pair.0) pairs
+  pub all : (j : ℕ) (query : Query) → get_or inputs j None ≡ Some query → Contains pairs (query, j)
+
+-- none comes after the one behind it
+abbrev pub AreInOrder : List Pair → Type 0
+AreInOrder pairs = (k : ℕ) → k + 1 < length pairs → IsUpTo (pair_at pairs k).0 (pair_at pairs (k + 1)).0
+
+-- the last of them, where there is one
+abbrev pub last_of : List Query → Query
+last_of asked = query_at asked (length asked - 1)
 
 -- it is the last of them
-abbrev pub is_last : ℕ → List ℕ → Bool
-is_last a asked = nat_lt 0 (length asked) && get_or asked (length asked - 1) 0 == a
+abbrev pub is_last : Query → List Query → Bool
+is_last query asked =
+    nat_lt 0 (length asked) && (first_word (last_of asked) == first_word query && second_word (last_of asked) == second_word query)
 
--- an address behind those asked, where it isn't the last of them already
-abbrev pub added : ℕ → List ℕ → List ℕ
-added a asked = if is_last a asked then asked else asked ++ a ∷ []
+-- a query after those asked, where it isn't the last of them already
+abbrev pub added : Query → List Query → List Query
+added query asked = if is_last query asked then asked else asked ++ query ∷ []

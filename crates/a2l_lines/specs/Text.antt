@@ -1,9 +1,15 @@
 -- The text of inputs whose answers are known.
-use Rattle.std.specs.Prelude.{ℕ, Bool, true, false, ◌||◌, List, ◌++◌, Option, Some, None, option_map, unwrap_or, codes, decimal}
+use Rattle.std.specs.Prelude.{ℕ, Bool, true, false, ◌||◌, List, [], ◌++◌, Option, Some, None, option_map, unwrap_or, map, flat_map, codes, decimal, if◌then◌else◌}
 use denote.Ref.{Bor}
 use Rattle.std.specs.List.{list_any}
-use Rattle.dw_model.specs.Answer.{Answer}
+use Rattle.dw_model.specs.Answer as model_answer
 use Rattle.dw_model.specs.Output as model
+use Rattle.dw_symbols.specs.declared.answer.Answer.{Answer}
+use Rattle.dw_symbols.specs.declared.answer.Frame.{Frame}
+use Rattle.dw_symbols.specs.declared.answer.Location.{Location}
+use Rattle.dw_symbols.specs.Answer.{answer_shown, frame_shown, location_shown}
+use Rattle.dw_symbols.specs.Told.{query_shown}
+use Rattle.ticket_core.specs.declared.query.Query.{Query}
 use Rattle.a2l_lines.specs.declared.options.Options.{Options}
 
 -- what the options say of the text
@@ -14,12 +20,12 @@ options_shown options = record {
   addresses = options.addresses;
 }
 
-abbrev pub is_bad : Option ℕ → Bool
+abbrev pub is_bad : Option Query → Bool
 is_bad None = true
-is_bad (Some a) = false
+is_bad (Some query) = false
 
 -- some input is a bad address, or some answer a fault
-abbrev pub some_fault : List (Option ℕ) → List Answer → Bool
+abbrev pub some_fault : List (Option Query) → List model_answer.Answer → Bool
 some_fault inputs answers = list_any is_bad inputs || list_any model.is_fault answers
 
 -- what stands behind a path: `:LINE`, `:?` where the line isn't known, or `:0` where the path isn't either
@@ -35,3 +41,31 @@ name_shown name = option_map (λ name. name.now) name
 -- the path, or `??`
 abbrev pub path_text : Option (List ℕ) → List ℕ
 path_text path = unwrap_or path (codes "??")
+
+-- ---- what is written of what is known
+
+-- what stands behind the path, to the end of the line
+abbrev pub line_end : Location → List ℕ
+line_end location = line_text (location_shown location).path (location_shown location).line ++ model.newline
+
+abbrev pub location_line : Location → List ℕ
+location_line location = model.location_text (location_shown location).path (location_shown location).line ++ model.newline
+
+abbrev pub name_line : Option (Bor (List ℕ)) → List ℕ
+name_line name = model.name_text (name_shown name) ++ model.newline
+
+abbrev pub frame_text : Options → Frame → List ℕ
+frame_text options frame = model.frame_lines (options_shown options) (frame_shown frame)
+
+abbrev pub frames_text : Options → List Frame → List ℕ
+frames_text options frames = flat_map (model.frame_lines (options_shown options)) (map frame_shown frames)
+
+abbrev pub answer_text : Options → Answer → List ℕ
+answer_text options answer = model.answer_lines (options_shown options) (answer_shown answer)
+
+-- with -a the line of the query itself
+abbrev pub head_text : Options → Query → List ℕ
+head_text options query = if options.addresses then model.query_line (query_shown query) else []
+
+abbrev pub query_text : Options → Query → Answer → List ℕ
+query_text options query answer = model.query_lines (options_shown options) (query_shown query) (answer_shown answer)

@@ -2,9 +2,8 @@
 
 ghost use Rattle.std.specs.Prelude.{◌≡◌, ◌<◌, ◌≤◌, ◌++◌, true, false, [], length, OnOk, OnErr, vec_capacity};
 ghost use Rattle.std.specs.List.{All};
-ghost use Rattle.std.specs.Io.KnownBytes.{append_known};
-ghost use Rattle.a2l_lines.specs.Ends.{Writes, WritesBeginning};
-ghost use Rattle.a2l_lines.specs.Pieces.{picked_text};
+ghost use Rattle.a2l_lines.specs.Ends.{WritesAll, WritesBeginning, Puts, PutsBeginning};
+ghost use Rattle.a2l_lines.specs.Pieces.{WritesPicked, PicksBeginning};
 
 use crate::ends::{Failed, Sink};
 use crate::pieces::Pieces;
@@ -12,7 +11,7 @@ use crate::writing::write_all;
 
 /// Writes what stands in a block, and empties it. After a failure a beginning of it was written.
 fn flush<W: Sink>(writer: &mut W, block: &mut Vec<u8>) -> Result<(), Failed>
-    ensures written { OnOk result (W.told writer.new ≡ append_known (W.told writer.old) block.old.items) }
+    ensures written { OnOk result (WritesAll (W.told writer.old) (W.told writer.new) block.old.items) }
     ensures emptied { OnOk result (block.new.items ≡ []) }
     ensures room { vec_capacity block.new ≡ vec_capacity block.old }
     ensures failed { OnErr result (W.failures writer.old < W.failures writer.new) }
@@ -41,9 +40,9 @@ fn add(block: &mut Vec<u8>, piece: &[u8]) -> bool
 /// Puts a piece behind what stands in a block. Where there is no room for it, the block is written
 /// first, and a piece that is longer than a block at once.
 fn put<W: Sink>(writer: &mut W, block: &mut Vec<u8>, piece: &[u8]) -> Result<(), Failed>
-    ensures put { OnOk result (Writes (W.told writer.old) (W.told writer.new) (block.old.items ++ piece.now) block.new.items) }
+    ensures put { OnOk result (Puts (W.told writer.old) (W.told writer.new) block.old.items piece.now block.new.items) }
     ensures failed { OnErr result (W.failures writer.old < W.failures writer.new) }
-    ensures beginning { OnErr result (WritesBeginning (W.told writer.old) (W.told writer.new) (block.old.items ++ piece.now)) }
+    ensures beginning { OnErr result (PutsBeginning (W.told writer.old) (W.told writer.new) block.old.items piece.now) }
     ensures counted { W.failures writer.old ≤ W.failures writer.new }
 {
     if add(block, piece) {
@@ -67,9 +66,9 @@ pub fn write_picked<W: Sink>(
 ) -> Result<(), Failed>
     requires empty { block.old.items ≡ [] }
     requires within { All (λ pick. pick < length pieces.now) picks.now }
-    ensures written { OnOk result (W.told writer.new ≡ append_known (W.told writer.old) (picked_text pieces.now picks.now)) }
+    ensures written { OnOk result (WritesPicked (W.told writer.old) (W.told writer.new) pieces.now picks.now) }
     ensures failed { OnErr result (W.failures writer.old < W.failures writer.new) }
-    ensures beginning { OnErr result (WritesBeginning (W.told writer.old) (W.told writer.new) (picked_text pieces.now picks.now)) }
+    ensures beginning { OnErr result (PicksBeginning (W.told writer.old) (W.told writer.new) pieces.now picks.now) }
     ensures counted { W.failures writer.old ≤ W.failures writer.new }
 {
     for i in 0..picks.len() {

@@ -1,14 +1,17 @@
 //! What is asked for: the words of the command line, or the lines of the input.
 
-ghost use Rattle.std.specs.Prelude.{◌≡◌, ◌==◌, ◌<◌, ◌≤◌, if◌then◌else◌, length, map, position, IfOk, Some, None};
+ghost use Rattle.std.specs.Prelude.{◌≡◌, ◌==◌, ◌<◌, ◌≤◌, if◌then◌else◌, length, map, position, option_map, IfOk};
+ghost use Rattle.std.specs.Prelude.{Some, None};
 ghost use Rattle.std.specs.List.{list_all};
 ghost use Rattle.std.specs.Char.{is_ascii_hexdigit};
 ghost use Rattle.std.specs.Str.Lines.{lines, strip_carriage_return};
 ghost use Rattle.std.specs.Str.Parse.{digits_value};
-ghost use Rattle.dw_model.specs.Output.{address_in, without_prefix};
-ghost use Rattle.a2l_lines.specs.Input.{input_shown, word_shown, first_line, after_line};
+ghost use Rattle.dw_model.specs.Output.{address_in, without_prefix, dash_in, span_between, query_in};
+ghost use Rattle.dw_symbols.specs.Told.{query_shown};
+ghost use Rattle.a2l_lines.specs.Input.{asked_by, word_shown, first_line, after_line};
 
 use std::alloc::{AllocError, Global};
+use ticket_core::Query;
 
 /// The most digits of an address.
 const MOST_DIGITS: usize = 16;
@@ -16,9 +19,9 @@ const MOST_DIGITS: usize = 16;
 /// A text that is asked for.
 #[derive(Clone, Copy, Debug, PartialEq, Eq)]
 pub enum Input {
-    /// It is this address.
-    Address(u64),
-    /// It is no address.
+    /// It asks for this.
+    Asked(Query),
+    /// It is a bad address.
     Bad,
 }
 
@@ -60,13 +63,40 @@ fn address_in(text: &[u8]) -> Option<u64>
     number(digits)
 }
 
+/// Where the first `-` of a text stands.
+fn dash_in(text: &[u8]) -> Option<usize>
+    ensures { result ≡ dash_in text.now }
+{
+    text.iter().position(|byte| *byte == b'-')
+}
+
+/// The span from an address on and below another one, where both are there and the first is below the
+/// second.
+fn span_between(low: Option<u64>, high: Option<u64>) -> Option<Query>
+    ensures { option_map query_shown result ≡ span_between low high }
+{
+    Query::range(low?, high?)
+}
+
+/// The query that a text writes: an address, or a span, which is an address, `-` and an address above
+/// it; none for any other text.
+fn query_in(text: &[u8]) -> Option<Query>
+    ensures { option_map query_shown result ≡ query_in text.now }
+{
+    let Some(dash) = dash_in(text) else {
+        return Some(Query::address(address_in(text)?));
+    };
+    let (low, rest) = text.split_at(dash);
+    span_between(address_in(low), address_in(rest.split_at(1).1))
+}
+
 impl Input {
     /// What a text asks for.
     pub fn of(text: &[u8]) -> Self
-        ensures { input_shown result ≡ address_in text.now }
+        ensures { asked_by result ≡ query_in text.now }
     {
-        match address_in(text) {
-            Some(address) => Input::Address(address),
+        match query_in(text) {
+            Some(query) => Input::Asked(query),
             None => Input::Bad,
         }
     }
@@ -74,7 +104,7 @@ impl Input {
 
 /// What the words of a command line ask for.
 pub fn inputs_of_words(alloc: Global, words: &[&str]) -> Result<Vec<Input>, AllocError>
-    ensures { IfOk result (λ inputs. map input_shown inputs.items ≡ map address_in (map word_shown words.now)) }
+    ensures { IfOk result (λ inputs. map asked_by inputs.items ≡ map query_in (map word_shown words.now)) }
 {
     let mut inputs = Vec::new(alloc);
     for word in words {
@@ -116,7 +146,7 @@ fn split_line(bytes: &[u8]) -> (&[u8], &[u8])
 
 /// What the lines of a text ask for. Nothing behind the last newline is no line.
 pub fn inputs_of_lines(alloc: Global, bytes: &[u8]) -> Result<Vec<Input>, AllocError>
-    ensures { IfOk result (λ inputs. map input_shown inputs.items ≡ map address_in (lines bytes.now)) }
+    ensures { IfOk result (λ inputs. map asked_by inputs.items ≡ map query_in (lines bytes.now)) }
 {
     let mut inputs = Vec::new(alloc);
     let mut left = bytes;

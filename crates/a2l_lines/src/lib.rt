@@ -1,4 +1,4 @@
-//! What the program reads and writes: the addresses that are asked for, the lines of their answers,
+//! What the program reads and writes: the addresses and spans that are asked for, the lines of their answers,
 //! and the lines of `--units`.
 #![tactic(auto)]
 

@@ -1,11 +1,9 @@
 //! The lines of `--units`.
 
 ghost use Rattle.std.specs.Prelude.{◌≡◌, ◌≢◌, ◌++◌, ◌<◌, Err, OnOk, OnErr, IfOk, IsErrOf, string_bytes};
-ghost use Rattle.std.specs.Io.KnownBytes.{append_known};
-ghost use Rattle.dw_model.specs.Unit as model;
-ghost use Rattle.dw_model.specs.Output.{unit_line, unit_lines};
+ghost use Rattle.dw_model.specs.Output.{unit_line};
 ghost use Rattle.dw_units.specs.Unit.{unit_shown};
-ghost use Rattle.a2l_lines.specs.Ends.{WritesBeginning};
+ghost use Rattle.a2l_lines.specs.Listing.{Lists, ListsBeginning, lines_in};
 
 use crate::ends::{Failed, Sink};
 use crate::fault::RunFault;
@@ -25,7 +23,7 @@ fn push_line(text: &mut String, unit: &Unit<'_>) -> Result<(), AllocError>
 
 /// The lines of `--units`.
 fn listing(alloc: Global, units: &Units<'_>) -> Result<String, AllocError>
-    ensures { IfOk result (λ text. string_bytes text ≡ unit_lines (model.units units.now.info)) }
+    ensures { IfOk result (λ text. string_bytes text ≡ lines_in units.now) }
 {
     let mut text = String::new(alloc);
     for i in 0..units.len() {
@@ -38,8 +36,8 @@ fn listing(alloc: Global, units: &Units<'_>) -> Result<String, AllocError>
 ///
 /// After an error a beginning of them was written.
 pub fn list_units<W: Sink>(alloc: Global, writer: &mut W, units: &Units<'_>) -> Result<(), RunFault>
-    ensures written { OnOk result (W.told writer.new ≡ append_known (W.told writer.old) (unit_lines (model.units units.now.info))) }
-    ensures beginning { OnErr result (WritesBeginning (W.told writer.old) (W.told writer.new) (unit_lines (model.units units.now.info))) }
+    ensures written { OnOk result (Lists units.now (W.told writer.old) (W.told writer.new)) }
+    ensures beginning { OnErr result (ListsBeginning units.now (W.told writer.old) (W.told writer.new)) }
     ensures write { IsErrOf result RunFault.Write → W.failures writer.old < W.failures writer.new }
     ensures memory { IsErrOf result RunFault.Memory → writer.new ≡ writer.old }
     ensures read { result ≢ Err RunFault.Read }

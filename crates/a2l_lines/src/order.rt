@@ -1,24 +1,23 @@
-//! The order in which addresses are asked.
+//! The order in which queries are asked.
 
-ghost use Rattle.std.specs.Prelude.{◌≡◌, ◌<◌, ℕ, length, map, IfOk, slice_index};
+ghost use Rattle.std.specs.Prelude.{◌≡◌, ◌<◌, length, IfOk};
 ghost use Rattle.std.specs.List.{All};
-ghost use Rattle.dw_model.specs.Answer as model;
-ghost use Rattle.dw_symbols.specs.Answer.{answer_shown};
-ghost use Rattle.a2l_lines.specs.Order.{IsOrder, asked_in};
+ghost use Rattle.a2l_lines.specs.Order.{IsOrder, AreInPlace, asked_in};
 
-use crate::turns::Turns;
+use crate::turns::{Turn, Turns};
 use dw_symbols::{Answer, Image};
 use std::alloc::{AllocError, Global};
 use std::mem;
+use ticket_core::Query;
 
-/// The order in which queries are best asked by a pool: the place of each, behind its turn. Those of a
+/// The order in which queries are best asked by a pool: the index of each, after its turn. Those of a
 /// unit are asked together, of 16 units at a time, the largest first; of these 16 the first query of each
 /// comes first, and the others are evenly mixed.
 pub fn order_of(
     alloc: Global,
     image: &Image<'_>,
-    queries: &[u64],
-) -> Result<Vec<(u64, usize)>, AllocError>
+    queries: &[Query],
+) -> Result<Vec<(Turn, usize)>, AllocError>
     ensures { IfOk result (λ order. IsOrder queries.now order.items) }
 {
     let mut turns = Turns::new(alloc, image, queries)?;
@@ -30,12 +29,12 @@ pub fn order_of(
     Ok(order)
 }
 
-/// The queries in an order of their places.
+/// The queries in an order of their indexes.
 pub fn in_order(
     alloc: Global,
-    queries: &[u64],
-    order: &[(u64, usize)],
-) -> Result<Vec<u64>, AllocError>
+    queries: &[Query],
+    order: &[(Turn, usize)],
+) -> Result<Vec<Query>, AllocError>
     requires { All (λ pair. pair.1 < length queries.now) order.now }
     ensures { IfOk result (λ asked. asked.items ≡ asked_in queries.now order.now) }
 {
@@ -58,16 +57,16 @@ fn unanswered<'a>(alloc: Global, count: usize) -> Result<Vec<Answer<'a>>, AllocE
 }
 
 /// The answers in the order of their queries, of answers that were found in another order: whatever
-/// each address means.
+/// each query means.
 pub fn in_place<'a>(
     alloc: Global,
-    queries: &[u64],
-    order: &[(u64, usize)],
+    queries: &[Query],
+    order: &[(Turn, usize)],
     found: Vec<Answer<'a>>,
 ) -> Result<Vec<Answer<'a>>, AllocError>
     requires order { IsOrder queries.now order.now }
     requires len { length found.items ≡ length order.now }
-    ensures { IfOk result (λ answers. (means : ℕ → model.Answer) → map answer_shown found.entry.items ≡ map means (asked_in queries.now order.now) → map answer_shown answers.items ≡ map means queries.now) }
+    ensures { IfOk result (λ answers. AreInPlace queries.now order.now found.entry.items answers.items) }
 {
     let mut found = found;
     let mut answers = unanswered(alloc, queries.len())?;

@@ -1,9 +1,10 @@
-//! Which worker each address is meant for, so that each unit is read by one worker. No promise rests on it.
+//! Which worker each query is meant for, so that each unit is read by one worker. No promise rests on it.
 
 use crate::survey::{Load, survey_of};
 use crate::turns::WAVE;
 use dw_symbols::Image;
 use std::alloc::{AllocError, Global};
+use ticket_core::Query;
 
 /// How many bytes of a unit are read in the time of one answer.
 const ANSWER: u64 = 512;
@@ -22,24 +23,13 @@ struct Hands {
     units: usize,
 }
 
-/// The place of the least of some numbers.
+/// The index of the least of some numbers, the first one of several; 0 where there is none.
 fn least(numbers: &[u64]) -> usize {
-    let mut place = 0usize;
-    let mut least = u64::MAX;
-    for i in 0..numbers.len() {
-        if numbers[i] < least {
-            least = numbers[i];
-            place = i;
-        }
-    }
-    place
-}
-
-/// Makes all of some numbers 0.
-fn clear(numbers: &mut [u64]) {
-    for i in 0..numbers.len() {
-        numbers[i] = 0;
-    }
+    let least = numbers
+        .iter()
+        .enumerate()
+        .min_by_key(|(_, number)| **number);
+    least.map_or(0, |(index, _)| index)
 }
 
 impl Hands {
@@ -55,7 +45,7 @@ impl Hands {
     /// Gives a unit to the worker that has least to do in its wave.
     fn give(&mut self, load: Load) -> u8 {
         if self.units % WAVE == 0 {
-            clear(&mut self.work);
+            self.work.fill(0);
         }
         self.units = self.units.wrapping_add(1);
         let worker = least(&self.work);
@@ -86,15 +76,15 @@ impl Hands {
     }
 }
 
-/// For each of some addresses, which are asked in this order, the number of its worker: one for each
+/// For each of some queries, which are asked in this order, the number of its worker: one for each
 /// unit, and of the units of a wave each next one's is the one that has least to do.
 pub fn owners_of(
     alloc: Global,
     image: &Image<'_>,
-    addresses: &[u64],
+    queries: &[Query],
     workers: usize,
 ) -> Result<Vec<u8>, AllocError> {
-    let survey = survey_of(alloc, image, addresses)?;
+    let survey = survey_of(alloc, image, queries)?;
     let mut hands = Hands::new(alloc, survey.loads.len(), workers)?;
     let mut owners = Vec::new(alloc);
     for unit in &survey.units {

@@ -1,16 +1,14 @@
-//! The lines of each address that is asked, kept once for all inputs that ask for it.
+//! The lines of each query that is asked, kept once for all inputs that ask for it.
 
-ghost use Rattle.std.specs.Prelude.{◌≡◌, ◌<◌, ℕ, [], length, map, slice_index_or, IfOk};
-ghost use Rattle.dw_model.specs.Answer as model;
-ghost use Rattle.dw_symbols.specs.Answer.{answer_shown};
-ghost use Rattle.a2l_lines.specs.Text.{options_shown};
-ghost use Rattle.a2l_lines.specs.Pieces.{pieces_for};
+ghost use Rattle.std.specs.Prelude.{◌≡◌, ◌<◌, [], length, slice_index_or, IfOk};
+ghost use Rattle.a2l_lines.specs.Pieces.{ArePieces};
 
 use crate::options::Options;
-use crate::text::push_address;
+use crate::text::push_query;
 use dw_symbols::Answer;
 use std::alloc::{AllocError, Global};
 use std::marker::Model;
+use ticket_core::Query;
 
 /// The line of a bad address.
 const BAD_ADDRESS: &[u8] = b"!bad address\n";
@@ -47,16 +45,16 @@ impl Pieces {
     }
 }
 
-/// The lines of a bad address, then those of each address that is asked, by its answer. Each answer is
+/// The lines of a bad address, then those of each query that is asked, by its answer. Each answer is
 /// let go as soon as its lines are made.
 pub fn pieces_of(
     alloc: Global,
     options: &Options<'_>,
-    asked: &[u64],
+    asked: &[Query],
     answers: Vec<Answer<'_>>,
 ) -> Result<Pieces, AllocError>
     requires { length answers.items ≡ length asked.now }
-    ensures { IfOk result (λ pieces. (means : ℕ → model.Answer) → map answer_shown answers.entry.items ≡ map means asked.now → pieces ≡ pieces_for (options_shown options.now) means asked.now) }
+    ensures { IfOk result (ArePieces options.now asked.now answers.entry.items) }
 {
     let mut text = Vec::new(alloc);
     let mut spans = Vec::new(alloc);
@@ -65,7 +63,7 @@ pub fn pieces_of(
     let mut i = 0usize;
     for answer in answers {
         let start = text.len();
-        push_address(alloc, &mut text, options, asked[i], &answer)?;
+        push_query(alloc, &mut text, options, asked[i], &answer)?;
         spans.push((start, text.len() - start))?;
         i += 1;
     }

@@ -1,10 +1,8 @@
 //! Answering queries by a pool of threads over one file.
 
-ghost use Rattle.std.specs.Prelude.{◌≡◌, map, length, IfOk, IfErr, OnOk};
-ghost use Rattle.dw_model.specs.Answer as model;
-ghost use Rattle.dw_symbols.specs.Answer.{answer_shown};
+ghost use Rattle.std.specs.Prelude.{length, IfOk, IfErr, OnOk};
 ghost use Rattle.ticket_board.specs.Pool.{PoolFits, RefusesPool};
-ghost use Rattle.a2l_lines.specs.Order.{IsOrder};
+ghost use Rattle.a2l_lines.specs.Pool.{AreAnswersOf};
 
 use crate::order::{in_order, in_place, order_of};
 use crate::owners::owners_of;
@@ -14,7 +12,7 @@ use std::num::NonZeroUsize;
 use std::sync::Wait;
 use std::thread::Threads;
 use ticket_board::{Gate, Maker, PoolFault, Queries, pool_fits};
-use ticket_core::{NoMemory, Shape};
+use ticket_core::{NoMemory, Query, Shape};
 
 /// How many units each worker keeps that it read.
 const KEPT_UNITS: usize = 16;
@@ -38,7 +36,7 @@ impl<'b, 'a> Maker<Context<'b, 'a>> for Contexts<'b, 'a> {
     }
 }
 
-/// What each of some addresses means: the answer at `i` is that of `queries[i]`. There is a thread for
+/// What each of some queries means: the answer at `i` is that of `queries[i]`. There is a thread for
 /// each sender and each worker of the shape, query `i` is asked by sender `i % senders`, and each worker
 /// has a context of its own. The gate is entered for each query that a worker took. Where the queries stand in
 /// the order of `order_of`, each unit is read by one worker.
@@ -50,10 +48,10 @@ pub fn run_pool<'a, R: Threads + Wait + Sync, G: Gate + Sync>(
     alloc: Global,
     image: &Image<'a>,
     shape: Shape,
-    queries: &[u64],
+    queries: &[Query],
     gate: &G,
 ) -> Result<Vec<Answer<'a>>, PoolFault>
-    ensures answers { IfOk result (λ answers. map answer_shown answers.items ≡ map (model.answer image.now) queries.now) }
+    ensures answers { IfOk result (λ answers. AreAnswersOf image.now queries.now answers.items) }
     ensures fits { OnOk result (PoolFits shape (length queries.now)) }
     ensures refusal { IfErr result (λ fault. RefusesPool fault shape (length queries.now)) }
 {
@@ -62,7 +60,7 @@ pub fn run_pool<'a, R: Threads + Wait + Sync, G: Gate + Sync>(
     }
     let owners = owners_of(alloc, image, queries, shape.workers)?;
     let queries = Queries {
-        addresses: queries,
+        asked: queries,
         owners: &owners,
     };
     let maker = Contexts { image };
@@ -73,18 +71,18 @@ pub fn run_pool<'a, R: Threads + Wait + Sync, G: Gate + Sync>(
     Ok(answers)
 }
 
-/// What each of some addresses means, in their order. They are asked in the order of `order_of`, so that
+/// What each of some queries means, in their order. They are asked in the order of `order_of`, so that
 /// what one unit answers is asked at one time, and the workers share the units.
 pub fn answers_of<'a, R: Threads + Wait + Sync, G: Gate + Sync>(
     rt: &R,
     alloc: Global,
     image: &Image<'a>,
     shape: Shape,
-    queries: &[u64],
+    queries: &[Query],
     gate: &G,
 ) -> Result<Vec<Answer<'a>>, AllocError>
     requires { PoolFits shape (length queries.now) }
-    ensures { IfOk result (λ answers. map answer_shown answers.items ≡ map (model.answer image.now) queries.now) }
+    ensures { IfOk result (λ answers. AreAnswersOf image.now queries.now answers.items) }
 {
     let order = order_of(alloc, image, queries)?;
     let asked = in_order(alloc, queries, &order)?;

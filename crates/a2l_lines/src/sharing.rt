@@ -1,87 +1,91 @@
-//! Which addresses are asked for some inputs, each once, and which answer each input gets.
+//! Which queries are asked for some inputs, each once, and which answer each input gets.
 
-ghost use Rattle.std.specs.Prelude.{◌≡◌, ◌+◌, ◌<◌, ◌≤◌, ◌^◌, length, map, IfOk, OnOk};
+ghost use Rattle.std.specs.Prelude.{◌≡◌, ◌+◌, ◌<◌, ◌≤◌, ◌^◌, true, length, map, IfOk, OnOk};
 ghost use Rattle.a2l_lines.specs.Input.{input_shown};
-ghost use Rattle.a2l_lines.specs.Sharing.{Shares, ArePairs, AreInOrder, is_last, added};
+ghost use Rattle.a2l_lines.specs.Sharing.{IsSharing, ArePairs, AreInOrder, is_last, last_of, added};
 
 use crate::input::Input;
 use std::alloc::{AllocError, Global};
+use ticket_core::Query;
 
-/// How many addresses are asked at most. No memory holds more.
+/// How many queries are asked at most. No memory holds more.
 const MOST: u64 = 1 << 60;
 
-/// The addresses among some inputs, each once, and what each input picks of them.
+/// The queries among some inputs, each once, and what each input picks of them.
 #[derive(Drop)]
 pub struct Sharing {
-    /// The addresses, in order.
-    pub asked: Vec<u64>,
-    /// For each input 0 where it is a bad address, and else the place of its address in `asked`, counted
+    /// The queries, in order of their first addresses. An address comes before the spans that begin with it, and
+    /// of these the shorter one first.
+    pub asked: Vec<Query>,
+    /// For each input 0 where it is a bad address, and else the index of its query in `asked`, counted
     /// from 1.
     pub picks: Vec<usize>,
 }
 
-/// Each address among some inputs, with the place of its input.
-fn pairs_of(alloc: Global, inputs: &[Input]) -> Result<Vec<(u64, usize)>, AllocError>
+/// Each query among some inputs, with the index of its input.
+fn pairs_of(alloc: Global, inputs: &[Input]) -> Result<Vec<(Query, usize)>, AllocError>
     ensures { IfOk result (λ pairs. ArePairs (map input_shown inputs.now) pairs.items) }
 {
     let mut pairs = Vec::new(alloc);
     for i in 0..inputs.len() {
-        let Input::Address(address) = inputs[i] else {
+        let Input::Asked(query) = inputs[i] else {
             continue;
         };
-        pairs.push((address, i))?;
+        pairs.push((query, i))?;
     }
     Ok(pairs)
 }
 
-/// The same in order of address.
-fn sorted_pairs(alloc: Global, inputs: &[Input]) -> Result<Vec<(u64, usize)>, AllocError>
+/// The same in order of the queries.
+fn sorted_pairs(alloc: Global, inputs: &[Input]) -> Result<Vec<(Query, usize)>, AllocError>
     ensures pairs { IfOk result (λ pairs. ArePairs (map input_shown inputs.now) pairs.items) }
     ensures order { IfOk result (λ pairs. AreInOrder pairs.items) }
 {
     let mut pairs = pairs_of(alloc, inputs)?;
-    pairs.sort_unstable();
+    pairs.sort_unstable_by_key(|(query, _)| (query.first(), query.second()));
     Ok(pairs)
 }
 
-/// Whether an address is the last of some.
-fn is_last(asked: &[u64], address: u64) -> bool
-    ensures { result ≡ is_last address asked.now }
+/// Whether a query is the last of some.
+fn is_last(asked: &[Query], query: Query) -> bool
+    ensures last { result ≡ is_last query asked.now }
+    ensures same { result ≡ true → last_of asked.now ≡ query }
 {
-    !asked.is_empty() && asked[asked.len() - 1] == address
+    !asked.is_empty() && asked[asked.len() - 1].kind() == query.kind()
 }
 
-/// Adds an address, where it isn't the last one already.
-fn add(asked: &mut Vec<u64>, address: u64) -> Result<(), AllocError>
-    ensures { OnOk result (asked.new.items ≡ added address asked.old.items) }
+/// Adds a query, where it isn't the last one already.
+fn add(asked: &mut Vec<Query>, query: Query) -> Result<(), AllocError>
+    ensures added { OnOk result (asked.new.items ≡ added query asked.old.items) }
+    ensures last { OnOk result (last_of asked.new.items ≡ query) }
 {
-    if is_last(asked, address) {
+    if is_last(asked, query) {
         return Ok(());
     }
-    asked.push(address)?;
+    asked.push(query)?;
     Ok(())
 }
 
-/// The addresses of pairs in order, each once, and what each input picks of them.
-fn shared(alloc: Global, inputs: &[Input], pairs: &[(u64, usize)]) -> Result<Sharing, AllocError>
+/// The queries of pairs in order, each once, and what each input picks of them.
+fn shared(alloc: Global, inputs: &[Input], pairs: &[(Query, usize)]) -> Result<Sharing, AllocError>
     requires pairs { ArePairs (map input_shown inputs.now) pairs.now }
     requires order { AreInOrder pairs.now }
-    ensures { IfOk result (λ sharing. Shares (map input_shown inputs.now) sharing.asked.items sharing.picks.items) }
+    ensures { IfOk result (IsSharing inputs.now) }
 {
     let mut asked = Vec::new(alloc);
     let mut picks = vec![in alloc; 0usize; inputs.len()]?;
     for i in 0..pairs.len() {
-        let (address, place) = pairs[i];
-        add(&mut asked, address)?;
+        let (query, place) = pairs[i];
+        add(&mut asked, query)?;
         picks[place] = asked.len();
     }
     Ok(Sharing { asked, picks })
 }
 
-/// What is asked for some inputs, and what each of them picks of it. There are no more addresses than
+/// What is asked for some inputs, and what each of them picks of it. There are no more queries than
 /// one sender may ask.
 pub fn sharing_of(alloc: Global, inputs: &[Input]) -> Result<Sharing, AllocError>
-    ensures shares { IfOk result (λ sharing. Shares (map input_shown inputs.now) sharing.asked.items sharing.picks.items) }
+    ensures shares { IfOk result (IsSharing inputs.now) }
     ensures most { IfOk result (λ sharing. length sharing.asked.items ≤ 2 ^ 60) }
 {
     let pairs = sorted_pairs(alloc, inputs)?;

@@ -1,27 +1,28 @@
-//! What is known of the units that some addresses ask, before one of them is read.
+//! What is known of the units that some queries ask, before one of them is read.
 
 use dw_symbols::{Image, UnitPlace};
 use std::alloc::{AllocError, Global};
+use ticket_core::{Query, QueryKind};
 
 /// What is asked of a unit.
 #[derive(Clone, Copy)]
 pub struct Load {
     /// How many bytes the unit has.
     pub size: u64,
-    /// How many addresses are asked of it.
+    /// How many queries are asked of it.
     pub count: u64,
 }
 
-/// The units of some addresses.
+/// The units of some queries.
 #[derive(Drop)]
 pub struct Survey {
-    /// For each address the place of its unit among the units of the file; `usize::MAX` where it has none.
+    /// For each query the place of its unit among the units of the file; `usize::MAX` where it has none.
     pub units: Vec<usize>,
     /// For each unit of the file what is asked of it.
     pub loads: Vec<Load>,
 }
 
-/// One address more is asked of a unit.
+/// One query more is asked of a unit.
 fn count(loads: &mut [Load], unit: UnitPlace) {
     if let Some(load) = loads.get_mut(unit.place) {
         load.size = unit.size;
@@ -29,25 +30,34 @@ fn count(loads: &mut [Load], unit: UnitPlace) {
     }
 }
 
-/// The place of the unit that answers an address, which is counted.
-fn counted(image: &Image<'_>, loads: &mut [Load], address: u64) -> usize {
-    let Some(unit) = image.unit_place(address) else {
+/// The unit with which a query goes: the one that answers its address, or the first covered address of its
+/// span.
+fn unit_of(image: &Image<'_>, query: Query) -> Option<UnitPlace> {
+    match query.kind() {
+        QueryKind::Address(a) => image.unit_place(a),
+        QueryKind::Span(low, high) => image.first_unit_place(low, high),
+    }
+}
+
+/// The place of the unit of a query, which is counted.
+fn counted(image: &Image<'_>, loads: &mut [Load], query: Query) -> usize {
+    let Some(unit) = unit_of(image, query) else {
         return usize::MAX;
     };
     count(loads, unit);
     unit.place
 }
 
-/// The units of some addresses, by the index of a file.
+/// The units of some queries, by the index of a file.
 pub fn survey_of(
     alloc: Global,
     image: &Image<'_>,
-    addresses: &[u64],
+    queries: &[Query],
 ) -> Result<Survey, AllocError> {
     let mut loads = vec![in alloc; Load { size: 0, count: 0 }; image.unit_count()]?;
     let mut units = Vec::new(alloc);
-    for address in addresses {
-        units.push(counted(image, &mut loads, *address))?;
+    for query in queries {
+        units.push(counted(image, &mut loads, *query))?;
     }
     Ok(Survey { units, loads })
 }

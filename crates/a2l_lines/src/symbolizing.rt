@@ -1,13 +1,13 @@
-//! Answering addresses.
+//! Answering what is asked for.
 
 ghost use Rattle.std.specs.Prelude.{◌≡◌, ◌≢◌, ◌<◌, ◌≤◌, List, [], map, Err, OnErr, IfOk, IsErrOf};
 ghost use Rattle.std.specs.List.{list_any};
 ghost use Rattle.dw_model.specs.Output.{is_fault};
 ghost use Rattle.dw_symbols.specs.Answer.{answer_shown};
-ghost use Rattle.a2l_lines.specs.Input.{input_shown, word_shown};
-ghost use Rattle.a2l_lines.specs.Text.{options_shown, is_bad, some_fault};
+ghost use Rattle.a2l_lines.specs.Input.{input_shown};
+ghost use Rattle.a2l_lines.specs.Text.{is_bad, some_fault};
 ghost use Rattle.a2l_lines.specs.Pool.{shape_of, workers_for};
-ghost use Rattle.a2l_lines.specs.Symbolize.{Asks, Symbolizes, SymbolizesBeginning, status_for};
+ghost use Rattle.a2l_lines.specs.Symbolize.{AreAsked, Answers, AnswersBeginning, status_for};
 
 use crate::blocks::write_picked;
 use crate::ends::{Failed, Sink, Source};
@@ -37,7 +37,7 @@ const BLOCK: usize = 65536;
 /// How a run ends whose text was written.
 #[derive(Clone, Copy, Debug, PartialEq, Eq)]
 pub enum Status {
-    /// Each input is an address, and none has a fault for an answer.
+    /// No input is a bad address, and none has a fault for an answer.
     Clean,
     /// Some input is a bad address, or has a fault for an answer.
     Faults,
@@ -50,7 +50,7 @@ fn inputs_of<R: Source>(
     reader: &mut R,
     words: &[&str],
 ) -> Result<Vec<Input>, RunFault>
-    ensures asked { IfOk result (λ inputs. Asks (map word_shown words.now) (R.left reader.old) (map input_shown inputs.items)) }
+    ensures asked { IfOk result (λ inputs. AreAsked words.now (R.left reader.old) inputs.items) }
     ensures words { words.now ≢ [] → reader.new ≡ reader.old }
     ensures read { IsErrOf result RunFault.Read → R.failures reader.old < R.failures reader.new }
     ensures write { result ≢ Err RunFault.Write }
@@ -88,7 +88,7 @@ fn some_refused(answers: &[Answer<'_>]) -> bool
     false
 }
 
-/// How a run over these inputs ends, of which those that are addresses have these answers.
+/// How a run over these inputs ends, of which those that aren't bad addresses have these answers.
 fn outcome(inputs: &[Input], answers: &[Answer<'_>]) -> Status
     ensures { result ≡ status_for (some_fault (map input_shown inputs.now) (map answer_shown answers.now)) }
 {
@@ -111,9 +111,9 @@ fn shape_of(options: &Options<'_>, queries: usize) -> Shape
     }
 }
 
-/// Answers the addresses that the words of the options name, or where there are none the lines of
-/// the reader, and writes the lines of their answers in that order. The gate is entered for each
-/// address that a worker took.
+/// Answers the addresses and spans that the words of the options name, or where there are none the lines
+/// of the reader, and writes the lines of their answers in that order. The gate is entered for each query
+/// that a worker took.
 ///
 /// The errors: `Read`, after which nothing was written; `Write`; `Memory`. After each a beginning of
 /// the text was written. The reader is read only where there are no words.
@@ -128,8 +128,10 @@ pub fn symbolize<'a, T: Threads + Wait + Sync, R: Source, W: Sink, G: Gate + Syn
 ) -> Result<Status, RunFault>
     requires workers { (1 ≤ options.now.workers) × (options.now.workers ≤ 64) }
     requires senders { (1 ≤ options.now.senders) × (options.now.senders ≤ 64) }
-    ensures written { IfOk result (Symbolizes (options_shown options.now) image.now (map word_shown options.now.words.items) (R.left reader.old) (W.told writer.old) (W.told writer.new)) }
-    ensures beginning { OnErr result (SymbolizesBeginning (options_shown options.now) image.now (map word_shown options.now.words.items) (R.left reader.old) (W.told writer.old) (W.told writer.new)) }
+    ensures written { IfOk result
+        (Answers options.now image.now (R.left reader.old) (W.told writer.old) (W.told writer.new)) }
+    ensures beginning { OnErr result
+        (AnswersBeginning options.now image.now (R.left reader.old) (W.told writer.old) (W.told writer.new)) }
     ensures read { IsErrOf result RunFault.Read → R.failures reader.old < R.failures reader.new }
     ensures nothing { IsErrOf result RunFault.Read → writer.new ≡ writer.old }
     ensures write { IsErrOf result RunFault.Write → W.failures writer.old < W.failures writer.new }

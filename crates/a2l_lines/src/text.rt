@@ -1,14 +1,18 @@
 //! The lines that are written for inputs.
 
-ghost use Rattle.std.specs.Prelude.{◌≡◌, ◌++◌, if◌then◌else◌, [], OnOk, IfOk, map, flat_map, string_bytes, option_map, decimal};
-ghost use Rattle.dw_model.specs.Output.{newline, name_text, location_text, frame_lines, unknown_frame, shown, fault_line, address_line, address_lines, answer_lines};
-ghost use Rattle.dw_symbols.specs.Answer.{answer_shown, frame_shown, code_shown, location_shown};
-ghost use Rattle.a2l_lines.specs.Text.{options_shown, line_text, path_text, name_shown};
+ghost use Rattle.std.specs.Prelude.{◌≡◌, ◌++◌, OnOk, IfOk, map, string_bytes, option_map, decimal};
+ghost use Rattle.dw_model.specs.Output.{frame_lines, unknown_frame, shown, fault_line};
+ghost use Rattle.dw_model.specs.Output.{address_line, span_text, span_line, query_line, piece_line, piece_lines};
+ghost use Rattle.dw_symbols.specs.Answer.{frame_shown, code_shown, piece_shown};
+ghost use Rattle.dw_symbols.specs.Told.{query_shown};
+ghost use Rattle.a2l_lines.specs.Text.{options_shown, path_text, line_end, location_line, name_line};
+ghost use Rattle.a2l_lines.specs.Text.{frame_text, frames_text, answer_text, head_text, query_text};
 
 use crate::options::Options;
-use dw_symbols::{Answer, Frame, Location, UnitFault};
+use dw_symbols::{Answer, Frame, Location, Piece, UnitFault};
 use itoa::Buffer;
 use std::alloc::{AllocError, Global};
+use ticket_core::{Query, QueryKind};
 
 /// Adds a number in decimal digits.
 fn push_number(text: &mut Vec<u8>, number: u64) -> Result<(), AllocError>
@@ -20,7 +24,7 @@ fn push_number(text: &mut Vec<u8>, number: u64) -> Result<(), AllocError>
 
 /// Adds the line of a location as it stands behind the path, and the end of the text's line.
 fn push_line(text: &mut Vec<u8>, location: &Location) -> Result<(), AllocError>
-    ensures { OnOk result (text.new.items ≡ text.old.items ++ (line_text (location_shown location.now).path (location_shown location.now).line ++ newline)) }
+    ensures { OnOk result (text.new.items ≡ text.old.items ++ line_end location.now) }
 {
     let Some(line) = location.line else {
         return match location.path {
@@ -46,7 +50,7 @@ fn push_path(text: &mut Vec<u8>, path: &Option<Vec<u8>>) -> Result<(), AllocErro
 /// Adds where an address comes from, and the end of the text's line: `PATH:LINE`, with `??` for a path
 /// and `?` for a line that isn't known, and `??:0` where neither is.
 fn push_location(text: &mut Vec<u8>, location: &Location) -> Result<(), AllocError>
-    ensures { OnOk result (text.new.items ≡ text.old.items ++ (location_text (location_shown location.now).path (location_shown location.now).line ++ newline)) }
+    ensures { OnOk result (text.new.items ≡ text.old.items ++ location_line location.now) }
 {
     push_path(text, &location.path)?;
     push_line(text, location)
@@ -54,7 +58,7 @@ fn push_location(text: &mut Vec<u8>, location: &Location) -> Result<(), AllocErr
 
 /// Adds the name of a function, or `??`, and the end of the text's line.
 fn push_name(text: &mut Vec<u8>, name: Option<&[u8]>) -> Result<(), AllocError>
-    ensures { OnOk result (text.new.items ≡ text.old.items ++ (name_text (name_shown name.entry) ++ newline)) }
+    ensures { OnOk result (text.new.items ≡ text.old.items ++ name_line name.entry) }
 {
     match name {
         Some(name) => text.extend_from_slice(name)?,
@@ -69,7 +73,7 @@ fn push_frame(
     options: &Options<'_>,
     frame: &Frame<'_>,
 ) -> Result<(), AllocError>
-    ensures { OnOk result (text.new.items ≡ text.old.items ++ frame_lines (options_shown options.now) (frame_shown frame.now)) }
+    ensures { OnOk result (text.new.items ≡ text.old.items ++ frame_text options.now frame.now) }
 {
     if options.functions {
         push_name(text, frame.name)?;
@@ -83,7 +87,7 @@ fn push_frames(
     options: &Options<'_>,
     frames: &[Frame<'_>],
 ) -> Result<(), AllocError>
-    ensures { OnOk result (text.new.items ≡ text.old.items ++ flat_map (frame_lines (options_shown options.now)) (map frame_shown frames.now)) }
+    ensures { OnOk result (text.new.items ≡ text.old.items ++ frames_text options.now frames.now) }
 {
     for frame in frames {
         push_frame(text, options, frame)?;
@@ -134,6 +138,37 @@ fn push_unknown(text: &mut Vec<u8>, options: &Options<'_>) -> Result<(), AllocEr
     )
 }
 
+/// The first address of a span, and its end.
+fn span_text(alloc: Global, low: u64, high: u64) -> Result<String, AllocError>
+    ensures { IfOk result (λ text. string_bytes text ≡ span_text low high) }
+{
+    let text = format!(in alloc; "0x{low:016x}-0x{high:016x}")?;
+    Ok(text)
+}
+
+/// Adds the line of a piece: the addresses and their location.
+fn push_piece(alloc: Global, text: &mut Vec<u8>, piece: &Piece) -> Result<(), AllocError>
+    ensures { OnOk result (text.new.items ≡ text.old.items ++ piece_line (piece_shown piece.now)) }
+{
+    let span = span_text(alloc, piece.begin, piece.end)?;
+    text.extend_from_slice(span.as_bytes())?;
+    text.extend_from_slice(b" ")?;
+    push_location(text, &piece.location)
+}
+
+/// Adds the lines of pieces; of none the line of an address of which nothing is known.
+fn push_pieces(alloc: Global, text: &mut Vec<u8>, pieces: &[Piece]) -> Result<(), AllocError>
+    ensures { OnOk result (text.new.items ≡ text.old.items ++ piece_lines (map piece_shown pieces.now)) }
+{
+    if pieces.is_empty() {
+        return text.extend_from_slice(b"??:0\n");
+    }
+    for piece in pieces {
+        push_piece(alloc, text, piece)?;
+    }
+    Ok(())
+}
+
 /// Adds the lines of an answer.
 fn push_answer(
     alloc: Global,
@@ -141,12 +176,13 @@ fn push_answer(
     options: &Options<'_>,
     answer: &Answer<'_>,
 ) -> Result<(), AllocError>
-    ensures { OnOk result (text.new.items ≡ text.old.items ++ answer_lines (options_shown options.now) (answer_shown answer.now)) }
+    ensures { OnOk result (text.new.items ≡ text.old.items ++ answer_text options.now answer.now) }
 {
     match answer {
         Answer::NotCovered => push_unknown(text, options),
         Answer::Fault { unit, code } => push_fault(alloc, text, *unit, *code),
         Answer::Found { frames, .. } => push_frames(text, options, shown(options, frames)),
+        Answer::Pieces(pieces) => push_pieces(alloc, text, pieces),
     }
 }
 
@@ -158,32 +194,51 @@ fn address_line(alloc: Global, address: u64) -> Result<String, AllocError>
     Ok(line)
 }
 
-/// Adds the line of an address itself, with `-a`.
-fn push_address_line(
+/// The line of a span itself.
+fn span_line(alloc: Global, low: u64, high: u64) -> Result<String, AllocError>
+    ensures { IfOk result (λ line. string_bytes line ≡ span_line low high) }
+{
+    let mut line = span_text(alloc, low, high)?;
+    line.push('\n')?;
+    Ok(line)
+}
+
+/// The line of a query itself.
+fn query_line(alloc: Global, query: Query) -> Result<String, AllocError>
+    ensures { IfOk result (λ line. string_bytes line ≡ query_line (query_shown query)) }
+{
+    match query.kind() {
+        QueryKind::Address(a) => address_line(alloc, a),
+        QueryKind::Span(low, high) => span_line(alloc, low, high),
+    }
+}
+
+/// Adds the line of a query itself, with `-a`.
+fn push_head(
     alloc: Global,
     text: &mut Vec<u8>,
     options: &Options<'_>,
-    address: u64,
+    query: Query,
 ) -> Result<(), AllocError>
-    ensures { OnOk result (text.new.items ≡ text.old.items ++ (if options.now.addresses then address_line address else [])) }
+    ensures { OnOk result (text.new.items ≡ text.old.items ++ head_text options.now query) }
 {
     if !options.addresses {
         return Ok(());
     }
-    let line = address_line(alloc, address)?;
+    let line = query_line(alloc, query)?;
     text.extend_from_slice(line.as_bytes())
 }
 
-/// Adds the lines of an address: with `-a` the address itself, then its answer.
-pub fn push_address(
+/// Adds the lines of a query: with `-a` the address or the span itself, then its answer.
+pub fn push_query(
     alloc: Global,
     text: &mut Vec<u8>,
     options: &Options<'_>,
-    address: u64,
+    query: Query,
     answer: &Answer<'_>,
 ) -> Result<(), AllocError>
-    ensures { OnOk result (text.new.items ≡ text.old.items ++ address_lines (options_shown options.now) address (answer_shown answer.now)) }
+    ensures { OnOk result (text.new.items ≡ text.old.items ++ query_text options.now query answer.now) }
 {
-    push_address_line(alloc, text, options, address)?;
+    push_head(alloc, text, options, query)?;
     push_answer(alloc, text, options, answer)
 }

@@ -7,7 +7,7 @@ use crate::gates::{Open, Peek};
 use crate::solver::Echo;
 use std::alloc::Global;
 use ticket_board::{AskFault, Board, BoardFault, Client, Next, Turn, Worker, open};
-use ticket_core::{NoMemory, Shape, Solver};
+use ticket_core::{NoMemory, Query, QueryKind, Shape, Solver};
 
 /// A board of which the last client and the last worker are used, with the worker's solver.
 #[derive(Drop)]
@@ -58,15 +58,15 @@ impl BoardDesk {
         })
     }
 
-    pub fn ask(&mut self, a: u64) -> Result<u64, AskFault> {
-        self.client.ask(&self.board, a)
+    pub fn ask(&mut self, query: Query) -> Result<u64, AskFault> {
+        self.client.ask(&self.board, query)
     }
 
     pub fn ready(&mut self) -> bool {
         self.client.ready(&self.board)
     }
 
-    pub fn next(&mut self) -> Next<u64> {
+    pub fn next(&mut self) -> Next<QueryKind> {
         self.client.next(&self.board)
     }
 

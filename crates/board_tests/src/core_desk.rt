@@ -6,7 +6,7 @@ ghost use Rattle.ticket_core.specs.Events.{meaning_of};
 
 use crate::solver::Echo;
 use std::alloc::Global;
-use ticket_core::{Core, CoreFault, NewFault, NoMemory, Shape, Solver};
+use ticket_core::{Core, CoreFault, NewFault, NoMemory, Query, QueryKind, Shape, Solver};
 
 /// A core whose answers are the solver's. It knows what each hand holds, so a worker can finish
 /// just that.
@@ -35,8 +35,8 @@ fn answer<S: Solver>(
     ensures key { S.key solver.new ≡ S.key solver.old }
 {
     core.law_of_state();
-    let a = core.asked(sender)[number as usize];
-    solver.solve(a)
+    let query = core.asked(sender)[number as usize];
+    solver.solve(query)
 }
 
 impl CoreDesk {
@@ -53,11 +53,11 @@ impl CoreDesk {
         })
     }
 
-    pub fn ask(&mut self, sender: usize, a: u64) -> Result<u64, CoreFault>
+    pub fn ask(&mut self, sender: usize, query: Query) -> Result<u64, CoreFault>
         requires { sender < self.old.shape.senders }
         ensures { self.new.shape ≡ self.old.shape }
     {
-        self.core.ask(sender, a)
+        self.core.ask(sender, query)
     }
 
     pub fn take(&mut self, worker: usize, sender: usize, number: u64) -> Result<(), CoreFault>
@@ -77,7 +77,7 @@ impl CoreDesk {
     {
         self.core.law_of_state();
         let Some((sender, number)) = self.hands[worker] else {
-            return self.core.finish(worker, 0);
+            return self.core.finish(worker, QueryKind::Address(0));
         };
         let answer = answer(&self.core, &mut self.solver, worker, sender, number)?;
         let ticket = self.core.finish(worker, answer)?;
@@ -108,13 +108,13 @@ impl CoreDesk {
         self.core.close(sender);
     }
 
-    pub fn asked(&self, sender: usize) -> &[u64]
+    pub fn asked(&self, sender: usize) -> &[Query]
         requires { sender < self.now.shape.senders }
     {
         self.core.asked(sender)
     }
 
-    pub fn received(&self, sender: usize) -> &[u64]
+    pub fn received(&self, sender: usize) -> &[QueryKind]
         requires { sender < self.now.shape.senders }
     {
         self.core.received(sender)

@@ -6,6 +6,7 @@ use std::process::Abort;
 use std::sync::atomic::{AtomicBool, AtomicU64, Ordering};
 use std::thread;
 use ticket_board::{Board, Gate};
+use ticket_core::Query;
 
 /// How many turns a worker waits at the gate for the others.
 const MOST_TURNS: u64 = 10_000_000;
@@ -14,7 +15,7 @@ const MOST_TURNS: u64 = 10_000_000;
 pub struct Open;
 
 impl Gate for Open {
-    fn enter(&self, _sender: usize, _number: u64, _a: u64) {}
+    fn enter(&self, _sender: usize, _number: u64, _query: Query) {}
 }
 
 /// A gate that looks at the first cell of a board.
@@ -45,7 +46,7 @@ impl<'b, 'a> Peek<'b, 'a> {
 }
 
 impl Gate for Peek<'_, '_> {
-    fn enter(&self, _sender: usize, _number: u64, _a: u64) {
+    fn enter(&self, _sender: usize, _number: u64, _query: Query) {
         if let Some(word) = self.board.state_word(0) {
             self.word.store(word, Ordering::SeqCst);
             self.saw.store(true, Ordering::SeqCst);
@@ -57,17 +58,17 @@ impl Gate for Peek<'_, '_> {
 /// `i % senders`.
 #[derive(Drop)]
 pub struct Watch<'a> {
-    queries: &'a [u64],
+    queries: &'a [Query],
     senders: usize,
     /// How often each query entered.
     entered: Vec<AtomicU64>,
-    /// How often something entered with another sender, number or address than those of a query.
+    /// How often something entered with another sender, number or query than those that were asked.
     wrong: AtomicU64,
 }
 
 impl<'a> Watch<'a> {
     /// A gate that nothing entered.
-    pub fn new(alloc: Global, queries: &'a [u64], senders: usize) -> Result<Self, AllocError> {
+    pub fn new(alloc: Global, queries: &'a [Query], senders: usize) -> Result<Self, AllocError> {
         let mut entered = Vec::new(alloc);
         for _ in queries {
             entered.push(AtomicU64::new(0))?;
@@ -97,12 +98,12 @@ impl<'a> Watch<'a> {
 }
 
 impl Gate for Watch<'_> {
-    fn enter(&self, sender: usize, number: u64, a: u64) {
+    fn enter(&self, sender: usize, number: u64, query: Query) {
         let i = (number as usize)
             .wrapping_mul(self.senders)
             .wrapping_add(sender);
         match (self.queries.get(i), self.entered.get(i)) {
-            (Some(query), Some(count)) if *query == a => {
+            (Some(asked), Some(count)) if *asked == query => {
                 count.fetch_add(1, Ordering::SeqCst);
             }
             _ => {
@@ -122,7 +123,7 @@ pub struct Meeting<'a> {
 
 impl<'a> Meeting<'a> {
     /// A gate that nothing entered, for the queries of one sender.
-    pub fn new(alloc: Global, queries: &'a [u64]) -> Result<Self, AllocError> {
+    pub fn new(alloc: Global, queries: &'a [Query]) -> Result<Self, AllocError> {
         Ok(Meeting {
             watch: Watch::new(alloc, queries, 1)?,
             let_go: AtomicU64::new(0),
@@ -137,8 +138,8 @@ impl<'a> Meeting<'a> {
 }
 
 impl Gate for Meeting<'_> {
-    fn enter(&self, sender: usize, number: u64, a: u64) {
-        self.watch.enter(sender, number, a);
+    fn enter(&self, sender: usize, number: u64, query: Query) {
+        self.watch.enter(sender, number, query);
         for _ in 0..MOST_TURNS {
             if self.watch.is_complete() {
                 return;

@@ -9,8 +9,6 @@ mod board_desk;
 #[cfg(test)]
 mod core_desk;
 #[cfg(test)]
-mod draws;
-#[cfg(test)]
 mod faults;
 #[cfg(test)]
 mod gates;
@@ -18,6 +16,8 @@ mod gates;
 mod machine;
 #[cfg(test)]
 mod pool;
+#[cfg(test)]
+mod queries;
 #[cfg(test)]
 mod ring_ends;
 #[cfg(test)]

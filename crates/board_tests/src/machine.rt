@@ -1,9 +1,60 @@
 //! Calls of a core, one after the other.
 
 use crate::core_desk::CoreDesk;
+use crate::queries::query_of;
 use crate::solver::KEY;
+use std::process::Abort;
 use std::test::Fail;
-use ticket_core::{CoreFault, NewFault, Shape};
+use ticket_core::QueryKind::{Address, Span};
+use ticket_core::{CoreFault, NewFault, Query, QueryKind, Shape};
+
+/// A call by the first sender, or by a worker, and what it returns.
+#[derive(Clone, Copy)]
+enum Call {
+    Ask(QueryKind, Result<u64, CoreFault>),
+    /// By a worker, of a number.
+    Take(usize, u64, Result<(), CoreFault>),
+    Finish(usize, Result<(usize, u64), CoreFault>),
+    GiveBack(usize, Result<(usize, u64), CoreFault>),
+    Collect(Result<u64, CoreFault>),
+    Close,
+}
+
+/// Makes the call at a place of a table. It returns what it should.
+fn make(rt: &impl Abort, desk: &mut CoreDesk, i: usize, call: Call) {
+    let Shape {
+        senders,
+        workers,
+        ..
+    } = desk.shape;
+    assert!(rt; senders > 0);
+    match call {
+        Call::Ask(kind, wanted) => {
+            let query = query_of(rt, kind);
+            assert_eq!(rt; desk.ask(0, query), wanted, "call {i}");
+        }
+        Call::Take(worker, number, wanted) => {
+            assert!(rt; worker < workers);
+            assert_eq!(rt; desk.take(worker, 0, number), wanted, "call {i}");
+        }
+        Call::Finish(worker, wanted) => {
+            assert!(rt; worker < workers);
+            assert_eq!(rt; desk.finish(worker), wanted, "call {i}");
+        }
+        Call::GiveBack(worker, wanted) => {
+            assert!(rt; worker < workers);
+            assert_eq!(rt; desk.give_back(worker), wanted, "call {i}");
+        }
+        Call::Collect(wanted) => assert_eq!(rt; desk.collect(0), wanted, "call {i}"),
+        Call::Close => desk.close(0),
+    }
+}
+
+fn make_all(rt: &impl Abort, desk: &mut CoreDesk, calls: &[Call]) {
+    for (i, call) in calls.iter().enumerate() {
+        make(rt, desk, i, *call);
+    }
+}
 
 const SMALL: Shape = Shape {
     senders: 1,
@@ -12,42 +63,65 @@ const SMALL: Shape = Shape {
     most: 2,
 };
 
+const ONE_NUMBER: [Call; 13] = [
+    Call::Collect(Err(CoreFault::NotReady)),
+    Call::Ask(Address(5), Ok(0)),
+    Call::Ask(Address(6), Err(CoreFault::Full)),
+    Call::Take(0, 1, Err(CoreFault::NotAsked)),
+    Call::Take(0, 0, Ok(())),
+    Call::Take(0, 0, Err(CoreFault::HandFull)),
+    Call::Take(1, 0, Err(CoreFault::NotAsked)),
+    Call::Finish(1, Err(CoreFault::HandEmpty)),
+    Call::GiveBack(0, Ok((0, 0))),
+    Call::Take(1, 0, Ok(())),
+    Call::Finish(1, Ok((0, 0))),
+    Call::Collect(Ok(0)),
+    Call::Ask(Span(5, 6), Ok(1)),
+];
+
 #[test]
 fn one_number_at_a_time(rt: HostRuntime) -> Result<(), Fail> {
     let mut desk = CoreDesk::new(rt.alloc(), SMALL, &KEY)?;
-    assert_eq!(rt; desk.collect(0), Err(CoreFault::NotReady));
-    assert_eq!(rt; desk.ask(0, 5), Ok(0));
-    assert_eq!(rt; desk.ask(0, 6), Err(CoreFault::Full));
-    assert_eq!(rt; desk.take(0, 0, 1), Err(CoreFault::NotAsked));
-    assert_eq!(rt; desk.take(0, 0, 0), Ok(()));
-    assert_eq!(rt; desk.take(0, 0, 0), Err(CoreFault::HandFull));
-    assert_eq!(rt; desk.take(1, 0, 0), Err(CoreFault::NotAsked));
-    assert_eq!(rt; desk.finish(1), Err(CoreFault::HandEmpty));
-    assert_eq!(rt; desk.give_back(0), Ok((0, 0)));
-    assert_eq!(rt; desk.take(1, 0, 0), Ok(()));
-    assert_eq!(rt; desk.finish(1), Ok((0, 0)));
-    assert_eq!(rt; desk.collect(0), Ok(0));
-    assert_eq!(rt; desk.ask(0, 6), Ok(1));
+    make_all(&rt, &mut desk, &ONE_NUMBER);
     Ok(())
 }
 
-/// A sender that may ask one query. `Closed` comes before `Exhausted`, and that before `Full`.
+/// `Closed` comes before `Exhausted`, and that before `Full`.
+const TO_THE_END: [Call; 10] = [
+    Call::Ask(Address(5), Ok(0)),
+    Call::Ask(Address(6), Err(CoreFault::Exhausted)),
+    Call::Close,
+    Call::Ask(Address(6), Err(CoreFault::Closed)),
+    Call::Collect(Err(CoreFault::NotReady)),
+    Call::Take(0, 0, Ok(())),
+    Call::Finish(0, Ok((0, 0))),
+    Call::Collect(Ok(0)),
+    Call::Collect(Err(CoreFault::Ended)),
+    Call::GiveBack(0, Err(CoreFault::HandEmpty)),
+];
+
+/// A sender that may ask one query.
 #[test]
 fn a_sender_ends(rt: HostRuntime) -> Result<(), Fail> {
     let mut desk = CoreDesk::new(rt.alloc(), Shape { most: 1, ..SMALL }, &KEY)?;
-    assert_eq!(rt; desk.ask(0, 5), Ok(0));
-    assert_eq!(rt; desk.ask(0, 6), Err(CoreFault::Exhausted));
-    desk.close(0);
-    assert_eq!(rt; desk.ask(0, 6), Err(CoreFault::Closed));
-    assert_eq!(rt; desk.collect(0), Err(CoreFault::NotReady));
-    assert_eq!(rt; desk.take(0, 0, 0), Ok(()));
-    assert_eq!(rt; desk.finish(0), Ok((0, 0)));
-    assert_eq!(rt; desk.collect(0), Ok(0));
-    assert_eq!(rt; desk.collect(0), Err(CoreFault::Ended));
-    assert_eq!(rt; desk.give_back(0), Err(CoreFault::HandEmpty));
-    assert_eq!(rt; desk.asked(0), [5].as_slice());
-    assert_eq!(rt; desk.received(0), [5].as_slice());
+    make_all(&rt, &mut desk, &TO_THE_END);
+    assert!(rt; desk.shape.senders > 0);
+    assert_eq!(rt; desk.asked(0), [Query::address(5)].as_slice());
+    assert_eq!(rt; desk.received(0), [Address(5)].as_slice());
     Ok(())
+}
+
+/// Asks an address that is the number too, once more where an allocation was refused.
+fn ask_at_last(rt: &impl Abort, desk: &mut CoreDesk, a: usize) {
+    assert!(rt; desk.shape.senders > 0);
+    let query = Query::address(a as u64);
+    let asked = desk.ask(0, query);
+    if asked == Err(CoreFault::Memory) {
+        assert_eq!(rt; desk.asked(0).len(), a);
+        assert_eq!(rt; desk.ask(0, query), Ok(a as u64));
+    } else {
+        assert_eq!(rt; asked, Ok(a as u64));
+    }
 }
 
 /// One sender asks and receives two hundred queries. Where an allocation is refused, nothing changes,
@@ -66,21 +140,22 @@ fn each_allocation_refused(rt: HostRuntime) -> Result<(), Fail> {
         made => made?,
     };
     for a in 0..200 {
-        let asked = desk.ask(0, a as u64);
-        if asked == Err(CoreFault::Memory) {
-            assert_eq!(rt; desk.asked(0).len(), a);
-            assert_eq!(rt; desk.ask(0, a as u64), Ok(a as u64));
-        } else {
-            assert_eq!(rt; asked, Ok(a as u64));
-        }
+        ask_at_last(&rt, &mut desk, a);
     }
-    for n in 0..200 {
-        assert_eq!(rt; desk.take(0, 0, n), Ok(()));
-        assert_eq!(rt; desk.finish(0), Ok((0, n)));
-        assert_eq!(rt; desk.collect(0), Ok(n));
+    for number in 0..200 {
+        make_all(
+            &rt,
+            &mut desk,
+            &[
+                Call::Take(0, number, Ok(())),
+                Call::Finish(0, Ok((0, number))),
+                Call::Collect(Ok(number)),
+            ],
+        );
     }
+    assert!(rt; desk.shape.senders > 0);
     for (a, answer) in desk.received(0).iter().enumerate() {
-        assert_eq!(rt; *answer, a as u64);
+        assert_eq!(rt; *answer, Address(a as u64));
     }
     Ok(())
 }

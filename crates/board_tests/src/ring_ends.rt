@@ -3,13 +3,14 @@
 ghost use Rattle.ticket_board.specs.Ring.Ends.{IsAskerOf};
 ghost use Rattle.ticket_board.specs.Ring.Takers.{IsTakerOf, HasEmptyHand};
 
+use crate::queries::query_of;
 use crate::solver::{Echo, KEY};
 use std::alloc::Global;
 use std::process::Abort;
 use std::test::Fail;
 use ticket_board::ring::{Asker, Ring, Taker};
 use ticket_board::{AskFault, BoardFault};
-use ticket_core::{Shape, Solver};
+use ticket_core::{Query, QueryKind, Shape, Solver};
 
 /// A ring with its only sender's end, and those of its two workers.
 #[derive(Drop)]
@@ -52,7 +53,7 @@ fn open_ends<'a, S: Solver>(alloc: Global, key: &'a [u8]) -> Result<Ends<'a, S>,
     })
 }
 
-/// Two workers take two numbers. One that is given back is taken again, with the same address.
+/// Two workers take two numbers. One that is given back is taken again, with the same query.
 fn take_two<S: Solver>(rt: &impl Abort, alloc: Global) -> Result<(), BoardFault> {
     let Ends {
         ring,
@@ -60,18 +61,20 @@ fn take_two<S: Solver>(rt: &impl Abort, alloc: Global) -> Result<(), BoardFault>
         mut first,
         mut second,
     } = open_ends::<S>(alloc, &KEY)?;
-    assert_eq!(rt; asker.ask(&ring, 0x10), Ok(0));
-    assert_eq!(rt; asker.ask(&ring, 0x20), Ok(1));
-    assert_eq!(rt; asker.ask(&ring, 0x30), Err(AskFault::Exhausted));
+    let address = Query::address(0x10);
+    let span = query_of(rt, QueryKind::Span(0x10, 0x20));
+    assert_eq!(rt; asker.ask(&ring, span), Ok(0));
+    assert_eq!(rt; asker.ask(&ring, address), Ok(1));
+    assert_eq!(rt; asker.ask(&ring, span), Err(AskFault::Exhausted));
     let Some(taken) = first.take(&ring) else {
         panic!(rt; "the first number waits")
     };
-    assert_eq!(rt; taken, (0, 0, 0x10));
+    assert_eq!(rt; taken, (0, 0, span));
     let taken = second.take(&ring);
-    assert_eq!(rt; taken, Some((0, 1, 0x20)));
+    assert_eq!(rt; taken, Some((0, 1, address)));
     assert_eq!(rt; first.give_back(&ring), (0, 0));
     let taken = first.take(&ring);
-    assert_eq!(rt; taken, Some((0, 0, 0x10)));
+    assert_eq!(rt; taken, Some((0, 0, span)));
     Ok(())
 }
 

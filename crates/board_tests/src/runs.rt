@@ -5,12 +5,13 @@ ghost use Rattle.std.specs.Prelude.{◌≡◌, ◌<◌, ◌^◌};
 mod plain;
 
 use crate::core_desk::CoreDesk;
-use crate::draws::Draws;
+use crate::queries::draw;
 use crate::solver::KEY;
 use plain::{Misuse, Plain};
 use std::alloc::Global;
 use std::process::Abort;
 use std::test::Fail;
+use test_inputs::draws::Draws;
 use ticket_core::Shape;
 
 /// One call, chosen by chance, of the core and of its plain definition. They give the same. Returns
@@ -32,8 +33,8 @@ fn play(
     let next = plain.next(sender)?;
     match draws.below(16) {
         0..=3 => {
-            let a = draws.next();
-            assert_eq!(rt; desk.ask(sender, a), plain.ask(sender, a)?);
+            let query = draw(draws);
+            assert_eq!(rt; desk.ask(sender, query), plain.ask(sender, query)?);
         }
         4..=8 => {
             let number = next.saturating_add(draws.below(shape.window) as u64);

@@ -5,12 +5,12 @@ ghost use Rattle.std.specs.Prelude.{◌≡◌};
 use std::alloc::{AllocError, Global};
 use std::sync::atomic::{AtomicBool, Ordering};
 use ticket_board::Maker;
-use ticket_core::{NoMemory, Solver};
+use ticket_core::{NoMemory, Query, QueryKind, Solver};
 
 /// The key of the tests.
 pub const KEY: [u8; 3] = [7, 8, 9];
 
-/// Answers each address with the address itself, whatever the key. Its first calls are refused memory.
+/// Answers each query with what it asks about, whatever the key. Its first calls are refused memory.
 #[derive(Drop)]
 pub struct Echo {
     key: &'static [u8],
@@ -34,13 +34,13 @@ impl Echo {
 }
 
 impl Solver for Echo {
-    ghost use base.Stored.{gnum};
+    ghost use Rattle.ticket_core.specs.Codes.{query_code};
 
-    type Answer = u64;
+    type Answer = QueryKind;
 
-    ghost shown = { λ answer. gnum answer };
+    ghost shown = { λ answer. query_code.code answer };
 
-    ghost meaning = { λ key a. gnum a };
+    ghost meaning = { λ key query. query_code.code query };
 
     ghost key = { λ solver. solver.key.now };
 
@@ -50,12 +50,12 @@ impl Solver for Echo {
         self.key
     }
 
-    fn solve(&mut self, a: u64) -> Result<u64, NoMemory> {
+    fn solve(&mut self, query: Query) -> Result<QueryKind, NoMemory> {
         if self.refused < self.refusals {
             self.refused += 1;
             return Err(AllocError);
         }
-        Ok(a)
+        Ok(query.kind())
     }
 }
 

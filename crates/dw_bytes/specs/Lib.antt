@@ -1,1 +1,2 @@
 pub mod Leb
+pub mod Width

@@ -2,12 +2,16 @@
 
 ghost use Rattle.std.specs.Prelude.{◌≡◌, ◌==◌, length, position};
 ghost use Rattle.dw_model.specs.Reading.{Place, start, number_at, bytes_at, text_at};
+ghost use Rattle.dw_model.specs.InitialLength.{initial_length};
 ghost use Rattle.dw_model.specs.Leb.{uleb_at, sleb_at};
 ghost use Rattle.dw_model.specs.Answers.{Reads, ReadsOrTells};
 ghost use Rattle.dw_bytes.specs.Leb.{leb_fault};
+ghost use Rattle.dw_bytes.specs.Width.{initial_shown, size_of};
 
 use crate::leb::{Leb, last_byte, signed, unsigned};
+use crate::width::{Initial, Width};
 use byteorder::{ByteOrder, LittleEndian};
+use dw_model::dwarf::{DW_LENGTH_64BIT, DW_LENGTH_RESERVED};
 use memchr::memchr;
 use std::marker::Model;
 
@@ -112,6 +116,37 @@ impl<'a> Cursor<'a> {
     {
         let bytes = self.take(8)?;
         Some(LittleEndian::read_u64(bytes))
+    }
+
+    /// An offset of a width. `None` where fewer bytes are left.
+    #[inline(always)]
+    pub fn offset(&mut self, width: Width) -> Option<u64>
+        ensures { Reads (λ x. x) result (number_at (size_of width) self.old) self.old self.new }
+    {
+        match width {
+            Width::Four => Some(self.u32()? as u64),
+            Width::Eight => self.u64(),
+        }
+    }
+
+    /// An initial length (section 7.4): four bytes, and eight more where they are the escape of the
+    /// 64-bit format. `None` where fewer are left.
+    #[tactic(auto, unfolding(dw_model::specs::InitialLength::initial_length))]
+    pub fn initial_length(&mut self) -> Option<Initial>
+        ensures { Reads initial_shown result (initial_length self.old) self.old self.new }
+    {
+        let mut ahead = self.fork();
+        let length = ahead.u32()?;
+        if length == DW_LENGTH_64BIT {
+            let length = ahead.u64()?;
+            *self = ahead;
+            return Some(Initial::Bytes(length, Width::Eight));
+        }
+        *self = ahead;
+        if length >= DW_LENGTH_RESERVED {
+            return Some(Initial::Reserved);
+        }
+        Some(Initial::Bytes(length as u64, Width::Four))
     }
 
     /// The next `n` bytes, as a slice of those that `new` was given. `None` where fewer are left.

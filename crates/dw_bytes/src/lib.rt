@@ -4,7 +4,9 @@
 mod cursor;
 mod leb;
 mod steps;
+mod width;
 
 pub use cursor::Cursor;
 pub use leb::Leb;
 pub use steps::Steps;
+pub use width::{Initial, Width};

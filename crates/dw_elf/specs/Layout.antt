@@ -1,5 +1,6 @@
 -- What the parts of a file's layout that code reads stand for.
-use Rattle.dw_model.specs.Reading.{start}
+use Rattle.std.specs.Prelude.{ℕ, List, Option, option_map}
+use Rattle.dw_model.specs.Reading.{start, text_at}
 use Rattle.dw_model.specs.Elf as model
 use Rattle.dw_elf.specs.declared.layout.FileHeader.{FileHeader}
 use Rattle.dw_elf.specs.declared.layout.SectionHeader.{SectionHeader}
@@ -29,3 +30,7 @@ section_header_of h = record {
 
 abbrev pub table_shown : Table → model.Table
 table_shown t = record { headers = model.section_headers t.count (start t.headers.now); names = t.names.now }
+
+-- the text with which some bytes begin, where a zero byte ends one
+abbrev pub first_text : List ℕ → Option (List ℕ)
+first_text bytes = option_map (λ text. text.0) (text_at (start bytes))

@@ -3,7 +3,7 @@ use Rattle.std.specs.Prelude.{◌≡◌, ℕ, List, codes, Option, Some, None, I
 use Rattle.dw_model.specs.Faults as model
 use Rattle.dw_model.specs.Faults.{Refusal}
 use Rattle.dw_elf.specs.declared.fault.OpenFault.{OpenFault}
-use Rattle.dw_elf.specs.declared.fault.OpenFault.TheVariants.{NotElf, NotElf64Little, Relocatable, SectionTable, SectionRange, Compressed, UnitHeader, WideFormat, AddressSize, Root, RootRanges, Memory}
+use Rattle.dw_elf.specs.declared.fault.OpenFault.TheVariants.{NotElf, NotElf64Little, Relocatable, SectionTable, SectionRange, Compressed, UnitHeader, AddressSize, Root, RootRanges, Memory}
 use Rattle.dw_elf.specs.Name.{text_of}
 
 -- the refusal that an error tells: want of memory tells none
@@ -15,7 +15,6 @@ refusal_of SectionTable = Some model.section_table
 refusal_of (SectionRange name) = Some (model.section_range (text_of name))
 refusal_of (Compressed name) = Some (model.compressed (text_of name))
 refusal_of (UnitHeader offset) = Some (model.unit_header offset)
-refusal_of (WideFormat offset) = Some (model.wide_format offset)
 refusal_of (AddressSize offset) = Some (model.address_size offset)
 refusal_of (Root offset) = Some (model.root offset)
 refusal_of (RootRanges offset) = Some (model.root_ranges offset)
@@ -33,7 +32,7 @@ RefusesUnlessMemory fault refusal = MatchOption (refusal_of fault) (Unit {0}) (�
 abbrev pub HidesNoRefusal : OpenFault → Option Refusal → Type 0
 HidesNoRefusal fault refusal = MatchOption (refusal_of fault) (refusal ≡ None) (λ told. Unit {0})
 
--- the numbers of the errors
+-- the numbers of the errors, of which 8 isn't used
 abbrev pub number_of : OpenFault → ℕ
 number_of NotElf = 1
 number_of NotElf64Little = 2
@@ -42,7 +41,6 @@ number_of SectionTable = 4
 number_of (SectionRange name) = 5
 number_of (Compressed name) = 6
 number_of (UnitHeader offset) = 7
-number_of (WideFormat offset) = 8
 number_of (AddressSize offset) = 9
 number_of (Root offset) = 10
 number_of (RootRanges offset) = 11
@@ -57,7 +55,6 @@ name_of SectionTable = codes "SectionTable"
 name_of (SectionRange name) = codes "SectionRange"
 name_of (Compressed name) = codes "Compressed"
 name_of (UnitHeader offset) = codes "UnitHeader"
-name_of (WideFormat offset) = codes "WideFormat"
 name_of (AddressSize offset) = codes "AddressSize"
 name_of (Root offset) = codes "Root"
 name_of (RootRanges offset) = codes "RootRanges"

@@ -7,8 +7,8 @@ use std::alloc::{AllocError, AllocFailed};
 use thiserror::Error;
 
 /// Why a file is refused. The first reason is told: of `NotElf` to `Compressed` the first in this order, of
-/// several sections the first that fails; then unit by unit `WideFormat`, `UnitHeader`, `AddressSize` and
-/// `Root`; then `RootRanges`. Offsets count from the first byte of .debug_info.
+/// several sections the first that fails; then unit by unit `UnitHeader`, `AddressSize` and `Root`;
+/// then `RootRanges`. Offsets count from the first byte of .debug_info.
 #[derive(Clone, Copy, Debug, PartialEq, Eq, Error)]
 pub enum OpenFault {
     /// It has fewer bytes than a header, or doesn't begin as an ELF file does.
@@ -32,9 +32,6 @@ pub enum OpenFault {
     /// A unit's header can't be read, or its length runs past the section.
     #[error("the header of the unit at {0:#x} can't be read")]
     UnitHeader(u64),
-    /// A unit has the 64-bit DWARF format.
-    #[error("the unit at {0:#x} has the 64-bit format")]
-    WideFormat(u64),
     /// A unit's addresses haven't 8 bytes.
     #[error("the unit at {0:#x} has addresses that aren't of 8 bytes")]
     AddressSize(u64),
@@ -52,7 +49,7 @@ pub enum OpenFault {
 impl OpenFault {
     ghost use Rattle.dw_elf.specs.OpenFault.{number_of, name_of};
 
-    /// The number of the reason, from 1 to 12.
+    /// The number of the reason, from 1 to 12. 8 was another reason once, and isn't used.
     pub fn number(&self) -> u8
         ensures { result ≡ number_of self.now }
     {
@@ -64,7 +61,6 @@ impl OpenFault {
             OpenFault::SectionRange(_) => 5,
             OpenFault::Compressed(_) => 6,
             OpenFault::UnitHeader(_) => 7,
-            OpenFault::WideFormat(_) => 8,
             OpenFault::AddressSize(_) => 9,
             OpenFault::Root(_) => 10,
             OpenFault::RootRanges(_) => 11,
@@ -84,7 +80,6 @@ impl OpenFault {
             OpenFault::SectionRange(_) => "SectionRange",
             OpenFault::Compressed(_) => "Compressed",
             OpenFault::UnitHeader(_) => "UnitHeader",
-            OpenFault::WideFormat(_) => "WideFormat",
             OpenFault::AddressSize(_) => "AddressSize",
             OpenFault::Root(_) => "Root",
             OpenFault::RootRanges(_) => "RootRanges",

@@ -1,11 +1,12 @@
 //! The layout of an ELF64 file: its header, the section header table, and the names of sections.
 
-ghost use Rattle.std.specs.Prelude.{◌≡◌, length, option_map, option_copied, IfSome, IfNone};
+ghost use Rattle.std.specs.Prelude.{◌≡◌, suc, length, take, Some, option_map, option_copied, IfSome, IfNone, bytes_eq};
+ghost use Rattle.std.specs.Option.{option_eq};
 ghost use Rattle.dw_model.specs.Reading.{start};
 ghost use Rattle.dw_model.specs.Elf.{part};
 ghost use Rattle.dw_model.specs.Elf as model;
 ghost use Rattle.dw_model.specs.Answers.{Reads};
-ghost use Rattle.dw_elf.specs.Layout.{file_header_of, section_header_of, table_shown};
+ghost use Rattle.dw_elf.specs.Layout.{file_header_of, section_header_of, table_shown, first_text};
 
 use dw_bytes::Cursor;
 use dw_model::elf::{SHDR_SIZE, SHN_UNDEF, SHN_XINDEX, SHT_NOBITS};
@@ -197,22 +198,35 @@ pub fn table_at<'a>(file: &'a [u8], header: &FileHeader<'a>) -> Option<Table<'a>
     })
 }
 
-/// The name of a section. `None` where no text stands at `sh_name` of the names.
-#[tactic(auto, unfolding(dw_model::specs::Elf::name_of))]
-fn name_of<'a>(names: &'a [u8], header: &SectionHeader) -> Option<&'a [u8]>
-    ensures { option_copied result ≡ model.name_of names.now (section_header_of header.now) }
+/// The front of some bytes in which a text of this length ends, if they begin with one.
+fn front(bytes: &[u8], len: usize) -> &[u8]
+    ensures { result.now ≡ take (suc len) bytes.now }
 {
-    let rest = names.get(header.sh_name as usize..)?;
-    Cursor::new(rest).text()
+    if bytes.len() <= len {
+        return bytes;
+    }
+    bytes.split_at(len + 1).0
 }
 
-#[tactic(auto, unfolding(dw_model::specs::Elf::has_name))]
+/// Whether some bytes begin with this text and a zero byte. It looks at no byte after those that the text
+/// and its zero byte would take.
+fn begins_with(bytes: &[u8], text: &[u8]) -> bool
+    ensures { result ≡ option_eq bytes_eq (first_text bytes.now) (Some text.now) }
+{
+    match Cursor::new(front(bytes, text.len())).text() {
+        None => false,
+        Some(found) => found == text,
+    }
+}
+
+/// Whether a section has this name. One whose name can't be read has none.
+#[tactic(auto, unfolding(dw_model::specs::Elf::has_name, dw_model::specs::Elf::name_of))]
 fn has_name(name: &str, names: &[u8], header: &SectionHeader) -> bool
     ensures { result ≡ model.has_name name.now names.now (section_header_of header.now) }
 {
-    match name_of(names, header) {
+    match names.get(header.sh_name as usize..) {
         None => false,
-        Some(text) => text == name.as_bytes(),
+        Some(rest) => begins_with(rest, name.as_bytes()),
     }
 }
 

@@ -5,7 +5,6 @@ use Rattle.std.proofs.lemmas.Option.{same_Some}
 use Rattle.std.specs.Map.{lookup}
 use Rattle.std.proofs.lemmas.Bool.{leb-true, leb-false, lt-leb, le-leb, lt-ltb, le-ltb}
 use Rattle.std.proofs.lemmas.List.{drop-drop, length-drop}
-use Rattle.dw_model.specs.declared.dwarf.TheConstants.{OFFSET_SIZE_32}
 use Rattle.dw_model.specs.Faults.{Fault, ends_early}
 use Rattle.dw_model.specs.Results.{◌>>=◌}
 use Rattle.dw_model.specs.Reading.{Place, past, made, number_at, bytes_at}
@@ -65,145 +64,148 @@ behind-cons name (Ok value) others = last (others value.1)
     last (Ok found) = refl
     last (Err e) = refl
 
-skips-none : Skips 0 (attributes_at OFFSET_SIZE_32 [])
-unfolding attributes_at
-skips-none p =
-    let at : p.at ≡ p.at + 0 = omega arith in
-    ap (λ (n : ℕ). Ok (tt, record { at = n; left = p.left })) at ∙ sym (enough 0 p (le-leb 0 (length p.left) (omega arith)))
+-- ---- where offsets have so many bytes
 
-skips-cons : (m n : ℕ) (one : Specification) (others : List Specification) → Skips m (value_at OFFSET_SIZE_32 one.form one.constant) → Skips n (attributes_at OFFSET_SIZE_32 others) → Skips (m + n) (attributes_at OFFSET_SIZE_32 (one ∷ others))
-unfolding attributes_at
-skips-cons m n one others h rest p =
-    behind-cons one.name (value_at OFFSET_SIZE_32 one.form one.constant p) (attributes_at OFFSET_SIZE_32 others)
-    ∙ ap (λ (read : Behind). read >>= λ q. place_behind (attributes_at OFFSET_SIZE_32 others q.1)) (h p)
-    ∙ same-behind (bytes_behind m p) (λ q. place_behind (attributes_at OFFSET_SIZE_32 others q.1)) (λ q. bytes_behind n q.1) (λ q. rest q.1)
-    ∙ on m n p (nat_le m (length p.left)) (nat_le n (length (drop m p.left))) refl refl
+module _ (w : ℕ) where
+  skips-none : Skips 0 (attributes_at w [])
+  unfolding attributes_at
+  skips-none p =
+      let at : p.at ≡ p.at + 0 = omega arith in
+      ap (λ (n : ℕ). Ok (tt, record { at = n; left = p.left })) at ∙ sym (enough 0 p (le-leb 0 (length p.left) (omega arith)))
 
--- ---- values of one form
+  skips-cons : (m n : ℕ) (one : Specification) (others : List Specification) → Skips m (value_at w one.form one.constant) → Skips n (attributes_at w others) → Skips (m + n) (attributes_at w (one ∷ others))
+  unfolding attributes_at
+  skips-cons m n one others h rest p =
+      behind-cons one.name (value_at w one.form one.constant p) (attributes_at w others)
+      ∙ ap (λ (read : Behind). read >>= λ q. place_behind (attributes_at w others q.1)) (h p)
+      ∙ same-behind (bytes_behind m p) (λ q. place_behind (attributes_at w others q.1)) (λ q. bytes_behind n q.1) (λ q. rest q.1)
+      ∙ on m n p (nat_le m (length p.left)) (nat_le n (length (drop m p.left))) refl refl
 
-abbrev SkipsSpelled : ℕ → Spelling → Option ℤ → Type 0
-SkipsSpelled n spelling constant = Skips n (spelled_at OFFSET_SIZE_32 spelling constant)
+  -- ---- values of one form
 
-number-skips : (n : ℕ) (make : ℕ → Value) (p : Place) (there : Bool) → nat_le n (length p.left) ≡ there → place_behind (made make (ok_or (number_at n p) ends_early)) ≡ bytes_behind n p
-number-skips n make p true e = rw e refl
-number-skips n make p false e = rw e refl
+  abbrev SkipsSpelled : ℕ → Spelling → Option ℤ → Type 0
+  SkipsSpelled n spelling constant = Skips n (spelled_at w spelling constant)
 
-fixed-skips : (n : ℕ) (make : ℕ → Value) (constant : Option ℤ) → SkipsSpelled n (fixed n make) constant
-unfolding spelled_at
-fixed-skips n make constant p = number-skips n make p (nat_le n (length p.left)) refl
+  number-skips : (n : ℕ) (make : ℕ → Value) (p : Place) (there : Bool) → nat_le n (length p.left) ≡ there → place_behind (made make (ok_or (number_at n p) ends_early)) ≡ bytes_behind n p
+  number-skips n make p true e = rw e refl
+  number-skips n make p false e = rw e refl
 
-offset-skips : (make : ℕ → Value) (constant : Option ℤ) → SkipsSpelled OFFSET_SIZE_32 (offset make) constant
-unfolding spelled_at
-offset-skips make constant p = number-skips OFFSET_SIZE_32 make p (nat_le OFFSET_SIZE_32 (length p.left)) refl
+  fixed-skips : (n : ℕ) (make : ℕ → Value) (constant : Option ℤ) → SkipsSpelled n (fixed n make) constant
+  unfolding spelled_at
+  fixed-skips n make constant p = number-skips n make p (nat_le n (length p.left)) refl
 
-block-there : (n : ℕ) (p : Place) (there : Bool) → nat_le n (length p.left) ≡ there → place_behind (made bytes (ok_or (bytes_at n p) ends_early)) ≡ bytes_behind n p
-block-there n p true e = rw e refl
-block-there n p false e = rw e refl
+  offset-skips : (make : ℕ → Value) (constant : Option ℤ) → SkipsSpelled w (offset make) constant
+  unfolding spelled_at
+  offset-skips make constant p = number-skips w make p (nat_le w (length p.left)) refl
 
-block-skips : (n : ℕ) (constant : Option ℤ) → SkipsSpelled n (block n) constant
-unfolding spelled_at
-block-skips n constant p = block-there n p (nat_le n (length p.left)) refl
+  block-there : (n : ℕ) (p : Place) (there : Bool) → nat_le n (length p.left) ≡ there → place_behind (made bytes (ok_or (bytes_at n p) ends_early)) ≡ bytes_behind n p
+  block-there n p true e = rw e refl
+  block-there n p false e = rw e refl
 
-nothing-read : (p : Place) → Ok (tt, p) ≡ bytes_behind 0 p
-nothing-read p =
-    let at : p.at ≡ p.at + 0 = omega arith in
-    ap (λ (n : ℕ). Ok (tt, record { at = n; left = p.left })) at ∙ sym (enough 0 p (le-leb 0 (length p.left) (omega arith)))
+  block-skips : (n : ℕ) (constant : Option ℤ) → SkipsSpelled n (block n) constant
+  unfolding spelled_at
+  block-skips n constant p = block-there n p (nat_le n (length p.left)) refl
 
-implicit-skips : (constant : Option ℤ) (z : ℤ) → constant ≡ Some z → SkipsSpelled 0 implicit constant
-unfolding spelled_at
-implicit-skips constant z e p = rw e (nothing-read p)
+  nothing-read : (p : Place) → Ok (tt, p) ≡ bytes_behind 0 p
+  nothing-read p =
+      let at : p.at ≡ p.at + 0 = omega arith in
+      ap (λ (n : ℕ). Ok (tt, record { at = n; left = p.left })) at ∙ sym (enough 0 p (le-leb 0 (length p.left) (omega arith)))
 
-present-skips : (constant : Option ℤ) → SkipsSpelled 0 present constant
-unfolding spelled_at
-present-skips constant p = nothing-read p
+  implicit-skips : (constant : Option ℤ) (z : ℤ) → constant ≡ Some z → SkipsSpelled 0 implicit constant
+  unfolding spelled_at
+  implicit-skips constant z e p = rw e (nothing-read p)
 
--- ---- by what the forms tell
+  present-skips : (constant : Option ℤ) → SkipsSpelled 0 present constant
+  unfolding spelled_at
+  present-skips constant p = nothing-read p
 
-of-spelling : (constant : Option ℤ) (spelling : Spelling) (n : ℕ) → spelling_size constant spelling ≡ Some n → SkipsSpelled n spelling constant
-of-spelling constant (fixed m make) n e = subst (λ n. SkipsSpelled n (fixed m make) constant) (same_Some m n e) (fixed-skips m make constant)
-of-spelling constant (offset make) n e = subst (λ n. SkipsSpelled n (offset make) constant) (same_Some OFFSET_SIZE_32 n e) (offset-skips make constant)
-of-spelling constant (block m) n e = subst (λ n. SkipsSpelled n (block m) constant) (same_Some m n e) (block-skips m constant)
-of-spelling None implicit n e = absurd cc
-of-spelling (Some z) implicit n e = subst (λ n. SkipsSpelled n implicit (Some z)) (same_Some 0 n e) (implicit-skips (Some z) z refl)
-of-spelling constant present n e = subst (λ n. SkipsSpelled n present constant) (same_Some 0 n e) (present-skips constant)
-of-spelling constant (uleb make) n e = absurd cc
-of-spelling constant sleb n e = absurd cc
-of-spelling constant (counted m) n e = absurd cc
-of-spelling constant uleb_counted n e = absurd cc
-of-spelling constant text n e = absurd cc
+  -- ---- by what the forms tell
 
-of-form : (form : ℕ) (constant : Option ℤ) (found : Option Spelling) (n : ℕ) → lookup (nat_eq form) forms ≡ found → option_and_then (spelling_size constant) found ≡ Some n → Skips n (value_at OFFSET_SIZE_32 form constant)
-of-form form constant None n e h p = absurd cc
-of-form form constant (Some spelling) n e h p =
-    let here : value_at OFFSET_SIZE_32 form constant p ≡ spelled_at OFFSET_SIZE_32 spelling constant p = value-here OFFSET_SIZE_32 form constant p (has_spelling form spelling e) ∙ rw e refl in
-    ap place_behind here ∙ of-spelling constant spelling n h p
+  of-spelling : (constant : Option ℤ) (spelling : Spelling) (n : ℕ) → spelling_size w constant spelling ≡ Some n → SkipsSpelled n spelling constant
+  of-spelling constant (fixed m make) n e = subst (λ n. SkipsSpelled n (fixed m make) constant) (same_Some m n e) (fixed-skips m make constant)
+  of-spelling constant (offset make) n e = subst (λ n. SkipsSpelled n (offset make) constant) (same_Some w n e) (offset-skips make constant)
+  of-spelling constant (block m) n e = subst (λ n. SkipsSpelled n (block m) constant) (same_Some m n e) (block-skips m constant)
+  of-spelling None implicit n e = absurd cc
+  of-spelling (Some z) implicit n e = subst (λ n. SkipsSpelled n implicit (Some z)) (same_Some 0 n e) (implicit-skips (Some z) z refl)
+  of-spelling constant present n e = subst (λ n. SkipsSpelled n present constant) (same_Some 0 n e) (present-skips constant)
+  of-spelling constant (uleb make) n e = absurd cc
+  of-spelling constant sleb n e = absurd cc
+  of-spelling constant (counted m) n e = absurd cc
+  of-spelling constant uleb_counted n e = absurd cc
+  of-spelling constant text n e = absurd cc
 
-value-skips : (one : Specification) (n : ℕ) → value_size one ≡ Some n → Skips n (value_at OFFSET_SIZE_32 one.form one.constant)
-value-skips one n h = of-form one.form one.constant (lookup (nat_eq one.form) forms) n refl h
+  of-form : (form : ℕ) (constant : Option ℤ) (found : Option Spelling) (n : ℕ) → lookup (nat_eq form) forms ≡ found → option_and_then (spelling_size w constant) found ≡ Some n → Skips n (value_at w form constant)
+  of-form form constant None n e h p = absurd cc
+  of-form form constant (Some spelling) n e h p =
+      let here : value_at w form constant p ≡ spelled_at w spelling constant p = value-here w form constant p (has_spelling form spelling e) ∙ rw e refl in
+      ap place_behind here ∙ of-spelling constant spelling n h p
 
--- the two parts of a sum
-summed : (first others : Option ℕ) (n : ℕ) → option_and_then (λ m. option_map (λ n. m + n) others) first ≡ Some n → (m k : ℕ) × (first ≡ Some m) × (others ≡ Some k) × (m + k ≡ n)
-summed None others n e = absurd cc
-summed (Some m) None n e = absurd cc
-summed (Some m) (Some k) n e = (m, k, refl, refl, same_Some (m + k) n e)
+  value-skips : (one : Specification) (n : ℕ) → value_size w one ≡ Some n → Skips n (value_at w one.form one.constant)
+  value-skips one n h = of-form one.form one.constant (lookup (nat_eq one.form) forms) n refl h
 
-values-skip : (specifications : List Specification) (n : ℕ) → values_size specifications ≡ Some n → Skips n (attributes_at OFFSET_SIZE_32 specifications)
-values-skip [] n e = subst (λ n. Skips n (attributes_at OFFSET_SIZE_32 [])) (same_Some 0 n e) skips-none
-values-skip (one ∷ others) n e =
-    let s = summed (value_size one) (values_size others) n e in
-    subst (λ n. Skips n (attributes_at OFFSET_SIZE_32 (one ∷ others))) s.4 (skips-cons s.0 s.1 one others (value-skips one s.0 s.2) (values-skip others s.1 s.3))
+  -- the two parts of a sum
+  summed : (first others : Option ℕ) (n : ℕ) → option_and_then (λ m. option_map (λ n. m + n) others) first ≡ Some n → (m k : ℕ) × (first ≡ Some m) × (others ≡ Some k) × (m + k ≡ n)
+  summed None others n e = absurd cc
+  summed (Some m) None n e = absurd cc
+  summed (Some m) (Some k) n e = (m, k, refl, refl, same_Some (m + k) n e)
 
--- ---- one after the other
+  values-skip : (specifications : List Specification) (n : ℕ) → values_size w specifications ≡ Some n → Skips n (attributes_at w specifications)
+  values-skip [] n e = subst (λ n. Skips n (attributes_at w [])) (same_Some 0 n e) skips-none
+  values-skip (one ∷ others) n e =
+      let s = summed (value_size w one) (values_size w others) n e in
+      subst (λ n. Skips n (attributes_at w (one ∷ others))) s.4 (skips-cons s.0 s.1 one others (value-skips one s.0 s.2) (values-skip others s.1 s.3))
 
--- what was counted, with the sizes of those behind, is all
-abbrev pub Counts : ℕ → List Specification → Option ℕ → Type 0
-Counts size others all = all ≡ option_map (λ n. size + n) (values_size others)
+  -- ---- one after the other
 
-pub counts-none : (specifications : List Specification) → Counts 0 specifications (values_size specifications)
-counts-none specifications = from_zero (values_size specifications)
-  where
-    from_zero : (all : Option ℕ) → all ≡ option_map (λ n. 0 + n) all
-    from_zero None = refl
-    from_zero (Some n) = ap Some (omega arith)
+  -- what was counted, with the sizes of those behind, is all
+  abbrev pub Counts : ℕ → List Specification → Option ℕ → Type 0
+  Counts size others all = all ≡ option_map (λ n. size + n) (values_size w others)
 
-twice : (size m : ℕ) (rest : Option ℕ) → option_map (λ n. size + n) (option_map (λ n. m + n) rest) ≡ option_map (λ n. size + m + n) rest
-twice size m None = refl
-twice size m (Some n) = ap Some (omega arith)
+  pub counts-none : (specifications : List Specification) → Counts 0 specifications (values_size w specifications)
+  counts-none specifications = from_zero (values_size w specifications)
+    where
+      from_zero : (all : Option ℕ) → all ≡ option_map (λ n. 0 + n) all
+      from_zero None = refl
+      from_zero (Some n) = ap Some (omega arith)
 
-pub counts-more : (size m : ℕ) (one : Specification) (others : List Specification) (all : Option ℕ) → value_size one ≡ Some m → Counts size (one ∷ others) all → Counts (size + m) others all
-counts-more size m one others all e so_far =
-    let step : option_map (λ n. size + n) (values_size (one ∷ others)) ≡ option_map (λ n. size + n) (option_map (λ n. m + n) (values_size others)) = rw e refl in
-    so_far ∙ step ∙ twice size m (values_size others)
+  twice : (size m : ℕ) (rest : Option ℕ) → option_map (λ n. size + n) (option_map (λ n. m + n) rest) ≡ option_map (λ n. size + m + n) rest
+  twice size m None = refl
+  twice size m (Some n) = ap Some (omega arith)
 
-pub counts-not : (size : ℕ) (one : Specification) (others : List Specification) (all : Option ℕ) → value_size one ≡ None → Counts size (one ∷ others) all → option_and_then fits_u64 all ≡ None
-counts-not size one others all e so_far =
-    let step : option_map (λ n. size + n) (values_size (one ∷ others)) ≡ None = rw e refl in
-    ap (option_and_then fits_u64) (so_far ∙ step)
+  pub counts-more : (size m : ℕ) (one : Specification) (others : List Specification) (all : Option ℕ) → value_size w one ≡ Some m → Counts size (one ∷ others) all → Counts (size + m) others all
+  counts-more size m one others all e so_far =
+      let step : option_map (λ n. size + n) (values_size w (one ∷ others)) ≡ option_map (λ n. size + n) (option_map (λ n. m + n) (values_size w others)) = rw e refl in
+      so_far ∙ step ∙ twice size m (values_size w others)
 
-too-many : (size : ℕ) (rest : Option ℕ) → 2 ^ 64 ≤ size → option_and_then fits_u64 (option_map (λ n. size + n) rest) ≡ None
-too-many size None h = refl
-too-many size (Some n) h = rw (le-ltb (size + n) (2 ^ 64) (omega (arith, h))) refl
+  pub counts-not : (size : ℕ) (one : Specification) (others : List Specification) (all : Option ℕ) → value_size w one ≡ None → Counts size (one ∷ others) all → option_and_then fits_u64 all ≡ None
+  counts-not size one others all e so_far =
+      let step : option_map (λ n. size + n) (values_size w (one ∷ others)) ≡ None = rw e refl in
+      ap (option_and_then fits_u64) (so_far ∙ step)
 
-pub counts-past : (size : ℕ) (others : List Specification) (all : Option ℕ) → 2 ^ 64 ≤ size → Counts size others all → option_and_then fits_u64 all ≡ None
-counts-past size others all h so_far = ap (option_and_then fits_u64) so_far ∙ too-many size (values_size others) h
+  too-many : (size : ℕ) (rest : Option ℕ) → 2 ^ 64 ≤ size → option_and_then fits_u64 (option_map (λ n. size + n) rest) ≡ None
+  too-many size None h = refl
+  too-many size (Some n) h = rw (le-ltb (size + n) (2 ^ 64) (omega (arith, h))) refl
 
-pub counts-all : (size : ℕ) (all : Option ℕ) → size < 2 ^ 64 → Counts size [] all → option_and_then fits_u64 all ≡ Some size
-counts-all size all h so_far =
-    let sum : size + 0 ≡ size = omega arith in
-    ap (option_and_then fits_u64) (so_far ∙ ap Some sum) ∙ rw (lt-ltb size (2 ^ 64) h) refl
+  pub counts-past : (size : ℕ) (others : List Specification) (all : Option ℕ) → 2 ^ 64 ≤ size → Counts size others all → option_and_then fits_u64 all ≡ None
+  counts-past size others all h so_far = ap (option_and_then fits_u64) so_far ∙ too-many size (values_size w others) h
 
--- ---- what is told
+  pub counts-all : (size : ℕ) (all : Option ℕ) → size < 2 ^ 64 → Counts size [] all → option_and_then fits_u64 all ≡ Some size
+  counts-all size all h so_far =
+      let sum : size + 0 ≡ size = omega arith in
+      ap (option_and_then fits_u64) (so_far ∙ ap Some sum) ∙ rw (lt-ltb size (2 ^ 64) h) refl
 
-fitted : (all : Option ℕ) (n : ℕ) → option_and_then fits_u64 all ≡ Some n → all ≡ Some n
-fitted None n e = absurd cc
-fitted (Some m) n e = by_test (nat_lt m (2 ^ 64)) refl
-  where
-    by_test : (fits : Bool) → nat_lt m (2 ^ 64) ≡ fits → Some m ≡ Some n
-    by_test true f = sym (rw f refl) ∙ e
-    by_test false f =
-        let none : None ≡ Some n = rw f at e in
-        absurd cc
+  -- ---- what is told
 
-pub told-skip : (specifications : List Specification) (told : Option ℕ) → told ≡ size_in specifications → IfSome told (λ n. Skips n (attributes_at OFFSET_SIZE_32 specifications))
-told-skip specifications None e = tt
-told-skip specifications (Some n) e = values-skip specifications n (fitted (values_size specifications) n (sym e))
+  fitted : (all : Option ℕ) (n : ℕ) → option_and_then fits_u64 all ≡ Some n → all ≡ Some n
+  fitted None n e = absurd cc
+  fitted (Some m) n e = by_test (nat_lt m (2 ^ 64)) refl
+    where
+      by_test : (fits : Bool) → nat_lt m (2 ^ 64) ≡ fits → Some m ≡ Some n
+      by_test true f = sym (rw f refl) ∙ e
+      by_test false f =
+          let none : None ≡ Some n = rw f at e in
+          absurd cc
+
+  pub told-skip : (specifications : List Specification) (told : Option ℕ) → told ≡ size_in w specifications → IfSome told (λ n. Skips n (attributes_at w specifications))
+  told-skip specifications None e = tt
+  told-skip specifications (Some n) e = values-skip specifications n (fitted (values_size w specifications) n (sym e))

@@ -1,6 +1,6 @@
 -- The sections to which values lead, as the definitions have them.
-use Rattle.dw_model.specs.declared.dwarf.TheConstants.{OFFSET_SIZE_32}
 use Rattle.dw_model.specs.Text as model
+use Rattle.dw_bytes.specs.Width.{size_of}
 use Rattle.dw_forms.specs.declared.tables.Tables.{Tables}
 use Rattle.dw_forms.specs.declared.tables.Bases.{Bases}
 
@@ -18,5 +18,5 @@ bases_shown bases = record {
   str_offsets = bases.str_offsets;
   addr = bases.addr;
   rnglists = bases.rnglists;
-  offset_size = OFFSET_SIZE_32;
+  offset_size = size_of bases.width;
 }

@@ -1,6 +1,7 @@
 //! What abbreviations stand for, by section 7.5.3 of DWARF 5.
 
 ghost use Rattle.std.specs.Prelude.{◌≡◌, map};
+ghost use Rattle.dw_model.specs.declared.dwarf.TheConstants.{OFFSET_SIZE_32, OFFSET_SIZE_64};
 ghost use Rattle.dw_forms.specs.Spec.{spec_shown};
 ghost use Rattle.dw_forms.specs.Size.{size_in};
 ghost use Rattle.dw_forms.specs.Firsts.{known_of, AreAllFirsts};
@@ -32,9 +33,12 @@ pub struct Decl {
     pub tag: u64,
     pub children: bool,
     pub specs: SmallVec<Spec, 8>,
-    /// How many bytes the values of an entry take, where the forms tell it.
-    size: Option<usize>,
-    ghost size_is: { size ≡ size_in (map spec_shown specs.items) },
+    /// How many bytes the values of an entry take in the 32-bit format, where the forms tell it.
+    size_32: Option<usize>,
+    ghost size_32_is: { size_32 ≡ size_in OFFSET_SIZE_32 (map spec_shown specs.items) },
+    /// The same in the 64-bit format.
+    size_64: Option<usize>,
+    ghost size_64_is: { size_64 ≡ size_in OFFSET_SIZE_64 (map spec_shown specs.items) },
     /// Where the first attribute of each name that tells of a function stands.
     firsts: Firsts,
     ghost firsts_are: { AreAllFirsts (known_of firsts) (map (λ spec. spec.name) specs.items) },

@@ -9,8 +9,8 @@ ghost use Rattle.dw_forms.specs.Value.{value_shown};
 
 use crate::text::Text;
 use crate::value::Value;
-use dw_bytes::Cursor;
-use dw_model::dwarf::{ADDRESS_SIZE, OFFSET_SIZE_32};
+use dw_bytes::{Cursor, Width};
+use dw_model::dwarf::ADDRESS_SIZE;
 
 /// The sections to which values lead. One that a file hasn't is empty.
 #[derive(Clone, Copy, Debug)]
@@ -28,12 +28,14 @@ pub struct Tables<'a> {
 }
 
 /// Where a unit's entries begin in the sections that it shares with other units, as offsets of
-/// those sections; `None` where the unit names no base.
+/// those sections; `None` where the unit names no base. The unit's width, and not that of a table's
+/// header, is that of the offsets there.
 #[derive(Clone, Copy, Debug, PartialEq, Eq)]
 pub struct Bases {
     pub str_offsets: Option<u64>,
     pub addr: Option<u64>,
     pub rnglists: Option<u64>,
+    pub width: Width,
 }
 
 impl<'a> Tables<'a> {
@@ -58,9 +60,9 @@ impl<'a> Tables<'a> {
             Value::LineStr(offset) => text_at(self.line_str, offset),
             Value::StrIndex(i) => {
                 let base = bases.str_offsets?;
-                let entry = entry(self.str_offsets, base, i, OFFSET_SIZE_32 as u64);
-                let offset = Cursor::new(entry).u32()?;
-                text_at(self.str, offset as u64)
+                let entry = entry(self.str_offsets, base, i, bases.width.size() as u64);
+                let offset = Cursor::new(entry).offset(bases.width)?;
+                text_at(self.str, offset)
             }
             _ => None,
         }

@@ -1,17 +1,17 @@
 //! The values of attributes, by sections 7.5.5 and 7.5.6 of DWARF 5.
 
 ghost use Rattle.std.specs.Prelude.{◌≡◌};
-ghost use Rattle.dw_model.specs.declared.dwarf.TheConstants.{OFFSET_SIZE_32};
 ghost use Rattle.dw_model.specs.Reading.{number_at};
 ghost use Rattle.dw_model.specs.Form.{spelled_at, value_at};
 ghost use Rattle.dw_model.specs.Answers.{Reads, ReadsOn, ReadsOrTells};
+ghost use Rattle.dw_bytes.specs.Width.{size_of};
 ghost use Rattle.dw_forms.specs.Fault.{form_fault};
 ghost use Rattle.dw_forms.specs.Spelling.{made, size_shown, spelling_shown};
 ghost use Rattle.dw_forms.specs.Value.{value_shown};
 
 use crate::fault::FormFault;
 use crate::form::{Class, Size, Spelling, spelling_of};
-use dw_bytes::Cursor;
+use dw_bytes::{Cursor, Width};
 use dw_model::dwarf::DW_FORM_indirect;
 
 /// A value, of the class that its form gives it. Offsets and indexes are those of the sections that
@@ -92,15 +92,17 @@ fn number(cursor: &mut Cursor<'_>, size: Size) -> Option<u64>
     })
 }
 
-/// A value in its spelling. After a refusal the cursor may stand anywhere.
+/// A value in its spelling, where offsets have a width. After a refusal the cursor may stand
+/// anywhere.
 #[tactic(auto, unfolding(dw_model::specs::Form::spelled_at))]
 #[inline(always)]
 fn spelled<'a>(
     cursor: &mut Cursor<'a>,
     spelling: Spelling,
     implicit: Option<i64>,
+    width: Width,
 ) -> Result<Value<'a>, FormFault>
-    ensures { ReadsOn value_shown form_fault result (spelled_at OFFSET_SIZE_32 (spelling_shown spelling) implicit cursor.old) cursor.new }
+    ensures { ReadsOn value_shown form_fault result (spelled_at (size_of width) (spelling_shown spelling) implicit cursor.old) cursor.new }
 {
     match spelling {
         Spelling::Fixed(size, class) => {
@@ -108,8 +110,8 @@ fn spelled<'a>(
             Ok(value_of(class, n))
         }
         Spelling::Offset(class) => {
-            let n = cursor.u32().ok_or(FormFault::End)?;
-            Ok(value_of(class, n as u64))
+            let n = cursor.offset(width).ok_or(FormFault::End)?;
+            Ok(value_of(class, n))
         }
         Spelling::Uleb(class) => {
             let n = cursor.uleb()?;
@@ -149,21 +151,23 @@ fn spelled<'a>(
     }
 }
 
-/// The value of a form (section 7.5.6); `implicit` is the number that stands in the declaration,
-/// where one does. `Form` where the form, through any number of DW_FORM_indirect, is unknown or has
-/// its number in no declaration; `Wide` where a LEB128 number doesn't fit 64 bits; else `End` where
-/// the bytes end too early. A refusal leaves the cursor where it was.
+/// The value of a form (section 7.5.6), where offsets have a width; `implicit` is the number that
+/// stands in the declaration, where one does. `Form` where the form, through any number of
+/// DW_FORM_indirect, is unknown or has its number in no declaration; `Wide` where a LEB128 number
+/// doesn't fit 64 bits; else `End` where the bytes end too early. A refusal leaves the cursor where
+/// it was.
 #[tactic(auto, unfolding(dw_model::specs::Form::value_at))]
 #[inline(always)]
 pub fn read_value<'a>(
     cursor: &mut Cursor<'a>,
     form: u64,
     implicit: Option<i64>,
+    width: Width,
 ) -> Result<Value<'a>, FormFault>
-    ensures { ReadsOrTells value_shown form_fault result (value_at OFFSET_SIZE_32 form implicit cursor.old) cursor.old cursor.new }
+    ensures { ReadsOrTells value_shown form_fault result (value_at (size_of width) form implicit cursor.old) cursor.old cursor.new }
 {
     let mut ahead = cursor.fork();
-    let value = value_ahead(&mut ahead, form, implicit)?;
+    let value = value_ahead(&mut ahead, form, implicit, width)?;
     *cursor = ahead;
     Ok(value)
 }
@@ -174,8 +178,9 @@ fn value_ahead<'a>(
     cursor: &mut Cursor<'a>,
     form: u64,
     implicit: Option<i64>,
+    width: Width,
 ) -> Result<Value<'a>, FormFault>
-    ensures { ReadsOn value_shown form_fault result (value_at OFFSET_SIZE_32 form implicit cursor.old) cursor.new }
+    ensures { ReadsOn value_shown form_fault result (value_at (size_of width) form implicit cursor.old) cursor.new }
 {
     let mut named = form;
     let mut constant = implicit;
@@ -186,5 +191,5 @@ fn value_ahead<'a>(
     let Some(spelling) = spelling_of(named) else {
         return Err(FormFault::Form);
     };
-    spelled(cursor, spelling, constant)
+    spelled(cursor, spelling, constant, width)
 }

@@ -1,6 +1,6 @@
 -- What was kept of functions follows the nodes that were read.
 use Rattle.std.proofs.Common.{◌≡◌, ◌⊎◌, inl, inr, ℕ, zero, suc, ◌+◌, ◌-◌, ◌<◌, ◌≤◌, min, Bool, true, false, cond, List, [], ◌∷◌, ◌++◌, length, map, Option, Some, None, refl, sym, ap, subst, ◌∙◌, arith, length-append}
-use Rattle.std.specs.Prelude.{option_and_then, slice_get, ◌&&◌, nat_lt}
+use Rattle.std.specs.Prelude.{option_and_then, slice_get, not, ◌&&◌, nat_lt}
 use Rattle.std.specs.Option.{option_or}
 use Rattle.std.proofs.lemmas.List.{append-nil, map_push, length-map}
 use Rattle.std.proofs.lemmas.Bool.{cases_order, and_parts, and_left, and_right, eq-eqb, ne_eqb, eqb-true, lt-ltb, le-ltb}
@@ -14,12 +14,11 @@ use Rattle.dw_model.specs.Tree.{Node, is_function, is_subprogram, is_inlined, en
 use Rattle.dw_index.specs.Owners.{least_owner}
 use Rattle.dw_frames.specs.Rising.{Rises}
 use Rattle.dw_frames.specs.Inlined.{InlinedRange, inlined_in, all_in_some}
-use Rattle.dw_frames.specs.Drafts.{Description, described, Drafts, innermost, owned, with_list, without_last, without_list, known_ranges, behind_function}
-use Rattle.dw_frames.specs.Placed.{Placed, placed, offset_of, near, first, is_outermost, lies_in, Names, described_in, Follows}
-use Rattle.dw_frames.proofs.NearLemmas.{enclosing-one}
-use Rattle.dw_frames.proofs.GetLemmas.{get-kept, get-last, get-pushed, get-there, get-mapped, get-unmapped, rises-once, rises-push}
+use Rattle.dw_frames.specs.Drafts.{Drafts, innermost, owned, with_list, with_function, with_ranges, without_last, without_list, known_ranges, is_idle, is_kept, behind_function}
+use Rattle.dw_frames.specs.Placed.{Placed, placed, offset_of, near, first, is_outermost, lies_in, Names, Falls, Follows}
+use Rattle.dw_frames.proofs.NearLemmas.{enclosing-one, falls-on, near-below}
+use Rattle.dw_frames.proofs.GetLemmas.{get-kept, get-last, get-pushed, get-there, get-mapped, get-unmapped, rises-once, rises-order, rises-push}
 use Rattle.dw_frames.proofs.FirstLemmas.{first-push, first-is, first-within, owner-push}
-use Rattle.dw_frames.proofs.ChainLemmas.{lies-behind}
 use Rattle.dw_frames.proofs.InlinedLemmas.{inlined-here, inlined-elsewhere}
 
 same_or_apart : (m k : ℕ) → (m ≡ k) ⊎ (m ≡ k → ⊥)
@@ -31,11 +30,23 @@ same_or_apart m k = elim (cases_order m k) [
   ]
 ]
 
-names-kept : (all : List Placed) (x : Placed) (k : Option ℕ) (found : Option Node) → Names all k found → Names (all ++ x ∷ []) k found
-names-kept all x None found h = h
-names-kept all x (Some k) found h = (h.0, get-kept all x k h.0 h.1, h.2)
+-- one more function, which stands behind what was found
+names-kept : (all : List Placed) (x : Placed) (number : Option ℕ) (found : Option Node) → ((node : Node) → found ≡ Some node → node.entry.offset < offset_of x) → Names all number found → Names (all ++ x ∷ []) number found
+names-kept all x None found behind h = λ node is k p e same. elim (get-pushed all x k p e) [
+  | inl old ↦ h node is k p old same
+  | inr new ↦ (let less = behind node is in let at : offset_of x ≡ offset_of p = ap offset_of new.1 in absurd (omega (arith, less, at, same)))
+]
+names-kept all x (Some k) found behind h = (h.0, get-kept all x k h.0 h.1, h.2)
+
+-- what is found under no number isn't where a function stands that is kept
+none-at : (all : List Placed) (found : Option Node) (k : ℕ) (p : Placed) → Names all None found → slice_get all k ≡ Some p → is_at found (offset_of p) ≡ false
+none-at all None k p h e = refl
+none-at all (Some node) k p h e = ne_eqb node.entry.offset (offset_of p) (λ same. h node refl k p e (sym same))
 
 module _ (s : Sections) (unit : DwarfUnit) where
+  abbrev kept : List Node → List Placed
+  kept before = placed (is_kept s unit) before
+
   -- ---- a null entry
 
   get-of-front : {X : Type 0} (xs : List X) (i : ℕ) (x : X) → slice_get (without_last xs) i ≡ Some x → slice_get xs i ≡ Some x
@@ -46,9 +57,11 @@ module _ (s : Sections) (unit : DwarfUnit) where
 
   pub follows-null : (before : List Node) (drafts : Drafts) (bound next : ℕ) → bound ≤ next → Follows s unit before drafts bound → Follows s unit before (without_list drafts) next
   follows-null before drafts bound next h f = record {
-    descriptions = f.descriptions;
+    functions = f.functions;
+    falls = falls-on bound next before h f.falls;
     rises = f.rises;
     below = λ k p e. let b = f.below k p e in omega (arith, b, h);
+    around = f.around;
     outermost = f.outermost;
     inlined = f.inlined;
     unowned = f.unowned;
@@ -64,16 +77,16 @@ module _ (s : Sections) (unit : DwarfUnit) where
       let least : min 0 node.depth ≡ 0 = omega arith in
       rw (and_right (is_function node.entry) (nat_lt node.depth 0) (le-ltb node.depth 0 (omega arith)), least) (near-zero before)
 
-  top-names : (before : List Node) (lists : List (Option ℕ)) (k : ℕ) (number : Option ℕ) → length lists ≡ k + 1 → slice_get lists k ≡ Some number → Names (placed before) number (near (k + 1) before) → Names (placed before) (option_and_then (λ number. number) (slice_get lists (length lists - 1))) (near (length lists) before)
+  top-names : (before : List Node) (lists : List (Option ℕ)) (k : ℕ) (number : Option ℕ) → length lists ≡ k + 1 → slice_get lists k ≡ Some number → Names (kept before) number (near (k + 1) before) → Names (kept before) (option_and_then (λ number. number) (slice_get lists (length lists - 1))) (near (length lists) before)
   top-names before lists k number len e h =
       let small : k + 1 - 1 ≡ k = omega arith in
       rw (len, small, e) h
 
-  pub innermost-names : (before : List Node) (drafts : Drafts) (bound : ℕ) → Follows s unit before drafts bound → Names (placed before) (innermost drafts) (near (length drafts.lists) before)
+  pub innermost-names : (before : List Node) (drafts : Drafts) (bound : ℕ) → Follows s unit before drafts bound → Names (kept before) (innermost drafts) (near (length drafts.lists) before)
   innermost-names before drafts bound f = by_lists drafts.lists (λ i number e. f.lists i number e)
     where
-      by_lists : (lists : List (Option ℕ)) → ((i : ℕ) (number : Option ℕ) → slice_get lists i ≡ Some number → Names (placed before) number (near (i + 1) before)) → Names (placed before) (option_and_then (λ number. number) (slice_get lists (length lists - 1))) (near (length lists) before)
-      by_lists [] h = near-zero before
+      by_lists : (lists : List (Option ℕ)) → ((i : ℕ) (number : Option ℕ) → slice_get lists i ≡ Some number → Names (kept before) number (near (i + 1) before)) → Names (kept before) (option_and_then (λ number. number) (slice_get lists (length lists - 1))) (near (length lists) before)
+      by_lists [] h = λ node is. let none : None ≡ Some node = sym (near-zero before) ∙ is in absurd cc
       by_lists (list ∷ rest) h =
           let last = get-there (list ∷ rest) (length rest) (omega arith) in
           top-names before (list ∷ rest) (length rest) last.0 (omega arith) last.1 (h (length rest) last.0 last.1)
@@ -96,11 +109,11 @@ module _ (s : Sections) (unit : DwarfUnit) where
   near-here node before e =
       rw (e, lt-ltb node.depth (node.depth + 1) (omega arith)) refl
 
-  placed-other : (node : Node) (before : List Node) → is_function node.entry ≡ false → placed (node ∷ before) ≡ placed before
+  placed-other : (node : Node) (before : List Node) → is_kept s unit node.entry ≡ false → kept (node ∷ before) ≡ kept before
   unfolding placed
   placed-other node before e = rw e refl
 
-  placed-here : (node : Node) (before : List Node) → is_function node.entry ≡ true → placed (node ∷ before) ≡ placed before ++ (node, enclosing (node ∷ []) before) ∷ []
+  placed-here : (node : Node) (before : List Node) → is_kept s unit node.entry ≡ true → kept (node ∷ before) ≡ kept before ++ (node, enclosing (node ∷ []) before) ∷ []
   unfolding placed
   placed-here node before e = rw e refl
 
@@ -108,29 +121,52 @@ module _ (s : Sections) (unit : DwarfUnit) where
   get-children true lists new i number e = get-pushed lists new i number e
   get-children false lists new i number e = inl e
 
-  pub follows-other : (before : List Node) (drafts : Drafts) (bound next : ℕ) (entry : Entry) → is_function entry ≡ false → bound ≤ next → Follows s unit before drafts bound
-      → Follows s unit (record { depth = length drafts.lists; entry = entry } ∷ before) (with_list entry.children (innermost drafts) drafts) next
-  follows-other before drafts bound next entry e h f =
+  -- an entry that isn't kept, and the list below it
+  follows-unkept : (before : List Node) (drafts : Drafts) (bound next : ℕ) (entry : Entry) (number : Option ℕ) → is_kept s unit entry ≡ false → bound ≤ entry.offset → entry.offset < next
+      → Names (kept before) number (near (length drafts.lists + 1) (record { depth = length drafts.lists; entry = entry } ∷ before)) → Follows s unit before drafts bound
+      → Follows s unit (record { depth = length drafts.lists; entry = entry } ∷ before) (with_list entry.children number drafts) next
+  follows-unkept before drafts bound next entry new e low high names f =
       let node : Node = record { depth = length drafts.lists; entry = entry } in
       let same = placed-other node before e in
       record {
-        descriptions = rw same f.descriptions;
+        functions = rw same f.functions;
+        falls = (high, falls-on bound entry.offset before low f.falls);
         rises = rw same f.rises;
-        below = λ k p g. let b = f.below k p (rw same at g) in omega (arith, b, h);
+        below = λ k p g. let b = f.below k p (rw same at g) in omega (arith, b, low, high);
+        around = λ k p e g. f.around k p e (rw same at g);
         outermost = λ a. rw same (f.outermost a);
         inlined = λ k a p g. rw same (f.inlined k a p (rw same at g));
         unowned = λ k past. f.unowned k (rw same at past);
-        lists = λ i number g. elim (get-children entry.children drafts.lists (innermost drafts) i number g) [
+        lists = λ i number g. elim (get-children entry.children drafts.lists new i number g) [
           | inl old ↦ (let within = slice_get_within drafts.lists i number old in rw (same, near-past (i + 1) node before (omega (arith, within))) (f.lists i number old))
-          | inr new ↦ rw (same, new.0, near-other node before e, ← new.1) (innermost-names before drafts bound f)
+          | inr now ↦ rw (same, now.0, ← now.1) names
         ];
       }
 
-  -- ---- a function
+  not-function : (entry : Entry) → is_function entry ≡ false → is_kept s unit entry ≡ false
+  not-function entry e = and_left (is_function entry) (not (is_idle s unit entry)) e
 
-  sizes : (before : List Node) (drafts : Drafts) (bound : ℕ) → Follows s unit before drafts bound → length drafts.functions ≡ length (placed before)
+  pub follows-other : (before : List Node) (drafts : Drafts) (bound next : ℕ) (entry : Entry) → is_function entry ≡ false → bound ≤ entry.offset → entry.offset < next → Follows s unit before drafts bound
+      → Follows s unit (record { depth = length drafts.lists; entry = entry } ∷ before) (with_list entry.children (innermost drafts) drafts) next
+  follows-other before drafts bound next entry e low high f =
+      let node : Node = record { depth = length drafts.lists; entry = entry } in
+      follows-unkept before drafts bound next entry (innermost drafts) (not-function entry e) low high (rw (near-other node before e) (innermost-names before drafts bound f)) f
+
+  -- a function without ranges
+  pub follows-idle : (before : List Node) (drafts : Drafts) (bound next : ℕ) (entry : Entry) → is_function entry ≡ true → is_idle s unit entry ≡ true → bound ≤ entry.offset → entry.offset < next → Follows s unit before drafts bound
+      → Follows s unit (record { depth = length drafts.lists; entry = entry } ∷ before) (with_list entry.children None drafts) next
+  follows-idle before drafts bound next entry function idle low high f =
+      let here : Node = record { depth = length drafts.lists; entry = entry } in
+      let out : is_kept s unit entry ≡ false = rw idle (and_right (is_function entry) false refl) in
+      follows-unkept before drafts bound next entry None out low high (λ node is k p e same.
+      let one : here.entry.offset ≡ node.entry.offset = ap (λ (n : Node). n.entry.offset) (same_Some here node (sym (near-here here before function) ∙ is)) in
+      let b = f.below k p e in absurd (omega (arith, one, b, low, same))) f
+
+  -- ---- a function that is kept
+
+  sizes : (before : List Node) (drafts : Drafts) (bound : ℕ) → Follows s unit before drafts bound → length drafts.functions ≡ length (kept before)
   sizes before drafts bound f =
-      ap (λ (ds : List Description). length ds) f.descriptions ∙ length-map (placed before) (described_in s unit)
+      ap (λ (offsets : List ℕ). length offsets) f.functions ∙ length-map (kept before) offset_of
 
   or-none : (found : Option ℕ) → option_or found None ≡ found
   or-none None = refl
@@ -158,21 +194,20 @@ module _ (s : Sections) (unit : DwarfUnit) where
   unowned a = refl
 
   -- nothing lies in the last function
-  none-in-last : (a : ℕ) (nodes : List Node) (k : ℕ) (p : Placed) → Rises (map offset_of (placed nodes)) → slice_get (placed nodes) k ≡ Some p → length (placed nodes) ≡ k + 1 → first (lies_in (holds_address s unit a) (offset_of p)) (placed nodes) ≡ None
-  none-in-last a nodes k p rises h size = by_found (first (lies_in (holds_address s unit a) (offset_of p)) (placed nodes)) refl
+  none-in-last : (a : ℕ) (all : List Placed) (k : ℕ) (p : Placed) → Rises (map offset_of all) → ((k : ℕ) (p : Placed) (e : Node) → slice_get all k ≡ Some p → p.1 ≡ Some e → e.entry.offset < offset_of p) → slice_get all k ≡ Some p → length all ≡ k + 1 → first (lies_in (holds_address s unit a) (offset_of p)) all ≡ None
+  none-in-last a all k p rises around h size = by_found (first (lies_in (holds_address s unit a) (offset_of p)) all) refl
     where
-      by_found : (found : Option ℕ) → first (lies_in (holds_address s unit a) (offset_of p)) (placed nodes) ≡ found → found ≡ None
+      by_found : (found : Option ℕ) → first (lies_in (holds_address s unit a) (offset_of p)) all ≡ found → found ≡ None
       by_found None e = refl
       by_found (Some j) e =
-          let q = first-is (lies_in (holds_address s unit a) (offset_of p)) (placed nodes) j e in
-          let within = first-within (lies_in (holds_address s unit a) (offset_of p)) (placed nodes) j e in
+          let q = first-is (lies_in (holds_address s unit a) (offset_of p)) all j e in
+          let within = first-within (lies_in (holds_address s unit a) (offset_of p)) all j e in
           let test = and_parts (is_inlined q.0.0.entry && holds_address s unit a q.0.0.entry) (is_at q.0.1 (offset_of p)) q.2 in
           let e = at-some q.0.1 (offset_of p) test.1 in
-          let x = lies-behind nodes j q.0 e.0 q.1 e.1 in
-          let offset : offset_of x.1 ≡ offset_of p = ap (λ (n : Node). n.entry.offset) x.4 ∙ e.2 in
-          let same = rises-once (map offset_of (placed nodes)) x.0 k (offset_of p) rises (get-mapped offset_of (placed nodes) x.0 x.1 x.3 ∙ ap Some offset) (get-mapped offset_of (placed nodes) k p h) in
-          let less = x.2 in
-          absurd (omega (arith, same, less, within, size))
+          let inside = around j q.0 e.0 q.1 e.1 in
+          let at = e.2 in
+          let less = rises-order (map offset_of all) k j (offset_of p) (offset_of q.0) rises (get-mapped offset_of all k p h) (get-mapped offset_of all j q.0 q.1) (omega (arith, inside, at)) in
+          absurd (omega (arith, less, within, size))
 
   subprogram-only : (entry : Entry) → is_subprogram entry ≡ true → is_inlined entry ≡ false
   subprogram-only entry e = rw (eqb-true entry.tag DW_TAG_subprogram e) refl
@@ -180,12 +215,12 @@ module _ (s : Sections) (unit : DwarfUnit) where
   inlined-only : (entry : Entry) → is_function entry ≡ true → is_subprogram entry ≡ false → is_inlined entry ≡ true
   inlined-only entry e f = rw f at e
 
-  module _ (before : List Node) (drafts : Drafts) (bound next : ℕ) (entry : Entry) (function : is_function entry ≡ true) (f : Follows s unit before drafts bound) where
+  module _ (before : List Node) (drafts : Drafts) (bound next : ℕ) (entry : Entry) (function : is_function entry ≡ true) (active : is_idle s unit entry ≡ false) (f : Follows s unit before drafts bound) where
     abbrev node : Node
     node = record { depth = length drafts.lists; entry = entry }
 
     abbrev all : List Placed
-    all = placed before
+    all = kept before
 
     abbrev here : Placed
     here = (node, enclosing (node ∷ []) before)
@@ -197,37 +232,37 @@ module _ (s : Sections) (unit : DwarfUnit) where
     pairs = owned (known_ranges s unit entry) number
 
     -- in which function it lies
-    lies : Names (placed before) (innermost drafts) here.1
-    lies = subst (Names (placed before) (innermost drafts)) (sym (enclosing-one node before)) (innermost-names before drafts bound f)
+    lies : Names (kept before) (innermost drafts) here.1
+    lies = subst (Names (kept before) (innermost drafts)) (sym (enclosing-one node before)) (innermost-names before drafts bound f)
 
-    by_subprogram : (b : Bool) → is_subprogram entry ≡ b → (a : ℕ) → least_owner (cond b (drafts.outermost ++ pairs) drafts.outermost) a ≡ first (is_outermost (holds_address s unit a)) (placed before ++ here ∷ [])
+    by_subprogram : (b : Bool) → is_subprogram entry ≡ b → (a : ℕ) → least_owner (cond b (drafts.outermost ++ pairs) drafts.outermost) a ≡ first (is_outermost (holds_address s unit a)) (kept before ++ here ∷ [])
     by_subprogram true e a =
-        owner-more (is_outermost (holds_address s unit a)) (placed before) here drafts.outermost (known_ranges s unit entry) number a (sizes before drafts bound f) (f.outermost a) (rw e refl)
+        owner-more (is_outermost (holds_address s unit a)) (kept before) here drafts.outermost (known_ranges s unit entry) number a (sizes before drafts bound f) (f.outermost a) (rw e refl)
     by_subprogram false e a =
-        f.outermost a ∙ sym (push-false (is_outermost (holds_address s unit a)) (placed before) here (and_left (is_subprogram entry) (holds_address s unit a entry) e))
+        f.outermost a ∙ sym (push-false (is_outermost (holds_address s unit a)) (kept before) here (and_left (is_subprogram entry) (holds_address s unit a entry) e))
 
-    unchanged : (k a : ℕ) (p : Placed) → slice_get (placed before) k ≡ Some p → lies_in (holds_address s unit a) (offset_of p) here ≡ false → least_owner (inlined_in k drafts.inlined) a ≡ first (lies_in (holds_address s unit a) (offset_of p)) (placed before ++ here ∷ [])
+    unchanged : (k a : ℕ) (p : Placed) → slice_get (kept before) k ≡ Some p → lies_in (holds_address s unit a) (offset_of p) here ≡ false → least_owner (inlined_in k drafts.inlined) a ≡ first (lies_in (holds_address s unit a) (offset_of p)) (kept before ++ here ∷ [])
     unchanged k a p e out =
-        f.inlined k a p e ∙ sym (push-false (lies_in (holds_address s unit a) (offset_of p)) (placed before) here out)
+        f.inlined k a p e ∙ sym (push-false (lies_in (holds_address s unit a) (offset_of p)) (kept before) here out)
 
     -- functions of one offset have one number
-    one-number : (k m : ℕ) (p q : Placed) → slice_get (placed before) k ≡ Some p → slice_get (placed before) m ≡ Some q → offset_of q ≡ offset_of p → m ≡ k
+    one-number : (k m : ℕ) (p q : Placed) → slice_get (kept before) k ≡ Some p → slice_get (kept before) m ≡ Some q → offset_of q ≡ offset_of p → m ≡ k
     one-number k m p q e g same =
-        rises-once (map offset_of (placed before)) m k (offset_of p) f.rises (get-mapped offset_of (placed before) m q g ∙ ap Some same) (get-mapped offset_of (placed before) k p e)
+        rises-once (map offset_of (kept before)) m k (offset_of p) f.rises (get-mapped offset_of (kept before) m q g ∙ ap Some same) (get-mapped offset_of (kept before) k p e)
 
     -- what is inlined in each function of before
-    by_outer : is_inlined entry ≡ true → (outer : Option ℕ) → Names (placed before) outer here.1 → (k a : ℕ) (p : Placed) → slice_get (placed before) k ≡ Some p → least_owner (inlined_in k (drafts.inlined ++ all_in_some outer pairs)) a ≡ first (lies_in (holds_address s unit a) (offset_of p)) (placed before ++ here ∷ [])
+    by_outer : is_inlined entry ≡ true → (outer : Option ℕ) → Names (kept before) outer here.1 → (k a : ℕ) (p : Placed) → slice_get (kept before) k ≡ Some p → least_owner (inlined_in k (drafts.inlined ++ all_in_some outer pairs)) a ≡ first (lies_in (holds_address s unit a) (offset_of p)) (kept before ++ here ∷ [])
     by_outer inlined None h k a p e =
         ap (λ (ranges : List InlinedRange). least_owner (inlined_in k ranges) a) (append-nil drafts.inlined)
-        ∙ unchanged k a p e (and_right (is_inlined entry && holds_address s unit a entry) (is_at here.1 (offset_of p)) (ap (λ (o : Option Node). is_at o (offset_of p)) h))
+        ∙ unchanged k a p e (and_right (is_inlined entry && holds_address s unit a entry) (is_at here.1 (offset_of p)) (none-at (kept before) here.1 k p h e))
     by_outer inlined (Some m) h k a p e = elim (same_or_apart m k) [
       | inl same ↦ (
           let q = h.0 in
-          let at : offset_of q ≡ offset_of p = ap offset_of (same_Some q p (sym h.1 ∙ ap (slice_get (placed before)) same ∙ e)) in
+          let at : offset_of q ≡ offset_of p = ap offset_of (same_Some q p (sym h.1 ∙ ap (slice_get (kept before)) same ∙ e)) in
           let inside : lies_in (holds_address s unit a) (offset_of p) here ≡ covers a (known_ranges s unit entry) =
           rw (inlined, h.2, eq-eqb (offset_of q) (offset_of p) at) (and-true (covers a (known_ranges s unit entry))) in
           ap (λ (found : List (Range × ℕ)). least_owner found a) (inlined-here k m drafts.inlined pairs same)
-          ∙ owner-more (lies_in (holds_address s unit a) (offset_of p)) (placed before) here (inlined_in k drafts.inlined) (known_ranges s unit entry) number a (sizes before drafts bound f) (f.inlined k a p e) inside)
+          ∙ owner-more (lies_in (holds_address s unit a) (offset_of p)) (kept before) here (inlined_in k drafts.inlined) (known_ranges s unit entry) number a (sizes before drafts bound f) (f.inlined k a p e) inside)
       | inr apart ↦ (
           let q = h.0 in
           let other : offset_of q ≡ offset_of p → ⊥ = λ at. apart (one-number k m p q e h.1 at) in
@@ -235,54 +270,78 @@ module _ (s : Sections) (unit : DwarfUnit) where
           ∙ unchanged k a p e (and_right (is_inlined entry && holds_address s unit a entry) (is_at here.1 (offset_of p)) (rw (h.2) (ne_eqb (offset_of q) (offset_of p) other))))
     ]
 
-    inlined-before : (b : Bool) → is_subprogram entry ≡ b → (k a : ℕ) (p : Placed) → slice_get (placed before) k ≡ Some p → least_owner (inlined_in k (cond b drafts.inlined (drafts.inlined ++ all_in_some (innermost drafts) pairs))) a ≡ first (lies_in (holds_address s unit a) (offset_of p)) (placed before ++ here ∷ [])
+    inlined-before : (b : Bool) → is_subprogram entry ≡ b → (k a : ℕ) (p : Placed) → slice_get (kept before) k ≡ Some p → least_owner (inlined_in k (cond b drafts.inlined (drafts.inlined ++ all_in_some (innermost drafts) pairs))) a ≡ first (lies_in (holds_address s unit a) (offset_of p)) (kept before ++ here ∷ [])
     inlined-before true e k a p g =
         unchanged k a p g (and_left (is_inlined entry && holds_address s unit a entry) (is_at here.1 (offset_of p)) (and_left (is_inlined entry) (holds_address s unit a entry) (subprogram-only entry e)))
     inlined-before false e k a p g = by_outer (inlined-only entry function e) (innermost drafts) lies k a p g
 
-    none-owned : (b : Bool) (k : ℕ) → length (placed before) ≤ k → inlined_in k (cond b drafts.inlined (drafts.inlined ++ all_in_some (innermost drafts) pairs)) ≡ []
+    none-owned : (b : Bool) (k : ℕ) → length (kept before) ≤ k → inlined_in k (cond b drafts.inlined (drafts.inlined ++ all_in_some (innermost drafts) pairs)) ≡ []
     none-owned true k past = f.unowned k past
     none-owned false k past = by_list (innermost drafts) lies
       where
-        by_list : (outer : Option ℕ) → Names (placed before) outer here.1 → inlined_in k (drafts.inlined ++ all_in_some outer pairs) ≡ []
+        by_list : (outer : Option ℕ) → Names (kept before) outer here.1 → inlined_in k (drafts.inlined ++ all_in_some outer pairs) ≡ []
         by_list None h = ap (inlined_in k) (append-nil drafts.inlined) ∙ f.unowned k past
         by_list (Some m) h =
-            let w = slice_get_within (placed before) m h.0 h.1 in
+            let w = slice_get_within (kept before) m h.0 h.1 in
             inlined-elsewhere k m drafts.inlined pairs (λ same. absurd (omega (arith, same, w, past))) ∙ f.unowned k past
 
-    offsets-push : map offset_of (placed before ++ here ∷ []) ≡ map offset_of (placed before) ++ entry.offset ∷ []
-    offsets-push = map_push offset_of (placed before) here
+    offsets-push : map offset_of (kept before ++ here ∷ []) ≡ map offset_of (kept before) ++ entry.offset ∷ []
+    offsets-push = map_push offset_of (kept before) here
 
-    rises-here : bound ≤ entry.offset → Rises (map offset_of (placed before ++ here ∷ []))
+    rises-here : bound ≤ entry.offset → Rises (map offset_of (kept before ++ here ∷ []))
     rises-here h =
-        rw offsets-push (rises-push (map offset_of (placed before)) entry.offset f.rises (λ k x e.
-        let p = get-unmapped offset_of (placed before) k x e in
+        rw offsets-push (rises-push (map offset_of (kept before)) entry.offset f.rises (λ k x e.
+        let p = get-unmapped offset_of (kept before) k x e in
         let b = f.below k p.0 p.1 in
         let is = p.2 in omega (arith, b, is, h)))
 
-    pub follows-function : bound ≤ entry.offset → entry.offset < next → Follows s unit (node ∷ before) (behind_function s unit entry drafts) next
-    follows-function low high =
-        let same = placed-here node before function in
+    around-here : bound ≤ entry.offset → (k : ℕ) (p : Placed) (e : Node) → slice_get (kept before ++ here ∷ []) k ≡ Some p → p.1 ≡ Some e → e.entry.offset < offset_of p
+    around-here low k p e g is = elim (get-pushed (kept before) here k p g) [
+      | inl old ↦ f.around k p e old is
+      | inr new ↦ (
+          let at : entry.offset ≡ offset_of p = ap offset_of new.1 in
+          let less = near-below node.depth bound before e f.falls (sym (enclosing-one node before) ∙ ap (λ (p : Placed). p.1) new.1 ∙ is) in
+          omega (arith, at, less, low))
+    ]
+
+    follows-kept : bound ≤ entry.offset → entry.offset < next → is_kept s unit entry ≡ true
+        → Follows s unit (node ∷ before) (with_list entry.children (Some number) (with_function entry.offset (with_ranges (is_subprogram entry) pairs drafts))) next
+    follows-kept low high keep =
+        let same = placed-here node before keep in
         let rising = rises-here low in
-        let last-number : slice_get (placed before ++ here ∷ []) number ≡ Some here = ap (slice_get (placed before ++ here ∷ [])) (sizes before drafts bound f) ∙ get-last (placed before) here in
+        let last-number : slice_get (kept before ++ here ∷ []) number ≡ Some here = ap (slice_get (kept before ++ here ∷ [])) (sizes before drafts bound f) ∙ get-last (kept before) here in
         record {
-          descriptions = rw same (ap (λ (ds : List Description). ds ++ described s unit entry ∷ []) f.descriptions ∙ sym (map_push (described_in s unit) (placed before) here));
+          functions = rw same (ap (λ (offsets : List ℕ). offsets ++ entry.offset ∷ []) f.functions ∙ sym offsets-push);
+          falls = (high, falls-on bound entry.offset before low f.falls);
           rises = rw same rising;
-          below = λ k p g. elim (get-pushed (placed before) here k p (rw same at g)) [
+          below = λ k p g. elim (get-pushed (kept before) here k p (rw same at g)) [
             | inl before ↦ (let b = f.below k p before in omega (arith, b, low, high))
             | inr last ↦ (let is : entry.offset ≡ offset_of p = ap offset_of last.1 in omega (arith, is, high))
           ];
+          around = λ k p e g. around-here low k p e (rw same at g);
           outermost = λ a. rw same (by_subprogram (is_subprogram entry) refl a);
-          inlined = λ k a p g. elim (get-pushed (placed before) here k p (rw same at g)) [
+          inlined = λ k a p g. elim (get-pushed (kept before) here k p (rw same at g)) [
             | inl before ↦ rw same (inlined-before (is_subprogram entry) refl k a p before)
             | inr last ↦ (
                 let none = none-owned (is_subprogram entry) k (omega (arith, last.0)) in
-                let alone = none-in-last a (node ∷ before) (length (placed before)) here (rw same rising) (rw same (get-last (placed before) here)) (rw same (let l = length-append (placed before) (here ∷ []) in omega (arith, l))) in
-                ap (λ (found : List (Range × ℕ)). least_owner found a) none ∙ unowned a ∙ sym (subst (λ (p : Placed). first (lies_in (holds_address s unit a) (offset_of p)) (placed (node ∷ before)) ≡ None) last.1 alone))
+                let alone = none-in-last a (kept before ++ here ∷ []) (length (kept before)) here rising (around-here low) (get-last (kept before) here) (let l = length-append (kept before) (here ∷ []) in omega (arith, l)) in
+                ap (λ (found : List (Range × ℕ)). least_owner found a) none ∙ unowned a ∙ rw same (sym (subst (λ (p : Placed). first (lies_in (holds_address s unit a) (offset_of p)) (kept before ++ here ∷ []) ≡ None) last.1 alone)))
           ];
-          unowned = λ k past. none-owned (is_subprogram entry) k (let l = length-append (placed before) (here ∷ []) in let more = rw same at past in omega (arith, l, more));
+          unowned = λ k past. none-owned (is_subprogram entry) k (let l = length-append (kept before) (here ∷ []) in let more = rw same at past in omega (arith, l, more));
           lists = λ i list g. elim (get-children entry.children drafts.lists (Some number) i list g) [
-            | inl old_list ↦ (let within = slice_get_within drafts.lists i list old_list in rw (same, near-past (i + 1) node before (omega (arith, within))) (names-kept (placed before) here list (near (i + 1) before) (f.lists i list old_list)))
+            | inl old_list ↦ (
+                let within = slice_get_within drafts.lists i list old_list in
+                rw (same, near-past (i + 1) node before (omega (arith, within)))
+                (names-kept (kept before) here list (near (i + 1) before) (λ found is. let b = near-below (i + 1) bound before found f.falls is in omega (arith, b, low)) (f.lists i list old_list)))
             | inr new_list ↦ rw (same, new_list.0, near-here node before function, ← new_list.1) (here, last-number, refl)
           ];
         }
+
+  pub follows-function : (before : List Node) (drafts : Drafts) (bound next : ℕ) (entry : Entry) → is_function entry ≡ true → bound ≤ entry.offset → entry.offset < next → Follows s unit before drafts bound
+      → Follows s unit (record { depth = length drafts.lists; entry = entry } ∷ before) (behind_function s unit entry drafts) next
+  follows-function before drafts bound next entry function low high f = by_idle (is_idle s unit entry) refl
+    where
+      by_idle : (b : Bool) → is_idle s unit entry ≡ b → Follows s unit (record { depth = length drafts.lists; entry = entry } ∷ before)
+          (cond b (with_list entry.children None drafts) (with_list entry.children (Some (length drafts.functions)) (with_function entry.offset (with_ranges (is_subprogram entry) (owned (known_ranges s unit entry) (length drafts.functions)) drafts)))) next
+      by_idle true e = follows-idle before drafts bound next entry function e low high f
+      by_idle false e = follows-kept before drafts bound next entry function e f low high (rw (function, e) refl)

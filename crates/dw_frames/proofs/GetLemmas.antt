@@ -1,5 +1,5 @@
 -- Elements of a list by their numbers.
-use Rattle.std.proofs.Common.{◌≡◌, ◌⊎◌, inl, inr, ℕ, zero, suc, ◌<◌, List, [], ◌∷◌, ◌++◌, length, map, Some, refl, ap, arith}
+use Rattle.std.proofs.Common.{◌≡◌, ◌⊎◌, inl, inr, ℕ, zero, suc, ◌<◌, List, [], ◌∷◌, ◌++◌, length, map, Some, refl, sym, ap, ◌∙◌, arith}
 use Rattle.std.specs.Prelude.{slice_get}
 use Rattle.std.proofs.lemmas.Option.{same_Some, slice_get_within}
 use Rattle.std.proofs.lemmas.Bool.{cases_order}
@@ -42,6 +42,16 @@ rises-once xs i j x rises e f = elim (cases_order i j) [
   | inr order ↦ elim order [
     | inl below ↦ absurd (let h = rises i j x x below e f in omega (arith, h))
     | inr above ↦ absurd (let h = rises j i x x above f e in omega (arith, h))
+  ]
+]
+
+-- the greater of two numbers stands behind the other
+pub rises-order : (xs : List ℕ) (i j x y : ℕ) → Rises xs → slice_get xs i ≡ Some x → slice_get xs j ≡ Some y → x < y → i < j
+rises-order xs i j x y rises e f h = elim (cases_order i j) [
+  | inl same ↦ absurd (let one : x ≡ y = same_Some x y (sym e ∙ ap (slice_get xs) same ∙ f) in omega (arith, one, h))
+  | inr order ↦ elim order [
+    | inl below ↦ below
+    | inr above ↦ absurd (let less = rises j i y x above f e in omega (arith, less, h))
   ]
 ]
 

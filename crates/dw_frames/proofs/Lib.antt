@@ -9,10 +9,9 @@ pub mod ReaderLemmas
 pub mod FollowLemmas
 pub mod MoveLemmas
 pub mod WalkLemmas
-pub mod SizeLemmas
 pub mod TreeLemmas
 pub mod InwardsLemmas
-pub mod SearchLemmas
+pub mod StandLemmas
 pub mod BuiltLemmas
 pub mod InlinedLemmas
 pub mod LinkLemmas

@@ -1,49 +1,58 @@
 -- Entries stand one behind the other: the place behind one is further on.
-use Rattle.std.proofs.Common.{◌≡◌, Bool, inl, inr, ℕ, ◌+◌, ◌<◌, List, [], ◌∷◌, length, Option, Some, None, Result, Ok, ap, subst, ◌∙◌, sym, arith, cond}
+use Rattle.std.proofs.Common.{◌≡◌, Bool, inl, inr, ℕ, ◌+◌, ◌-◌, ◌<◌, List, [], ◌∷◌, length, length-drop, drop, Option, Some, None, Result, Ok, refl, sym, ap, ◌∙◌, arith, cond}
 use Rattle.std.specs.Prelude.{ok_or, ◌==◌}
+use Rattle.std.proofs.lemmas.List.{drop-drop}
 use Rattle.std.proofs.lemmas.Option.{same_Some}
 use Rattle.dw_model.specs.Results.{◌>>=◌}
-use Rattle.dw_model.specs.Reading.{Place, Spans}
+use Rattle.dw_model.specs.Reading.{Place, Spans, past}
 use Rattle.dw_model.specs.Abbrev.{Specification, Declaration, declared}
 use Rattle.dw_model.specs.Leb.{uleb_at}
 use Rattle.dw_model.specs.Form.{Value, value_at}
 use Rattle.dw_model.specs.Entry.{Attribute, Entry, attributes_at, entry_at}
 use Rattle.dw_model.specs.Faults.{Fault, undeclared}
 use Rattle.dw_model.proofs.StepLemmas.{bind_ok, ok_is}
-use Rattle.dw_model.proofs.ReadingLemmas.{between-length}
+use Rattle.dw_model.proofs.ReadingLemmas.{past-between}
 use Rattle.dw_model.proofs.AdvanceLemmas.{either, ends_at, entry-onward}
 use Rattle.dw_model.proofs.LebReading.{uleb-spans}
 use Rattle.dw_model.proofs.ValueLemmas.{value-spans}
 
--- what is passed and what is left stay as many together
-abbrev Whole : Place → Place → Type 0
-Whole p q = q.at + length q.left ≡ p.at + length p.left
+-- the second place is so many bytes further on
+abbrev pub On : Place → Place → Type 0
+On p q = (n : ℕ) × (q ≡ past n p)
 
-whole-same : (p q r : Place) → q ≡ r → Whole p q → Whole p r
-whole-same p q r e h = subst (Whole p) e h
+stays : (p q : Place) → p ≡ q → On p q
+stays p q e =
+    let at : p.at ≡ p.at + 0 = omega arith in
+    (0, sym e ∙ ap (λ (n : ℕ). record { at = n; left = p.left }) at)
 
-spans-whole : (Is : List ℕ → Type 0) (p q : Place) → Spans Is p q → Whole p q
-spans-whole Is p q s = let b = s.1 in omega (arith, between-length p q s.0 s.1, b.1)
+goes : (p q r : Place) → On p q → On q r → On p r
+goes p q r first second =
+    let at : p.at + first.0 + second.0 ≡ p.at + (first.0 + second.0) = omega arith in
+    (first.0 + second.0, second.1 ∙ ap (past second.0) first.1 ∙ rw (at, drop-drop second.0 first.0 p.left) refl)
 
-attributes-whole : (size : ℕ) (specifications : List Specification) (p : Place) (x : List Attribute × Place) → attributes_at size specifications p ≡ Ok x → Whole p x.1
+spans-on : (Is : List ℕ → Type 0) (p q : Place) → Spans Is p q → On p q
+spans-on Is p q s = (length s.0, sym (past-between p q s.0 (length s.0) refl s.1))
+
+attributes-on : (size : ℕ) (specifications : List Specification) (p : Place) (x : List Attribute × Place) → attributes_at size specifications p ≡ Ok x → On p x.1
 unfolding attributes_at
-attributes-whole size [] p x e = whole-same p p x.1 (ends_at [] x.0 p x.1 e) (omega arith)
-attributes-whole size (specification ∷ specifications) p x e =
+attributes-on size [] p x e = stays p x.1 (ends_at [] x.0 p x.1 e)
+attributes-on size (specification ∷ specifications) p x e =
     let more : Value × Place → Result (List Attribute × Place) Fault = λ value. attributes_at size specifications value.1 >>= λ others. Ok (record { name = specification.name; value = value.0 } ∷ others.0, others.1) in
     let value = bind_ok (value_at size specification.form specification.constant p) more x e in
     let others = bind_ok (attributes_at size specifications value.0.1) (λ others. Ok (record { name = specification.name; value = value.0.0 } ∷ others.0, others.1)) x value.2 in
     let last = ends_at (record { name = specification.name; value = value.0.0 } ∷ others.0.0) x.0 others.0.1 x.1 others.2 in
     let s = value-spans size specification.form specification.constant p value.0.1 value.0.0 value.1 in
-    let b = s.1 in
-    whole-same p others.0.1 x.1 last (omega (arith, between-length p value.0.1 s.0 s.1, b.1, attributes-whole size specifications value.0.1 others.0 others.1))
+    goes p value.0.1 x.1 (length s.0, sym (past-between p value.0.1 s.0 (length s.0) refl s.1)) (goes value.0.1 others.0.1 x.1 (attributes-on size specifications value.0.1 others.0 others.1) (stays others.0.1 x.1 last))
 
 -- an entry moves on, and an entry that is found has the offset of its place
-abbrev pub Moves : Place → Option Entry × Place → Type 0
-Moves p x = (p.at < x.1.at) × ((entry : Entry) → x.0 ≡ Some entry → entry.offset ≡ p.at)
+pub record Moves (p : Place) (x : Option Entry × Place) : Type 0 where
+  pub further : p.at < x.1.at
+  pub on : On p x.1
+  pub offset : (entry : Entry) → x.0 ≡ Some entry → entry.offset ≡ p.at
 
 -- the same behind an entry's code
 abbrev Behind : ℕ → Place → Option Entry × Place → Type 0
-Behind at q x = Whole q x.1 × ((entry : Entry) → x.0 ≡ Some entry → entry.offset ≡ at)
+Behind at q x = On q x.1 × ((entry : Entry) → x.0 ≡ Some entry → entry.offset ≡ at)
 
 entry_behind : (size : ℕ) (at tag : ℕ) (children : Bool) (specifications : List Specification) (q : Place) (x : Option Entry × Place) → ◌>>=◌ {B = Option Entry × Place} (attributes_at size specifications q) (λ attributes. Ok (Some (record { offset = at; tag = tag; children = children; attributes = attributes.0 }), attributes.1)) ≡ Ok x → Behind at q x
 entry_behind size at tag children specifications q x e =
@@ -51,7 +60,7 @@ entry_behind size at tag children specifications q x e =
     let found : Entry = record { offset = at; tag = tag; children = children; attributes = attributes.0.0 } in
     let same = ok_is (Some found, attributes.0.1) x attributes.2 in
     let last : attributes.0.1 ≡ x.1 = ap (λ (y : Option Entry × Place). y.1) same in (
-      whole-same q attributes.0.1 x.1 last (attributes-whole size specifications q attributes.0 attributes.1),
+      goes q attributes.0.1 x.1 (attributes-on size specifications q attributes.0 attributes.1) (stays attributes.0.1 x.1 last),
       λ entry is. ap (λ (entry : Entry). entry.offset) (same_Some entry found (sym is ∙ sym (ap (λ (y : Option Entry × Place). y.0) same))),
     )
 
@@ -62,15 +71,20 @@ entry-moves size declarations p x e =
     let rest : ℕ × Place → Result (Option Entry × Place) Fault = λ code. cond {A = Result (Option Entry × Place) Fault} (code.0 == 0) (Ok (None, code.1)) (ok_or (declared declarations code.0) undeclared >>= behind code.0 code.1) in
     let code = bind_ok (uleb_at p) rest x e in
     let s = uleb-spans p code.0.1 code.0.0 code.1 in
-    let b = s.1 in
     let after : Behind p.at code.0.1 x = elim (either (code.0.0 == 0) (Ok (None, code.0.1)) (ok_or (declared declarations code.0.0) undeclared >>= behind code.0.0 code.0.1) (Ok x) code.2) [
       | inl null ↦ (
           let same = ok_is (None, code.0.1) x null in
-          (whole-same code.0.1 code.0.1 x.1 (ap (λ (y : Option Entry × Place). y.1) same) (omega arith), λ entry is. let none : None ≡ Some entry = ap (λ (y : Option Entry × Place). y.0) same ∙ is in absurd cc))
+          (stays code.0.1 x.1 (ap (λ (y : Option Entry × Place). y.1) same), λ entry is. let none : None ≡ Some entry = ap (λ (y : Option Entry × Place). y.0) same ∙ is in absurd cc))
       | inr more ↦ (
           let declaration = bind_ok (ok_or (declared declarations code.0.0) undeclared) (behind code.0.0 code.0.1) x more in
           entry_behind size p.at declaration.0.tag declaration.0.children declaration.0.specifications code.0.1 x declaration.2)
     ] in
-    let whole = after.0 in
+    let on : On p x.1 = goes p code.0.1 x.1 (length s.0, sym (past-between p code.0.1 s.0 (length s.0) refl s.1)) after.0 in
     let less = entry-onward size declarations p x e in
-    (omega (arith, whole, less, b.1, between-length p code.0.1 s.0 s.1), after.1)
+    let at : x.1.at ≡ p.at + on.0 = ap (λ (q : Place). q.at) on.1 in
+    let left : length x.1.left ≡ length (drop on.0 p.left) = ap (λ (q : Place). length q.left) on.1 in
+    record {
+      further = omega (arith, less, at, left, length-drop on.0 p.left);
+      on = on;
+      offset = after.1;
+    }

@@ -1,10 +1,11 @@
 -- The nearest function in which a node lies, by depths alone.
-use Rattle.std.proofs.Common.{◌≡◌, ℕ, min, Bool, true, false, cond, List, [], ◌∷◌, Some, refl, ap, ◌∙◌, arith}
+use Rattle.std.proofs.Common.{◌≡◌, ℕ, ◌<◌, ◌≤◌, min, Bool, true, false, cond, List, [], ◌∷◌, Some, refl, ap, ◌∙◌, arith}
 use Rattle.std.specs.Prelude.{◌&&◌, nat_lt}
 use Rattle.std.specs.List.{list_all}
 use Rattle.std.proofs.lemmas.Bool.Decides.{nat_tests}
+use Rattle.std.proofs.lemmas.Option.{same_Some}
 use Rattle.dw_model.specs.Tree.{Node, is_function, enclosing}
-use Rattle.dw_frames.specs.Placed.{near}
+use Rattle.dw_frames.specs.Placed.{near, Falls}
 
 lt-min : (k d e : ℕ) → (nat_lt k e && nat_lt k d) ≡ nat_lt k (min d e)
 lt-min k d e = grind (arith, nat_tests)
@@ -21,3 +22,18 @@ enclosing-near between (node ∷ before) d h =
 
 pub enclosing-one : (node : Node) (before : List Node) → enclosing (node ∷ []) before ≡ near node.depth before
 enclosing-one node before = enclosing-near (node ∷ []) before node.depth (λ k. and-true (nat_lt k node.depth))
+
+-- ---- offsets of nodes fall, the nearest first
+
+pub falls-on : (bound next : ℕ) (before : List Node) → bound ≤ next → Falls bound before → Falls next before
+falls-on bound next [] h f = tt
+falls-on bound next (node ∷ before) h f = (let less = f.0 in omega (arith, less, h), f.1)
+
+pub near-below : (d bound : ℕ) (before : List Node) (e : Node) → Falls bound before → near d before ≡ Some e → e.entry.offset < bound
+unfolding near
+near-below d bound [] e f h = absurd cc
+near-below d bound (node ∷ before) e f h = by_test (near-below (min d node.depth) node.entry.offset before e f.1) (is_function node.entry && nat_lt node.depth d) h
+  where
+    by_test : (near (min d node.depth) before ≡ Some e → e.entry.offset < node.entry.offset) → (b : Bool) → cond b (Some node) (near (min d node.depth) before) ≡ Some e → e.entry.offset < bound
+    by_test rest true h = let same : node.entry.offset ≡ e.entry.offset = ap (λ (n : Node). n.entry.offset) (same_Some node e h) in let less = f.0 in omega (arith, same, less)
+    by_test rest false h = let less = rest h in let first = f.0 in omega (arith, less, first)

@@ -1,10 +1,11 @@
--- The functions of a tree in order, each with the nearest function in which it lies.
+-- The functions of a tree in order, each with the nearest function around it.
 use Rattle.std.proofs.Common.{◌≡◌, Bool, true, false, cond, List, [], ◌∷◌, ◌++◌, map, reverse, Option, Some, None, refl, sym, ap, ◌∙◌}
 use Rattle.std.specs.Prelude.{option_map, find}
 use Rattle.std.specs.Option.{option_or}
 use Rattle.std.proofs.lemmas.List.{append-nil, append_assoc, map-append, reverse-append, reverse-reverse}
 use Rattle.std.proofs.lemmas.List.Folds.{find-append}
-use Rattle.dw_model.specs.Tree.{Node, is_function, enclosing, find_node}
+use Rattle.dw_model.specs.Entry.{Entry}
+use Rattle.dw_model.specs.Tree.{Node, enclosing, find_node}
 use Rattle.dw_frames.specs.Placed.{Placed, placed}
 
 pub reverse-cons : {X : Type 0} (x : X) (xs : List X) → reverse (x ∷ xs) ≡ reverse xs ++ x ∷ []
@@ -39,27 +40,27 @@ map-cond : {X Y : Type 0} (f : X → Y) (b : Bool) (x : X) → option_map f (con
 map-cond f true x = refl
 map-cond f false x = refl
 
--- a test of nodes that only functions pass finds one of these
-module _ (test : List Node → Node → Bool) (placed_test : Placed → Bool)
-    (functions : (node : Node) (before : List Node) → is_function node.entry ≡ false → test before node ≡ false)
+-- a test that only nodes pass which are kept finds one of these
+module _ (kept : Entry → Bool) (test : List Node → Node → Bool) (placed_test : Placed → Bool)
+    (others : (node : Node) (before : List Node) → kept node.entry ≡ false → test before node ≡ false)
     (same : (node : Node) (before : List Node) → placed_test (node, enclosing (node ∷ []) before) ≡ test before node) where
-  step : (node : Node) (before : List Node) (b : Bool) → is_function node.entry ≡ b
-      → option_or (option_map (λ (p : Placed). p.0) (find placed_test (placed before))) (cond (test before node) (Some node) None)
-      ≡ option_map (λ (p : Placed). p.0) (find placed_test (cond b (placed before ++ (node, enclosing (node ∷ []) before) ∷ []) (placed before)))
+  step : (node : Node) (before : List Node) (b : Bool) → kept node.entry ≡ b
+      → option_or (option_map (λ (p : Placed). p.0) (find placed_test (placed kept before))) (cond (test before node) (Some node) None)
+      ≡ option_map (λ (p : Placed). p.0) (find placed_test (cond b (placed kept before ++ (node, enclosing (node ∷ []) before) ∷ []) (placed kept before)))
   step node before true e =
-      sym (ap (option_map (λ (p : Placed). p.0)) (find-append placed_test (placed before) ((node, enclosing (node ∷ []) before) ∷ []))
-      ∙ map-or (λ (p : Placed). p.0) (find placed_test (placed before)) (find placed_test ((node, enclosing (node ∷ []) before) ∷ []))
-      ∙ ap (option_or (option_map (λ (p : Placed). p.0) (find placed_test (placed before)))) (map-cond (λ (p : Placed). p.0) (placed_test (node, enclosing (node ∷ []) before)) (node, enclosing (node ∷ []) before) ∙ ap (λ t. cond t (Some node) None) (same node before)))
+      sym (ap (option_map (λ (p : Placed). p.0)) (find-append placed_test (placed kept before) ((node, enclosing (node ∷ []) before) ∷ []))
+      ∙ map-or (λ (p : Placed). p.0) (find placed_test (placed kept before)) (find placed_test ((node, enclosing (node ∷ []) before) ∷ []))
+      ∙ ap (option_or (option_map (λ (p : Placed). p.0) (find placed_test (placed kept before)))) (map-cond (λ (p : Placed). p.0) (placed_test (node, enclosing (node ∷ []) before)) (node, enclosing (node ∷ []) before) ∙ ap (λ t. cond t (Some node) None) (same node before)))
   step node before false e =
-      rw (functions node before e) (or-none (option_map (λ (p : Placed). p.0) (find placed_test (placed before))))
+      rw (others node before e) (or-none (option_map (λ (p : Placed). p.0) (find placed_test (placed kept before))))
 
-  pub find_node-placed : (before : List Node) → find_node test [] (reverse before) ≡ option_map (λ (p : Placed). p.0) (find placed_test (placed before))
+  pub find_node-placed : (before : List Node) → find_node test [] (reverse before) ≡ option_map (λ (p : Placed). p.0) (find placed_test (placed kept before))
   unfolding find_node placed
   find_node-placed [] = refl
   find_node-placed (node ∷ before) =
       let all : reverse (reverse before) ++ [] ≡ before = append-nil (reverse (reverse before)) ∙ reverse-reverse before in
       ap (find_node test []) (reverse-cons node before) ∙ find_node-push test [] (reverse before) node
-      ∙ rw (all, find_node-placed before) (step node before (is_function node.entry) refl)
+      ∙ rw (all, find_node-placed before) (step node before (kept node.entry) refl)
 
 -- the same of a test that looks at the node alone
 pub find-alone : (test : Node → Bool) (before nodes : List Node) → find_node (λ _ node. test node) before nodes ≡ find test nodes

@@ -1,7 +1,6 @@
 -- The tree of a unit: its first entry, and those below it.
 use Rattle.std.proofs.Common.{◌≡◌, ℕ, Bool, true, false, cond, List, [], ◌∷◌, ◌++◌, length, reverse, Option, Some, None, Result, Ok, Err, refl, sym, ap, ◌∙◌}
 use Rattle.std.specs.Prelude.{MatchOption, option_map}
-use Rattle.dw_model.specs.declared.dwarf.TheConstants.{OFFSET_SIZE_32}
 use Rattle.dw_model.specs.Faults.{Fault, TreeFault, entry_fault}
 use Rattle.dw_model.specs.Results.{◌>>=◌}
 use Rattle.dw_model.specs.Reading.{Place}
@@ -33,60 +32,62 @@ found-some (Passed children) kept found is other = (is.0, is.1)
 follows-none : (s : Sections) (unit : DwarfUnit) (bound : ℕ) → Follows s unit [] no_drafts bound
 unfolding placed first least_owner
 follows-none s unit bound = record {
-  descriptions = refl;
+  functions = refl;
+  falls = tt;
   rises = λ i j x y h e f. absurd cc;
   below = λ k p e. absurd cc;
+  around = λ k p e g is. absurd cc;
   outermost = λ a. refl;
   inlined = λ k a p e. absurd cc;
   unowned = λ k past. refl;
   lists = λ i number e. absurd cc;
 }
 
-module _ (s : Sections) (unit : DwarfUnit) (walk : Walk) (size : unit.offset_size ≡ OFFSET_SIZE_32) (declared : abbreviations s.abbrevs unit.debug_abbrev_offset ≡ Ok walk.declarations) (begins : walk.place ≡ place_in s unit unit.first_entry) where
+module _ (s : Sections) (unit : DwarfUnit) (walk : Walk) (size : walk.offset_size ≡ unit.offset_size) (declared : abbreviations s.abbrevs unit.debug_abbrev_offset ≡ Ok walk.declarations) (begins : walk.place ≡ place_in s unit unit.first_entry) where
   abbrev from_first : Result (List Node) TreeFault
-  from_first = nodes_from (entry_ranges_in s unit) OFFSET_SIZE_32 walk.declarations walk.place
+  from_first = nodes_from (entry_ranges_in s unit) walk.offset_size walk.declarations walk.place
 
   tree-is : tree s unit ≡ from_first
   unfolding tree
-  tree-is = rw (declared, size, ← begins) refl
+  tree-is = rw (declared, ← size, ← begins) refl
 
-  unread : (fault : Fault) → entry_at OFFSET_SIZE_32 walk.declarations walk.place ≡ Err fault → from_first ≡ Err entry_fault
+  unread : (fault : Fault) → entry_at walk.offset_size walk.declarations walk.place ≡ Err fault → from_first ≡ Err entry_fault
   unfolding nodes_from
   unread fault e = rw e refl
 
-  null : (q : Place) → entry_at OFFSET_SIZE_32 walk.declarations walk.place ≡ Ok (None, q) → from_first ≡ Err entry_fault
+  null : (q : Place) → entry_at walk.offset_size walk.declarations walk.place ≡ Ok (None, q) → from_first ≡ Err entry_fault
   unfolding nodes_from
   null q e = rw e refl
 
-  unused : (found : Option Entry) (q : Place) (told : TreeFault) → entry_at OFFSET_SIZE_32 walk.declarations walk.place ≡ Ok (found, q) → can_be_used s unit 0 found ≡ Err told → from_first ≡ Err told
+  unused : (found : Option Entry) (q : Place) (told : TreeFault) → entry_at walk.offset_size walk.declarations walk.place ≡ Ok (found, q) → can_be_used s unit 0 found ≡ Err told → from_first ≡ Err told
   unfolding nodes_from
   unused None q told e h = absurd cc
   unused (Some entry) q told e h = rw (e, h) refl
 
-  none-below : (p : Place) → nodes_on s unit (record { declarations = walk.declarations; place = p }) 0 ≡ Ok []
+  none-below : (p : Place) → nodes_on s unit (record { declarations = walk.declarations; offset_size = walk.offset_size; place = p }) 0 ≡ Ok []
   none-below p =
-      let ended = next-ended s unit walk.declarations p 0 refl in
-      rw (items-turn (next s unit walk.declarations) (λ s. s.place.left) (nodes_advance (entry_ranges_in s unit) OFFSET_SIZE_32 walk.declarations) (state p 0), ended) refl
+      let ended = next-ended s unit walk.offset_size walk.declarations p 0 refl in
+      rw (items-turn (next s unit walk.offset_size walk.declarations) (λ s. s.place.left) (nodes_advance (entry_ranges_in s unit) walk.offset_size walk.declarations) (state p 0), ended) refl
 
-  children-below : (children : Bool) (q : Place) → cond children (nodes_below (entry_ranges_in s unit) OFFSET_SIZE_32 walk.declarations q) (Ok []) ≡ nodes_on s unit (record { declarations = walk.declarations; place = q }) (cond children 1 0)
+  children-below : (children : Bool) (q : Place) → cond children (nodes_below (entry_ranges_in s unit) walk.offset_size walk.declarations q) (Ok []) ≡ nodes_on s unit (record { declarations = walk.declarations; offset_size = walk.offset_size; place = q }) (cond children 1 0)
   children-below true q = refl
   children-below false q = sym (none-below q)
 
-  below : (entry : Entry) (q : Place) → entry_at OFFSET_SIZE_32 walk.declarations walk.place ≡ Ok (Some entry, q) → can_be_used s unit 0 (Some entry) ≡ Ok tt
-      → from_first ≡ (nodes_on s unit (record { declarations = walk.declarations; place = q }) (depth_behind 0 (Some entry)) >>= λ others. Ok (record { depth = 0; entry = entry } ∷ others))
+  below : (entry : Entry) (q : Place) → entry_at walk.offset_size walk.declarations walk.place ≡ Ok (Some entry, q) → can_be_used s unit 0 (Some entry) ≡ Ok tt
+      → from_first ≡ (nodes_on s unit (record { declarations = walk.declarations; offset_size = walk.offset_size; place = q }) (depth_behind 0 (Some entry)) >>= λ others. Ok (record { depth = 0; entry = entry } ∷ others))
   unfolding nodes_from
   below entry q e h = rw (e, h) (ap (λ (nodes : Result (List Node) TreeFault). nodes >>= λ others. Ok (record { depth = 0; entry = entry } ∷ others)) (children-below entry.children q))
 
   -- ---- as the code reads it
 
-  pub root-unread : (told : Option Fault) → MatchOption told (Unit {0}) (λ told. entry_at OFFSET_SIZE_32 walk.declarations walk.place ≡ Err told) → MatchOption (option_map (λ _. entry_fault) told) (Unit {0}) (λ told. tree s unit ≡ Err told)
+  pub root-unread : (told : Option Fault) → MatchOption told (Unit {0}) (λ told. entry_at walk.offset_size walk.declarations walk.place ≡ Err told) → MatchOption (option_map (λ _. entry_fault) told) (Unit {0}) (λ told. tree s unit ≡ Err told)
   root-unread None e = tt
   root-unread (Some fault) e = tree-is ∙ unread fault e
 
-  pub root-null : (found : Option Entry) (q : Place) → entry_at OFFSET_SIZE_32 walk.declarations walk.place ≡ Ok (found, q) → found ≡ None → tree s unit ≡ Err entry_fault
+  pub root-null : (found : Option Entry) (q : Place) → entry_at walk.offset_size walk.declarations walk.place ≡ Ok (found, q) → found ≡ None → tree s unit ≡ Err entry_fault
   root-null found q e none = tree-is ∙ null q (e ∙ ap (λ (found : Option Entry). Ok (found, q)) none)
 
-  pub root-unused : (drafts : Drafts) (found : Option Entry) (q : Place) (told : Option TreeFault) → drafts ≡ no_drafts → entry_at OFFSET_SIZE_32 walk.declarations walk.place ≡ Ok (found, q)
+  pub root-unused : (drafts : Drafts) (found : Option Entry) (q : Place) (told : Option TreeFault) → drafts ≡ no_drafts → entry_at walk.offset_size walk.declarations walk.place ≡ Ok (found, q)
       → MatchOption told (Unit {0}) (λ told. can_be_used s unit (length drafts.lists) found ≡ Err told) → MatchOption told (Unit {0}) (λ told. tree s unit ≡ Err told)
   root-unused drafts found q None is e h = tt
   root-unused drafts found q (Some told) is e h =
@@ -98,18 +99,19 @@ module _ (s : Sections) (unit : DwarfUnit) (walk : Walk) (size : unit.offset_siz
     pub nodes : tree s unit ≡ (nodes_on s unit new (length new_drafts.lists) >>= λ others. Ok (record { depth = 0; entry = entry } ∷ others))
     pub follows : Follows s unit (record { depth = 0; entry = entry } ∷ []) new_drafts new.place.at
 
-  pub began : (drafts new_drafts : Drafts) (found : Option Entry) (entry : Entry) (new : Walk) → drafts ≡ no_drafts → new.declarations ≡ walk.declarations → entry_at OFFSET_SIZE_32 walk.declarations walk.place ≡ Ok (found, new.place) → found ≡ Some entry
+  pub began : (drafts new_drafts : Drafts) (found : Option Entry) (entry : Entry) (new : Walk) → drafts ≡ no_drafts → new.declarations ≡ walk.declarations → new.offset_size ≡ walk.offset_size → entry_at walk.offset_size walk.declarations walk.place ≡ Ok (found, new.place) → found ≡ Some entry
       → can_be_used s unit (length drafts.lists) found ≡ Ok tt → new_drafts ≡ behind s unit found drafts → Began drafts new_drafts new
-  began drafts new_drafts found entry new is kept e some used same =
-      let read : entry_at OFFSET_SIZE_32 walk.declarations walk.place ≡ Ok (Some entry, new.place) = e ∙ ap (λ (found : Option Entry). Ok (found, new.place)) some in
+  began drafts new_drafts found entry new is kept sized e some used same =
+      let read : entry_at walk.offset_size walk.declarations walk.place ≡ Ok (Some entry, new.place) = e ∙ ap (λ (found : Option Entry). Ok (found, new.place)) some in
       let fits : can_be_used s unit 0 (Some entry) ≡ Ok tt = ap (can_be_used s unit 0) (sym some) ∙ ap (λ (drafts : Drafts). can_be_used s unit (length drafts.lists) found) (sym is) ∙ used in
       let behind_is : new_drafts ≡ behind s unit (Some entry) no_drafts = same ∙ ap (λ (found : Option Entry). behind s unit found drafts) some ∙ ap (behind s unit (Some entry)) is in
       let depth : length new_drafts.lists ≡ depth_behind 0 (Some entry) = ap (λ (drafts : Drafts). length drafts.lists) behind_is ∙ behind-depth s unit (Some entry) no_drafts in
-      let at : new ≡ record { declarations = walk.declarations; place = new.place } = ap (λ (ds : List Declaration). record { declarations = ds; place = new.place }) kept in
+      let at : new ≡ record { declarations = walk.declarations; offset_size = walk.offset_size; place = new.place } =
+      ap (λ (ds : List Declaration). record { declarations = ds; offset_size = new.offset_size; place = new.place }) kept ∙ ap (λ (n : ℕ). record { declarations = walk.declarations; offset_size = n; place = new.place }) sized in
       record {
         entry = entry;
-        nodes = tree-is ∙ below entry new.place read fits ∙ sym (ap (λ (new : Walk). nodes_on s unit new (length new_drafts.lists) >>= λ others. Ok (record { depth = 0; entry = entry } ∷ others)) at ∙ ap (λ (depth : ℕ). nodes_on s unit (record { declarations = walk.declarations; place = new.place }) depth >>= λ others. Ok (record { depth = 0; entry = entry } ∷ others)) depth);
-        follows = rw behind_is (follows-entry s unit [] no_drafts walk.declarations walk.place (Some entry, new.place) read (follows-none s unit walk.place.at));
+        nodes = tree-is ∙ below entry new.place read fits ∙ sym (ap (λ (new : Walk). nodes_on s unit new (length new_drafts.lists) >>= λ others. Ok (record { depth = 0; entry = entry } ∷ others)) at ∙ ap (λ (depth : ℕ). nodes_on s unit (record { declarations = walk.declarations; offset_size = walk.offset_size; place = new.place }) depth >>= λ others. Ok (record { depth = 0; entry = entry } ∷ others)) depth);
+        follows = rw behind_is (follows-entry s unit [] no_drafts walk.offset_size walk.declarations walk.place (Some entry, new.place) read (follows-none s unit walk.place.at));
       }
 
   pub below-faults : (drafts new_drafts : Drafts) (new : Walk) (told : Option TreeFault) → Began drafts new_drafts new → MatchOption told (Unit {0}) (λ told. nodes_on s unit new (length new_drafts.lists) ≡ Err told) → MatchOption told (Unit {0}) (λ told. tree s unit ≡ Err told)

@@ -3,7 +3,6 @@ use Rattle.std.proofs.Common.{◌≡◌, ℕ, ◌+◌, ◌-◌, ◌<◌, ◌≤�
 use Rattle.std.specs.Prelude.{MatchOption, option_map, filter_map, ◌||◌, ◌==◌}
 use Rattle.std.proofs.lemmas.List.{append-nil, append_assoc}
 use Rattle.std.proofs.lemmas.List.Elements.{filter_map-append}
-use Rattle.dw_model.specs.declared.dwarf.TheConstants.{OFFSET_SIZE_32}
 use Rattle.dw_model.specs.Faults.{Fault, TreeFault, entry_fault}
 use Rattle.dw_model.specs.Reading.{Place, items}
 use Rattle.dw_model.specs.Abbrev.{Declaration}
@@ -14,7 +13,7 @@ use Rattle.dw_model.specs.Tree.{Node, Reading, is_function, next_node, depth_beh
 use Rattle.dw_model.proofs.ItemsLemmas.{with_front, with_front-nil, loop_more, loop_done, loop_fault}
 use Rattle.dw_model.proofs.AdvanceLemmas.{nodes_advance}
 use Rattle.dw_units.specs.Entries.{Walk}
-use Rattle.dw_frames.specs.Drafts.{Drafts, behind, behind_function, with_list, innermost, without_last}
+use Rattle.dw_frames.specs.Drafts.{Drafts, behind, behind_function, is_idle, with_list, innermost, without_last}
 use Rattle.dw_frames.specs.Placed.{Follows}
 use Rattle.dw_frames.specs.Reader.{can_be_used, nodes_on}
 use Rattle.dw_frames.proofs.PlacedLemmas.{reverse-cons}
@@ -42,12 +41,16 @@ module _ (s : Sections) (unit : DwarfUnit) where
   children-depth true lists number = length-append lists (number ∷ [])
   children-depth false lists number = refl
 
+  function-depth : (entry : Entry) (drafts : Drafts) (idle : Bool) → is_idle s unit entry ≡ idle → length (behind_function s unit entry drafts).lists ≡ cond entry.children (length drafts.lists + 1) (length drafts.lists)
+  function-depth entry drafts true e = rw e (children-depth entry.children drafts.lists None)
+  function-depth entry drafts false e = rw e (children-depth entry.children drafts.lists (Some (length drafts.functions)))
+
   pub behind-depth : (found : Option Entry) (drafts : Drafts) → length (behind s unit found drafts).lists ≡ depth_behind (length drafts.lists) found
   behind-depth None drafts = without-last-length drafts.lists
   behind-depth (Some entry) drafts = by_kind (is_function entry)
     where
       by_kind : (b : Bool) → length (cond b (behind_function s unit entry drafts) (with_list entry.children (innermost drafts) drafts)).lists ≡ cond entry.children (length drafts.lists + 1) (length drafts.lists)
-      by_kind true = children-depth entry.children drafts.lists (Some (length drafts.functions))
+      by_kind true = function-depth entry drafts (is_idle s unit entry) refl
       by_kind false = children-depth entry.children drafts.lists (innermost drafts)
 
   -- ---- what is kept behind an entry
@@ -57,15 +60,15 @@ module _ (s : Sections) (unit : DwarfUnit) where
   after_entry depth None after = after
   after_entry depth (Some entry) after = record { depth = depth; entry = entry } ∷ after
 
-  pub follows-entry : (after : List Node) (drafts : Drafts) (declarations : List Declaration) (p : Place) (x : Option Entry × Place) → entry_at OFFSET_SIZE_32 declarations p ≡ Ok x → Follows s unit after drafts p.at → Follows s unit (after_entry (length drafts.lists) x.0 after) (behind s unit x.0 drafts) x.1.at
-  follows-entry after drafts declarations p x e f =
-      let moves = entry-moves OFFSET_SIZE_32 declarations p x e in
-      let on = moves.0 in
-      by_found x.0 (λ entry is. moves.1 entry is) (omega (arith, on)) on
+  pub follows-entry : (after : List Node) (drafts : Drafts) (size : ℕ) (declarations : List Declaration) (p : Place) (x : Option Entry × Place) → entry_at size declarations p ≡ Ok x → Follows s unit after drafts p.at → Follows s unit (after_entry (length drafts.lists) x.0 after) (behind s unit x.0 drafts) x.1.at
+  follows-entry after drafts size declarations p x e f =
+      let moves = entry-moves size declarations p x e in
+      let on = moves.further in
+      by_found x.0 moves.offset (omega (arith, on)) on
     where
       by_kind : (entry : Entry) (b : Bool) → is_function entry ≡ b → entry.offset ≡ p.at → p.at < x.1.at → Follows s unit (record { depth = length drafts.lists; entry = entry } ∷ after) (cond b (behind_function s unit entry drafts) (with_list entry.children (innermost drafts) drafts)) x.1.at
-      by_kind entry true is at on = follows-function s unit after drafts p.at x.1.at entry is f (omega (arith, at)) (omega (arith, at, on))
-      by_kind entry false is at on = follows-other s unit after drafts p.at x.1.at entry is (omega (arith, on)) f
+      by_kind entry true is at on = follows-function s unit after drafts p.at x.1.at entry is (omega (arith, at)) (omega (arith, at, on)) f
+      by_kind entry false is at on = follows-other s unit after drafts p.at x.1.at entry is (omega (arith, at)) (omega (arith, at, on)) f
 
       by_found : (found : Option Entry) → ((entry : Entry) → found ≡ Some entry → entry.offset ≡ p.at) → p.at ≤ x.1.at → p.at < x.1.at → Follows s unit (after_entry (length drafts.lists) found after) (behind s unit found drafts) x.1.at
       by_found None at low on = follows-null s unit after drafts p.at x.1.at low f
@@ -73,19 +76,19 @@ module _ (s : Sections) (unit : DwarfUnit) where
 
   -- ---- the loop
 
-  module _ (declarations : List Declaration) where
+  module _ (size : ℕ) (declarations : List Declaration) where
     abbrev pub next : Reading → Result (Option (Option Node) × Reading) TreeFault
-    next = next_node (entry_ranges_in s unit) OFFSET_SIZE_32 declarations
+    next = next_node (entry_ranges_in s unit) size declarations
 
-    next-entry : (p : Place) (depth : ℕ) (found : Option Entry) (q : Place) → (depth == 0 || length p.left == 0) ≡ false → entry_at OFFSET_SIZE_32 declarations p ≡ Ok (found, q) → can_be_used s unit depth found ≡ Ok tt → next (state p depth) ≡ Ok (Some (node_at depth found), state q (depth_behind depth found))
+    next-entry : (p : Place) (depth : ℕ) (found : Option Entry) (q : Place) → (depth == 0 || length p.left == 0) ≡ false → entry_at size declarations p ≡ Ok (found, q) → can_be_used s unit depth found ≡ Ok tt → next (state p depth) ≡ Ok (Some (node_at depth found), state q (depth_behind depth found))
     unfolding next_node
     next-entry p depth found q more e used = rw (more, e, used) refl
 
-    next-unread : (p : Place) (depth : ℕ) (fault : Fault) → (depth == 0 || length p.left == 0) ≡ false → entry_at OFFSET_SIZE_32 declarations p ≡ Err fault → next (state p depth) ≡ Err entry_fault
+    next-unread : (p : Place) (depth : ℕ) (fault : Fault) → (depth == 0 || length p.left == 0) ≡ false → entry_at size declarations p ≡ Err fault → next (state p depth) ≡ Err entry_fault
     unfolding next_node
     next-unread p depth fault more e = rw (more, e) refl
 
-    next-unused : (p : Place) (depth : ℕ) (found : Option Entry) (q : Place) (told : TreeFault) → (depth == 0 || length p.left == 0) ≡ false → entry_at OFFSET_SIZE_32 declarations p ≡ Ok (found, q) → can_be_used s unit depth found ≡ Err told → next (state p depth) ≡ Err told
+    next-unused : (p : Place) (depth : ℕ) (found : Option Entry) (q : Place) (told : TreeFault) → (depth == 0 || length p.left == 0) ≡ false → entry_at size declarations p ≡ Ok (found, q) → can_be_used s unit depth found ≡ Err told → next (state p depth) ≡ Err told
     unfolding next_node
     next-unused p depth found q told more e used = rw (more, e, used) refl
 
@@ -99,18 +102,25 @@ module _ (s : Sections) (unit : DwarfUnit) where
   -- what was read so far is kept
   pub record SoFar (before : List Node) (start : Walk) (depth : ℕ) (drafts : Drafts) (walk : Walk) : Type 0 where
     pub same : walk.declarations ≡ start.declarations
+    pub size : walk.offset_size ≡ start.offset_size
     pub front : List (Option Node)
     pub after : List Node
-    pub so_far : with_front (next start.declarations) front (all_from start.declarations walk.place (length drafts.lists)) ≡ all_from start.declarations start.place depth
+    pub so_far : with_front (next start.offset_size start.declarations) front (all_from start.offset_size start.declarations walk.place (length drafts.lists)) ≡ all_from start.offset_size start.declarations start.place depth
     pub order : reverse after ≡ reverse before ++ filter_map (λ node. node) front
     pub follows : Follows s unit after drafts walk.place.at
+
+  -- the entry that is read next is the same
+  same-entry : (start walk : Walk) → walk.declarations ≡ start.declarations → walk.offset_size ≡ start.offset_size → entry_at start.offset_size start.declarations walk.place ≡ entry_at walk.offset_size walk.declarations walk.place
+  same-entry start walk same size =
+      ap (λ (ds : List Declaration). entry_at start.offset_size ds walk.place) (sym same) ∙ ap (λ (n : ℕ). entry_at n walk.declarations walk.place) (sym size)
 
   pub starts : (before : List Node) (start : Walk) (drafts : Drafts) → Follows s unit before drafts start.place.at → SoFar before start (length drafts.lists) drafts start
   starts before start drafts f = record {
     same = refl;
+    size = refl;
     front = [];
     after = before;
-    so_far = with_front-nil (next start.declarations) (all_from start.declarations start.place (length drafts.lists));
+    so_far = with_front-nil (next start.offset_size start.declarations) (all_from start.offset_size start.declarations start.place (length drafts.lists));
     order = sym (append-nil (reverse before));
     follows = f;
   }
@@ -124,39 +134,40 @@ module _ (s : Sections) (unit : DwarfUnit) where
       ∙ ap (λ (nodes : List Node). reverse before ++ nodes) (sym (filter_map-append (λ node. node) front (Some node ∷ [])))
 
   pub goes-on : (before : List Node) (start : Walk) (depth : ℕ) (drafts new_drafts : Drafts) (walk new : Walk) (found : Option Entry) → (length drafts.lists == 0 || length walk.place.left == 0) ≡ false
-      → new.declarations ≡ walk.declarations → entry_at OFFSET_SIZE_32 walk.declarations walk.place ≡ Ok (found, new.place) → can_be_used s unit (length drafts.lists) found ≡ Ok tt → new_drafts ≡ behind s unit found drafts → SoFar before start depth drafts walk → SoFar before start depth new_drafts new
-  goes-on before start depth drafts new_drafts walk new found more kept e used is h =
-      let read : entry_at OFFSET_SIZE_32 start.declarations walk.place ≡ Ok (found, new.place) = ap (λ (ds : List Declaration). entry_at OFFSET_SIZE_32 ds walk.place) (sym h.same) ∙ e in
-      let step = next-entry start.declarations walk.place (length drafts.lists) found new.place more read used in
-      let on = loop_more (next start.declarations) (λ s. s.place.left) (nodes_advance (entry_ranges_in s unit) OFFSET_SIZE_32 start.declarations) h.front (node_at (length drafts.lists) found) (state walk.place (length drafts.lists)) (state new.place (depth_behind (length drafts.lists) found)) (all_from start.declarations start.place depth) step h.so_far in
+      → new.declarations ≡ walk.declarations → new.offset_size ≡ walk.offset_size → entry_at walk.offset_size walk.declarations walk.place ≡ Ok (found, new.place) → can_be_used s unit (length drafts.lists) found ≡ Ok tt → new_drafts ≡ behind s unit found drafts → SoFar before start depth drafts walk → SoFar before start depth new_drafts new
+  goes-on before start depth drafts new_drafts walk new found more kept sized e used is h =
+      let read : entry_at start.offset_size start.declarations walk.place ≡ Ok (found, new.place) = same-entry start walk h.same h.size ∙ e in
+      let step = next-entry start.offset_size start.declarations walk.place (length drafts.lists) found new.place more read used in
+      let on = loop_more (next start.offset_size start.declarations) (λ s. s.place.left) (nodes_advance (entry_ranges_in s unit) start.offset_size start.declarations) h.front (node_at (length drafts.lists) found) (state walk.place (length drafts.lists)) (state new.place (depth_behind (length drafts.lists) found)) (all_from start.offset_size start.declarations start.place depth) step h.so_far in
       record {
         same = kept ∙ h.same;
+        size = sized ∙ h.size;
         front = h.front ++ node_at (length drafts.lists) found ∷ [];
         after = after_entry (length drafts.lists) found h.after;
         so_far = rw (is, behind-depth found drafts) on;
         order = order-on before h.after h.front (length drafts.lists) found h.order;
-        follows = rw is (follows-entry h.after drafts walk.declarations walk.place (found, new.place) e h.follows);
+        follows = rw is (follows-entry h.after drafts walk.offset_size walk.declarations walk.place (found, new.place) e h.follows);
       }
 
   pub ends : (before : List Node) (start : Walk) (depth : ℕ) (drafts : Drafts) (walk : Walk) → (length drafts.lists == 0 || length walk.place.left == 0) ≡ true → SoFar before start depth drafts walk
       → (found after : List Node) × (bound : ℕ) × (nodes_on s unit start depth ≡ Ok found) × (reverse after ≡ reverse before ++ found) × Follows s unit after drafts bound
   ends before start depth drafts walk ended h =
-      let done = loop_done (next start.declarations) (λ s. s.place.left) (nodes_advance (entry_ranges_in s unit) OFFSET_SIZE_32 start.declarations) h.front (state walk.place (length drafts.lists)) (state walk.place (length drafts.lists)) (all_from start.declarations start.place depth) (next-ended start.declarations walk.place (length drafts.lists) ended) h.so_far in
+      let done = loop_done (next start.offset_size start.declarations) (λ s. s.place.left) (nodes_advance (entry_ranges_in s unit) start.offset_size start.declarations) h.front (state walk.place (length drafts.lists)) (state walk.place (length drafts.lists)) (all_from start.offset_size start.declarations start.place depth) (next-ended start.offset_size start.declarations walk.place (length drafts.lists) ended) h.so_far in
       (filter_map (λ node. node) h.front, h.after, walk.place.at, rw done refl, h.order, h.follows)
 
-  stops : (before : List Node) (start : Walk) (depth : ℕ) (drafts : Drafts) (walk : Walk) (told : TreeFault) → next start.declarations (state walk.place (length drafts.lists)) ≡ Err told → SoFar before start depth drafts walk → nodes_on s unit start depth ≡ Err told
+  stops : (before : List Node) (start : Walk) (depth : ℕ) (drafts : Drafts) (walk : Walk) (told : TreeFault) → next start.offset_size start.declarations (state walk.place (length drafts.lists)) ≡ Err told → SoFar before start depth drafts walk → nodes_on s unit start depth ≡ Err told
   stops before start depth drafts walk told e h =
-      let fault = loop_fault (next start.declarations) (λ s. s.place.left) (nodes_advance (entry_ranges_in s unit) OFFSET_SIZE_32 start.declarations) h.front (state walk.place (length drafts.lists)) told (all_from start.declarations start.place depth) e h.so_far in
+      let fault = loop_fault (next start.offset_size start.declarations) (λ s. s.place.left) (nodes_advance (entry_ranges_in s unit) start.offset_size start.declarations) h.front (state walk.place (length drafts.lists)) told (all_from start.offset_size start.declarations start.place depth) e h.so_far in
       rw fault refl
 
   pub stops-unread : (before : List Node) (start : Walk) (depth : ℕ) (drafts : Drafts) (walk : Walk) (told : Option Fault) → (length drafts.lists == 0 || length walk.place.left == 0) ≡ false
-      → MatchOption told (Unit {0}) (λ told. entry_at OFFSET_SIZE_32 walk.declarations walk.place ≡ Err told) → SoFar before start depth drafts walk → MatchOption (option_map (λ _. entry_fault) told) (Unit {0}) (λ told. nodes_on s unit start depth ≡ Err told)
+      → MatchOption told (Unit {0}) (λ told. entry_at walk.offset_size walk.declarations walk.place ≡ Err told) → SoFar before start depth drafts walk → MatchOption (option_map (λ _. entry_fault) told) (Unit {0}) (λ told. nodes_on s unit start depth ≡ Err told)
   stops-unread before start depth drafts walk None more e h = tt
   stops-unread before start depth drafts walk (Some fault) more e h =
-      stops before start depth drafts walk entry_fault (next-unread start.declarations walk.place (length drafts.lists) fault more (ap (λ (ds : List Declaration). entry_at OFFSET_SIZE_32 ds walk.place) (sym h.same) ∙ e)) h
+      stops before start depth drafts walk entry_fault (next-unread start.offset_size start.declarations walk.place (length drafts.lists) fault more (same-entry start walk h.same h.size ∙ e)) h
 
   pub stops-unused : (before : List Node) (start : Walk) (depth : ℕ) (drafts : Drafts) (walk : Walk) (found : Option Entry) (q : Place) (told : Option TreeFault) → (length drafts.lists == 0 || length walk.place.left == 0) ≡ false
-      → entry_at OFFSET_SIZE_32 walk.declarations walk.place ≡ Ok (found, q) → MatchOption told (Unit {0}) (λ told. can_be_used s unit (length drafts.lists) found ≡ Err told) → SoFar before start depth drafts walk → MatchOption told (Unit {0}) (λ told. nodes_on s unit start depth ≡ Err told)
+      → entry_at walk.offset_size walk.declarations walk.place ≡ Ok (found, q) → MatchOption told (Unit {0}) (λ told. can_be_used s unit (length drafts.lists) found ≡ Err told) → SoFar before start depth drafts walk → MatchOption told (Unit {0}) (λ told. nodes_on s unit start depth ≡ Err told)
   stops-unused before start depth drafts walk found q None more e used h = tt
   stops-unused before start depth drafts walk found q (Some fault) more e used h =
-      stops before start depth drafts walk fault (next-unused start.declarations walk.place (length drafts.lists) found q fault more (ap (λ (ds : List Declaration). entry_at OFFSET_SIZE_32 ds walk.place) (sym h.same) ∙ e) used) h
+      stops before start depth drafts walk fault (next-unused start.offset_size start.declarations walk.place (length drafts.lists) found q fault more (same-entry start walk h.same h.size ∙ e) used) h

@@ -2,7 +2,7 @@
 use Rattle.std.specs.Prelude.{None}
 use Rattle.dw_model.specs.declared.dwarf.TheConstants.{DW_AT_call_file, DW_AT_call_line, DW_AT_call_column}
 use Rattle.dw_model.specs.Entry.{Entry, number_of}
-use Rattle.dw_frames.specs.declared.call.Call.{Call}
+use Rattle.dw_frames.specs.declared.function.Call.{Call}
 
 -- what an entry says of its call
 abbrev pub call_of : Entry → Call

@@ -1,33 +1,16 @@
 -- What is kept of the functions of a unit while its entries are read.
-use Rattle.std.specs.Prelude.{ℕ, ◌-◌, Bool, cond, List, [], ◌∷◌, ◌++◌, length, map, Option, Some, None, option_and_then, slice_get}
+use Rattle.std.specs.Prelude.{ℕ, ◌-◌, Bool, cond, not, ◌&&◌, ◌==◌, List, [], ◌∷◌, ◌++◌, length, map, Option, Some, None, option_and_then, slice_get}
 use Rattle.std.specs.Result.{result_unwrap_or}
 use Rattle.dw_model.specs.Entry.{Entry}
 use Rattle.dw_model.specs.Section.{Sections}
 use Rattle.dw_model.specs.Unit.{DwarfUnit}
 use Rattle.dw_model.specs.Ranges.{Range}
 use Rattle.dw_model.specs.Tree.{is_function, is_subprogram, entry_ranges_in}
-use Rattle.dw_model.specs.Name.{name}
-use Rattle.dw_frames.specs.declared.call.Call.{Call}
-use Rattle.dw_frames.specs.Call.{call_of}
 use Rattle.dw_frames.specs.Inlined.{InlinedRange, all_in_some}
 
--- what is told of a function
-pub record Description : Type 0 where
-  pub offset : ℕ
-  pub name : Option (List ℕ)
-  pub call : Call
-
--- what the definitions tell of an entry of a unit
-abbrev pub described : Sections → DwarfUnit → Entry → Description
-described sections unit entry = record {
-  offset = entry.offset;
-  name = name sections (record { unit = unit; entry = entry });
-  call = call_of entry;
-}
-
--- The functions in order; the ranges of all subprograms; those of all inlined functions, each in the function in which it lies; and the lists of children that are open, the outermost first, each with the number of the function in which its entries lie.
+-- The offsets of the functions that have ranges, in order; the ranges of all subprograms; those of all inlined functions, each in the function in which it lies; and the lists of children that are open, the outermost first, each with the number of the function in which its entries lie.
 pub record Drafts : Type 0 where
-  pub functions : List Description
+  pub functions : List ℕ
   pub outermost : List (Range × ℕ)
   pub inlined : List InlinedRange
   pub lists : List (Option ℕ)
@@ -51,10 +34,10 @@ with_ranges subprogram pairs drafts = record {
   lists = drafts.lists;
 }
 
--- one more function
-abbrev pub with_function : Description → Drafts → Drafts
-with_function description drafts = record {
-  functions = drafts.functions ++ description ∷ [];
+-- one more function, by its offset
+abbrev pub with_function : ℕ → Drafts → Drafts
+with_function offset drafts = record {
+  functions = drafts.functions ++ offset ∷ [];
   outermost = drafts.outermost;
   inlined = drafts.inlined;
   lists = drafts.lists;
@@ -81,11 +64,20 @@ without_list drafts = record { functions = drafts.functions; outermost = drafts.
 abbrev pub known_ranges : Sections → DwarfUnit → Entry → List Range
 known_ranges sections unit entry = result_unwrap_or (entry_ranges_in sections unit entry) []
 
--- the drafts behind a function
+-- a function has no ranges
+abbrev pub is_idle : Sections → DwarfUnit → Entry → Bool
+is_idle sections unit entry = length (known_ranges sections unit entry) == 0
+
+-- a function that has ranges
+abbrev pub is_kept : Sections → DwarfUnit → Entry → Bool
+is_kept sections unit entry = is_function entry && not (is_idle sections unit entry)
+
+-- The drafts behind a function: one without ranges isn't kept, and what lies in it lies in no function that is.
 abbrev pub behind_function : Sections → DwarfUnit → Entry → Drafts → Drafts
 behind_function sections unit entry drafts =
-    with_list entry.children (Some (length drafts.functions))
-    (with_function (described sections unit entry) (with_ranges (is_subprogram entry) (owned (known_ranges sections unit entry) (length drafts.functions)) drafts))
+    cond (is_idle sections unit entry) (with_list entry.children None drafts)
+    (with_list entry.children (Some (length drafts.functions))
+    (with_function entry.offset (with_ranges (is_subprogram entry) (owned (known_ranges sections unit entry) (length drafts.functions)) drafts)))
 
 -- the drafts behind an entry, or behind a null entry, which ends a list of children
 abbrev pub behind : Sections → DwarfUnit → Option Entry → Drafts → Drafts

@@ -2,12 +2,11 @@
 use Rattle.std.specs.Prelude.{map}
 use Rattle.dw_index.specs.Range.{pair_shown}
 use Rattle.dw_frames.specs.Drafts.{Drafts}
-use Rattle.dw_frames.specs.Description.{description_shown}
 use Rattle.dw_frames.specs.declared.drafts.Drafts.TheInside.{Inside}
 
 abbrev pub drafts_of : Inside → Drafts
 drafts_of drafts = record {
-  functions = map description_shown drafts.functions.items;
+  functions = drafts.functions.items;
   outermost = map pair_shown drafts.outermost.items;
   inlined = drafts.inlined;
   lists = drafts.lists.items;

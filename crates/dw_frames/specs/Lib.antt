@@ -1,5 +1,4 @@
 pub mod Call
-pub mod Description
 pub mod Drafts
 pub mod DraftsInside
 pub mod Fault
@@ -7,12 +6,12 @@ pub mod Inlined
 pub mod InlinedInside
 pub mod LinksInside
 pub mod Name
-pub mod Named
-pub mod NamesInside
 pub mod Placed
 pub mod Reader
 pub mod ReaderInside
 pub mod Reading
 pub mod Rising
+pub mod Told
 pub mod Tree
 pub mod TreeInside
+pub mod UnitIn

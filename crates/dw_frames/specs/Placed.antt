@@ -1,4 +1,4 @@
--- The functions of a tree in order, each with the function in which it lies.
+-- The functions of a tree that are kept, in order, each with the function in which it lies.
 use Rattle.std.specs.Prelude.{◌≡◌, ◌<◌, ◌≤◌, ℕ, suc, ◌+◌, length, min, Bool, cond, List, [], ◌∷◌, ◌++◌, map, Option, Some, None, option_map, slice_get, nat_lt, ◌&&◌}
 use Rattle.dw_model.specs.Entry.{Entry}
 use Rattle.dw_model.specs.Section.{Sections}
@@ -7,17 +7,17 @@ use Rattle.dw_model.specs.Tree.{Node, is_function, is_subprogram, is_inlined, en
 use Rattle.dw_index.specs.Owners.{least_owner}
 use Rattle.dw_frames.specs.Rising.{Rises}
 use Rattle.dw_frames.specs.Inlined.{inlined_in}
-use Rattle.dw_frames.specs.Drafts.{Description, described, Drafts}
+use Rattle.dw_frames.specs.Drafts.{Drafts, is_kept}
 
 -- a function, and the one in which it lies
 abbrev pub Placed : Type 0
 Placed = Node × Option Node
 
--- those of a list of nodes, of which the nearest comes first
-unfoldable pub placed : List Node → List Placed
-placed [] = []
-placed (node ∷ before) =
-    cond (is_function node.entry) (placed before ++ (node, enclosing (node ∷ []) before) ∷ []) (placed before)
+-- those of a list of nodes that are kept; the nearest node comes first
+unfoldable pub placed : (Entry → Bool) → List Node → List Placed
+placed kept [] = []
+placed kept (node ∷ before) =
+    cond (kept node.entry) (placed kept before ++ (node, enclosing (node ∷ []) before) ∷ []) (placed kept before)
 
 abbrev pub offset_of : Placed → ℕ
 offset_of p = p.0.entry.offset
@@ -41,21 +41,24 @@ is_outermost holds p = is_subprogram p.0.entry && holds p.0.entry
 abbrev pub lies_in : (Entry → Bool) → ℕ → Placed → Bool
 lies_in holds offset p = is_inlined p.0.entry && holds p.0.entry && is_at p.1 offset
 
--- the number is that of the function that was found
+-- The number is that of the function that was found; where there is none, no function was found that is kept.
 abbrev pub Names : List Placed → Option ℕ → Option Node → Type 0
-Names all None found = found ≡ None
+Names all None found = (node : Node) → found ≡ Some node → (k : ℕ) (p : Placed) → slice_get all k ≡ Some p → offset_of p ≡ node.entry.offset → ⊥
 Names all (Some k) found = (p : Placed) × (slice_get all k ≡ Some p) × (found ≡ Some p.0)
 
--- what is told of a function
-abbrev pub described_in : Sections → DwarfUnit → Placed → Description
-described_in s unit p = described s unit p.0.entry
+-- each node stands before the one that was read after it, and all before a bound
+abbrev pub Falls : ℕ → List Node → Type 0
+Falls bound [] = Unit {0}
+Falls bound (node ∷ before) = (node.entry.offset < bound) × Falls node.entry.offset before
 
--- The functions among the nodes so far are kept, with all that was inlined in them, and each open list names the function in which its entries lie. Offsets are below a bound.
+-- The functions among the nodes so far that have ranges are kept, with all that was inlined in them, and each open list names the function in which its entries lie. Offsets are below a bound.
 pub record Follows (s : Sections) (unit : DwarfUnit) (before : List Node) (drafts : Drafts) (bound : ℕ) : Type 0 where
-  pub descriptions : drafts.functions ≡ map (described_in s unit) (placed before)
-  pub rises : Rises (map offset_of (placed before))
-  pub below : (k : ℕ) (p : Placed) → slice_get (placed before) k ≡ Some p → offset_of p < bound
-  pub outermost : (a : ℕ) → least_owner drafts.outermost a ≡ first (is_outermost (holds_address s unit a)) (placed before)
-  pub inlined : (k a : ℕ) (p : Placed) → slice_get (placed before) k ≡ Some p → least_owner (inlined_in k drafts.inlined) a ≡ first (lies_in (holds_address s unit a) (offset_of p)) (placed before)
-  pub unowned : (k : ℕ) → length (placed before) ≤ k → inlined_in k drafts.inlined ≡ []
-  pub lists : (i : ℕ) (number : Option ℕ) → slice_get drafts.lists i ≡ Some number → Names (placed before) number (near (i + 1) before)
+  pub functions : drafts.functions ≡ map offset_of (placed (is_kept s unit) before)
+  pub falls : Falls bound before
+  pub rises : Rises (map offset_of (placed (is_kept s unit) before))
+  pub below : (k : ℕ) (p : Placed) → slice_get (placed (is_kept s unit) before) k ≡ Some p → offset_of p < bound
+  pub around : (k : ℕ) (p : Placed) (e : Node) → slice_get (placed (is_kept s unit) before) k ≡ Some p → p.1 ≡ Some e → e.entry.offset < offset_of p
+  pub outermost : (a : ℕ) → least_owner drafts.outermost a ≡ first (is_outermost (holds_address s unit a)) (placed (is_kept s unit) before)
+  pub inlined : (k a : ℕ) (p : Placed) → slice_get (placed (is_kept s unit) before) k ≡ Some p → least_owner (inlined_in k drafts.inlined) a ≡ first (lies_in (holds_address s unit a) (offset_of p)) (placed (is_kept s unit) before)
+  pub unowned : (k : ℕ) → length (placed (is_kept s unit) before) ≤ k → inlined_in k drafts.inlined ≡ []
+  pub lists : (i : ℕ) (number : Option ℕ) → slice_get drafts.lists i ≡ Some number → Names (placed (is_kept s unit) before) number (near (i + 1) before)

@@ -1,7 +1,6 @@
 -- Entries of a unit, read one after the other, of which the functions are kept.
 use Rattle.std.specs.Prelude.{◌≡◌, ℕ, List, Option, Result, Ok, Err, MatchOption, length, is_err, true, false, ◌++◌, reverse, filter_map}
 use Rattle.std.specs.Option.{option_map_or}
-use Rattle.dw_model.specs.declared.dwarf.TheConstants.{OFFSET_SIZE_32}
 use Rattle.dw_model.specs.Faults.{ranges_fault}
 use Rattle.dw_model.specs.Faults as faults
 use Rattle.dw_model.specs.Results.{◌>>=◌}
@@ -37,7 +36,7 @@ AddsFunction sections unit entry (Err fault) drafts new_drafts =
 -- the nodes from a place on, at a depth
 abbrev pub nodes_on : Sections → DwarfUnit → Walk → ℕ → Result (List Node) faults.TreeFault
 nodes_on sections unit walk depth =
-    items (λ s. s.place.left) (next_node (entry_ranges_in sections unit) OFFSET_SIZE_32 walk.declarations) (record { place = walk.place; depth = depth }) >>= λ found.
+    items (λ s. s.place.left) (next_node (entry_ranges_in sections unit) walk.offset_size walk.declarations) (record { place = walk.place; depth = depth }) >>= λ found.
     Ok (filter_map (λ node. node) found.0)
 
 -- the drafts follow the nodes before and those that were read; or there is a fault

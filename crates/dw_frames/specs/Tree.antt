@@ -1,59 +1,63 @@
 -- What a tree knows of the functions of its unit, and that it is the unit's.
-use Rattle.std.specs.Prelude.{◌≡◌, ℕ, zero, suc, List, [], ◌∷◌, length, map, reverse, find, Option, Some, None, Ok, option_map, slice_get, ◌==◌, ◌&&◌, if◌then◌else◌}
+use Rattle.std.specs.Prelude.{◌≡◌, ℕ, zero, suc, List, [], ◌∷◌, length, map, reverse, find, Option, Some, None, Ok, cond, option_map, option_and_then, slice_get, ◌==◌, ◌&&◌, if◌then◌else◌}
 use Rattle.std.specs.Option.{option_map_or}
 use Rattle.std.specs.Result.{result_unwrap_or}
+use Rattle.dw_model.specs.Entry.{Entry}
 use Rattle.dw_model.specs.Section.{Sections}
 use Rattle.dw_model.specs.Unit.{DwarfUnit}
+use Rattle.dw_model.specs.Root as root
 use Rattle.dw_model.specs.Tree.{Node, is_function, chain}
 use Rattle.dw_model.specs.Tree as model
-use Rattle.dw_index.specs.declared.segment.Segment.{Segment}
+use Rattle.dw_units.specs.View.{found_in}
 use Rattle.dw_index.specs.Owners.{least_owner}
 use Rattle.dw_index.specs.Segments.{owner_at}
-use Rattle.dw_frames.specs.declared.call.EntryId.{EntryId}
-use Rattle.dw_frames.specs.Inlined.{InlinedRange, inlined_in}
-use Rattle.dw_frames.specs.Drafts.{Description, described}
+use Rattle.dw_frames.specs.declared.function.EntryId.{EntryId}
+use Rattle.dw_frames.specs.declared.chains.Chains.{Chains}
+use Rattle.dw_frames.specs.Inlined.{inlined_in}
+use Rattle.dw_frames.specs.Told.{Told, told_of, nothing}
+use Rattle.dw_frames.specs.UnitIn.{UnitIn}
 
--- The place of a unit, the index of its subprograms, each by its number, its functions in order, and the ranges of those that were inlined in others.
-pub record Tree : Type 0 where
-  pub unit : ℕ
-  pub outermost : List Segment
-  pub functions : List Description
-  pub inlined : List InlinedRange
+-- ---- what it finds
 
--- ---- what it tells
-
-abbrev pub id_of : Tree → Description → EntryId
-id_of tree function = record { unit = tree.unit; offset = function.offset }
+abbrev pub id_of : Chains → ℕ → EntryId
+id_of chains offset = record { unit = chains.unit; offset = offset }
 
 -- the functions at an address from a number on inwards, at most so many
-unfoldable pub inwards : Tree → (a most : ℕ) → Option ℕ → List EntryId
-inwards tree a zero number = []
-inwards tree a (suc most) None = []
-inwards tree a (suc most) (Some number) =
-    option_map_or (λ function. id_of tree function ∷ inwards tree a most (least_owner (inlined_in number tree.inlined) a)) (slice_get tree.functions number) []
+unfoldable pub inwards : Chains → (a most : ℕ) → Option ℕ → List EntryId
+inwards chains a zero number = []
+inwards chains a (suc most) None = []
+inwards chains a (suc most) (Some number) =
+    option_map_or (λ offset. id_of chains offset ∷ inwards chains a most (least_owner (inlined_in number chains.inlined) a)) (slice_get chains.functions.items number) []
 
--- the functions at an address, innermost first
-abbrev pub chain_at : Tree → ℕ → List EntryId
-chain_at tree a = reverse (inwards tree a (length tree.functions) (owner_at tree.outermost a))
-
--- what is told of the function of an id, where it has one of that id
-abbrev pub description_of : Tree → EntryId → Option Description
-description_of tree id =
-    if id.unit == tree.unit then find (λ function. function.offset == id.offset) tree.functions else None
+-- the functions at an address, outermost first
+abbrev pub chain_at : Chains → ℕ → List EntryId
+chain_at chains a = inwards chains a (length chains.functions.items) (owner_at chains.outermost a)
 
 -- ---- the definitions
-
--- the function of an id, among the nodes of the unit at a place
-abbrev pub function_at : ℕ → List Node → EntryId → Option Node
-function_at place nodes id =
-    if id.unit == place then find (λ node. is_function node.entry && node.entry.offset == id.offset) nodes else None
 
 -- the entries of a unit, where all can be read
 abbrev pub nodes_of : Sections → DwarfUnit → List Node
 nodes_of sections unit = result_unwrap_or (model.tree sections unit) []
 
--- The tree is that of a unit: its entries can be read, it finds the functions at each address, and tells what the definitions tell of each function.
-pub record IsTreeOf (sections : Sections) (unit : DwarfUnit) (tree : Tree) : Type 0 where
-  pub read : model.tree sections unit ≡ Ok (nodes_of sections unit)
-  pub chains : (a : ℕ) → map (function_at tree.unit (nodes_of sections unit)) (chain_at tree a) ≡ map Some (chain sections unit (nodes_of sections unit) a)
-  pub descriptions : (id : EntryId) → description_of tree id ≡ option_map (λ node. described sections unit node.entry) (function_at tree.unit (nodes_of sections unit) id)
+-- the functions at an address, innermost first
+abbrev pub chain_in : UnitIn → ℕ → List Node
+chain_in of a = chain of.sections of.unit (nodes_of of.sections of.unit) a
+
+-- the function of an id, among the nodes of a unit
+abbrev pub function_at : UnitIn → EntryId → Option Node
+function_at of id =
+    if id.unit == of.index then find (λ node. is_function node.entry && node.entry.offset == id.offset) (nodes_of of.sections of.unit) else None
+
+-- the function that stands at the offset of an id in a unit, also where it is none of its nodes
+abbrev pub function_of : UnitIn → EntryId → Option Entry
+function_of of id =
+    if id.unit == of.index then option_and_then (λ entry. cond (is_function entry) (Some entry) None) (found_in (root.entry of.sections of.unit id.offset)) else None
+
+-- what is told of it
+abbrev pub told_at : UnitIn → EntryId → Told
+told_at of id = option_map_or (told_of of.sections of.unit) (function_of of id) nothing
+
+-- Chains are those of a unit: its entries can be read, and the functions at each address are found.
+pub record IsTreeOf (of : UnitIn) (found : Chains) : Type 0 where
+  pub read : model.tree of.sections of.unit ≡ Ok (nodes_of of.sections of.unit)
+  pub chains : (a : ℕ) → map (function_at of) (reverse (chain_at found a)) ≡ map Some (chain_in of a)

@@ -1,13 +1,11 @@
 -- What a tree is seen as.
-use Rattle.std.specs.Prelude.{map}
-use Rattle.dw_frames.specs.Tree.{Tree}
-use Rattle.dw_frames.specs.Rising.{Rises}
-use Rattle.dw_frames.specs.Description.{description_shown}
+use Rattle.dw_frames.specs.Tree.{IsTreeOf}
+use Rattle.dw_frames.specs.UnitIn.{UnitIn, unit_in}
 use Rattle.dw_frames.specs.declared.tree.Tree.TheInside.{Inside}
 
-abbrev pub tree_of : Inside → Tree
-tree_of tree = record { unit = tree.unit; outermost = tree.outermost; functions = map description_shown tree.functions.items; inlined = tree.inlined }
+abbrev pub unit_of_tree : Inside → UnitIn
+unit_of_tree tree = unit_in tree.unit
 
--- functions stand in order of offset
-abbrev pub IsOrdered : Inside → Type 0
-IsOrdered tree = Rises (map (λ function. function.offset) tree.functions.items)
+-- the chains are those of the unit
+abbrev pub IsTree : Inside → Type 0
+IsTree tree = IsTreeOf (unit_in tree.unit) tree.chains

@@ -4,11 +4,10 @@ ghost use Rattle.std.specs.Prelude.{◌≡◌, ◌++◌, ℕ, false, OnOk, IfOk,
 ghost use Rattle.dw_index.specs.Owners.{least_owner};
 ghost use Rattle.dw_index.specs.Segments.{owner_at};
 ghost use Rattle.dw_index.specs.Range.{pair_shown, range_shown};
-ghost use Rattle.dw_frames.specs.Description.{description_shown};
 ghost use Rattle.dw_frames.specs.Drafts as model;
 ghost use Rattle.dw_frames.specs.Drafts.{owned};
 
-use crate::description::Description;
+use crate::chains::Chains;
 use crate::inlined::Inlined;
 use crate::links::Links;
 use dw_ranges::{Index, Range};
@@ -31,8 +30,9 @@ fn push_ranges(
 
 /// The functions of a unit, while its entries are read.
 #[derive(Drop)]
-pub(crate) struct Drafts<'a> {
-    functions: Vec<Description<'a>>,
+pub(crate) struct Drafts {
+    /// The offsets of those that have ranges, in order. The number of a function is its index here.
+    functions: Vec<u64>,
     /// The ranges of all subprograms, each with the number of its function.
     outermost: Vec<(Range, usize)>,
     /// The ranges of all functions that are inlined in others.
@@ -42,7 +42,7 @@ pub(crate) struct Drafts<'a> {
     lists: Vec<Option<usize>>,
 }
 
-impl<'a> Model for Drafts<'a> {
+impl Model for Drafts {
     ghost use Rattle.dw_frames.specs.Drafts as model;
 
     ghost Value = { model.Drafts };
@@ -54,7 +54,7 @@ impl<'a> Model for Drafts<'a> {
     ghost invariant = { λ drafts. Unit {0} };
 }
 
-impl<'a> Drafts<'a> {
+impl Drafts {
     /// No entry was read yet.
     pub(crate) fn new(alloc: Global) -> Self
         ensures { result ≡ model.no_drafts }
@@ -111,7 +111,7 @@ impl<'a> Drafts<'a> {
         Ok(())
     }
 
-    /// Keeps the ranges of a function that is inlined in another one.
+    /// Keeps the ranges of a function that is inlined in another one that is kept.
     fn push_inlined(&mut self, ranges: &[Range], number: usize) -> Result<(), AllocError>
         ensures { OnOk result (self.new ≡ model.with_ranges false (owned (map range_shown ranges.now) number) self.old) }
     {
@@ -136,37 +136,36 @@ impl<'a> Drafts<'a> {
         push_ranges(&mut self.outermost, ranges, number)
     }
 
-    /// One more function.
-    pub(crate) fn push_function(&mut self, description: Description<'a>) -> Result<(), AllocError>
-        ensures { OnOk result (self.new ≡ model.with_function (description_shown description.entry) self.old) }
+    /// One more function, by its offset.
+    pub(crate) fn push_function(&mut self, offset: u64) -> Result<(), AllocError>
+        ensures { OnOk result (self.new ≡ model.with_function offset self.old) }
     {
-        self.functions.push(description)?;
+        self.functions.push(offset)?;
         Ok(())
     }
 }
 
-impl<'a> Drafts<'a> {
-    /// The index of all subprograms.
-    pub(crate) fn index(&self, alloc: Global) -> Result<Index, AllocError>
-        ensures { IfOk result (λ index. (a : ℕ) → owner_at index a ≡ least_owner self.now.outermost a) }
-    {
-        Index::build(alloc, &self.outermost)
-    }
-
-    /// The functions, and those that are inlined in them.
-    pub(crate) fn functions(
-        self,
-        alloc: Global,
-    ) -> Result<(Vec<Description<'a>>, Inlined), AllocError>
-        ensures functions { IfOk result (λ parts. map description_shown parts.0.items ≡ self.entry.functions) }
-        ensures inlined { IfOk result (λ parts. parts.1 ≡ self.entry.inlined) }
+impl Drafts {
+    /// The functions of the unit of an index.
+    pub(crate) fn chains(self, alloc: Global, unit: usize) -> Result<Chains, AllocError>
+        ensures unit { IfOk result (λ chains. chains.unit ≡ unit) }
+        ensures functions { IfOk result (λ chains. chains.functions.items ≡ self.functions) }
+        ensures outermost { IfOk result (λ chains. (a : ℕ) → owner_at chains.outermost a ≡ least_owner self.outermost a) }
+        ensures inlined { IfOk result (λ chains. chains.inlined ≡ self.inlined) }
     {
         let Drafts {
             functions,
+            outermost,
             inlined,
             ..
         } = self;
+        let outermost = Index::build(alloc, &outermost)?;
         let inlined = Inlined::new(alloc, inlined)?;
-        Ok((functions, inlined))
+        Ok(Chains {
+            unit,
+            outermost,
+            functions,
+            inlined,
+        })
     }
 }

@@ -2,20 +2,17 @@
 //! names and where they were called.
 #![tactic(auto)]
 
-mod call;
-mod call_of;
-mod description;
+mod chains;
 mod drafts;
 mod fault;
+mod function;
 mod inlined;
 mod links;
 mod name;
-mod named;
-mod names;
 mod reader;
 mod tree;
 mod walk;
 
-pub use call::{Call, Described, EntryId};
 pub use fault::TreeFault;
+pub use function::{Call, Described, EntryId};
 pub use tree::Tree;

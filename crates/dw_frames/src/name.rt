@@ -1,56 +1,48 @@
 //! Names of functions, across units, by sections 2.15 and 3.3.8 of DWARF 5.
 
-ghost use Rattle.std.specs.Prelude.{◌≡◌, ◌<◌, ◌+◌, IfOk, OnErr, length, option_map, option_and_then, slice_get, Some, None};
-ghost use Rattle.dw_model.specs.Faults.{Fault};
-ghost use Rattle.dw_model.specs.Unit as cut;
+ghost use Rattle.std.specs.Prelude.{◌≡◌, IfSome, option_map, option_and_then};
 ghost use Rattle.dw_model.specs.Name as names;
-ghost use Rattle.dw_model.specs.Name.{UnitEntry};
-ghost use Rattle.dw_model.specs.Entry.{attribute};
-ghost use Rattle.dw_model.specs.Text.{text};
-ghost use Rattle.dw_forms.specs.Fault.{form_fault};
-ghost use Rattle.dw_forms.specs.Tables.{bases_shown, tables_shown};
-ghost use Rattle.dw_forms.specs.Text.{text_shown};
 ghost use Rattle.dw_forms.specs.Value.{value_shown};
-ghost use Rattle.dw_units.specs.Entry.{entry_shown};
-ghost use Rattle.dw_frames.specs.Name.{own_name_in, read_of, IsEntry, Leads, IsTarget};
+ghost use Rattle.dw_units.specs.OpenUnit.{sections_of, unit_of};
+ghost use Rattle.dw_frames.specs.Name.{unit_entry, IsTarget};
 
-use dw_forms::{Bases, FormFault, Tables, Text, Value};
+use dw_forms::Value;
 use dw_model::dwarf::{DW_AT_abstract_origin, DW_AT_linkage_name, DW_AT_name, DW_AT_specification};
-use dw_units::{Entry, Units};
-use std::alloc::AllocError;
+use dw_units::{EntryView, OpenUnit, Units};
 
-/// The text of an attribute.
-fn attribute_text<'a>(
-    tables: &Tables<'a>,
-    bases: &Bases,
-    entry: &Entry<'a>,
-    name: u64,
-) -> Option<Text<'a>>
-    ensures { option_map text_shown result ≡ option_and_then (text (tables_shown tables.now) (bases_shown bases.now)) (attribute name (entry_shown entry.now)) }
+/// How many references are followed to a name.
+const REFERENCES: usize = 16;
+
+/// An entry with the unit in which it stands.
+#[derive(Drop)]
+pub(crate) struct UnitEntry<'b, 'a> {
+    pub(crate) unit: OpenUnit<'b, 'a>,
+    pub(crate) entry: EntryView<'b, 'a>,
+}
+
+/// The text of an attribute of an entry.
+fn attribute_text<'a>(here: &UnitEntry<'_, 'a>, name: u64) -> Option<&'a [u8]>
+    ensures { option_map (λ text. text.now) result ≡ names.attribute_text (sections_of here.now.unit) (unit_entry here.now) name }
 {
-    let value = entry.attr(name)?;
-    tables.find_text(value, bases)
+    let value = here.entry.attr(name)?;
+    here.unit.text(&value)
 }
 
 /// The name that an entry has itself: the one for the linker, else the one of the source.
-pub(crate) fn own_name<'a>(
-    tables: &Tables<'a>,
-    bases: &Bases,
-    entry: &Entry<'a>,
-) -> Option<Text<'a>>
-    ensures { option_map text_shown result ≡ own_name_in (tables_shown tables.now) (bases_shown bases.now) (entry_shown entry.now) }
+fn own_name<'a>(here: &UnitEntry<'_, 'a>) -> Option<&'a [u8]>
+    ensures { option_map (λ text. text.now) result ≡ names.own_name (sections_of here.now.unit) (unit_entry here.now) }
 {
-    let linkage = attribute_text(tables, bases, entry, DW_AT_linkage_name);
+    let linkage = attribute_text(here, DW_AT_linkage_name);
     if let Some(text) = linkage {
         return Some(text);
     }
-    attribute_text(tables, bases, entry, DW_AT_name)
+    attribute_text(here, DW_AT_name)
 }
 
 /// The reference by which an entry says what it is an instance of, or else which declaration it
 /// completes.
-fn reference<'b, 'a>(entry: &'b Entry<'a>) -> Option<&'b Value<'a>>
-    ensures { option_map (λ value. value_shown value.now) result ≡ names.reference (entry_shown entry.now) }
+fn reference<'a>(entry: &EntryView<'_, 'a>) -> Option<Value<'a>>
+    ensures { option_map value_shown result ≡ names.reference entry.now }
 {
     let origin = entry.attr(DW_AT_abstract_origin);
     if let Some(value) = origin {
@@ -60,110 +52,66 @@ fn reference<'b, 'a>(entry: &'b Entry<'a>) -> Option<&'b Value<'a>>
 }
 
 /// The offset to which a reference of a unit leads, where any unit may hold it.
-fn target(units: &Units<'_>, i: usize, value: &Value<'_>) -> Option<u64>
-    requires { i < length (cut.units units.now.info) }
-    ensures { (unit : _) → slice_get (cut.units units.now.info) i ≡ Some unit → IsTarget units.now unit (value_shown value.now) result }
+fn target(here: OpenUnit<'_, '_>, value: &Value<'_>) -> Option<u64>
+    ensures { IsTarget (sections_of here.entry) (unit_of here.entry) (value_shown value.now) result }
 {
     match *value {
         Value::UnitRef(n) => {
-            let unit = units.unit(i);
+            let units = here.units();
+            let offset = here.unit().offset;
             let last = units.unit(units.len() - 1);
-            if n >= last.end.saturating_sub(unit.offset) {
+            if n >= last.end.saturating_sub(offset) {
                 return None;
             }
-            Some(unit.offset + n)
+            Some(offset + n)
         }
         Value::SectionRef(n) => Some(n),
         _ => None,
     }
 }
 
-/// Want of memory, which is no fault of an entry.
-fn unless_memory(fault: FormFault) -> Result<(), AllocError>
-    ensures memory { OnErr result (form_fault fault ≡ None) }
-    ensures fault { IfOk result (λ _. (told : Fault) × (form_fault fault ≡ Some told)) }
+/// The entry that stands at an offset of .debug_info, in whichever unit. `None` for a null entry, an entry
+/// that can't be read, a header or a skipped unit.
+#[tactic(auto, unfolding(dw_model::specs::Name::entry_of))]
+fn entry_of<'b, 'a>(units: &'b Units<'a>, offset: u64) -> Option<UnitEntry<'b, 'a>>
+    ensures entry { option_map unit_entry result ≡ names.entry_of units.now offset }
+    ensures sections { IfSome result (λ there. sections_of there.unit ≡ units.now) }
 {
-    match fault {
-        FormFault::Memory => Err(AllocError),
-        FormFault::End | FormFault::Form | FormFault::Wide | FormFault::Code => Ok(()),
-    }
+    let unit = units.find(offset)?;
+    let entry = unit.view(offset)?;
+    Some(UnitEntry { unit, entry })
 }
 
-/// Reads the entry that stands at an offset of .debug_info, in whichever unit, in place of the one that
-/// was kept, and answers the place of its unit. `None` for a null entry, an entry that can't be read, a
-/// header or a skipped unit; then any entry may be kept.
-pub(crate) fn read_at<'a>(
-    units: &Units<'a>,
-    offset: u64,
-    kept: &mut Entry<'a>,
-) -> Result<Option<usize>, AllocError>
-    ensures { IfOk result (λ place. Leads units.now (read_of kept.new place) (names.entry_of units.now offset)) }
+/// The entry to which an entry refers.
+#[tactic(auto, unfolding(dw_model::specs::Name::referred))]
+fn referred<'b, 'a>(here: &UnitEntry<'b, 'a>) -> Option<UnitEntry<'b, 'a>>
+    ensures entry { option_map unit_entry result ≡ names.referred (sections_of here.now.unit) (unit_entry here.now) }
+    ensures sections { IfSome result (λ there. sections_of there.unit ≡ sections_of here.now.unit) }
 {
-    let Some(i) = units.holding(offset) else {
-        return Ok(None);
-    };
-    match units.read_entry(i, offset, kept) {
-        Ok(found) => {
-            if !found {
-                return Ok(None);
-            }
-            Ok(Some(i))
-        }
-        Err(fault) => {
-            unless_memory(fault)?;
-            Ok(None)
-        }
-    }
+    let value = reference(&here.entry)?;
+    let offset = target(here.unit, &value)?;
+    entry_of(here.unit.units(), offset)
 }
 
-/// The offset to which an entry of a unit refers.
-pub(crate) fn referred_offset(units: &Units<'_>, i: usize, entry: &Entry<'_>) -> Option<u64>
-    requires { i < length (cut.units units.now.info) }
-    ensures { (here : UnitEntry) → IsEntry units.now i entry.now here → option_and_then (names.entry_of units.now) result ≡ names.referred units.now here }
+/// The name of an entry: the first that it has itself, or that an entry has to which at most so many
+/// references lead.
+fn name_within<'a>(here: &UnitEntry<'_, 'a>, more: usize) -> Option<&'a [u8]>
+    ensures { option_map (λ text. text.now) result ≡ names.name_within (sections_of here.now.unit) more (unit_entry here.now) }
 {
-    let Some(value) = reference(entry) else {
-        return None;
-    };
-    target(units, i, value)
-}
-
-/// Reads the entry to which an entry of a unit refers in place of it, and answers the place of its
-/// unit. `None` where it refers to none; then any entry may be kept.
-fn read_referred<'a>(
-    units: &Units<'a>,
-    i: usize,
-    entry: &mut Entry<'a>,
-) -> Result<Option<usize>, AllocError>
-    requires { i < length (cut.units units.now.info) }
-    ensures { IfOk result (λ place. (here : UnitEntry) → IsEntry units.now i entry.old here → Leads units.now (read_of entry.new place) (names.referred units.now here)) }
-{
-    let Some(offset) = referred_offset(units, i, entry) else {
-        return Ok(None);
-    };
-    read_at(units, offset, entry)
-}
-
-/// The name of an entry of a unit: the first that it has itself, or that an entry has to which at
-/// most so many references lead. Those are read in place of it, so any entry may be kept then. The
-/// error comes only where a growth was refused.
-pub(crate) fn name_within<'a>(
-    units: &Units<'a>,
-    i: usize,
-    entry: &mut Entry<'a>,
-    more: usize,
-) -> Result<Option<Text<'a>>, AllocError>
-    requires { i < length (cut.units units.now.info) }
-    ensures { IfOk result (λ name. (here : UnitEntry) → IsEntry units.now i entry.old here → option_map text_shown name ≡ names.name_within units.now more here) }
-{
-    let own = own_name(units.tables(), &units.unit(i).bases, entry);
+    let own = own_name(here);
     if let Some(name) = own {
-        return Ok(Some(name));
+        return Some(name);
     }
     if more == 0 {
-        return Ok(None);
+        return None;
     }
-    let Some(unit) = read_referred(units, i, entry)? else {
-        return Ok(None);
-    };
-    name_within(units, unit, entry, more - 1)
+    let there = referred(here)?;
+    name_within(&there, more - 1)
+}
+
+/// The name of an entry.
+pub(crate) fn name_of<'a>(here: &UnitEntry<'_, 'a>) -> Option<&'a [u8]>
+    ensures { option_map (λ text. text.now) result ≡ names.name (sections_of here.now.unit) (unit_entry here.now) }
+{
+    name_within(here, REFERENCES)
 }

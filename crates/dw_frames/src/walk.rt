@@ -1,17 +1,16 @@
 //! All entries of a unit, of which the functions are kept.
 
-ghost use Rattle.std.specs.Prelude.{◌≡◌, ◌<◌, List, IfSome, Some, false, length, slice_get};
-ghost use Rattle.dw_model.specs.Unit as cut;
-ghost use Rattle.dw_model.specs.Unit.{DwarfUnit, is_skipped};
+ghost use Rattle.std.specs.Prelude.{◌≡◌, List, false, length};
+ghost use Rattle.dw_model.specs.Unit.{is_skipped};
 ghost use Rattle.dw_model.specs.Tree.{Node};
+ghost use Rattle.dw_units.specs.OpenUnit.{sections_of, unit_of};
 ghost use Rattle.dw_frames.specs.Placed.{Follows};
 ghost use Rattle.dw_frames.specs.Reader.{nodes_on, FollowsOn, FollowsAll};
 
 use crate::drafts::Drafts;
 use crate::fault::TreeFault;
-use crate::names::Names;
 use crate::reader::Reader;
-use dw_units::{Entries, Entry, Next, Units};
+use dw_units::{Entries, Entry, Next, OpenUnit};
 use std::alloc::Global;
 
 /// Reads entries, each in place of the one before, until the list below the unit's first one has ended, or the unit has.
@@ -19,9 +18,9 @@ fn read_below<'a>(
     reader: &mut Reader<'_, 'a>,
     entries: &mut Entries<'_, 'a>,
     entry: &mut Entry<'a>,
-    drafts: &mut Drafts<'a>,
+    drafts: &mut Drafts,
 ) -> Result<(), TreeFault>
-    ensures { (unit : DwarfUnit) (before : List Node) → slice_get (cut.units reader.old.of.sections.info) reader.old.of.place ≡ Some unit → Follows reader.old.of.sections unit before drafts.old entries.old.place.at → FollowsOn reader.old.of.sections unit before (nodes_on reader.old.of.sections unit entries.old (length drafts.old.lists)) result drafts.new }
+    ensures { (before : List Node) → Follows reader.old.of.sections reader.old.of.unit before drafts.old entries.old.place.at → FollowsOn reader.old.of.sections reader.old.of.unit before (nodes_on reader.old.of.sections reader.old.of.unit entries.old (length drafts.old.lists)) result drafts.new }
 {
     while drafts.depth() > 0 && !entries.is_done() {
         let next = entries.next_function(entry)?;
@@ -31,22 +30,15 @@ fn read_below<'a>(
 }
 
 /// Reads the entries of a unit that isn't skipped, and keeps its functions.
-pub(crate) fn read_all<'a>(
-    alloc: Global,
-    units: &Units<'a>,
-    i: usize,
-) -> Result<Drafts<'a>, TreeFault>
-    requires within { i < length (cut.units units.now.info) }
-    requires kept { IfSome (slice_get (cut.units units.now.info) i) (λ unit. is_skipped unit.kind ≡ false) }
-    ensures { (unit : DwarfUnit) → slice_get (cut.units units.now.info) i ≡ Some unit → FollowsAll units.now unit result }
+pub(crate) fn read_all<'a>(alloc: Global, unit: OpenUnit<'_, 'a>) -> Result<Drafts, TreeFault>
+    requires { is_skipped (unit_of unit).kind ≡ false }
+    ensures { FollowsAll (sections_of unit.entry) (unit_of unit.entry) result }
 {
-    let Some(mut entries) = units.entries(i) else {
+    let Some(mut entries) = unit.entries() else {
         return Err(TreeFault::Entry);
     };
     let mut reader = Reader {
-        units,
-        place: i,
-        names: Names::new(alloc),
+        unit,
         ranges: Vec::new(alloc),
     };
     let mut drafts = Drafts::new(alloc);
@@ -55,7 +47,7 @@ pub(crate) fn read_all<'a>(
     if let Next::Null = first {
         return Err(TreeFault::Entry);
     }
-    reader.keep(first, &mut entry, &mut drafts)?;
+    reader.keep(first, &entry, &mut drafts)?;
     read_below(&mut reader, &mut entries, &mut entry, &mut drafts)?;
     Ok(drafts)
 }

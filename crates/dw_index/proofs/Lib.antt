@@ -5,3 +5,4 @@ pub mod IndexLemmas
 pub mod LawLemmas
 pub mod RunLemmas
 pub mod CountLemmas
+pub mod SteadyLemmas

@@ -11,7 +11,7 @@ begin_at-get (segment ∷ segments) (suc k) d h = begin_at-get segments k d (ome
 
 -- ---- borders rise
 
-above : (bound : ℕ) (before : Option ℕ) (segments : List Segment) (k : ℕ) → AreSegments bound before segments → k < length segments → bound ≤ begin_at segments k
+pub above : (bound : ℕ) (before : Option ℕ) (segments : List Segment) (k : ℕ) → AreSegments bound before segments → k < length segments → bound ≤ begin_at segments k
 above bound before [] k s h = absurd (omega arith)
 above bound before (segment ∷ segments) zero s h = s.0
 above bound before (segment ∷ segments) (suc k) s h =

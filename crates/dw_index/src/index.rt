@@ -1,6 +1,7 @@
 //! An index of ranges that finds the least owner of an address.
 
 ghost use Rattle.std.specs.Prelude.{◌≡◌, ◌≤◌, ◌<◌, ◌+◌, ◌*◌, ◌^◌, ℕ, List, [], ◌∷◌, None, IfOk, map, length};
+ghost use Rattle.dw_model.specs.Steady.{IsSteady, last_address};
 ghost use Rattle.dw_index.specs.Owners.{least_owner};
 ghost use Rattle.dw_index.specs.Range.{pair_shown};
 ghost use Rattle.dw_index.specs.Segments.{AreIndexOf, owner_at};
@@ -8,7 +9,7 @@ ghost use Rattle.dw_index.specs.Segments.{AreIndexOf, owner_at};
 use crate::merge::merge;
 use crate::range::Range;
 use crate::run::run_of;
-use crate::search::owner_of;
+use crate::search::{next_border, owner_of};
 use crate::segment::Segment;
 use dw_bytes::Steps;
 use std::alloc::{AllocError, Global};
@@ -114,5 +115,26 @@ impl Index {
         ensures counted { (digits : ℕ) → length self.now < 2 ^ digits → steps.new ≤ steps.old + digits }
     {
         owner_of(&self.segments, a, steps)
+    }
+
+    /// The least address above one at which `find` answers something else than there; 2^64 - 1 where there is none.
+    /// So `find` answers the same from the address on up to, and without, the one that is returned.
+    pub fn steady(&self, a: u64) -> u64
+        requires { a < last_address }
+        ensures { IsSteady (owner_at self.now) a result }
+    {
+        self.steady_uncounted::<Brand>(a, Blank::new(1))
+    }
+
+    /// The same with steps of its own.
+    fn steady_uncounted<L: Ledger>(&self, a: u64, blank: Blank) -> u64
+        requires name { blank.name ≡ L.name }
+        requires parts { blank.parts ≡ L.parts }
+        requires some { 0 < L.parts }
+        requires above { a < last_address }
+        ensures { IsSteady (owner_at self.now) a result }
+    {
+        let mut steps = Steps::<L>::new(blank);
+        next_border(&self.segments, a, &mut steps)
     }
 }

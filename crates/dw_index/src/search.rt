@@ -1,6 +1,7 @@
 //! The segment of an address, searched by halves.
 
 ghost use Rattle.std.specs.Prelude.{◌≡◌, ◌≤◌, ◌<◌, ◌+◌, ◌^◌, ℕ, None, length, nat_le};
+ghost use Rattle.dw_model.specs.Steady.{IsSteady, last_address};
 ghost use Rattle.dw_index.specs.Segments.{AreSegments, begin_at, owner_at};
 
 use crate::segment::Segment;
@@ -55,4 +56,19 @@ pub(crate) fn owner_of<L: Ledger>(
         return None;
     }
     segments[passed - 1].owner
+}
+
+/// The least address above one that has another owner; the last address of all where there is none. A step is a
+/// probe, as for `owner_of`.
+pub(crate) fn next_border<L: Ledger>(segments: &[Segment], a: u64, steps: &mut Steps<L>) -> u64
+    requires segments { AreSegments 0 None segments.now }
+    requires above { a < last_address }
+    ensures steady { IsSteady (owner_at segments.now) a result }
+    ensures counted { (digits : ℕ) → length segments.now < 2 ^ digits → steps.new ≤ steps.old + digits }
+{
+    let passed = count_passed(segments, a, steps);
+    if passed == segments.len() {
+        return u64::MAX;
+    }
+    segments[passed].begin
 }

@@ -4,7 +4,7 @@ use Rattle.std.specs.Prelude.{nat_eq, option_map, option_and_then}
 use Rattle.std.specs.Option.{option_or, option_map_or}
 use Rattle.std.specs.Map.{lookup}
 use Rattle.std.proofs.lemmas.List.{drop_more, drop_all}
-use Rattle.dw_model.specs.declared.dwarf.TheConstants.{OFFSET_SIZE_32, DW_LNCT_path, DW_LNCT_directory_index}
+use Rattle.dw_model.specs.declared.dwarf.TheConstants.{DW_LNCT_path, DW_LNCT_directory_index}
 use Rattle.dw_model.specs.Results.{◌>>=◌, or_fault}
 use Rattle.dw_model.specs.Reading.{Place}
 use Rattle.dw_model.specs.Faults.{Bad, bad}
@@ -54,102 +54,104 @@ format-half p q content e f = rw (e, f) refl
 
 -- ---- the contents of an entry
 
-abbrev pub Contained : Contents → List Format → ℕ → Place → Result (Used × Place) Bad → Type 0
-Contained found formats i p whole = used_at (contents_shown found) (contents_at OFFSET_SIZE_32 (map format_shown (drop i formats)) p) ≡ whole
-
-or-first : {A : Type 0} (key : ℕ) (found : Option A) (item : ℕ × A) (others : List (ℕ × A)) → option_or (option_or found (lookup (nat_eq key) (item ∷ []))) (lookup (nat_eq key) others) ≡ option_or found (lookup (nat_eq key) (item ∷ others))
-or-first key (Some x) item others = refl
-or-first {A} key None item others = by (nat_eq key item.0)
-  where
-    by : (here : Bool) → option_or (cond here (Some item.1) None) (lookup (nat_eq key) others) ≡ cond {A = Option A} here (Some item.1) (lookup (nat_eq key) others)
-    by true = refl
-    by false = refl
-
-used : {a b c d : Option Value} → a ≡ b → c ≡ d → ◌≡◌ {A = Used} (record { path = a; directory = c }) (record { path = b; directory = d })
-used e f = cc
-
-used-more : (found : Used) (item : ℕ × Value) (others : List (ℕ × Value)) → used_of (used_of found (item ∷ [])) others ≡ used_of found (item ∷ others)
-used-more found item others = used (or-first DW_LNCT_path found.path item others) (or-first DW_LNCT_directory_index found.directory item others)
-
-at_format : (formats : List Format) (i : ℕ) (d format : Format) → i < length formats → get_or formats i d ≡ format → map format_shown (drop i formats) ≡ format_shown format ∷ map format_shown (drop (i + 1) formats)
-at_format formats i d format within is =
-    ap (map format_shown) (drop_more formats i d within ∙ ap (λ (f : Format). f ∷ drop (i + 1) formats) is)
-
-pub contains_more : (found more : Contents) (formats : List Format) (i : ℕ) (d format : Format) (v : Value) (p q : Place) (whole : Result (Used × Place) Bad) → i < length formats → get_or formats i d ≡ format
-    → or_fault bad (value_at OFFSET_SIZE_32 format.form None p) ≡ Ok (v, q) → contents_shown more ≡ used_of (contents_shown found) ((format.content, v) ∷ []) → Contained found formats i p whole → Contained more formats (i + 1) q whole
-unfolding contents_at
-contains_more found more formats i d format v p q whole within is e shown so_far =
-    let others = contents_at OFFSET_SIZE_32 (map format_shown (drop (i + 1) formats)) q in
-    let read : contents_at OFFSET_SIZE_32 (map format_shown (drop i formats)) p ≡ (others >>= λ x. Ok ((format.content, v) ∷ x.0, x.1)) = rw (at_format formats i d format within is, e) refl in
-    ap (λ (used : Used). used_at used others) shown ∙ by others ∙ ap (used_at (contents_shown found)) (sym read) ∙ so_far
-  where
-    by : (others : Result (List (ℕ × Value) × Place) Bad) → used_at (used_of (contents_shown found) ((format.content, v) ∷ [])) others ≡ used_at (contents_shown found) (others >>= λ x. Ok ((format.content, v) ∷ x.0, x.1))
-    by (Ok x) = ap (λ (used : Used). Ok (used, x.1)) (used-more (contents_shown found) (format.content, v) x.0)
-    by (Err e) = refl
-
-pub contains_bad : (found : Contents) (formats : List Format) (i : ℕ) (d format : Format) (p : Place) (whole : Result (Used × Place) Bad) → i < length formats → get_or formats i d ≡ format
-    → Contained found formats i p whole → or_fault bad (value_at OFFSET_SIZE_32 format.form None p) ≡ Err bad → whole ≡ Err bad
-unfolding contents_at
-contains_bad found formats i d format p whole within is so_far e =
-    let read : contents_at OFFSET_SIZE_32 (map format_shown (drop i formats)) p ≡ Err bad = rw (at_format formats i d format within is, e) refl in
-    sym so_far ∙ ap (used_at (contents_shown found)) read
-
-option_or-none : {A : Type 0} (found : Option A) → option_or found None ≡ found
-option_or-none (Some x) = refl
-option_or-none None = refl
-
-pub contains_all : (found : Contents) (formats : List Format) (i : ℕ) (p : Place) (whole : Result (Used × Place) Bad) → length formats ≤ i → Contained found formats i p whole → whole ≡ Ok (contents_shown found, p)
-unfolding contents_at
-contains_all found formats i p whole past so_far =
-    let read : contents_at OFFSET_SIZE_32 (map format_shown (drop i formats)) p ≡ Ok ([], p) = rw (drop_all i formats past) refl in
-    let all : used_of (contents_shown found) [] ≡ contents_shown found = used (option_or-none (option_map value_shown found.path)) (option_or-none (option_map value_shown found.directory)) in
-    sym so_far ∙ ap (used_at (contents_shown found)) read ∙ ap (λ (used : Used). Ok (used, p)) all
-
--- ---- entries
-
-abbrev pub entry_at : Tables → Bases → List model.Format → Place → Result (model.LineEntry × Place) Bad
-entry_at tables bases formats p = contents_at OFFSET_SIZE_32 formats p >>= λ contents. Ok (line_entry tables bases contents.0, contents.1)
-
-pub entries-none : (tables : Tables) (bases : Bases) (formats : List model.Format) (p : Place) → entries_at tables bases OFFSET_SIZE_32 formats zero p ≡ Ok ([], p)
-unfolding entries_at
-entries-none tables bases formats p = refl
-
-pub entries-some : (tables : Tables) (bases : Bases) (formats : List model.Format) (n : ℕ) (p : Place) → entries_at tables bases OFFSET_SIZE_32 formats (suc n) p ≡ (entry_at tables bases formats p >>= λ x. in_front (x.0 ∷ []) (entries_at tables bases OFFSET_SIZE_32 formats n x.1))
-unfolding entries_at
-entries-some tables bases formats n p = by (contents_at OFFSET_SIZE_32 formats p)
-  where
-    by : (contents : Result (List (ℕ × Value) × Place) Bad) → ◌>>=◌ {B = List model.LineEntry × Place} contents (λ contents. entries_at tables bases OFFSET_SIZE_32 formats n contents.1 >>= λ others. Ok (line_entry tables bases contents.0 ∷ others.0, others.1))
-        ≡ (◌>>=◌ {B = model.LineEntry × Place} contents (λ contents. Ok (line_entry tables bases contents.0, contents.1)) >>= λ x. in_front (x.0 ∷ []) (entries_at tables bases OFFSET_SIZE_32 formats n x.1))
-    by (Ok contents) = refl
-    by (Err e) = refl
-
 abbrev pub none_found : Used
 none_found = record { path = None; directory = None }
 
--- the entry whose values these are
-abbrev pub entry_with : Tables → Bases → Used → model.LineEntry
-entry_with tables bases used = record {
-  path = option_and_then (text tables bases) used.path;
-  directory = option_map_or model.as_directory used.directory 0;
-}
+-- where offsets have so many bytes
+module _ (size : ℕ) where
+  abbrev pub Contained : Contents → List Format → ℕ → Place → Result (Used × Place) Bad → Type 0
+  Contained found formats i p whole = used_at (contents_shown found) (contents_at size (map format_shown (drop i formats)) p) ≡ whole
 
-pub entry-read : (tables : Tables) (bases : Bases) (formats : List model.Format) (used : Used) (p q : Place) → used_at none_found (contents_at OFFSET_SIZE_32 formats p) ≡ Ok (used, q) → entry_at tables bases formats p ≡ Ok (entry_with tables bases used, q)
-entry-read tables bases formats used p q e = by (contents_at OFFSET_SIZE_32 formats p) e
-  where
-    by : (contents : Result (List (ℕ × Value) × Place) Bad) → used_at none_found contents ≡ Ok (used, q) → ◌>>=◌ {B = model.LineEntry × Place} contents (λ contents. Ok (line_entry tables bases contents.0, contents.1)) ≡ Ok (entry_with tables bases used, q)
-    by (Ok contents) e =
-        let same : (used_of none_found contents.0, contents.1) ≡ (used, q) = ok_is (used_of none_found contents.0, contents.1) (used, q) e in
-        ap (λ (x : Used × Place). Ok (entry_with tables bases x.0, x.1)) same
-    by (Err e) f = absurd cc
+  or-first : {A : Type 0} (key : ℕ) (found : Option A) (item : ℕ × A) (others : List (ℕ × A)) → option_or (option_or found (lookup (nat_eq key) (item ∷ []))) (lookup (nat_eq key) others) ≡ option_or found (lookup (nat_eq key) (item ∷ others))
+  or-first key (Some x) item others = refl
+  or-first {A} key None item others = by (nat_eq key item.0)
+    where
+      by : (here : Bool) → option_or (cond here (Some item.1) None) (lookup (nat_eq key) others) ≡ cond {A = Option A} here (Some item.1) (lookup (nat_eq key) others)
+      by true = refl
+      by false = refl
 
-pub entry-bad : (tables : Tables) (bases : Bases) (formats : List model.Format) (p : Place) → used_at none_found (contents_at OFFSET_SIZE_32 formats p) ≡ Err bad → entry_at tables bases formats p ≡ Err bad
-entry-bad tables bases formats p e = by (contents_at OFFSET_SIZE_32 formats p) e
-  where
-    by : (contents : Result (List (ℕ × Value) × Place) Bad) → used_at none_found contents ≡ Err bad → ◌>>=◌ {B = model.LineEntry × Place} contents (λ contents. Ok (line_entry tables bases contents.0, contents.1)) ≡ Err bad
-    by (Ok contents) e = absurd cc
-    by (Err bad) f = refl
+  used : {a b c d : Option Value} → a ≡ b → c ≡ d → ◌≡◌ {A = Used} (record { path = a; directory = c }) (record { path = b; directory = d })
+  used e f = cc
 
-pub entry-kept : (tables : Tables) (bases : Bases) (formats : List model.Format) (contents : Contents) (directory : ℕ) (p q : Place) → used_at none_found (contents_at OFFSET_SIZE_32 formats p) ≡ Ok (contents_shown contents, q)
-    → directory ≡ option_map_or model.as_directory (option_map value_shown contents.directory) 0 → entry_at tables bases formats p ≡ Ok (entry_shown tables bases (record { path = contents.path; directory = directory }), q)
-entry-kept tables bases formats contents directory p q e same =
-    entry-read tables bases formats (contents_shown contents) p q e ∙ ap (λ (n : ℕ). Ok (record { path = option_and_then (text tables bases) (option_map value_shown contents.path); directory = n }, q)) (sym same)
+  used-more : (found : Used) (item : ℕ × Value) (others : List (ℕ × Value)) → used_of (used_of found (item ∷ [])) others ≡ used_of found (item ∷ others)
+  used-more found item others = used (or-first DW_LNCT_path found.path item others) (or-first DW_LNCT_directory_index found.directory item others)
+
+  at_format : (formats : List Format) (i : ℕ) (d format : Format) → i < length formats → get_or formats i d ≡ format → map format_shown (drop i formats) ≡ format_shown format ∷ map format_shown (drop (i + 1) formats)
+  at_format formats i d format within is =
+      ap (map format_shown) (drop_more formats i d within ∙ ap (λ (f : Format). f ∷ drop (i + 1) formats) is)
+
+  pub contains_more : (found more : Contents) (formats : List Format) (i : ℕ) (d format : Format) (v : Value) (p q : Place) (whole : Result (Used × Place) Bad) → i < length formats → get_or formats i d ≡ format
+      → or_fault bad (value_at size format.form None p) ≡ Ok (v, q) → contents_shown more ≡ used_of (contents_shown found) ((format.content, v) ∷ []) → Contained found formats i p whole → Contained more formats (i + 1) q whole
+  unfolding contents_at
+  contains_more found more formats i d format v p q whole within is e shown so_far =
+      let others = contents_at size (map format_shown (drop (i + 1) formats)) q in
+      let read : contents_at size (map format_shown (drop i formats)) p ≡ (others >>= λ x. Ok ((format.content, v) ∷ x.0, x.1)) = rw (at_format formats i d format within is, e) refl in
+      ap (λ (used : Used). used_at used others) shown ∙ by others ∙ ap (used_at (contents_shown found)) (sym read) ∙ so_far
+    where
+      by : (others : Result (List (ℕ × Value) × Place) Bad) → used_at (used_of (contents_shown found) ((format.content, v) ∷ [])) others ≡ used_at (contents_shown found) (others >>= λ x. Ok ((format.content, v) ∷ x.0, x.1))
+      by (Ok x) = ap (λ (used : Used). Ok (used, x.1)) (used-more (contents_shown found) (format.content, v) x.0)
+      by (Err e) = refl
+
+  pub contains_bad : (found : Contents) (formats : List Format) (i : ℕ) (d format : Format) (p : Place) (whole : Result (Used × Place) Bad) → i < length formats → get_or formats i d ≡ format
+      → Contained found formats i p whole → or_fault bad (value_at size format.form None p) ≡ Err bad → whole ≡ Err bad
+  unfolding contents_at
+  contains_bad found formats i d format p whole within is so_far e =
+      let read : contents_at size (map format_shown (drop i formats)) p ≡ Err bad = rw (at_format formats i d format within is, e) refl in
+      sym so_far ∙ ap (used_at (contents_shown found)) read
+
+  option_or-none : {A : Type 0} (found : Option A) → option_or found None ≡ found
+  option_or-none (Some x) = refl
+  option_or-none None = refl
+
+  pub contains_all : (found : Contents) (formats : List Format) (i : ℕ) (p : Place) (whole : Result (Used × Place) Bad) → length formats ≤ i → Contained found formats i p whole → whole ≡ Ok (contents_shown found, p)
+  unfolding contents_at
+  contains_all found formats i p whole past so_far =
+      let read : contents_at size (map format_shown (drop i formats)) p ≡ Ok ([], p) = rw (drop_all i formats past) refl in
+      let all : used_of (contents_shown found) [] ≡ contents_shown found = used (option_or-none (option_map value_shown found.path)) (option_or-none (option_map value_shown found.directory)) in
+      sym so_far ∙ ap (used_at (contents_shown found)) read ∙ ap (λ (used : Used). Ok (used, p)) all
+
+  -- ---- entries
+
+  abbrev pub entry_at : Tables → Bases → List model.Format → Place → Result (model.LineEntry × Place) Bad
+  entry_at tables bases formats p = contents_at size formats p >>= λ contents. Ok (line_entry tables bases contents.0, contents.1)
+
+  pub entries-none : (tables : Tables) (bases : Bases) (formats : List model.Format) (p : Place) → entries_at tables bases size formats zero p ≡ Ok ([], p)
+  unfolding entries_at
+  entries-none tables bases formats p = refl
+
+  pub entries-some : (tables : Tables) (bases : Bases) (formats : List model.Format) (n : ℕ) (p : Place) → entries_at tables bases size formats (suc n) p ≡ (entry_at tables bases formats p >>= λ x. in_front (x.0 ∷ []) (entries_at tables bases size formats n x.1))
+  unfolding entries_at
+  entries-some tables bases formats n p = by (contents_at size formats p)
+    where
+      by : (contents : Result (List (ℕ × Value) × Place) Bad) → ◌>>=◌ {B = List model.LineEntry × Place} contents (λ contents. entries_at tables bases size formats n contents.1 >>= λ others. Ok (line_entry tables bases contents.0 ∷ others.0, others.1))
+          ≡ (◌>>=◌ {B = model.LineEntry × Place} contents (λ contents. Ok (line_entry tables bases contents.0, contents.1)) >>= λ x. in_front (x.0 ∷ []) (entries_at tables bases size formats n x.1))
+      by (Ok contents) = refl
+      by (Err e) = refl
+
+  -- the entry whose values these are
+  abbrev pub entry_with : Tables → Bases → Used → model.LineEntry
+  entry_with tables bases used = record {
+    path = option_and_then (text tables bases) used.path;
+    directory = option_map_or model.as_directory used.directory 0;
+  }
+
+  pub entry-read : (tables : Tables) (bases : Bases) (formats : List model.Format) (used : Used) (p q : Place) → used_at none_found (contents_at size formats p) ≡ Ok (used, q) → entry_at tables bases formats p ≡ Ok (entry_with tables bases used, q)
+  entry-read tables bases formats used p q e = by (contents_at size formats p) e
+    where
+      by : (contents : Result (List (ℕ × Value) × Place) Bad) → used_at none_found contents ≡ Ok (used, q) → ◌>>=◌ {B = model.LineEntry × Place} contents (λ contents. Ok (line_entry tables bases contents.0, contents.1)) ≡ Ok (entry_with tables bases used, q)
+      by (Ok contents) e =
+          let same : (used_of none_found contents.0, contents.1) ≡ (used, q) = ok_is (used_of none_found contents.0, contents.1) (used, q) e in
+          ap (λ (x : Used × Place). Ok (entry_with tables bases x.0, x.1)) same
+      by (Err e) f = absurd cc
+
+  pub entry-bad : (tables : Tables) (bases : Bases) (formats : List model.Format) (p : Place) → used_at none_found (contents_at size formats p) ≡ Err bad → entry_at tables bases formats p ≡ Err bad
+  entry-bad tables bases formats p e = by (contents_at size formats p) e
+    where
+      by : (contents : Result (List (ℕ × Value) × Place) Bad) → used_at none_found contents ≡ Err bad → ◌>>=◌ {B = model.LineEntry × Place} contents (λ contents. Ok (line_entry tables bases contents.0, contents.1)) ≡ Err bad
+      by (Ok contents) e = absurd cc
+      by (Err bad) f = refl
+
+  pub entry-kept : (tables : Tables) (bases : Bases) (formats : List model.Format) (contents : Contents) (directory : ℕ) (p q : Place) → used_at none_found (contents_at size formats p) ≡ Ok (contents_shown contents, q)
+      → directory ≡ option_map_or model.as_directory (option_map value_shown contents.directory) 0 → entry_at tables bases formats p ≡ Ok (entry_shown tables bases (record { path = contents.path; directory = directory }), q)
+  entry-kept tables bases formats contents directory p q e same =
+      entry-read tables bases formats (contents_shown contents) p q e ∙ ap (λ (n : ℕ). Ok (record { path = option_and_then (text tables bases) (option_map value_shown contents.path); directory = n }, q)) (sym same)

@@ -10,3 +10,5 @@ pub mod SearchLemmas
 pub mod SequenceLemmas
 pub mod LinesLemmas
 pub mod PathLemmas
+pub mod WalkLemmas
+pub mod HeaderLemmas

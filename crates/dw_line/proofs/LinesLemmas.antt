@@ -1,5 +1,5 @@
 -- A table that is read, and its rows.
-use Rattle.std.proofs.Common.{◌≡◌, ℕ, ◌<◌, ◌≤◌, length, get_or, List, [], Option, Some, None, Result, Ok, Err, refl, sym, subst, ap, ◌∙◌}
+use Rattle.std.proofs.Common.{◌≡◌, ℕ, ◌<◌, ◌≤◌, length, get_or, List, [], Option, Some, None, Result, Ok, Err, refl, sym, subst, ap, ◌∙◌, arith}
 use Rattle.std.specs.Prelude.{Bool, true, false, cond, ◌==◌, IfSome, option_map, option_and_then, slice_get}
 use Rattle.std.specs.Result.{result_unwrap_or}
 use Rattle.std.proofs.lemmas.Bool.{eqb-true}
@@ -9,7 +9,7 @@ use Rattle.dw_model.specs.Faults.{Bad, bad}
 use Rattle.dw_model.specs.Text.{Tables, Bases, text}
 use Rattle.dw_model.specs.LineHeader.{LineHeader, line_header}
 use Rattle.dw_model.specs.Instruction.{Instruction, instructions}
-use Rattle.dw_model.specs.Matrix.{Row, matrix, row_in, row_of, last_address}
+use Rattle.dw_model.specs.Matrix.{Row, matrix, row_in, row_of, is_used, first_address, last_address}
 use Rattle.dw_model.specs.Answer.{lines_at}
 use Rattle.dw_model.specs.declared.dwarf.TheConstants.{DW_AT_comp_dir}
 use Rattle.dw_model.specs.Section.{Sections}
@@ -22,12 +22,13 @@ use Rattle.dw_line.specs.declared.checkpoints.Checkpoints.{Checkpoints}
 use Rattle.dw_line.specs.declared.search.Reached.{Reached}
 use Rattle.dw_line.specs.declared.search.Last.{Last}
 use Rattle.dw_line.specs.Search.{row_told}
-use Rattle.dw_line.specs.Reached.{told_of, last_in, IsReached, IsLast, FindsIn, FindsRow}
+use Rattle.dw_line.specs.Reached.{told_of, last_in, IsReached, IsLast, FindsIn, FindsRow, Stays}
 use Rattle.dw_line.specs.Machine.{beginning, rows_on}
 use Rattle.dw_line.specs.Lines.{lines_of, matrix_of}
 use Rattle.dw_line.specs.Program.{IsRecorded}
 use Rattle.dw_line.specs.Sequences.{used_sequences, number_among, number_of, IsSequence, AreKept}
 use Rattle.dw_line.proofs.MachineLemmas.{matrix_rows, program_bad}
+use Rattle.dw_line.proofs.SearchLemmas.{never_falls_used, has_row, row_on}
 use Rattle.dw_line.proofs.SequenceLemmas.{number-by_rows, held, kept_at, is-there}
 
 -- ---- reading
@@ -76,6 +77,7 @@ pub record IsFound (header : LineHeader) (checkpoints : List Checkpoint) (all : 
   pub rows : List Row
   pub there : slice_get (used_sequences all) k ≡ Some rows
   pub row : row_of all a ≡ row_in a rows
+  pub from : first_address rows ≤ a
   pub below : a < last_address rows
   pub is : IsSequence header checkpoints (length checkpoints) sequence rows
 
@@ -90,6 +92,7 @@ is_found header checkpoints kept read all a k sequence are found same within is 
       rows = h.rows;
       there = h.there;
       row = is-there all a k h.rows found h.there;
+      from = h.from;
       below = h.below;
       is = subst (λ (s : Sequence). IsSequence header checkpoints (length checkpoints) s h.rows) one at.is;
     }
@@ -121,6 +124,19 @@ finds_row header all rows a k reached there row found = (
   subst (λ (read : Option (List Row)). IfSome read (λ rows. IsReached header rows reached)) (sym there) found.1,
 )
 
-pub finds_no_row : (header : LineHeader) (all rows : List Row) (a : ℕ) (found : Option Reached) → found ≡ None → row_of all a ≡ row_in a rows → FindsIn header rows a found → FindsRow header all a None
-finds_no_row header all rows a found none row finds =
-    (sym (ap (option_map told_of) none) ∙ finds.0 ∙ sym (ap (option_map row_told) row), tt)
+-- an address of a used sequence has a row
+pub finds_one : (header : LineHeader) (rows : List Row) (a : ℕ) (found : Option Reached) → found ≡ None → is_used rows ≡ true → first_address rows ≤ a → a < last_address rows → FindsIn header rows a found → ⊥
+finds_one header rows a found none used from below finds =
+    by (row_in a rows) refl (sym (ap (option_map told_of) none) ∙ finds.0)
+  where
+    by : (row : Option Row) → row_in a rows ≡ row → None ≡ option_map row_told row → ⊥
+    by None e told = has_row a rows (never_falls_used rows used) from below e
+    by (Some row) e told = cc
+
+-- The row that was found is that of the addresses after it too, up to the next row.
+pub stays : (header : LineHeader) (all rows : List Row) (a k : ℕ) (reached : Reached) → slice_get (used_sequences all) k ≡ Some rows → is_used rows ≡ true → FindsIn header rows a (Some reached) → Stays all k a (record { number = k; reached = reached })
+stays header all rows a k reached there used found = record {
+  above = found.2.1;
+  same = λ c from before number.
+      ap (option_map row_told) (is-there all c k rows number there ∙ row_on header rows c reached (never_falls_used rows used) found.1 (omega (arith, found.2.0, from)) before);
+}

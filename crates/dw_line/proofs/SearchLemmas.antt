@@ -8,14 +8,17 @@ use Rattle.std.proofs.lemmas.List.{drop-drop, length-drop}
 use Rattle.std.proofs.lemmas.List.Sorted.{IsNonDecreasingBy-from_all_adjacent}
 use Rattle.std.proofs.lemmas.Option.{slice_get_read}
 use Rattle.dw_model.specs.LineHeader.{LineHeader}
-use Rattle.dw_model.specs.Matrix.{Row, never_falls, first_address, last_address, row_in}
+use Rattle.dw_model.specs.Matrix.{Row, never_falls, is_used, first_address, last_address, row_in}
 use Rattle.dw_line.specs.declared.checkpoints.Checkpoint.{Checkpoint}
 use Rattle.dw_line.specs.declared.search.Reached.{Reached}
 use Rattle.dw_line.specs.Sequences.{up_to_end, checkpoint_row, IsCheckpoint, AreCheckpoints, HasCheckpoints}
 use Rattle.dw_line.specs.Search.{row_told, row_before_address}
-use Rattle.dw_line.specs.Reached.{reaches, is_before, IsReached, IsPassed, FindsFrom, FindsIn}
+use Rattle.dw_line.specs.Reached.{reaches, is_before, IsReached, IsPassed, HoldsAddress, FindsFrom, FindsIn}
 
 -- ---- rows that never fall
+
+pub never_falls_used : (rows : List Row) → is_used rows ≡ true → never_falls rows ≡ true
+never_falls_used rows used = (and_parts (never_falls rows) (nat_lt (first_address rows) (last_address rows)) used).0
 
 tail_rises : (r : Row) (rows : List Row) → never_falls (r ∷ rows) ≡ true → never_falls rows ≡ true
 tail_rises r [] e = refl
@@ -83,6 +86,19 @@ none_below a (r ∷ t ∷ rows) e h =
     by true c f e = absurd cc
     by false c f e = e
 
+-- an address from the first row on and before the last has a row
+pub has_row : (a : ℕ) (rows : List Row) → never_falls rows ≡ true → first_address rows ≤ a → a < last_address rows → row_in a rows ≡ None → ⊥
+unfolding row_in
+has_row a [] never from below none = absurd (omega (arith, below))
+has_row a (r ∷ []) never from below none = absurd (omega (arith, from, below))
+has_row a (r ∷ t ∷ rows) never from below none =
+    by (nat_le r.address a) (nat_lt a t.address) (le-leb r.address a from) refl none (λ after none. has_row a (t ∷ rows) (tail_rises r (t ∷ rows) never) after below none)
+  where
+    by : (b c : Bool) → b ≡ true → nat_lt a t.address ≡ c → cond (b && c) (Some r) (row_in a (t ∷ rows)) ≡ None → (t.address ≤ a → row_in a (t ∷ rows) ≡ None → ⊥) → ⊥
+    by true true h e none later = cc
+    by true false h e none later = later (ltb-false a t.address e) none
+    by false c h e none later = cc
+
 short : (a : ℕ) (rows : List Row) → length rows ≤ 1 → row_in a rows ≡ None
 unfolding row_in
 short a [] h = refl
@@ -149,7 +165,7 @@ rises header checkpoints rows has =
     (λ k d h.
     let one = checkpoint_at header checkpoints rows has.each k d (omega (arith, h)) in
     let other = checkpoint_at header checkpoints rows has.each (k + 1) d (omega (arith, h)) in
-    let never : never_falls rows ≡ true = (and_parts (never_falls rows) (nat_lt (first_address rows) (last_address rows)) has.used).0 in
+    let never : never_falls rows ≡ true = never_falls_used rows has.used in
     let places : 64 * k + 64 ≡ 64 * (k + 1) = omega arith in
     let there = other.rest ∙ ap (λ (n : ℕ). drop n rows) (sym places) ∙ sym (drop-drop 64 (64 * k) rows) ∙ ap (drop 64) (sym one.rest) in
     first_below 64 (checkpoint_row (get_or checkpoints k d)) (checkpoint_row (get_or checkpoints (k + 1) d)) (up_to_end one.others) (up_to_end other.others) (subst (λ (rest : List Row). never_falls rest ≡ true) (sym one.rest) (later_rises (64 * k) rows never)) there)
@@ -161,14 +177,14 @@ Splits checkpoints a next = IsPartitionPoint (λ checkpoint. nat_le checkpoint.r
 pub none_before : (header : LineHeader) (checkpoints : List Checkpoint) (rows : List Row) (a : ℕ) (d : Checkpoint) → HasCheckpoints header checkpoints rows → Splits checkpoints a 0 → row_in a rows ≡ None
 none_before header [] rows a d has point = short a rows (omega (arith, has.enough))
 none_before header (c ∷ checkpoints) rows a d has point =
-    let never : never_falls rows ≡ true = (and_parts (never_falls rows) (nat_lt (first_address rows) (last_address rows)) has.used).0 in
+    let never : never_falls rows ≡ true = never_falls_used rows has.used in
     let first : c.registers.address ≡ first_address rows = ap first_address has.each.0.rest in
     let above = leb-false c.registers.address a (point.1 0 d (omega arith) (omega arith)) in
     none_below a rows never (omega (arith, first, above))
 
 -- ---- from a row on
 
-decide : (m n : ℕ) → (m < n) ⊎ (n ≤ m)
+pub decide : (m n : ℕ) → (m < n) ⊎ (n ≤ m)
 decide m n = by (nat_lt m n) refl
   where
     by : (b : Bool) → nat_lt m n ≡ b → (m < n) ⊎ (n ≤ m)
@@ -222,7 +238,7 @@ stops_at rows place number a r s own rest h there less near above =
 stops_soon : (header : LineHeader) (checkpoints : List Checkpoint) (rows : List Row) (a place number : ℕ) (c : Checkpoint) → HasCheckpoints header checkpoints rows → a < last_address rows → (is : IsCheckpoint header c (drop place rows)) → c.registers.address ≤ a → 64 * number ≤ place + 64 → Before checkpoints number a → (number < length checkpoints) ⊎ (length checkpoints ≤ number)
     → Stops 64 a (up_to_end is.others)
 stops_soon header checkpoints rows a place number c has below_end is below near before (inl more) =
-    let never : never_falls rows ≡ true = (and_parts (never_falls rows) (nat_lt (first_address rows) (last_address rows)) has.used).0 in
+    let never : never_falls rows ≡ true = never_falls_used rows has.used in
     let other = checkpoint_at header checkpoints rows has.each number c more in
     let s = checkpoint_row (get_or checkpoints number c) in
     let above : a < s.address = before c more in
@@ -244,7 +260,7 @@ stops_soon header checkpoints rows a place number c has below_end is below near 
 row_is : (header : LineHeader) (checkpoints : List Checkpoint) (rows : List Row) (a place number : ℕ) (c : Checkpoint) → HasCheckpoints header checkpoints rows → a < last_address rows → (is : IsCheckpoint header c (drop place rows)) → c.registers.address ≤ a → 64 * number ≤ place + 64 → Before checkpoints number a
     → row_in a rows ≡ row_before_address 64 a (checkpoint_row c) is.others
 row_is header checkpoints rows a place number c has below_end is below near before =
-    let never : never_falls rows ≡ true = (and_parts (never_falls rows) (nat_lt (first_address rows) (last_address rows)) has.used).0 in
+    let never : never_falls rows ≡ true = never_falls_used rows has.used in
     let stops = stops_soon header checkpoints rows a place number c has below_end is below near before (decide number (length checkpoints)) in
     row_later place a rows (checkpoint_row c) (up_to_end is.others) never is.rest below
     ∙ run_is 64 a (checkpoint_row c) is.others below stops
@@ -266,24 +282,25 @@ later_reached header rows place number r own (Some reached) h near is =
 
 -- What is found from a row on, which isn't above the address, is the row of the address.
 pub finds : (header : LineHeader) (checkpoints : List Checkpoint) (rows : List Row) (a place number : ℕ) (c : Checkpoint) (found : Option Reached) → HasCheckpoints header checkpoints rows → a < last_address rows → IsCheckpoint header c (drop place rows) → c.registers.address ≤ a → 64 * number ≤ place + 64 → Before checkpoints number a
-    → FindsFrom header c number a found → FindsIn header rows a found
-finds header checkpoints rows a place number c found has below_end is below near before from =
+    → FindsFrom header c number a found → (c.registers.address ≤ a → IfSome found (HoldsAddress a)) → FindsIn header rows a found
+finds header checkpoints rows a place number c found has below_end is below near before from holds =
     let what = from is.within is.others is.appends in (
       what.0 ∙ sym (ap (option_map row_told) (row_is header checkpoints rows a place number c has below_end is below near before)),
       later_reached header rows place number (checkpoint_row c) (up_to_end is.others) found is.rest near what.1,
+      holds below,
     )
 
 -- the same from the last checkpoint that isn't above the address
 pub finds_by_halves : (header : LineHeader) (checkpoints : List Checkpoint) (rows : List Row) (a k : ℕ) (d : Checkpoint) (found : Option Reached) → HasCheckpoints header checkpoints rows → a < last_address rows → k < length checkpoints → Splits checkpoints a (k + 1)
-    → FindsFrom header (get_or checkpoints k d) (k + 1) a found → FindsIn header rows a found
-finds_by_halves header checkpoints rows a k d found has below_end within point from =
+    → FindsFrom header (get_or checkpoints k d) (k + 1) a found → ((get_or checkpoints k d).registers.address ≤ a → IfSome found (HoldsAddress a)) → FindsIn header rows a found
+finds_by_halves header checkpoints rows a k d found has below_end within point from holds =
     let is = checkpoint_at header checkpoints rows has.each k d within in
     let below = leb-true (get_or checkpoints k d).registers.address a (point.0 k d (omega arith) (omega arith)) in
-    finds header checkpoints rows a (64 * k) (k + 1) (get_or checkpoints k d) found has below_end is below (omega arith) (split_before checkpoints a (k + 1) point) from
+    finds header checkpoints rows a (64 * k) (k + 1) (get_or checkpoints k d) found has below_end is below (omega arith) (split_before checkpoints a (k + 1) point) from holds
 
 -- before the first checkpoint there is no row
 pub finds_none : (header : LineHeader) (checkpoints : List Checkpoint) (rows : List Row) (a : ℕ) (d : Checkpoint) → HasCheckpoints header checkpoints rows → Splits checkpoints a 0 → FindsIn header rows a None
-finds_none header checkpoints rows a d has point = (sym (ap (option_map row_told) (none_before header checkpoints rows a d has point)), tt)
+finds_none header checkpoints rows a d has point = (sym (ap (option_map row_told) (none_before header checkpoints rows a d has point)), tt, tt)
 
 -- ---- from the row that was found last
 
@@ -300,10 +317,10 @@ within checkpoints last a e =
     let parts = and_parts (nat_le last.row.registers.address a) (is_before a (slice_get checkpoints last.next_checkpoint)) e in
     record { below = leb-true last.row.registers.address a parts.0; before = is_before_all checkpoints last.next_checkpoint a parts.1 }
 
-pub finds_onward : (header : LineHeader) (checkpoints : List Checkpoint) (rows : List Row) (a : ℕ) (last : Reached) (found : Option Reached) → HasCheckpoints header checkpoints rows → a < last_address rows → IsReached header rows last → reaches last checkpoints a ≡ true → FindsFrom header last.row last.next_checkpoint a found → FindsIn header rows a found
-finds_onward header checkpoints rows a last found has below_end is e from =
+pub finds_onward : (header : LineHeader) (checkpoints : List Checkpoint) (rows : List Row) (a : ℕ) (last : Reached) (found : Option Reached) → HasCheckpoints header checkpoints rows → a < last_address rows → IsReached header rows last → reaches last checkpoints a ≡ true → FindsFrom header last.row last.next_checkpoint a found → (last.row.registers.address ≤ a → IfSome found (HoldsAddress a)) → FindsIn header rows a found
+finds_onward header checkpoints rows a last found has below_end is e from holds =
     let w = within checkpoints last a e in
-    finds header checkpoints rows a is.passed last.next_checkpoint last.row found has below_end is.is.is w.below is.behind w.before from
+    finds header checkpoints rows a is.passed last.next_checkpoint last.row found has below_end is.is.is w.below is.behind w.before from holds
 
 -- a row before whose next one the address lies is its own
 own_row : (a : ℕ) (r : Row) (own : List Row) → r.address ≤ a → a < first_address own → row_in a (r ∷ own) ≡ Some r
@@ -311,12 +328,16 @@ unfolding row_in
 own_row a r [] below above = absurd (omega (arith, above))
 own_row a r (s ∷ own) below above = rw (le-leb r.address a below, lt-ltb a s.address above) refl
 
-pub finds_again : (header : LineHeader) (checkpoints : List Checkpoint) (rows : List Row) (a : ℕ) (last : Reached) → HasCheckpoints header checkpoints rows → IsReached header rows last → reaches last checkpoints a ≡ true → a < last.next → FindsIn header rows a (Some last)
-finds_again header checkpoints rows a last has is e above =
-    let w = within checkpoints last a e in
-    let never : never_falls rows ≡ true = (and_parts (never_falls rows) (nat_lt (first_address rows) (last_address rows)) has.used).0 in
+-- the row of an address at one of the rows or after it, and before the next
+pub row_on : (header : LineHeader) (rows : List Row) (a : ℕ) (last : Reached) → never_falls rows ≡ true → IsReached header rows last → last.row.registers.address ≤ a → a < last.next → row_in a rows ≡ Some (checkpoint_row last.row)
+row_on header rows a last never is below above =
     let r = checkpoint_row last.row in
     let own = up_to_end is.is.is.others in
     let behind : own ≡ drop (is.passed + 1) rows = ap (drop 1) is.is.is.rest ∙ drop-drop 1 is.passed rows in
     let next : a < first_address own = omega (arith, above, is.is.next, ap first_address behind) in
-    (sym (ap (option_map row_told) (row_later is.passed a rows r own never is.is.is.rest w.below ∙ own_row a r own w.below next)), is)
+    row_later is.passed a rows r own never is.is.is.rest below ∙ own_row a r own below next
+
+pub finds_again : (header : LineHeader) (checkpoints : List Checkpoint) (rows : List Row) (a : ℕ) (last : Reached) → HasCheckpoints header checkpoints rows → IsReached header rows last → reaches last checkpoints a ≡ true → a < last.next → FindsIn header rows a (Some last)
+finds_again header checkpoints rows a last has is e above =
+    let below = (within checkpoints last a e).below in
+    (sym (ap (option_map row_told) (row_on header rows a last (never_falls_used rows has.used) is below above)), is, (below, above))

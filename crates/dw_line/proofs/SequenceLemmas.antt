@@ -4,7 +4,7 @@ use Rattle.std.specs.Prelude.{◌&&◌, nat_le, nat_lt, min, find, slice_get, op
 use Rattle.std.specs.List.{position_from}
 use Rattle.std.proofs.lemmas.List.{append-nil, drop_more, drop_all}
 use Rattle.std.proofs.lemmas.Option.{same_Some}
-use Rattle.std.proofs.lemmas.Bool.{ltb-true, and_parts}
+use Rattle.std.proofs.lemmas.Bool.{leb-true, ltb-true, and_parts}
 use Rattle.dw_model.specs.Matrix.{Row, sequences, is_used, first_address, last_address, row_in, row_of}
 use Rattle.dw_model.specs.Ranges.{Range}
 use Rattle.dw_index.specs.Owners.{least, least_owner}
@@ -133,6 +133,7 @@ found-used a (s ∷ ss) = by (is_used s) (found-used a ss)
 pub record Held (used : List (List Row)) (a k : ℕ) : Type 0 where
   pub rows : List Row
   pub there : slice_get used k ≡ Some rows
+  pub from : first_address rows ≤ a
   pub below : a < last_address rows
 
 number-holds : (test : List Row → Bool) (n : ℕ) (used : List (List Row)) (k : ℕ) → position_from test n used ≡ Some k → (rows : List Row) × (find test used ≡ Some rows) × (test rows ≡ true)
@@ -147,10 +148,12 @@ pub held : (used : List (List Row)) (a k : ℕ) → number_among used a ≡ Some
 held used a k e =
     let place : k - 0 ≡ k = omega arith in
     let found = number-holds (holds_address a) 0 used k e in
+    let parts = and_parts (nat_le (first_address found.0) a) (nat_lt a (last_address found.0)) found.2 in
     record {
       rows = found.0;
       there = ap (slice_get used) (sym place) ∙ sym (number-there (holds_address a) 0 used k e) ∙ found.1;
-      below = ltb-true a (last_address found.0) (and_parts (nat_le (first_address found.0) a) (nat_lt a (last_address found.0)) found.2).1;
+      from = leb-true (first_address found.0) a parts.0;
+      below = ltb-true a (last_address found.0) parts.1;
     }
 
 pub is-there : (all : List Row) (a k : ℕ) (rows : List Row) → number_among (used_sequences all) a ≡ Some k → slice_get (used_sequences all) k ≡ Some rows → row_of all a ≡ row_in a rows

@@ -11,3 +11,5 @@ pub mod Program
 pub mod Path
 pub mod Lines
 pub mod LinesInside
+pub mod Walked
+pub mod WalkInside

@@ -7,8 +7,8 @@ use Rattle.dw_line.specs.declared.rows.Row.{Row as RowTold}
 use Rattle.dw_line.specs.declared.search.Reached.{Reached}
 use Rattle.dw_line.specs.declared.search.Last.{Last}
 use Rattle.dw_line.specs.Machine.{rows_on}
-use Rattle.dw_line.specs.Search.{row_told, row_before_address}
-use Rattle.dw_line.specs.Sequences.{up_to_end, checkpoint_row, state_of, used_sequences, IsCheckpoint, HasCheckpoints}
+use Rattle.dw_line.specs.Search.{row_told, row_before_address, told_at}
+use Rattle.dw_line.specs.Sequences.{up_to_end, checkpoint_row, state_of, used_sequences, number_among, IsCheckpoint, HasCheckpoints}
 
 -- what is told of it
 abbrev pub told_of : Reached → RowTold
@@ -31,6 +31,10 @@ pub record IsPassed (header : LineHeader) (rows : List Row) (next_checkpoint : �
   pub number : reached.next_checkpoint ≡ next_checkpoint
   pub is : IsRow header rows passed reached
 
+-- the address lies at the row or after it, and before the next one
+abbrev pub HoldsAddress : ℕ → Reached → Type 0
+HoldsAddress a reached = (reached.row.registers.address ≤ a) × (a < reached.next)
+
 -- What is found from a row on is the row of the address at or behind it, where the rows from there on can be read.
 abbrev pub FindsFrom : LineHeader → Checkpoint → ℕ → ℕ → Option Reached → Type 0
 FindsFrom header row next_checkpoint a found =
@@ -38,9 +42,10 @@ FindsFrom header row next_checkpoint a found =
     → (option_map told_of found ≡ option_map row_told (row_before_address 64 a (checkpoint_row row) rows))
     × IfSome found (IsPassed header (checkpoint_row row ∷ up_to_end rows) next_checkpoint)
 
--- What is found is the row of the address.
+-- What is found is the row of the address, and one of these rows.
 abbrev pub FindsIn : LineHeader → List Row → ℕ → Option Reached → Type 0
-FindsIn header rows a found = (option_map told_of found ≡ option_map row_told (row_in a rows)) × IfSome found (IsReached header rows)
+FindsIn header rows a found =
+    (option_map told_of found ≡ option_map row_told (row_in a rows)) × IfSome found (IsReached header rows) × IfSome found (HoldsAddress a)
 
 -- the same in the used sequence that has these checkpoints, of an address below its end
 abbrev pub FindsAmong : LineHeader → List Checkpoint → ℕ → Option Reached → Type 0
@@ -75,3 +80,8 @@ IsLast header used last = IfSome last (λ last. IfSome (slice_get used last.numb
 abbrev pub FindsRow : LineHeader → List Row → ℕ → Option Last → Type 0
 FindsRow header rows a found =
     (option_map (λ last. told_of last.reached) found ≡ option_map row_told (row_of rows a)) × IsLast header (used_sequences rows) found
+
+-- Each address of the sequence with a number that lies at an address or after it, and before the next row, has the row that was found.
+pub record Stays (rows : List Row) (number a : ℕ) (found : Last) : Type 0 where
+  pub above : a < found.reached.next
+  pub same : (c : ℕ) → a ≤ c → c < found.reached.next → number_among (used_sequences rows) c ≡ Some number → told_at rows c ≡ Some (told_of found.reached)

@@ -1,6 +1,6 @@
 -- The row of an address, as it is found from a checkpoint on.
-use Rattle.std.specs.Prelude.{ℕ, zero, suc, List, [], ◌∷◌, Option, Some, None, nat_lt, if◌then◌else◌}
-use Rattle.dw_model.specs.Matrix.{Row}
+use Rattle.std.specs.Prelude.{ℕ, zero, suc, List, [], ◌∷◌, Option, Some, None, option_map, nat_lt, if◌then◌else◌}
+use Rattle.dw_model.specs.Matrix.{Row, row_of}
 use Rattle.dw_line.specs.declared.rows.Row.{Row as RowTold}
 
 -- what is told of a row
@@ -14,3 +14,7 @@ row_before_address (suc most) a row [] = None
 row_before_address (suc most) a row (next ∷ rows) =
     let later = row_before_address most a next rows in
     if nat_lt a next.address then Some row else (if next.ends then None else later)
+
+-- what is told of an address's row, where it has one
+abbrev pub told_at : List Row → ℕ → Option RowTold
+told_at rows a = option_map row_told (row_of rows a)

@@ -24,6 +24,10 @@ holds_address a rows = nat_le (first_address rows) a && nat_lt a (last_address r
 abbrev pub number_among : List (List Row) → ℕ → Option ℕ
 number_among used a = position_from (holds_address a) 0 used
 
+-- the sequence of this number is the first that holds each address from one on and below another; or none does
+abbrev pub IsOwner : List Row → Option ℕ → (begin end : ℕ) → Type 0
+IsOwner rows number begin end = (a : ℕ) → begin ≤ a → a < end → number_among (used_sequences rows) a ≡ number
+
 -- the rows up to and with the first that ends its sequence
 abbrev pub up_to_end : List Row → List Row
 up_to_end [] = []

@@ -2,17 +2,17 @@
 
 ghost use Rattle.std.specs.Prelude.{◌≡◌, ◌∷◌, [], None, map, option_map};
 ghost use Rattle.std.specs.Option.{option_map_or};
-ghost use Rattle.dw_model.specs.declared.dwarf.TheConstants.{OFFSET_SIZE_32};
 ghost use Rattle.dw_model.specs.LineHeader.{formats_at, contents_at, entries_at, entry_list, as_directory};
 ghost use Rattle.dw_model.specs.Text as model;
 ghost use Rattle.dw_model.specs.Answers.{ReadsOn, ReadsUnlessMemory};
+ghost use Rattle.dw_bytes.specs.Width.{size_of};
 ghost use Rattle.dw_forms.specs.Value.{value_shown};
 ghost use Rattle.dw_line.specs.Fault.{line_fault};
 ghost use Rattle.dw_line.specs.Header.{format_shown, contents_shown, used_of, used_at, entry_shown};
 
 use crate::fault::LineFault;
 use crate::numbers::{uleb, value};
-use dw_bytes::Cursor;
+use dw_bytes::{Cursor, Width};
 use dw_forms::Value;
 use dw_model::dwarf::{DW_LNCT_directory_index, DW_LNCT_path};
 use smallvec::SmallVec;
@@ -77,16 +77,20 @@ impl<'a> Contents<'a> {
     }
 }
 
-/// The values that these formats ask for.
-fn contents_of<'a>(cursor: &mut Cursor<'a>, formats: &[Format]) -> Result<Contents<'a>, LineFault>
-    ensures { ReadsOn contents_shown line_fault result (used_at (record { path = None; directory = None }) (contents_at OFFSET_SIZE_32 (map format_shown formats.now) cursor.old)) cursor.new }
+/// The values that these formats ask for, where offsets have a width.
+fn contents_of<'a>(
+    cursor: &mut Cursor<'a>,
+    formats: &[Format],
+    width: Width,
+) -> Result<Contents<'a>, LineFault>
+    ensures { ReadsOn contents_shown line_fault result (used_at (record { path = None; directory = None }) (contents_at (size_of width) (map format_shown formats.now) cursor.old)) cursor.new }
 {
     let mut contents = Contents {
         path: None,
         directory: None,
     };
     for format in formats {
-        let value = value(cursor, format.form)?;
+        let value = value(cursor, format.form, width)?;
         contents = contents.with(format.content, value);
     }
     Ok(contents)
@@ -108,12 +112,13 @@ fn entries_of<'a>(
     cursor: &mut Cursor<'a>,
     formats: &[Format],
     count: u64,
+    width: Width,
 ) -> Result<Vec<LineEntry<'a>>, LineFault>
-    ensures { (tables : model.Tables) (bases : model.Bases) → ReadsUnlessMemory (λ entries. map (entry_shown tables bases) entries.items) line_fault result (entries_at tables bases OFFSET_SIZE_32 (map format_shown formats.now) count cursor.old) cursor.new }
+    ensures { (tables : model.Tables) (bases : model.Bases) → ReadsUnlessMemory (λ entries. map (entry_shown tables bases) entries.items) line_fault result (entries_at tables bases (size_of width) (map format_shown formats.now) count cursor.old) cursor.new }
 {
     let mut entries = Vec::new(alloc);
     for _ in 0..count {
-        let contents = contents_of(cursor, formats)?;
+        let contents = contents_of(cursor, formats, width)?;
         entries.push(LineEntry {
             path: contents.path,
             directory: directory_of(contents.directory),
@@ -123,13 +128,15 @@ fn entries_of<'a>(
 }
 
 /// A list: how many formats, these, how many entries, and those. A number of entries above that of
-/// the bytes left is bad, so that entries of no bytes can't be without number.
+/// the bytes left is bad, so that entries of no bytes can't be without number. Offsets have a
+/// width.
 #[tactic(auto, unfolding(dw_model::specs::LineHeader::entry_list))]
 pub(crate) fn entry_list_of<'a>(
     alloc: Global,
     cursor: &mut Cursor<'a>,
+    width: Width,
 ) -> Result<Vec<LineEntry<'a>>, LineFault>
-    ensures { (tables : model.Tables) (bases : model.Bases) → ReadsUnlessMemory (λ entries. map (entry_shown tables bases) entries.items) line_fault result (entry_list tables bases OFFSET_SIZE_32 cursor.old) cursor.new }
+    ensures { (tables : model.Tables) (bases : model.Bases) → ReadsUnlessMemory (λ entries. map (entry_shown tables bases) entries.items) line_fault result (entry_list tables bases (size_of width) cursor.old) cursor.new }
 {
     let format_count = cursor.u8().ok_or(LineFault::Bad)?;
     let formats = formats_of(alloc, cursor, format_count)?;
@@ -137,5 +144,5 @@ pub(crate) fn entry_list_of<'a>(
     if count > cursor.left() as u64 {
         return Err(LineFault::Bad);
     }
-    entries_of(alloc, cursor, formats.as_slice(), count)
+    entries_of(alloc, cursor, formats.as_slice(), count, width)
 }

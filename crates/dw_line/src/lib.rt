@@ -15,7 +15,9 @@ mod registers;
 mod rows;
 mod search;
 mod sequences;
+mod walk;
 
 pub use fault::LineFault;
 pub use lines::Lines;
 pub use rows::Row;
+pub use walk::{Stretch, Walk};

@@ -1,15 +1,16 @@
 //! A line table: the row of an address, and the path of a file.
 
-ghost use Rattle.std.specs.Prelude.{◌≡◌, ◌≤◌, ◌<◌, ◌+◌, IfOk, option_map};
+ghost use Rattle.std.specs.Prelude.{◌≡◌, ◌≤◌, ◌<◌, ◌+◌, ℕ, Some, IfOk, option_map};
 ghost use Rattle.dw_model.specs.Answers.{GivesUnlessMemory};
 ghost use Rattle.dw_model.specs.Matrix.{row_of};
 ghost use Rattle.dw_model.specs.Path.{path};
+ghost use Rattle.dw_model.specs.Steady.{IsSteady, last_address};
 ghost use Rattle.dw_forms.specs.Tables.{tables_shown, bases_shown};
 ghost use Rattle.dw_line.specs.Fault.{line_fault};
 ghost use Rattle.dw_line.specs.Lines.{lines_of};
-ghost use Rattle.dw_line.specs.Reached.{IsLast, FindsRow};
-ghost use Rattle.dw_line.specs.Search.{row_told};
-ghost use Rattle.dw_line.specs.Sequences.{used_sequences, most_checkpoints};
+ghost use Rattle.dw_line.specs.Reached.{IsLast, FindsRow, Stays};
+ghost use Rattle.dw_line.specs.Search.{row_told, told_at};
+ghost use Rattle.dw_line.specs.Sequences.{used_sequences, number_among, most_checkpoints, IsOwner};
 
 use crate::checkpoints::{Checkpoint, Checkpoints, Sequence};
 use crate::fault::LineFault;
@@ -18,7 +19,8 @@ use crate::path::{join, join_some};
 use crate::program::run_program;
 use crate::rows::Row;
 use crate::search::{Last, last_in, row_onward};
-use crate::sequences::{index_of, own_checkpoints};
+use crate::sequences::{Owner, index_of, own_checkpoints};
+use crate::walk::Walk;
 use dw_bytes::Steps;
 use dw_forms::{Bases, Tables};
 use dw_index::Index;
@@ -175,21 +177,81 @@ impl<'a> Lines<'a> {
         address: u64,
         steps: &mut Steps<L>,
     ) -> Option<Last>
-        ensures row { IsLast self.now.header (used_sequences self.now.rows) last → FindsRow self.now.header self.now.rows address result }
+        requires { IsLast self.now.header (used_sequences self.now.rows) last }
+        ensures row { FindsRow self.now.header self.now.rows address result }
         ensures counted { steps.new ≤ steps.old + 64 }
     {
         let Some(number) = self.index.find(address) else {
             return None;
         };
+        Some(self.row_of_sequence(number, last, address, steps))
+    }
+
+    /// The row of an address in the used sequence of a number, which is the first that holds the address, from the
+    /// row that was found last if that serves.
+    pub(crate) fn row_of_sequence<L: Ledger>(
+        &self,
+        number: usize,
+        last: Option<Last>,
+        address: u64,
+        steps: &mut Steps<L>,
+    ) -> Last
+        requires number { number_among (used_sequences self.now.rows) address ≡ Some number }
+        requires last { IsLast self.now.header (used_sequences self.now.rows) last }
+        ensures row { FindsRow self.now.header self.now.rows address (Some result) }
+        ensures stays { Stays self.now.rows number address result }
+        ensures counted { steps.new ≤ steps.old + 64 }
+    {
         let Some(sequence) = self.sequences.get(number) else {
-            return None;
+            unreachable!()
         };
         let checkpoints = own_checkpoints(&self.checkpoints, *sequence);
         let last = last_in(last, number);
         let Some(reached) = row_onward(&self.header, checkpoints, last, address, steps) else {
-            return None;
+            unreachable!()
         };
-        Some(Last { number, reached })
+        Last { number, reached }
+    }
+
+    /// The used sequence that holds an address, if one does, and up to where it is the same.
+    pub(crate) fn owner_from(&self, a: u64) -> Owner
+        requires { a < last_address }
+        ensures after { a < result.until }
+        ensures owner { IsOwner self.now.rows result.number a result.until }
+    {
+        Owner {
+            number: self.index.find(a),
+            until: self.index.steady(a),
+        }
+    }
+
+    /// Goes from row to row through the addresses from `low` on and below `high`. Takes no memory.
+    pub fn walk<'b>(&'b self, low: u64, high: u64) -> Walk<'b, 'a>
+        ensures table { result.table ≡ self.now }
+        ensures span { (result.at ≡ low) × (result.high ≡ high) }
+    {
+        Walk::new(self, low, high)
+    }
+
+    /// The least address above one at which `row` answers something else than there; 2^64 - 1 where there is none. So
+    /// `row` answers the same from the address on up to, and without, the one that is returned. It runs the rows
+    /// between these two, and at most 64 before them. Takes no memory.
+    pub fn steady(&self, a: u64) -> u64
+        requires { a < last_address }
+        ensures { IsSteady (told_at self.now.rows) a result }
+    {
+        let mut walk = self.walk(a, u64::MAX);
+        let Some(first) = walk.next() else {
+            return u64::MAX;
+        };
+        loop {
+            let Some(stretch) = walk.next() else {
+                return u64::MAX;
+            };
+            if stretch.row != first.row {
+                return stretch.begin;
+            }
+        }
     }
 
     /// How many checkpoints are kept: at most one for 64 rows of used sequences, and one for each of these

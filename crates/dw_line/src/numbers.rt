@@ -1,17 +1,17 @@
 //! Numbers and values of a line table, each of whose faults makes the table bad.
 
 ghost use Rattle.std.specs.Prelude.{None};
-ghost use Rattle.dw_model.specs.declared.dwarf.TheConstants.{OFFSET_SIZE_32};
 ghost use Rattle.dw_model.specs.Results.{or_fault};
 ghost use Rattle.dw_model.specs.Leb.{uleb_at, sleb_at};
 ghost use Rattle.dw_model.specs.Form.{value_at};
 ghost use Rattle.dw_model.specs.Faults.{bad};
 ghost use Rattle.dw_model.specs.Answers.{ReadsOn};
+ghost use Rattle.dw_bytes.specs.Width.{size_of};
 ghost use Rattle.dw_forms.specs.Value.{value_shown};
 ghost use Rattle.dw_line.specs.Fault.{line_fault};
 
 use crate::fault::LineFault;
-use dw_bytes::Cursor;
+use dw_bytes::{Cursor, Width};
 use dw_forms::{Value, read_value};
 
 /// An unsigned LEB128 number (section 7.6).
@@ -36,11 +36,15 @@ pub(crate) fn sleb(cursor: &mut Cursor<'_>) -> Result<i64, LineFault>
     }
 }
 
-/// The value of a form (section 7.5.6).
-pub(crate) fn value<'a>(cursor: &mut Cursor<'a>, form: u64) -> Result<Value<'a>, LineFault>
-    ensures { ReadsOn value_shown line_fault result (or_fault bad (value_at OFFSET_SIZE_32 form None cursor.old)) cursor.new }
+/// The value of a form (section 7.5.6), where offsets have a width.
+pub(crate) fn value<'a>(
+    cursor: &mut Cursor<'a>,
+    form: u64,
+    width: Width,
+) -> Result<Value<'a>, LineFault>
+    ensures { ReadsOn value_shown line_fault result (or_fault bad (value_at (size_of width) form None cursor.old)) cursor.new }
 {
-    match read_value(cursor, form, None) {
+    match read_value(cursor, form, None, width) {
         Ok(value) => Ok(value),
         Err(_) => Err(LineFault::Bad),
     }

@@ -1,10 +1,10 @@
 //! The row of an address in a used sequence, from whose checkpoints rows are run again, or from the row that
 //! answered last.
 
-ghost use Rattle.std.specs.Prelude.{◌≡◌, ◌≤◌, ◌<◌, ◌+◌, Some, length, drop, nat_le, option_map};
+ghost use Rattle.std.specs.Prelude.{◌≡◌, ◌≤◌, ◌<◌, ◌+◌, Some, IfSome, length, drop, nat_le, option_map};
 ghost use Rattle.dw_line.specs.Header.{header_shown};
 ghost use Rattle.dw_line.specs.Machine.{RunsToNext, state_at};
-ghost use Rattle.dw_line.specs.Reached.{told_of, reaches, last_in, FindsFrom, FindsAmong, FindsOnward};
+ghost use Rattle.dw_line.specs.Reached.{told_of, reaches, last_in, HoldsAddress, FindsFrom, FindsAmong, FindsOnward};
 
 use crate::checkpoints::{Checkpoint, ROWS_APART};
 use crate::fault::LineFault;
@@ -106,6 +106,7 @@ fn row_from<L: Ledger>(
     steps: &mut Steps<L>,
 ) -> Option<Reached>
     ensures row { FindsFrom (header_shown header.now) row next_checkpoint address result }
+    ensures holds { row.registers.address ≤ address → IfSome result (HoldsAddress address) }
     ensures counted { steps.new ≤ steps.old + 64 }
 {
     let Some(mut cursor) = cursor_at(header.program, row.place) else {

@@ -9,6 +9,13 @@ use crate::checkpoints::{Checkpoint, Sequence};
 use dw_index::{Index, Range};
 use std::alloc::{AllocError, Global};
 
+/// The number of the used sequence that holds some addresses, if one does, and where they end.
+#[derive(Clone, Copy, Debug)]
+pub(crate) struct Owner {
+    pub(crate) number: Option<usize>,
+    pub(crate) until: u64,
+}
+
 /// The ranges of sequences, each with the sequence's number.
 fn sequence_pairs(alloc: Global, sequences: &[Sequence]) -> Result<Vec<(Range, usize)>, AllocError>
     ensures { IfOk result (λ pairs. map pair_shown pairs.items ≡ pairs_from 0 sequences.now) }

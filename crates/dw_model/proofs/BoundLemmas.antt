@@ -1,14 +1,14 @@
 -- Where something is read at an offset, the offset lies in its section.
-use Rattle.std.proofs.Common.{◌≡◌, inl, inr, ℕ, ◌+◌, ◌<◌, ◌≤◌, Bool, true, false, cond, List, [], ◌∷◌, length, take, drop, Option, Some, None, Result, Ok, Err, refl, subst, sym, ap, ◌∙◌, arith, length-append, length-drop, length-take}
+use Rattle.std.proofs.Common.{◌≡◌, inl, inr, ℕ, ◌+◌, ◌<◌, ◌≤◌, Bool, true, false, cond, List, [], ◌∷◌, length, take, drop, Option, Some, None, Result, Ok, Err, refl, subst, sym, ap, arith, length-append, length-drop, length-take}
 use Rattle.std.specs.Prelude.{ok_or, option_map, nat_eq, nat_lt, nat_le, not, ◌||◌, ◌==◌}
 use Rattle.std.specs.List.{cons_option, AllByRecursion}
 use Rattle.std.proofs.Math.Nat.{min-le_right}
 use Rattle.std.proofs.lemmas.Option.{same_Some}
 use Rattle.std.proofs.lemmas.Bool.{leb-true, leb-false, ltb-false, or_parts}
-use Rattle.dw_model.specs.declared.dwarf.TheConstants.{DWARF_VERSION, ADDRESS_SIZE, DW_RLE_end_of_list, OFFSET_SIZE_32}
+use Rattle.dw_model.specs.declared.dwarf.TheConstants.{DWARF_VERSION, ADDRESS_SIZE, DW_RLE_end_of_list}
 use Rattle.dw_model.specs.Results.{◌>>=◌, refuse_if}
 use Rattle.dw_model.specs.Reading.{Place, start, Between, number_at, bytes_at, text_at, items, AreItems}
-use Rattle.dw_model.specs.InitialLength.{initial_length_of, initial_length}
+use Rattle.dw_model.specs.InitialLength.{Width, offset_size, length_size, initial_length}
 use Rattle.dw_model.specs.Faults.{Fault, ends_early, Refusal, unit_header, address_size, Bad, bad}
 use Rattle.dw_model.specs.Abbrev.{Declaration, next_declaration, abbreviations}
 use Rattle.dw_model.specs.Entry.{Entry, entry_at}
@@ -16,13 +16,14 @@ use Rattle.dw_model.specs.Text.{Tables, Bases, number_in, text_in}
 use Rattle.dw_model.specs.Ranges.{RangeEntry, operands, next_range_entry, range_entries}
 use Rattle.dw_model.specs.LineHeader.{LineHeader, length_of, table_behind, line_header}
 use Rattle.dw_model.specs.Section.{Sections}
-use Rattle.dw_model.specs.Unit.{DwarfUnit, Test, Kind, Extent, skipped_unit, dwo_id_size, is_skipped, kind_of, kept_unit, unit_of, AreContents, extent_at, AreUnits, StandsIn}
+use Rattle.dw_model.specs.Unit.{DwarfUnit, Test, Kind, Extent, skipped_unit, dwo_id_size, is_skipped, kind_of, kept_unit, unit_of, Content, AreContents, extent_at, IsUnitOf, AreUnits, StandsIn}
 use Rattle.dw_model.specs.Root.{place_in, entry}
-use Rattle.dw_model.proofs.StepLemmas.{bind_ok, bind_some, ok_or-ok, ok_is}
+use Rattle.dw_model.proofs.StepLemmas.{bind_ok, ok_or-ok, ok_is}
+use Rattle.dw_model.proofs.InitialLemmas.{initial-left}
 use Rattle.dw_model.proofs.ReadingLemmas.{between-length}
 use Rattle.dw_model.proofs.NumberLemmas.{number_at-spans, bytes_at-between}
 use Rattle.dw_model.proofs.TextLemmas.{text_at-spans}
-use Rattle.dw_model.proofs.CutLaws.{piece-long}
+use Rattle.dw_model.proofs.CutLaws.{piece-long, some-length}
 use Rattle.dw_model.proofs.AdvanceLemmas.{either, entry-onward, number-onward, range_entries_advance}
 use Rattle.dw_model.proofs.ItemsLemmas.{read_by}
 use Rattle.std.specs.Map.{lookup}
@@ -65,9 +66,7 @@ unfolding line_header
 line_header-bound tables bases section offset x e =
     let p : Place = record { at = offset; left = drop offset section } in
     let b = bind_ok (ok_or (initial_length p) bad) (λ unit_length. length_of unit_length.0 >>= λ len. ok_or (bytes_at len.0 unit_length.1) bad >>= λ table. table_behind tables bases len.1 (start table.0)) x e in
-    let l = bind_some (number_at 4 p) (λ n. Some (initial_length_of n.0, n.1)) b.0 (ok_or-ok (initial_length p) bad b.0 b.1) in
-    let s = number_at-spans 4 p l.0 l.1 in
-    left_behind section offset 4 (omega arith) (omega (arith, between-length p l.0.1 s.0 s.1, s.2.0))
+    left_behind section offset 4 (omega arith) (omega (arith, initial-left p b.0 (ok_or-ok (initial_length p) bad b.0 b.1)))
 
 -- the first entry of a list has a code
 first_code : (p : Place) (x : Option RangeEntry × Place) → next_range_entry p ≡ Ok x → 1 ≤ length p.left
@@ -175,22 +174,19 @@ unit_of-within extent size bytes unit ends e =
           typed-within extent size v.0.0 t.0 unit base (omega (arith, ends, passed, number-conserves 1 v.0.1 (unit_header extent.offset) t.0 t.1)) t.2)
     ]
 
-pub all_within : (test : Test) (at : ℕ) (bytes : List ℕ) (contents : List (List ℕ)) (found : List DwarfUnit) → AreContents bytes contents → AreUnits test at contents found → AllByRecursion (StandsIn (at + length bytes)) found
+-- the unit of a piece, and those behind it
+piece_within : (test : Test) (at : ℕ) (width : Width) (content : List ℕ) (unit : Option DwarfUnit) (others : List DwarfUnit) (size : ℕ) → IsUnitOf test at width content unit → at + length_size width + length content ≤ size → AllByRecursion (StandsIn size) others → AllByRecursion (StandsIn size) (cons_option unit others)
+piece_within test at width [] unit others size u within h = rw (u) h
+piece_within test at width (c ∷ content) unit others size u within h =
+    let w = unit_of-within (extent_at at width (c ∷ content)) (offset_size width) (c ∷ content) u.0 refl u.2 in
+    let stands : StandsIn size u.0 = (omega (arith, w.offset, w.behind, some-length width), omega (arith, w.first_entry, w.end), omega (arith, w.end, within)) in
+    rw (u.1) (stands, h)
+
+pub all_within : (test : Test) (at : ℕ) (bytes : List ℕ) (contents : List Content) (found : List DwarfUnit) → AreContents bytes contents → AreUnits test at contents found → AllByRecursion (StandsIn (at + length bytes)) found
 all_within test at bytes [] found h u = subst (λ found. AllByRecursion (StandsIn (at + length bytes)) found) (sym u) tt
-all_within test at bytes ([] ∷ contents) found h u =
-    let whole : length bytes ≡ 4 + length h.1 = rw (h.2) (omega (arith, length-append h.0 h.1, piece-long [] h.0 h.3)) in
-    let end : at + 4 + 0 + length h.1 ≡ at + length bytes = omega (arith, whole) in
-    let others = all_within test (at + 4 + 0) h.1 contents u.1 h.4 u.4 in
-    let same : u.1 ≡ found = sym (u.2 ∙ ap (λ (o : Option DwarfUnit). cons_option o u.1) u.3) in
-    subst (λ found. AllByRecursion (StandsIn (at + length bytes)) found) same (subst (λ end. AllByRecursion (StandsIn end) u.1) end others)
-all_within test at bytes ((c ∷ content) ∷ contents) found h u =
-    let n : ℕ = length (c ∷ content) in
-    let whole : length bytes ≡ 4 + n + length h.1 = rw (h.2) (omega (arith, length-append h.0 h.1, piece-long (c ∷ content) h.0 h.3)) in
-    let end : at + 4 + n + length h.1 ≡ at + length bytes = omega (arith, whole) in
-    let others = all_within test (at + 4 + n) h.1 contents u.1 h.4 u.4 in
-    let unit = u.3.0 in
-    let same : unit ∷ u.1 ≡ found = sym (u.2 ∙ ap (λ (o : Option DwarfUnit). cons_option o u.1) u.3.1) in
-    let w = unit_of-within (extent_at at (c ∷ content)) OFFSET_SIZE_32 (c ∷ content) unit refl u.3.2 in
-    let stands : StandsIn (at + length bytes) unit = (omega (arith, w.offset, w.behind), omega (arith, w.first_entry, w.end), omega (arith, w.end, end)) in
-    let all : AllByRecursion (StandsIn (at + length bytes)) (unit ∷ u.1) = (stands, subst (λ end. AllByRecursion (StandsIn end) u.1) end others) in
-    subst (λ found. AllByRecursion (StandsIn (at + length bytes)) found) same all
+all_within test at bytes (content ∷ contents) found h u =
+    let behind : ℕ = at + length_size content.width + length content.bytes in
+    let whole : length bytes ≡ length_size content.width + length content.bytes + length h.1 = rw (h.2) (omega (arith, length-append h.0 h.1, piece-long content h.0 h.3)) in
+    let end : behind + length h.1 ≡ at + length bytes = omega (arith, whole) in
+    let others = subst (λ end. AllByRecursion (StandsIn end) u.1) end (all_within test behind h.1 contents u.1 h.4 u.4) in
+    subst (λ found. AllByRecursion (StandsIn (at + length bytes)) found) (sym u.2) (piece_within test at content.width content.bytes u.0 u.1 (at + length bytes) u.3 (omega (arith, end)) others)

@@ -8,6 +8,7 @@ pub mod NumberLemmas
 pub mod TextLemmas
 pub mod LebReading
 pub mod SpellingLemmas
+pub mod InitialLemmas
 pub mod SpellingFaults
 pub mod ValueLemmas
 pub mod InstructionLemmas
@@ -19,3 +20,4 @@ pub mod BoundLemmas
 pub mod Samples
 pub mod OnSamples
 pub mod Rows
+pub mod PieceLemmas

@@ -153,11 +153,25 @@ unfoldable pub narrow_unit : List ℕ
 unfolding hex
 narrow_unit = hex (codes "19 00 00 00 05 00 01 08 00 00 00 00 02 00 00 00 00 00 20 00 00 00 00 00 00 10 00 00 00")
 
-unfoldable pub overlapping : List ℕ → List ℕ
+-- the same units in the 64-bit format
+unfoldable pub wide_unit_64 : List ℕ
+unfolding hex
+wide_unit_64 = hex (codes "ff ff ff ff 19 00 00 00 00 00 00 00 05 00 01 08 00 00 00 00 00 00 00 00 01 00 10 00 00 00 00 00 00 00 20 00 00")
+
+unfoldable pub narrow_unit_64 : List ℕ
+unfolding hex
+narrow_unit_64 =
+    hex (codes "ff ff ff ff 21 00 00 00 00 00 00 00 05 00 01 08 00 00 00 00 00 00 00 00 02 00 00 00 00 00 00 00 00 00 20 00 00 00 00 00 00 10 00 00 00")
+
+-- a file of such units, whose line table has this program
+unfoldable pub overlapping_by : (program info : List ℕ) → List ℕ
 unfolding three_sections hex line_table
-overlapping info =
-    three_sections info (hex (codes "01 11 00 11 01 12 06 00 00 02 11 00 10 17 11 01 12 06 00 00 00"))
-    (line_table (hex (codes "00 09 02 00 20 00 00 00 00 00 00 14 02 10 00 01 01")))
+overlapping_by program info =
+    three_sections info (hex (codes "01 11 00 11 01 12 06 00 00 02 11 00 10 17 11 01 12 06 00 00 00")) (line_table program)
+
+unfoldable pub overlapping : List ℕ → List ℕ
+unfolding hex overlapping_by
+overlapping info = overlapping_by (hex (codes "00 09 02 00 20 00 00 00 00 00 00 14 02 10 00 01 01")) info
 
 -- ---- deep trees, and names far away
 

@@ -6,12 +6,13 @@ use Rattle.std.specs.Option.{option_map_or}
 use Rattle.std.proofs.lemmas.Bool.{eqb-true}
 use Rattle.std.proofs.lemmas.List.{nil_from_length}
 use Rattle.dw_model.specs.Results.{◌>>=◌}
-use Rattle.dw_model.specs.Reading.{Place, number_at, bytes_at, onto, items}
-use Rattle.dw_model.specs.InitialLength.{InitialLength, of_length, wide, reserved, initial_length_of, initial_length}
+use Rattle.dw_model.specs.Reading.{Place, bytes_at, onto, items}
+use Rattle.dw_model.specs.InitialLength.{offset_size, InitialLength, of_length, reserved, initial_length}
 use Rattle.dw_model.specs.Faults.{Refusal, unit_header}
 use Rattle.dw_model.specs.Unit.{DwarfUnit, Test, untested, unit_of, unit_behind, piece_at, next_piece, cut_from}
-use Rattle.dw_model.proofs.StepLemmas.{bind_ok, bind_some, ok_or-ok, ok_is}
-use Rattle.dw_model.proofs.ReadingLemmas.{number_at-took, bytes_at-took, took-left}
+use Rattle.dw_model.proofs.StepLemmas.{bind_ok, ok_or-ok, ok_is}
+use Rattle.dw_model.proofs.ReadingLemmas.{bytes_at-took, took-left}
+use Rattle.dw_model.proofs.InitialLemmas.{initial-left}
 use Rattle.dw_model.proofs.ItemsLemmas.{Advances, items-turn}
 
 abbrev Piece : Type 0
@@ -29,9 +30,8 @@ end_is false unit test end x e =
 unit_behind-left : (test : Test) (offset : ℕ) (n : InitialLength) (p : Place) (x : Piece) → unit_behind test offset n p ≡ Ok x → length x.1.left ≤ length p.left
 unfolding unit_behind
 unit_behind-left test offset reserved p x e = absurd cc
-unit_behind-left test offset wide p x e = absurd cc
-unit_behind-left test offset (of_length n size) p x e =
-    let unit : List ℕ × Place → Result DwarfUnit Refusal = λ bytes. unit_of (record { offset = offset; base = p.at; end = bytes.1.at }) size bytes.0 in
+unit_behind-left test offset (of_length n width) p x e =
+    let unit : List ℕ × Place → Result DwarfUnit Refusal = λ bytes. unit_of (record { offset = offset; base = p.at; end = bytes.1.at }) (offset_size width) bytes.0 in
     let b = bind_ok (ok_or (bytes_at n p) (unit_header offset)) (λ bytes. cond (n == 0) (Ok (None, bytes.1)) (unit bytes >>= λ u. test u >>= λ _. Ok (Some u, bytes.1))) x e in
     let took = bytes_at-took n p b.0 (ok_or-ok (bytes_at n p) (unit_header offset) b.0 b.1) in
     let ends = end_is (n == 0) (unit b.0) test b.0.1 x b.2 in
@@ -42,10 +42,8 @@ pub piece_at-left : (test : Test) (p : Place) (x : Piece) → piece_at test p �
 unfolding piece_at
 piece_at-left test p x e =
     let b = bind_ok (ok_or (initial_length p) (unit_header p.at)) (λ unit_length. unit_behind test p.at unit_length.0 unit_length.1) x e in
-    let l = bind_some (number_at 4 p) (λ n. Some (initial_length_of n.0, n.1)) b.0 (ok_or-ok (initial_length p) (unit_header p.at) b.0 b.1) in
-    let took = number_at-took 4 p l.0 l.1 in
-    let same : length l.0.1.left ≡ length b.0.1.left = let e : l.0.1 ≡ b.0.1 = cc in ap (λ (q : Place). length q.left) e in
-    omega (arith, took-left 4 p l.0.1 took, unit_behind-left test p.at b.0.0 b.0.1 x b.2)
+    let some = initial-left p b.0 (ok_or-ok (initial_length p) (unit_header p.at) b.0 b.1) in
+    omega (arith, some, unit_behind-left test p.at b.0.0 b.0.1 x b.2)
 
 abbrev Next : Type 0
 Next = Option (Option DwarfUnit) × Place
@@ -127,11 +125,10 @@ unit-tested test false (Err f) end = refl
 behind-tested : (test : Test) (offset : ℕ) (n : InitialLength) (p : Place) → unit_behind test offset n p ≡ (unit_behind untested offset n p >>= tested test)
 unfolding unit_behind
 behind-tested test offset reserved p = refl
-behind-tested test offset wide p = refl
-behind-tested test offset (of_length n size) p =
-    grouped (ok_or (bytes_at n p) (unit_header offset)) (λ bytes. cond {A = Result Piece Refusal} (n == 0) (Ok (None, bytes.1)) (unit_of (record { offset = offset; base = p.at; end = bytes.1.at }) size bytes.0 >>= λ u. test u >>= λ _. Ok (Some u, bytes.1)))
-    (λ bytes. cond {A = Result Piece Refusal} (n == 0) (Ok (None, bytes.1)) (unit_of (record { offset = offset; base = p.at; end = bytes.1.at }) size bytes.0 >>= λ u. untested u >>= λ _. Ok (Some u, bytes.1))) test
-    (λ bytes. unit-tested test (n == 0) (unit_of (record { offset = offset; base = p.at; end = bytes.1.at }) size bytes.0) bytes.1)
+behind-tested test offset (of_length n width) p =
+    grouped (ok_or (bytes_at n p) (unit_header offset)) (λ bytes. cond {A = Result Piece Refusal} (n == 0) (Ok (None, bytes.1)) (unit_of (record { offset = offset; base = p.at; end = bytes.1.at }) (offset_size width) bytes.0 >>= λ u. test u >>= λ _. Ok (Some u, bytes.1)))
+    (λ bytes. cond {A = Result Piece Refusal} (n == 0) (Ok (None, bytes.1)) (unit_of (record { offset = offset; base = p.at; end = bytes.1.at }) (offset_size width) bytes.0 >>= λ u. untested u >>= λ _. Ok (Some u, bytes.1))) test
+    (λ bytes. unit-tested test (n == 0) (unit_of (record { offset = offset; base = p.at; end = bytes.1.at }) (offset_size width) bytes.0) bytes.1)
 
 pub piece_at-tested : (test : Test) (p : Place) → piece_at test p ≡ (piece_at untested p >>= tested test)
 unfolding piece_at

@@ -34,11 +34,18 @@ pub data Code : Type 0 where
   tree_fault : TreeFault → Code
   line_fault : Code
 
--- No unit covers the address; or its unit, by offset, has a fault; or the frames at it, innermost first.
+-- addresses from `begin` on and before `end`, which have one location
+pub record Piece : Type 0 where
+  pub begin : ℕ
+  pub end : ℕ
+  pub location : Location
+
+-- Of an address: no unit covers it; or its unit, by offset, has a fault; or the frames at it, innermost first. Of a span of addresses: such a fault, or the pieces of it that have locations.
 pub data Answer : Type 0 where
   not_covered : Answer
   fault : (unit : ℕ) → Code → Answer
   found : (unit : ℕ) → List Frame → Answer
+  located : List Piece → Answer
 
 -- The unit of an address: of those that answer, the first whose ranges hold it.
 unfoldable pub unit_of : Sections → ℕ → Option DwarfUnit

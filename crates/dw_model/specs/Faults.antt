@@ -10,7 +10,6 @@ pub data Refusal : Type 0 where
   section_range : (name : List ℕ) → Refusal
   compressed : (name : List ℕ) → Refusal
   unit_header : (offset : ℕ) → Refusal
-  wide_format : (offset : ℕ) → Refusal
   address_size : (offset : ℕ) → Refusal
   root : (offset : ℕ) → Refusal
   root_ranges : (offset : ℕ) → Refusal

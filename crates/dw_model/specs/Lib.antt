@@ -23,4 +23,7 @@ pub mod Path
 pub mod Tree
 pub mod Name
 pub mod Answer
+pub mod Steady
+pub mod Pieces
+pub mod Query
 pub mod Output

@@ -6,7 +6,7 @@ use Rattle.byteorder.specs.Endian.{twos_complement}
 use Rattle.dw_model.specs.declared.dwarf.TheConstants.{DWARF_VERSION, ADDRESS_SIZE, DW_LNCT_path, DW_LNCT_directory_index}
 use Rattle.dw_model.specs.Results.{◌>>=◌, refuse_if, or_fault}
 use Rattle.dw_model.specs.Reading.{Place, start, number_at, bytes_at}
-use Rattle.dw_model.specs.InitialLength.{InitialLength, of_length, wide, reserved, initial_length}
+use Rattle.dw_model.specs.InitialLength.{offset_size, InitialLength, of_length, reserved, initial_length}
 use Rattle.dw_model.specs.Leb.{uleb_at}
 use Rattle.dw_model.specs.Form.{Value, value_at}
 use Rattle.dw_model.specs.Form as values
@@ -117,9 +117,9 @@ table_behind tables bases size p = do
   _ ← refuse_if (not (address_size.0 == ADDRESS_SIZE)) bad
   fields_at tables bases size header.1.left (start header.0)
 
+-- a length and the size of the offsets behind it
 abbrev pub length_of : InitialLength → Result (ℕ × ℕ) Bad
-length_of (of_length n size) = Ok (n, size)
-length_of wide = Err bad
+length_of (of_length n width) = Ok (n, offset_size width)
 length_of reserved = Err bad
 
 -- the header of the table at an offset of .debug_line

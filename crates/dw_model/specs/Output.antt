@@ -1,5 +1,5 @@
 -- The bytes that are written.
-use Rattle.std.specs.Prelude.{ℕ, ◌-◌, Bool, true, false, ◌&&◌, ◌||◌, List, [], ◌∷◌, ◌++◌, length, take, drop, replicate, Option, Some, None, flat_map, unwrap_or, slice_index, nat_lt, nat_le, ◌==◌, if◌then◌else◌, codes, decimal}
+use Rattle.std.specs.Prelude.{ℕ, ◌+◌, ◌-◌, Bool, true, false, ◌&&◌, ◌||◌, List, [], ◌∷◌, ◌++◌, length, take, drop, replicate, position, Option, Some, None, option_map, flat_map, unwrap_or, slice_index, nat_lt, nat_le, ◌==◌, if◌then◌else◌, codes, decimal}
 use Rattle.std.specs.List.{list_all, list_any}
 use Rattle.std.specs.Option.{option_map_or}
 use Rattle.std.specs.Fmt.{digits}
@@ -9,7 +9,8 @@ use Rattle.std.specs.Str.Parse.{digits_value}
 use Rattle.dw_model.specs.Section.{section}
 use Rattle.dw_model.specs.Unit.{Kind, compile, partial, skeleton, skipped, DwarfUnit, units}
 use Rattle.dw_model.specs.Faults.{entry_fault, depth_fault, ranges_fault}
-use Rattle.dw_model.specs.Answer.{Frame, Code, tree_fault, line_fault, Answer, not_covered, fault, found, answer}
+use Rattle.dw_model.specs.Answer.{Frame, Code, tree_fault, line_fault, Piece, Answer, not_covered, fault, found, located}
+use Rattle.dw_model.specs.Query.{Query, address, span, meaning}
 
 -- a number in hexadecimal digits of lower case, without leading zeros
 abbrev pub hexadecimal : ℕ → List ℕ
@@ -51,11 +52,26 @@ abbrev pub without_prefix : List ℕ → List ℕ
 without_prefix text =
     if slice_index text 0 == 48 && (slice_index text 1 == 120 || slice_index text 1 == 88) then drop 2 text else text
 
--- an address is 1 to 16 hexadecimal digits of either case, behind `0x`, `0X` or nothing; anything else is a bad address (own)
+-- an address is 1 to 16 hexadecimal digits of either case, behind `0x`, `0X` or nothing
 abbrev pub address_in : List ℕ → Option ℕ
 address_in text =
     let digits = without_prefix text in
     if nat_lt 0 (length digits) && (nat_le (length digits) 16 && list_all is_ascii_hexdigit digits) then Some (digits_value 16 digits) else None
+
+-- a span from an address on and before another, where both are there and the first is below the second
+abbrev pub span_between : Option ℕ → Option ℕ → Option Query
+span_between (Some low) (Some high) = if nat_lt low high then Some (span low high) else None
+span_between _ _ = None
+
+-- where the first `-` of a text stands
+abbrev pub dash_in : List ℕ → Option ℕ
+dash_in text = position (λ byte. byte == 45) text
+
+-- What a text asks for: an address, or a span, which is an address, `-` and an address above it; anything else is a bad address (own).
+abbrev pub query_in : List ℕ → Option Query
+query_in text =
+    option_map_or (λ dash. span_between (address_in (take dash text)) (address_in (drop (dash + 1) text))) (dash_in text)
+    (option_map address (address_in text))
 
 -- ---- the answers
 
@@ -74,9 +90,6 @@ code_number line_fault = 4
 -- 16 digits, zeros before the number
 abbrev pub sixteen_digits : ℕ → List ℕ
 sixteen_digits n = let text = hexadecimal n in replicate (16 - length text) 48 ++ text
-
-abbrev pub address_line : ℕ → List ℕ
-address_line a = codes "0x" ++ (sixteen_digits a ++ newline)
 
 -- `PATH:LINE`; without a line `PATH:?`, without a path `??:LINE`, and with neither `??:0`
 abbrev pub location_text : Option (List ℕ) → Option ℕ → List ℕ
@@ -104,31 +117,58 @@ fault_line unit code =
 abbrev pub shown : Options → List Frame → List Frame
 shown options frames = if options.inlines then frames else take 1 frames
 
+-- the first address of a span, and its end
+abbrev pub span_text : ℕ → ℕ → List ℕ
+span_text low high = codes "0x" ++ (sixteen_digits low ++ (codes "-0x" ++ sixteen_digits high))
+
+-- a piece and its location
+abbrev pub piece_line : Piece → List ℕ
+piece_line piece =
+    span_text piece.begin piece.end ++ (codes " " ++ (location_text piece.location.path piece.location.line ++ newline))
+
+-- a span without pieces is told as an address of which nothing is known
+abbrev pub piece_lines : List Piece → List ℕ
+piece_lines [] = codes "??:0\n"
+piece_lines (piece ∷ pieces) = flat_map piece_line (piece ∷ pieces)
+
 abbrev pub answer_lines : Options → Answer → List ℕ
 answer_lines options not_covered = frame_lines options unknown_frame
 answer_lines options (fault unit code) = fault_line unit code
 answer_lines options (found unit frames) = flat_map (frame_lines options) (shown options frames)
+answer_lines options (located pieces) = piece_lines pieces
 
--- the lines of one address by its answer
-abbrev pub address_lines : Options → ℕ → Answer → List ℕ
-address_lines options a answer = (if options.addresses then address_line a else []) ++ answer_lines options answer
+abbrev pub address_line : ℕ → List ℕ
+address_line a = codes "0x" ++ (sixteen_digits a ++ newline)
+
+abbrev pub span_line : (low high : ℕ) → List ℕ
+span_line low high = span_text low high ++ newline
+
+-- the query itself
+abbrev pub query_line : Query → List ℕ
+query_line (address a) = address_line a
+query_line (span low high) = span_line low high
+
+-- the lines of one query by its answer
+abbrev pub query_lines : Options → Query → Answer → List ℕ
+query_lines options query answer = (if options.addresses then query_line query else []) ++ answer_lines options answer
 
 abbrev pub bad_address_line : List ℕ
 bad_address_line = codes "!bad address\n"
 
-abbrev pub input_lines : Options → (ℕ → Answer) → List ℕ → List ℕ
-input_lines options answer input = option_map_or (λ a. address_lines options a (answer a)) (address_in input) bad_address_line
+abbrev pub input_lines : Options → (Query → Answer) → List ℕ → List ℕ
+input_lines options means input = option_map_or (λ query. query_lines options query (means query)) (query_in input) bad_address_line
 
 -- what is written for these inputs
 abbrev pub text : Options → List ℕ → List (List ℕ) → List ℕ
-text options file inputs = flat_map (input_lines options (answer file)) inputs
+text options file inputs = flat_map (input_lines options (meaning file)) inputs
 
 -- an answer is a fault
 abbrev pub is_fault : Answer → Bool
 is_fault not_covered = false
 is_fault (fault unit code) = true
 is_fault (found unit frames) = false
+is_fault (located pieces) = false
 
 -- some input is a bad address or has a fault for an answer
 abbrev pub has_faults : List ℕ → List (List ℕ) → Bool
-has_faults file inputs = list_any (λ input. option_map_or (λ a. is_fault (answer file a)) (address_in input) true) inputs
+has_faults file inputs = list_any (λ input. option_map_or (λ query. is_fault (meaning file query)) (query_in input) true) inputs

@@ -1,13 +1,12 @@
 -- The units of .debug_info (DWARF 5, section 7.5.1).
 use Rattle.std.specs.Prelude.{◌≡◌, ◌<◌, ◌≤◌, ◌++◌, ◌∷◌, ℕ, ◌+◌, Bool, true, false, not, List, [], filter_map, length, Option, Some, None, Result, Ok, Err, ok_or, ◌==◌, if◌then◌else◌}
 use Rattle.std.specs.List.{cons_option}
-use Rattle.byteorder.specs.Endian.{little_number}
 use Rattle.std.specs.Result.{result_unwrap_or}
-use Rattle.dw_model.specs.declared.dwarf.TheConstants.{DWARF_VERSION, ADDRESS_SIZE, DW_UT_COMPILE, DW_UT_PARTIAL, DW_UT_SKELETON, DWO_ID_SIZE, DW_LENGTH_RESERVED, OFFSET_SIZE_32}
+use Rattle.dw_model.specs.declared.dwarf.TheConstants.{DWARF_VERSION, ADDRESS_SIZE, DW_UT_COMPILE, DW_UT_PARTIAL, DW_UT_SKELETON, DWO_ID_SIZE}
 use Rattle.dw_model.specs.Results.{◌>>=◌, refuse_if}
 use Rattle.dw_model.specs.Reading.{Place, start, number_at, bytes_at, items}
-use Rattle.dw_model.specs.InitialLength.{InitialLength, of_length, wide, reserved, initial_length}
-use Rattle.dw_model.specs.Faults.{Refusal, unit_header, wide_format, address_size}
+use Rattle.dw_model.specs.InitialLength.{Width, offset_size, length_size, InitialLength, of_length, reserved, initial_length, IsInitialLength}
+use Rattle.dw_model.specs.Faults.{Refusal, unit_header, address_size}
 
 -- What is done with a unit: compile and skeleton units answer addresses, partial ones are only targets of references, and all others are skipped (own).
 pub data Kind : Type 0 where
@@ -89,11 +88,10 @@ untested unit = Ok tt
 -- the unit behind its initial length; length 0 is padding and no unit (own)
 unfoldable pub unit_behind : Test → ℕ → InitialLength → Place → Result (Option DwarfUnit × Place) Refusal
 unit_behind test offset reserved p = Err (unit_header offset)
-unit_behind test offset wide p = Err (wide_format offset)
-unit_behind test offset (of_length n offset_size) p = do
+unit_behind test offset (of_length n width) p = do
   bytes ← ok_or (bytes_at n p) (unit_header offset)
   if n == 0 then Ok (None, bytes.1) else (do
-    unit ← unit_of (record { offset = offset; base = p.at; end = bytes.1.at }) offset_size bytes.0
+    unit ← unit_of (record { offset = offset; base = p.at; end = bytes.1.at }) (offset_size width) bytes.0
     _ ← test unit
     Ok (Some unit, bytes.1))
 
@@ -125,33 +123,38 @@ units info = result_unwrap_or (cut info) []
 
 -- ---- whole pieces
 
--- The piece is an initial length of the 32-bit format and the content that it counts.
-abbrev pub IsPiece : List ℕ → List ℕ → Type 0
+-- what stands behind the length of a piece, and the width that the length tells
+pub record Content : Type 0 where
+  pub width : Width
+  pub bytes : List ℕ
+
+-- The piece is an initial length and the content that it counts.
+abbrev pub IsPiece : Content → List ℕ → Type 0
 IsPiece content piece =
-    (len : List ℕ) × (piece ≡ len ++ content) × (length len ≡ 4) × (little_number 4 len ≡ length content) × (length content < DW_LENGTH_RESERVED)
+    (len : List ℕ) × (piece ≡ len ++ content.bytes) × IsInitialLength content.width (length content.bytes) len
 
 -- The bytes are pieces with these contents, one after the other.
-abbrev pub AreContents : List ℕ → List (List ℕ) → Type 0
+abbrev pub AreContents : List ℕ → List Content → Type 0
 AreContents bytes [] = bytes ≡ []
 AreContents bytes (content ∷ others) =
     (piece rest : List ℕ) × (bytes ≡ piece ++ rest) × IsPiece content piece × AreContents rest others
 
--- where the bytes behind a unit's length stand, for a unit of the 32-bit format
-abbrev pub extent_at : ℕ → List ℕ → Extent
-extent_at offset content = record { offset = offset; base = offset + 4; end = offset + 4 + length content }
+-- where the bytes behind a unit's length stand
+abbrev pub extent_at : ℕ → Width → List ℕ → Extent
+extent_at offset width bytes = record { offset = offset; base = offset + length_size width; end = offset + length_size width + length bytes }
 
 -- The unit of a piece that begins at the offset; no content makes none.
-abbrev pub IsUnitOf : Test → ℕ → List ℕ → Option DwarfUnit → Type 0
-IsUnitOf test offset [] found = found ≡ None
-IsUnitOf test offset (b ∷ bytes) found =
-    (unit : DwarfUnit) × (found ≡ Some unit) × (unit_of (extent_at offset (b ∷ bytes)) OFFSET_SIZE_32 (b ∷ bytes) ≡ Ok unit) × (test unit ≡ Ok tt)
+abbrev pub IsUnitOf : Test → ℕ → Width → List ℕ → Option DwarfUnit → Type 0
+IsUnitOf test offset width [] found = found ≡ None
+IsUnitOf test offset width (b ∷ bytes) found =
+    (unit : DwarfUnit) × (found ≡ Some unit) × (unit_of (extent_at offset width (b ∷ bytes)) (offset_size width) (b ∷ bytes) ≡ Ok unit) × (test unit ≡ Ok tt)
 
 -- The units of the pieces with these contents, the first of which begins at the offset.
-abbrev pub AreUnits : Test → ℕ → List (List ℕ) → List DwarfUnit → Type 0
+abbrev pub AreUnits : Test → ℕ → List Content → List DwarfUnit → Type 0
 AreUnits test offset [] found = found ≡ []
 AreUnits test offset (content ∷ others) found =
-    (unit : Option DwarfUnit) × (rest : List DwarfUnit) × (found ≡ cons_option unit rest) × IsUnitOf test offset content unit
-    × AreUnits test (offset + 4 + length content) others rest
+    (unit : Option DwarfUnit) × (rest : List DwarfUnit) × (found ≡ cons_option unit rest) × IsUnitOf test offset content.width content.bytes unit
+    × AreUnits test (offset + length_size content.width + length content.bytes) others rest
 
 -- A unit that stands in a section of so many bytes: its first entry is behind its beginning, and no later than its end.
 abbrev pub StandsIn : ℕ → DwarfUnit → Type 0

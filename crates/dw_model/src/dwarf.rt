@@ -9,11 +9,20 @@ pub const ADDRESS_SIZE: u8 = 8;
 /// Bytes of an offset in the 32-bit format (section 7.4).
 pub const OFFSET_SIZE_32: usize = 4;
 
+/// Bytes of an offset in the 64-bit format (section 7.4).
+pub const OFFSET_SIZE_64: usize = 8;
+
+/// Bytes of an initial length in the 32-bit format (section 7.4).
+pub const LENGTH_SIZE_32: usize = 4;
+
+/// Bytes of an initial length in the 64-bit format: the escape and eight more (section 7.4).
+pub const LENGTH_SIZE_64: usize = 12;
+
 /// The least of the unit lengths that are reserved, and no length of the 32-bit format
-/// (section 7.4).
+/// (section 7.2.2).
 pub const DW_LENGTH_RESERVED: u32 = 0xffff_fff0;
 
-/// The unit length that announces the 64-bit format (section 7.4).
+/// The escape: it begins a unit length of the 64-bit format (section 7.4).
 pub const DW_LENGTH_64BIT: u32 = 0xffff_ffff;
 
 /// Unit type of a full compilation unit (section 7.5.1, table 7.2).

@@ -4,7 +4,7 @@
 //! and nothing else.
 
 ghost use Rattle.std.specs.Prelude.{◌≡◌, ◌↔◌, ◌⊎◌, ◌<◌, ◌^◌, ◌++◌, ℕ, ℤ, List};
-ghost use Rattle.std.specs.Prelude.{◌≤◌, ◌+◌, length, drop, Some};
+ghost use Rattle.std.specs.Prelude.{◌≤◌, ◌+◌, length, drop, Some, None};
 ghost use Rattle.std.specs.List.{AllByRecursion};
 ghost use Rattle.std.specs.Prelude.{Option, Result, Ok, Err, IsTrue};
 ghost use Rattle.dw_model.specs.Reading.{Place, start, Spans, BeginsWith, AreRead};
@@ -15,7 +15,8 @@ ghost use Rattle.dw_model.specs.Abbrev.{Declaration, next_specification, next_de
 ghost use Rattle.dw_model.specs.Entry.{Entry};
 ghost use Rattle.dw_model.specs.Ranges.{Range, RangeEntry, next_range_entry, range_entries};
 ghost use Rattle.dw_model.specs.Tree.{next_node};
-ghost use Rattle.dw_model.specs.Unit.{Test, DwarfUnit, next_piece, cut_from, AreContents, AreUnits, StandsIn};
+ghost use Rattle.dw_model.specs.InitialLength.{Width, of_length, initial_length, IsInitialLength};
+ghost use Rattle.dw_model.specs.Unit.{Test, DwarfUnit, next_piece, cut_from, Content, AreContents, AreUnits, StandsIn};
 ghost use Rattle.dw_model.specs.Text.{Tables, Bases, number_in, text_in};
 ghost use Rattle.dw_model.specs.Section.{Sections};
 ghost use Rattle.dw_model.specs.Root.{entry};
@@ -25,6 +26,8 @@ ghost use Rattle.dw_model.specs.Instruction.{IsInstruction, AreInstructions};
 ghost use Rattle.dw_model.specs.Matrix.{matrix};
 ghost use Rattle.dw_model.specs.Registers.{initial, run};
 ghost use Rattle.dw_model.specs.Faults.{Fault, ends_early, unknown_form, too_wide, Bad};
+ghost use Rattle.dw_model.specs.Answer.{Location, Piece};
+ghost use Rattle.dw_model.specs.Pieces.{UnitFault, pieces_from, ArePieces, IsFirstFault, with_piece, HaveLocation};
 
 /// An unsigned LEB128 number is read exactly where the bytes begin with a spelling of one that
 /// fits 64 bits; it is too wide exactly where they begin with a spelling of one that doesn't; else
@@ -89,12 +92,18 @@ pub fn law_of_items()
     ensures pieces { (test : Test) → AreRead (λ p. p.left) (next_piece test) }
 {}
 
+/// A length of the 32-bit or of the 64-bit format is read exactly where the bytes begin with one
+/// (section 7.4).
+pub fn law_of_initial_lengths()
+    ensures spelled { (width : Width) (n : ℕ) (p q : Place) → (initial_length p ≡ Some (of_length n width, q)) ↔ Spans (IsInitialLength width n) p q }
+{}
+
 /// .debug_info is cut into units in one way: where it is read, it is pieces, each a length and as
 /// many bytes, and the units are those of the pieces that aren't empty; where such pieces with such
 /// units stand there, it is read so; and no other pieces do (section 7.5.1).
 pub fn law_of_the_cut()
-    ensures cut { (test : Test) (info : List ℕ) (found : List DwarfUnit) → (cut_from test (start info) ≡ Ok found) ↔ ((contents : List (List ℕ)) × AreContents info contents × AreUnits test 0 contents found) }
-    ensures only { (info : List ℕ) (first second : List (List ℕ)) → AreContents info first → AreContents info second → first ≡ second }
+    ensures cut { (test : Test) (info : List ℕ) (found : List DwarfUnit) → (cut_from test (start info) ≡ Ok found) ↔ ((contents : List Content) × AreContents info contents × AreUnits test 0 contents found) }
+    ensures only { (info : List ℕ) (first second : List Content) → AreContents info first → AreContents info second → first ≡ second }
 {}
 
 /// The length of a section bounds each offset at which a definition reads something in it: so an
@@ -107,4 +116,19 @@ pub fn law_of_bounds()
     ensures texts { (section : List ℕ) (offset : ℕ) (text : List ℕ) → text_in section offset ≡ Some text → offset + length text < length section }
     ensures range_lists { (section : List ℕ) (offset : ℕ) (found : List RangeEntry) → range_entries (record { at = offset; left = drop offset section }) ≡ Ok found → offset < length section }
     ensures line_tables { (tables : Tables) (bases : Bases) (section : List ℕ) (offset : ℕ) (found : LineHeader) → line_header tables bases section offset ≡ Ok found → offset + 4 ≤ length section }
+{}
+
+/// The pieces of a span of addresses are the one list that lies in order, in which an address lies exactly where it has a
+/// location, and of which two that touch have different locations; they are found exactly where no address has a fault, and
+/// else the fault of the first that has one. `location` is what each address is found to have.
+pub fn law_of_pieces()
+    ensures pieces { (location : ℕ → Result (Option Location) UnitFault) (low count : ℕ) (found : List Piece) → (pieces_from location low count ≡ Ok found) ↔ ArePieces location low (low + count) found }
+    ensures fault { (location : ℕ → Result (Option Location) UnitFault) (low count : ℕ) (found : UnitFault) → (pieces_from location low count ≡ Err found) ↔ IsFirstFault location low (low + count) found }
+{}
+
+/// Pieces can be found in order of address: those of a span stay its pieces where it goes on over addresses without a
+/// location, and where it goes on over addresses of one location, that is one piece more, or the last one grows.
+pub fn law_of_more_pieces()
+    ensures none { (location : ℕ → Result (Option Location) UnitFault) (low high later : ℕ) (pieces : List Piece) → ArePieces location low high pieces → high ≤ later → HaveLocation location high later None → ArePieces location low later pieces }
+    ensures one { (location : ℕ → Result (Option Location) UnitFault) (low : ℕ) (pieces : List Piece) (next : Piece) → ArePieces location low next.begin pieces → low ≤ next.begin → next.begin < next.end → HaveLocation location next.begin next.end (Some next.location) → ArePieces location low next.end (with_piece pieces next) }
 {}

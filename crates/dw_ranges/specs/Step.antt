@@ -45,11 +45,16 @@ step tables bases base (offset_pair start end) = do
 step tables bases base (start_end start end) = Ok (with_range base start end)
 step tables bases base (start_length start length) = Ok (with_range base start (start + length))
 
+-- the place at an offset of a section, where the section has it
+abbrev pub place_at : List ℕ → ℕ → Result Place Bad
+place_at section offset =
+    if nat_le offset (length section) then Ok (record { at = offset; left = drop offset section }) else Err bad
+
 -- the place where a list begins, where that is in the section
 abbrev pub list_place : Tables → Bases → Value → Result Place Bad
 list_place tables bases value = do
   offset ← list_offset tables bases value
-  if nat_le offset (length tables.rnglists) then Ok (record { at = offset; left = drop offset tables.rnglists }) else Err bad
+  place_at tables.rnglists offset
 
 -- the ranges of the list at a place that count
 abbrev pub ranges_from : Tables → Bases → Result ℕ Bad → Place → Result (List Range) Bad

@@ -1,55 +1,51 @@
 //! The ranges of a range list, by sections 2.17.3 and 7.25 of DWARF 5.
 
 ghost use Rattle.std.specs.Prelude.{◌≡◌, ◌++◌, ◌+◌, ◌*◌, OnOk, map, option_to_list};
-ghost use Rattle.dw_model.specs.declared.dwarf.TheConstants.{OFFSET_SIZE_32};
 ghost use Rattle.dw_model.specs.Text.{number_in};
-ghost use Rattle.dw_model.specs.Ranges.{list_offset, list_ranges};
+ghost use Rattle.dw_model.specs.Ranges.{list_ranges};
 ghost use Rattle.dw_model.specs.Answers.{Gives, GivesUnlessMemory};
+ghost use Rattle.dw_bytes.specs.Width.{size_of};
 ghost use Rattle.dw_forms.specs.Tables.{tables_shown, bases_shown};
 ghost use Rattle.dw_forms.specs.Value.{value_shown};
 ghost use Rattle.dw_ranges.specs.Fault.{range_fault};
 ghost use Rattle.dw_index.specs.Range.{range_shown};
-ghost use Rattle.dw_ranges.specs.Step.{all_kept, list_place, ranges_from};
+ghost use Rattle.dw_ranges.specs.Step.{all_kept, list_place, place_at, ranges_from};
 ghost use Rattle.dw_ranges.specs.OutcomeShown.{base_shown};
 
 use crate::fault::RangeFault;
 use crate::range_entry::next_range_entry;
 use crate::step::step;
-use dw_bytes::Cursor;
+use dw_bytes::{Cursor, Width};
 use dw_forms::{Bases, Tables, Value};
 use dw_index::Range;
-use dw_model::dwarf::OFFSET_SIZE_32;
 use std::alloc::AllocError;
 
-/// The offset that stands at an index behind the unit's base in .debug_rnglists.
-fn offset_at(section: &[u8], base: u64, index: u64) -> Option<u32>
-    ensures { result ≡ number_in section.now (base + OFFSET_SIZE_32 * index) OFFSET_SIZE_32 }
+/// The offset of a width that stands at an index behind the unit's base in .debug_rnglists.
+fn offset_at(section: &[u8], base: u64, index: u64, width: Width) -> Option<u64>
+    ensures { result ≡ number_in section.now (base + size_of width * index) (size_of width) }
 {
-    let passed = index.checked_mul(OFFSET_SIZE_32 as u64)?;
+    let passed = index.checked_mul(width.size() as u64)?;
     let offset = base.checked_add(passed)?;
     if offset > section.len() as u64 {
         return None;
     }
-    Cursor::new(section.split_at(offset as usize).1).u32()
+    Cursor::new(section.split_at(offset as usize).1).offset(width)
 }
 
-/// Where the list begins that a value names, an offset of .debug_rnglists.
-#[tactic(auto, unfolding(dw_model::specs::Ranges::list_offset))]
-fn list_offset<'a>(tables: &Tables<'a>, bases: &Bases, value: &Value<'a>) -> Result<u64, RangeFault>
-    ensures { Gives (λ x. x) range_fault result (list_offset (tables_shown tables.now) (bases_shown bases.now) (value_shown value.now)) }
+/// The place at an offset of .debug_rnglists.
+fn place_at<'a>(section: &'a [u8], offset: u64) -> Result<Cursor<'a>, RangeFault>
+    ensures { Gives (λ cursor. cursor) range_fault result (place_at section.now offset) }
 {
-    match *value {
-        Value::SectionOffset(offset) => Ok(offset),
-        Value::RangeIndex(index) => {
-            let base = bases.rnglists.ok_or(RangeFault::Bad)?;
-            let offset = offset_at(tables.rnglists, base, index).ok_or(RangeFault::Bad)?;
-            base.checked_add(offset as u64).ok_or(RangeFault::Bad)
-        }
-        _ => Err(RangeFault::Bad),
+    if offset > section.len() as u64 {
+        return Err(RangeFault::Bad);
     }
+    let mut cursor = Cursor::new(section);
+    cursor.take(offset as usize).ok_or(RangeFault::Bad)?;
+    Ok(cursor)
 }
 
-/// The place where the list begins that a value names.
+/// The place where the list begins that a value names, an offset of .debug_rnglists.
+#[tactic(auto, unfolding(dw_model::specs::Ranges::list_offset))]
 fn list_place<'a>(
     tables: &Tables<'a>,
     bases: &Bases,
@@ -57,13 +53,20 @@ fn list_place<'a>(
 ) -> Result<Cursor<'a>, RangeFault>
     ensures { Gives (λ cursor. cursor) range_fault result (list_place (tables_shown tables.now) (bases_shown bases.now) (value_shown value.now)) }
 {
-    let offset = list_offset(tables, bases, value)?;
-    if offset > tables.rnglists.len() as u64 {
-        return Err(RangeFault::Bad);
+    match *value {
+        Value::SectionOffset(offset) => place_at(tables.rnglists, offset),
+        Value::RangeIndex(index) => {
+            let base = bases.rnglists.ok_or(RangeFault::Bad)?;
+            let offset = offset_at(tables.rnglists, base, index, bases.width).ok_or(
+                RangeFault::Bad,
+            )?;
+            let Some(begin) = base.checked_add(offset) else {
+                return Err(RangeFault::Bad);
+            };
+            place_at(tables.rnglists, begin)
+        }
+        _ => Err(RangeFault::Bad),
     }
-    let mut cursor = Cursor::new(tables.rnglists);
-    cursor.take(offset as usize).ok_or(RangeFault::Bad)?;
-    Ok(cursor)
 }
 
 /// Adds a range where there is one.

@@ -8,3 +8,4 @@ pub mod FrameLemmas
 pub mod TreeLemmas
 pub mod AnswerLemmas
 pub mod ToldLemmas
+pub mod SpanLemmas

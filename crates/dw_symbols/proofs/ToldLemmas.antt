@@ -1,20 +1,20 @@
--- Answers that show what their addresses mean are the file's.
+-- Answers that show what their queries mean are the file's.
 use Rattle.std.proofs.Common.{◌≡◌, ℕ, List, [], ◌∷◌, map, refl}
-use Rattle.dw_model.specs.Answer as model
+use Rattle.ticket_core.specs.declared.query.Query.{Query}
 use Rattle.dw_symbols.specs.declared.answer.Answer.{Answer}
 use Rattle.dw_symbols.specs.Answer.{answer_shown}
 use Rattle.dw_symbols.specs.Codes.{answer_code}
-use Rattle.dw_symbols.specs.Told.{told, meaning}
+use Rattle.dw_symbols.specs.Told.{told, means, meaning}
 
-pub same_answer : (file : List ℕ) (a : ℕ) (answer : Answer) → told answer ≡ meaning file a → answer_shown answer ≡ model.answer file a
-same_answer file a answer same = answer_code.inj (answer_shown answer) (model.answer file a) same
+pub same_answer : (file : List ℕ) (query : Query) (answer : Answer) → told answer ≡ meaning file query → answer_shown answer ≡ means file query
+same_answer file query answer same = answer_code.inj (answer_shown answer) (means file query) same
 
-pub same_answers : (file addresses : List ℕ) (answers : List Answer) → map told answers ≡ map (meaning file) addresses → map answer_shown answers ≡ map (model.answer file) addresses
+pub same_answers : (file : List ℕ) (queries : List Query) (answers : List Answer) → map told answers ≡ map (meaning file) queries → map answer_shown answers ≡ map (means file) queries
 same_answers file [] [] same = refl
 same_answers file [] (answer ∷ answers) same = cc
-same_answers file (a ∷ addresses) [] same = cc
-same_answers file (a ∷ addresses) (answer ∷ answers) same =
-    let first : told answer ≡ meaning file a = cc in
-    let others : map told answers ≡ map (meaning file) addresses = cc in
-    let is : answer_shown answer ≡ model.answer file a = same_answer file a answer first in
-    let are = same_answers file addresses answers others in cc
+same_answers file (query ∷ queries) [] same = cc
+same_answers file (query ∷ queries) (answer ∷ answers) same =
+    let first : told answer ≡ meaning file query = cc in
+    let others : map told answers ≡ map (meaning file) queries = cc in
+    let is : answer_shown answer ≡ means file query = same_answer file query answer first in
+    let are = same_answers file queries answers others in cc

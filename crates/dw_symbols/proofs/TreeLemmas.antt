@@ -1,33 +1,21 @@
 -- What a unit's functions and lines answer.
 use Rattle.std.proofs.Common.{◌≡◌, ◌∙◌, ℕ, Bool, true, false, cond, List, [], ◌∷◌, Option, Some, None, Ok, Err, refl, sym, ap, subst}
 use Rattle.std.specs.Prelude.{IfSome, MatchOption, find, slice_get, option_and_then, ◌&&◌}
+use Rattle.std.proofs.lemmas.Option.{get_or_from_slice_get}
 use Rattle.dw_model.specs.Results.{with_code}
 use Rattle.dw_model.specs.Section.{Sections, sections}
 use Rattle.dw_model.specs.Unit.{Kind, compile, partial, skeleton, skipped, DwarfUnit, is_skipped, units}
 use Rattle.dw_model.specs.Root.{answers}
 use Rattle.dw_model.specs.Faults.{TreeFault}
-use Rattle.dw_model.specs.Tree.{tree, chain}
-use Rattle.dw_model.specs.Answer.{Lines, Code, tree_fault, line_fault, lines, found, fault, as_answer, row_at, row_location, frames, unit_answer, unit_of}
-use Rattle.dw_frames.specs.Tree.{Tree, nodes_of, IsTreeOf}
-use Rattle.dw_symbols.proofs.FrameLemmas.{named}
+use Rattle.dw_model.specs.Tree.{tree}
+use Rattle.dw_model.specs.Answer.{tree_fault, unit_of}
+use Rattle.dw_units.specs.UnitAt.{absent, unit_at}
 
-pub told-tree : (s seen : Sections) (i : ℕ) (told : Option TreeFault) (f : TreeFault) → s ≡ seen → told ≡ Some f → ((unit : DwarfUnit) → slice_get (units s.info) i ≡ Some unit → MatchOption told (Unit {0}) (λ f. tree s unit ≡ Err f)) → (unit : DwarfUnit) → slice_get (units seen.info) i ≡ Some unit → with_code tree_fault (tree seen unit) ≡ Err (tree_fault f)
+pub told-tree : (s seen : Sections) (i : ℕ) (told : Option TreeFault) (f : TreeFault) → s ≡ seen → told ≡ Some f → MatchOption told (Unit {0}) (λ f. tree s (unit_at s i) ≡ Err f) → (unit : DwarfUnit) → slice_get (units seen.info) i ≡ Some unit → with_code tree_fault (tree seen unit) ≡ Err (tree_fault f)
 told-tree s seen i told f same is faults unit at =
-    let here : tree s unit ≡ Err f = subst (λ told. MatchOption told (Unit {0}) (λ f. tree s unit ≡ Err f)) is (faults unit (ap (λ (s : Sections). slice_get (units s.info) i) same ∙ at)) in
-    ap (with_code tree_fault) (ap (λ s. tree s unit) (sym same) ∙ here)
-
--- a fault of the tree is the answer
-pub tree-answer : (s : Sections) (unit : DwarfUnit) (a : ℕ) (code : Code) → with_code tree_fault (tree s unit) ≡ Err code → fault unit.offset code ≡ as_answer unit.offset (unit_answer s unit a)
-tree-answer s unit a code e = rw e refl
-
--- else a fault of the lines
-pub line-answer : (s : Sections) (unit : DwarfUnit) (a : ℕ) (t : Tree) (code : Code) → IsTreeOf s unit t → Err code ≡ with_code (λ _. line_fault) (lines s unit) → fault unit.offset code ≡ as_answer unit.offset (unit_answer s unit a)
-line-answer s unit a t code h e = rw (h.read, sym e) refl
-
--- else the frames
-pub frames-answer : (s : Sections) (unit : DwarfUnit) (a : ℕ) (t : Tree) (table : Option Lines) → IsTreeOf s unit t → Ok table ≡ with_code (λ _. line_fault) (lines s unit)
-    → found unit.offset (frames (named s unit) table (row_location table (row_at table a)) (chain s unit (nodes_of s unit) a)) ≡ as_answer unit.offset (unit_answer s unit a)
-frames-answer s unit a t table h e = rw (h.read, sym e) refl
+    let here : tree s (unit_at s i) ≡ Err f = subst (λ told. MatchOption told (Unit {0}) (λ f. tree s (unit_at s i) ≡ Err f)) is faults in
+    let one : unit_at seen i ≡ unit = get_or_from_slice_get (units seen.info) i unit absent at in
+    ap (with_code tree_fault) (ap (tree seen) (sym one) ∙ ap (λ (s : Sections). tree s (unit_at s i)) (sym same) ∙ here)
 
 -- ---- a unit that answers isn't skipped
 

@@ -6,8 +6,9 @@ use Rattle.dw_symbols.specs.declared.answer.Location.{Location}
 use Rattle.dw_symbols.specs.declared.answer.Frame.{Frame}
 use Rattle.dw_symbols.specs.declared.answer.UnitFault.{UnitFault}
 use Rattle.dw_symbols.specs.declared.answer.UnitFault.TheVariants.{Entry, Depth, Ranges, Line}
+use Rattle.dw_symbols.specs.declared.answer.Piece.{Piece}
 use Rattle.dw_symbols.specs.declared.answer.Answer.{Answer}
-use Rattle.dw_symbols.specs.declared.answer.Answer.TheVariants.{NotCovered, Fault, Found}
+use Rattle.dw_symbols.specs.declared.answer.Answer.TheVariants.{NotCovered, Fault, Found, Pieces}
 
 abbrev pub location_shown : Location → model.Location
 location_shown location = record {
@@ -35,7 +36,11 @@ number_of Depth = 2
 number_of Ranges = 3
 number_of Line = 4
 
+abbrev pub piece_shown : Piece → model.Piece
+piece_shown piece = record { begin = piece.begin; end = piece.end; location = location_shown piece.location }
+
 abbrev pub answer_shown : Answer → model.Answer
 answer_shown NotCovered = model.not_covered
 answer_shown (Fault unit code) = model.fault unit (code_shown code)
 answer_shown (Found unit frames) = model.found unit (map frame_shown frames.items)
+answer_shown (Pieces pieces) = model.located (map piece_shown pieces.items)

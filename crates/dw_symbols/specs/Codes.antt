@@ -4,7 +4,7 @@ use mathlib.Core.Logic.{inl, inr}
 use base.Stored.{coded_unit}
 use Rattle.std.specs.Coded.{Coded, code_by, coded×, coded⊎, coded_ℕ, coded_list, coded_option}
 use Rattle.dw_model.specs.Faults.{entry_fault, depth_fault, ranges_fault}
-use Rattle.dw_model.specs.Answer.{Location, Frame, Code, tree_fault, line_fault, Answer, not_covered, fault, found}
+use Rattle.dw_model.specs.Answer.{Location, Frame, Piece, Code, tree_fault, line_fault, Answer, not_covered, fault, found, located}
 
 abbrev pub bytes_code : Coded (Option (List ℕ))
 bytes_code = coded_option (coded_list coded_ℕ)
@@ -45,23 +45,35 @@ fault_code =
     code_by (Unit {0} ⊎ (Unit {0} ⊎ (Unit {0} ⊎ Unit {0}))) (coded⊎ coded_unit (coded⊎ coded_unit (coded⊎ coded_unit coded_unit)))
     fault_parts fault_from fault_back
 
--- not covered, a fault of a unit, frames
-abbrev pub answer_parts : Answer → Unit {0} ⊎ ((ℕ × Code) ⊎ (ℕ × List Frame))
+abbrev pub piece_code : Coded Piece
+piece_code =
+    code_by (ℕ × (ℕ × Location)) (coded× coded_ℕ (coded× coded_ℕ location_code))
+    (λ piece. (piece.begin, (piece.end, piece.location)))
+    (λ p. record { begin = p.0; end = p.1.0; location = p.1.1 }) (λ _. refl)
+
+-- not covered, a fault of a unit, frames, pieces
+abbrev pub AnswerParts : Type 0
+AnswerParts = Unit {0} ⊎ ((ℕ × Code) ⊎ ((ℕ × List Frame) ⊎ List Piece))
+
+abbrev pub answer_parts : Answer → AnswerParts
 answer_parts not_covered = inl tt
 answer_parts (fault unit code) = inr (inl (unit, code))
-answer_parts (found unit frames) = inr (inr (unit, frames))
+answer_parts (found unit frames) = inr (inr (inl (unit, frames)))
+answer_parts (located pieces) = inr (inr (inr pieces))
 
-abbrev pub answer_from : Unit {0} ⊎ ((ℕ × Code) ⊎ (ℕ × List Frame)) → Answer
+abbrev pub answer_from : AnswerParts → Answer
 answer_from (inl _) = not_covered
 answer_from (inr (inl p)) = fault p.0 p.1
-answer_from (inr (inr p)) = found p.0 p.1
+answer_from (inr (inr (inl p))) = found p.0 p.1
+answer_from (inr (inr (inr pieces))) = located pieces
 
 pub answer_back : (answer : Answer) → answer_from (answer_parts answer) ≡ answer
 answer_back not_covered = refl
 answer_back (fault unit code) = refl
 answer_back (found unit frames) = refl
+answer_back (located pieces) = refl
 
 abbrev pub answer_code : Coded Answer
 answer_code =
-    code_by (Unit {0} ⊎ ((ℕ × Code) ⊎ (ℕ × List Frame))) (coded⊎ coded_unit (coded⊎ (coded× coded_ℕ fault_code) (coded× coded_ℕ (coded_list frame_code))))
+    code_by AnswerParts (coded⊎ coded_unit (coded⊎ (coded× coded_ℕ fault_code) (coded⊎ (coded× coded_ℕ (coded_list frame_code)) (coded_list piece_code))))
     answer_parts answer_from answer_back

@@ -2,7 +2,7 @@
 use Rattle.std.specs.Prelude.{ℕ, List, refl}
 use Rattle.std.specs.Coded.{Coded, code_by, coded×, coded_list, coded_ℕ}
 
--- the bytes of its file, and how often `find_frames` answered that memory was wanting
+-- the bytes of its file, and how often `find_frames`, or an answer for a pool, was refused memory
 pub record ContextState : Type 0 where
   pub file : List ℕ
   pub refused : ℕ

@@ -1,4 +1,6 @@
 pub mod Answer
+pub mod Pieces
+pub mod Span
 pub mod Codes
 pub mod ContextState
 pub mod Context

@@ -37,15 +37,26 @@ pub enum UnitFault {
     Line,
 }
 
-/// What an address means. Units are told by their offset in .debug_info.
+/// Addresses from `begin` on and below `end`, which have one location.
+#[derive(Drop)]
+pub struct Piece {
+    pub begin: u64,
+    pub end: u64,
+    pub location: Location,
+}
+
+/// What an address means, or a span of addresses. Units are told by their offset in .debug_info.
 #[derive(Drop)]
 pub enum Answer<'a> {
-    /// No unit covers it.
+    /// No unit covers the address.
     NotCovered,
-    /// The unit that covers it can't be read.
+    /// The unit that covers the address can't be read; of a span, that of the first address for which this is so.
     Fault { unit: u64, code: UnitFault },
-    /// The frames at it, innermost first.
+    /// The frames at the address, innermost first.
     Found { unit: u64, frames: Vec<Frame<'a>> },
+    /// The pieces of the span that have locations, in order of address. None is empty, no two overlap, and two that touch
+    /// have different locations.
+    Pieces(Vec<Piece>),
 }
 
 impl UnitFault {

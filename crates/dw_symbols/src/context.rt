@@ -1,28 +1,36 @@
 //! Answers the addresses of a file, and keeps the units that were used last.
 
-ghost use Rattle.std.specs.Prelude.{◌≡◌, ◌+◌, IfOk, is_ok, if◌then◌else◌};
+ghost use Rattle.std.specs.Prelude.{◌≡◌, ◌+◌, ◌<◌, ◌≤◌, ℕ, IfOk, IfSome, is_ok, length, map, slice_get, if◌then◌else◌};
 ghost use Rattle.dw_model.specs.Answer as model;
-ghost use Rattle.dw_symbols.specs.Answer.{answer_shown};
+ghost use Rattle.dw_model.specs.Section.{sections};
+ghost use Rattle.dw_model.specs.Unit.{units};
+ghost use Rattle.dw_model.specs.Pieces.{pieces};
+ghost use Rattle.dw_symbols.specs.Answer.{answer_shown, piece_shown};
+ghost use Rattle.dw_symbols.specs.Span.{IsUnitOf, AddsUnit, AddsSpan};
+ghost use Rattle.dw_symbols.specs.Told.{means};
 
-use crate::answer::Answer;
+use crate::answer::{Answer, Piece, UnitFault};
 use crate::decoded::Decoded;
 use crate::image::Image;
-use crate::kept::{Kept, keep, kept_answer, kept_location};
+use crate::kept::{Kept, keep, kept_answer, kept_location, kept_pieces};
 use crate::refusals::Refusals;
+use crate::span::Span;
+use dw_model::laws::{law_of_more_pieces, law_of_pieces};
 use lru::LruCache;
 use std::alloc::{AllocError, Global};
 use std::marker::Model;
 use std::num::NonZeroUsize;
+use ticket_core::{Query, QueryKind};
 
-/// Answers the addresses of a file. Contracts see the file's bytes and how often `find_frames` was
-/// refused memory: what was asked before, what was dropped since and what memory refused changes no
+/// Answers the addresses of a file. Contracts see the file's bytes and how often `find_frames`, or an answer
+/// for a pool, was refused memory: what was asked before, what was dropped since and what memory refused changes no
 /// answer. Threads can each have one over the same image.
 #[derive(Drop)]
 pub struct Context<'b, 'a> {
     image: &'b Image<'a>,
     alloc: Global,
     /// The units that were used last, by their places.
-    units: Kept<'a>,
+    units: Kept<'b, 'a>,
     refusals: Refusals,
 }
 
@@ -37,6 +45,23 @@ impl<'b, 'a> Model for Context<'b, 'a> {
     ghost view = { state_of };
 
     ghost invariant = { IsKept };
+}
+
+/// The offset of the unit at a place in .debug_info.
+fn offset_of(image: &Image<'_>, i: usize) -> u64
+    requires { i < length (units (sections image.now).info) }
+    ensures { IfSome (slice_get (units (sections image.now).info) i) (λ unit. result ≡ unit.offset) }
+{
+    image.units().unit(i).offset
+}
+
+/// The lesser of two addresses.
+fn lesser(a: u64, b: u64) -> u64
+    ensures first { result ≤ a }
+    ensures second { result ≤ b }
+    ensures above { (c : ℕ) → c < a → c < b → c < result }
+{
+    if a <= b { a } else { b }
 }
 
 impl<'b, 'a> Context<'b, 'a> {
@@ -82,6 +107,78 @@ impl<'b, 'a> Context<'b, 'a> {
         Ok(answer)
     }
 
+    /// Adds the pieces of a span, of which the unit at a place answers all addresses; or returns why it can't.
+    fn push_unit(
+        &mut self,
+        i: usize,
+        span: Span,
+        pieces: &mut Vec<Piece>,
+    ) -> Result<Option<UnitFault>, AllocError>
+        requires unit { i < length (units (sections self.old.file).info) }
+        requires order { span.low ≤ span.high }
+        ensures pieces { IfOk result (λ fault. IfSome (slice_get (units (sections self.old.file).info) i) (λ unit. AddsUnit (sections self.old.file) unit span fault (map piece_shown pieces.old.items) (map piece_shown pieces.new.items))) }
+        ensures state { self.new ≡ self.old }
+    {
+        if let Some(added) = kept_pieces(&mut self.units, self.alloc, self.image, i, span, pieces) {
+            return added;
+        }
+        let mut unit = Decoded::new();
+        let added = unit.push_pieces(self.alloc, self.image, i, span, pieces)?;
+        keep(&mut self.units, i, unit);
+        Ok(added)
+    }
+
+    /// Adds the pieces of a span, of which one unit answers all addresses, or none does; or returns the unit and why it
+    /// can't answer them.
+    fn push_pieces(
+        &mut self,
+        unit: Option<usize>,
+        span: Span,
+        pieces: &mut Vec<Piece>,
+    ) -> Result<Option<(u64, UnitFault)>, AllocError>
+        requires unit { IsUnitOf (sections self.old.file) unit span.low span.high }
+        requires within { IfSome unit (λ i. i < length (units (sections self.old.file).info)) }
+        requires order { span.low ≤ span.high }
+        ensures pieces { IfOk result (λ fault. AddsSpan (sections self.old.file) span fault (map piece_shown pieces.old.items) (map piece_shown pieces.new.items)) }
+        ensures state { self.new ≡ self.old }
+    {
+        law_of_more_pieces();
+        let Some(i) = unit else {
+            return Ok(None);
+        };
+        let Some(code) = self.push_unit(i, span, pieces)? else {
+            return Ok(None);
+        };
+        Ok(Some((offset_of(self.image, i), code)))
+    }
+
+    /// All locations of the addresses from `low` on and below `high`, in pieces, by the rows of the units that answer
+    /// them; or the fault of the first address that has one. It goes from one change to the next, so its work is in
+    /// proportion to the rows and the units between these two.
+    pub fn find_location_range(&mut self, low: u64, high: u64) -> Result<Answer<'a>, AllocError>
+        ensures answer { IfOk result (λ answer. answer_shown answer ≡ pieces self.old.file low high) }
+        ensures state { self.new ≡ self.old }
+    {
+        law_of_pieces();
+        let mut pieces = Vec::new(self.alloc);
+        if low >= high {
+            return Ok(Answer::Pieces(pieces));
+        }
+        let mut at = low;
+        while at < high {
+            let owner = self.image.unit_from(at);
+            let span = Span {
+                low: at,
+                high: lesser(owner.until, high),
+            };
+            if let Some((unit, code)) = self.push_pieces(owner.unit, span, &mut pieces)? {
+                return Ok(Answer::Fault { unit, code });
+            }
+            at = span.high;
+        }
+        Ok(Answer::Pieces(pieces))
+    }
+
     /// What an address means, by the units that are kept or by one that is read now.
     fn look_up(&mut self, a: u64) -> Result<Answer<'a>, AllocError>
         ensures answer { IfOk result (λ answer. answer_shown answer ≡ model.answer self.old.file a) }
@@ -99,16 +196,36 @@ impl<'b, 'a> Context<'b, 'a> {
         Ok(answer)
     }
 
+    /// What a query means.
+    fn answer_of(&mut self, query: Query) -> Result<Answer<'a>, AllocError>
+        ensures answer { IfOk result (λ answer. answer_shown answer ≡ means self.old.file query) }
+        ensures state { self.new ≡ self.old }
+    {
+        match query.kind() {
+            QueryKind::Address(a) => self.look_up(a),
+            QueryKind::Span(low, high) => self.find_location_range(low, high),
+        }
+    }
+
+    /// What a query means. That it was refused memory is counted.
+    pub(crate) fn find(&mut self, query: Query) -> Result<Answer<'a>, AllocError>
+        ensures answer { IfOk result (λ answer. answer_shown answer ≡ means self.old.file query) }
+        ensures file { self.new.file ≡ self.old.file }
+        ensures refused { self.new.refused ≡ (if is_ok result then self.old.refused else self.old.refused + 1) }
+    {
+        let found = self.answer_of(query);
+        if found.is_err() {
+            self.refusals = self.refusals.then();
+        }
+        found
+    }
+
     /// What an address means: its frames, innermost first, or why its unit can't be read.
     pub fn find_frames(&mut self, a: u64) -> Result<Answer<'a>, AllocError>
         ensures answer { IfOk result (λ answer. answer_shown answer ≡ model.answer self.old.file a) }
         ensures file { self.new.file ≡ self.old.file }
         ensures refused { self.new.refused ≡ (if is_ok result then self.old.refused else self.old.refused + 1) }
     {
-        let found = self.look_up(a);
-        if found.is_err() {
-            self.refusals = self.refusals.then();
-        }
-        found
+        self.find(Query::address(a))
     }
 }

@@ -1,25 +1,29 @@
 //! What is kept of a unit: each part is read when it is first asked for.
 
-ghost use Rattle.std.specs.Prelude.{◌≡◌, ◌<◌, false, Some, None, OnOk, IfOk, IfSome, IsSome, length, slice_get};
-ghost use Rattle.dw_model.specs.Section.{sections};
+ghost use Rattle.std.specs.Prelude.{◌≡◌, ◌<◌, ◌≤◌, map, false, Some, None, OnOk, IfOk, IfSome, IsSome, length, slice_get};
+ghost use Rattle.dw_model.specs.Section.{Sections, sections};
 ghost use Rattle.dw_model.specs.Unit.{DwarfUnit, is_skipped, units};
 ghost use Rattle.dw_model.specs.Answer.{as_answer, unit_answer, unit_location};
-ghost use Rattle.dw_symbols.specs.Answer.{answer_shown};
+ghost use Rattle.dw_symbols.specs.Answer.{answer_shown, piece_shown};
 ghost use Rattle.dw_symbols.specs.Decoded.{HasLines, HasTree, Holds};
+ghost use Rattle.dw_symbols.specs.Span.{AddsUnit};
 
-use crate::answer::{Answer, Frame, UnitFault};
+use crate::answer::{Answer, Frame, Piece, UnitFault};
 use crate::frames::answer_of;
 use crate::image::Image;
 use crate::location::{lines_of, row_location};
+use crate::pieces::push_rows;
+use crate::span::Span;
 use dw_frames::{Tree, TreeFault};
 use dw_line::{LineFault, Lines};
+use dw_model::laws::law_of_more_pieces;
 use std::alloc::{AllocError, Global};
 
 /// The parts of a unit that were read.
 #[derive(Drop)]
-pub(crate) struct Decoded<'a> {
+pub(crate) struct Decoded<'b, 'a> {
     /// The functions, or why they can't be read.
-    pub(crate) tree: Option<Result<Tree<'a>, UnitFault>>,
+    pub(crate) tree: Option<Result<Tree<'b, 'a>, UnitFault>>,
     /// The line table, where the unit names one, or why it can't be read.
     pub(crate) lines: Option<Result<Option<Lines<'a>>, UnitFault>>,
 }
@@ -41,11 +45,11 @@ fn read_lines<'a>(
 }
 
 /// The functions of a unit that isn't skipped, or why they can't be read.
-fn read_tree<'a>(
+fn read_tree<'b, 'a>(
     alloc: Global,
-    image: &Image<'a>,
+    image: &'b Image<'a>,
     i: usize,
-) -> Result<Result<Tree<'a>, UnitFault>, AllocError>
+) -> Result<Result<Tree<'b, 'a>, UnitFault>, AllocError>
     requires unit { i < length (units (sections image.now).info) }
     requires answers { IfSome (slice_get (units (sections image.now).info) i) (λ unit. is_skipped unit.kind ≡ false) }
     ensures { IfOk result (λ read. (unit : DwarfUnit) → slice_get (units (sections image.now).info) i ≡ Some unit → HasTree (sections image.now) unit (Some read)) }
@@ -59,7 +63,30 @@ fn read_tree<'a>(
     }
 }
 
-impl<'a> Decoded<'a> {
+/// Adds the pieces of a span by the line table of the unit that answers all of its addresses; or returns why that can't
+/// be read.
+fn push_lines(
+    alloc: Global,
+    lines: &Result<Option<Lines<'_>>, UnitFault>,
+    span: Span,
+    pieces: &mut Vec<Piece>,
+) -> Result<Option<UnitFault>, AllocError>
+    requires { span.low ≤ span.high }
+    ensures { IfOk result (λ fault. (s : Sections) (unit : DwarfUnit) → HasLines s unit (Some lines.now) → AddsUnit s unit span fault (map piece_shown pieces.old.items) (map piece_shown pieces.new.items)) }
+{
+    law_of_more_pieces();
+    let table = match lines {
+        Ok(table) => table,
+        Err(code) => return Ok(Some(*code)),
+    };
+    let Some(table) = table else {
+        return Ok(None);
+    };
+    push_rows(alloc, table, span.low, span.high, pieces)?;
+    Ok(None)
+}
+
+impl<'b, 'a> Decoded<'b, 'a> {
     /// Nothing was read yet.
     pub(crate) fn new() -> Self
         ensures tree { result.tree ≡ None }
@@ -72,7 +99,7 @@ impl<'a> Decoded<'a> {
     }
 
     /// Reads the functions where they weren't yet.
-    fn fill_tree(&mut self, alloc: Global, image: &Image<'a>, i: usize) -> Result<(), AllocError>
+    fn fill_tree(&mut self, alloc: Global, image: &'b Image<'a>, i: usize) -> Result<(), AllocError>
         requires unit { i < length (units (sections image.now).info) }
         requires answers { IfSome (slice_get (units (sections image.now).info) i) (λ unit. is_skipped unit.kind ≡ false) }
         requires kept { IfSome (slice_get (units (sections image.now).info) i) (λ unit. Holds (sections image.now) unit self.old) }
@@ -134,7 +161,7 @@ impl<'a> Decoded<'a> {
     pub(crate) fn answer(
         &mut self,
         alloc: Global,
-        image: &Image<'a>,
+        image: &'b Image<'a>,
         i: usize,
         a: u64,
     ) -> Result<Answer<'a>, AllocError>
@@ -159,5 +186,27 @@ impl<'a> Decoded<'a> {
             unreachable!()
         };
         answer_of(alloc, unit, tree, lines, location, a)
+    }
+
+    /// Adds the pieces of a span, of which the unit answers all addresses; or returns why it can't answer them.
+    pub(crate) fn push_pieces(
+        &mut self,
+        alloc: Global,
+        image: &Image<'a>,
+        i: usize,
+        span: Span,
+        pieces: &mut Vec<Piece>,
+    ) -> Result<Option<UnitFault>, AllocError>
+        requires unit { i < length (units (sections image.now).info) }
+        requires kept { IfSome (slice_get (units (sections image.now).info) i) (λ unit. Holds (sections image.now) unit self.old) }
+        requires order { span.low ≤ span.high }
+        ensures kept { IfSome (slice_get (units (sections image.now).info) i) (λ unit. Holds (sections image.now) unit self.new) }
+        ensures pieces { IfOk result (λ fault. IfSome (slice_get (units (sections image.now).info) i) (λ unit. AddsUnit (sections image.now) unit span fault (map piece_shown pieces.old.items) (map piece_shown pieces.new.items))) }
+    {
+        self.fill_lines(alloc, image, i)?;
+        let Some(lines) = &self.lines else {
+            unreachable!()
+        };
+        push_lines(alloc, lines, span, pieces)
     }
 }

@@ -1,17 +1,19 @@
 //! The frames at an address, from the functions at it.
 
-ghost use Rattle.std.specs.Prelude.{◌≡◌, List, IfOk, Some, map};
+ghost use Rattle.std.specs.Prelude.{◌≡◌, List, IfOk, map};
 ghost use Rattle.dw_model.specs.Section.{Sections};
 ghost use Rattle.dw_model.specs.Unit.{DwarfUnit};
 ghost use Rattle.dw_model.specs.Tree.{Node, chain};
 ghost use Rattle.dw_model.specs.Name.{name};
 ghost use Rattle.dw_model.specs.Answer as model;
-ghost use Rattle.dw_frames.specs.Tree.{function_at, nodes_of, IsTreeOf};
+ghost use Rattle.dw_frames.specs.Told.{described_shown, told_of};
+ghost use Rattle.dw_frames.specs.Tree.{nodes_of};
 ghost use Rattle.dw_symbols.specs.Answer.{location_shown, frame_shown, answer_shown};
+ghost use Rattle.dw_symbols.specs.Decoded.{IsTreeOf};
 
 use crate::answer::{Answer, Frame, Location};
 use crate::location::call_location;
-use dw_frames::{Described, EntryId, Tree};
+use dw_frames::{Described, Tree};
 use dw_line::Lines;
 use std::alloc::{AllocError, Global};
 use std::mem;
@@ -20,14 +22,13 @@ use std::mem;
 /// called. Without functions there is one frame without a name.
 pub(crate) fn frames_of<'a>(
     alloc: Global,
-    tree: &Tree<'a>,
     lines: &Option<Lines<'_>>,
-    ids: &[EntryId],
+    functions: &[Described<'a>],
     location: Location,
 ) -> Result<Vec<Frame<'a>>, AllocError>
-    ensures { IfOk result (λ frames. (s : Sections) (unit : DwarfUnit) (nodes : List Node) → IsTreeOf s unit tree.now → map (function_at tree.now.unit (nodes_of s unit)) ids.now ≡ map Some nodes → map frame_shown frames.items ≡ model.frames (λ entry. name s (record { unit = unit; entry = entry })) lines.now (location_shown location) nodes) }
+    ensures { IfOk result (λ frames. (s : Sections) (unit : DwarfUnit) (nodes : List Node) → map described_shown functions.now ≡ map (λ node. told_of s unit node.entry) nodes → map frame_shown frames.items ≡ model.frames (λ entry. name s (record { unit = unit; entry = entry })) lines.now (location_shown location) nodes) }
 {
-    if ids.len() == 0 {
+    if functions.len() == 0 {
         let frames = vec![in alloc;
             Frame {
                 name: None,
@@ -37,9 +38,9 @@ pub(crate) fn frames_of<'a>(
         return Ok(frames);
     }
     let mut location = location;
-    let mut frames = Vec::with_capacity(alloc, ids.len())?;
-    for id in ids {
-        let Described { name, call } = tree.describe(*id);
+    let mut frames = Vec::with_capacity(alloc, functions.len())?;
+    for function in functions {
+        let Described { name, call } = *function;
         let next = call_location(alloc, lines, call.file, call.line, call.column)?;
         frames.push(Frame {
             name,
@@ -53,14 +54,14 @@ pub(crate) fn frames_of<'a>(
 pub(crate) fn answer_of<'a>(
     alloc: Global,
     unit: u64,
-    tree: &Tree<'a>,
+    tree: &Tree<'_, 'a>,
     lines: &Option<Lines<'_>>,
     location: Location,
     a: u64,
 ) -> Result<Answer<'a>, AllocError>
     ensures { IfOk result (λ answer. (s : Sections) (of : DwarfUnit) → IsTreeOf s of tree.now → answer_shown answer ≡ model.found unit (model.frames (λ entry. name s (record { unit = of; entry = entry })) lines.now (location_shown location) (chain s of (nodes_of s of) a))) }
 {
-    let ids = tree.chain(alloc, a)?;
-    let frames = frames_of(alloc, tree, lines, &ids, location)?;
+    let functions = tree.functions(alloc, a)?;
+    let frames = frames_of(alloc, lines, &functions, location)?;
     Ok(Answer::Found { unit, frames })
 }

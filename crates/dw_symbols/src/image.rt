@@ -4,6 +4,8 @@ ghost use Rattle.std.specs.Prelude.{◌≡◌, ◌<◌, false, None, OnOk, IfOk,
 ghost use Rattle.dw_model.specs.Section.{sections, elf_refusal};
 ghost use Rattle.dw_model.specs.Unit.{is_skipped, units};
 ghost use Rattle.dw_model.specs.Answer.{unit_of};
+ghost use Rattle.dw_model.specs.Steady.{last_address};
+ghost use Rattle.dw_symbols.specs.Span.{IsUnitOf};
 ghost use Rattle.dw_model.specs.Refusal.{refusal};
 ghost use Rattle.dw_elf.specs.OpenFault.{RefusesUnlessMemory, HidesNoRefusal};
 
@@ -13,6 +15,13 @@ use dw_ranges::{Index, law_of_least_owner};
 use dw_units::Units;
 use std::alloc::Global;
 use std::marker::Model;
+
+/// The unit that answers some addresses, by its place, if one does, and where they end.
+#[derive(Clone, Copy, Debug)]
+pub(crate) struct Owner {
+    pub(crate) unit: Option<usize>,
+    pub(crate) until: u64,
+}
 
 /// A file whose addresses can be asked for. Contracts see its bytes.
 #[derive(Drop)]
@@ -86,6 +95,19 @@ impl<'a> Image<'a> {
         ensures answers { IfSome result (λ i. IfSome (slice_get (units (sections self.now).info) i) (λ unit. is_skipped unit.kind ≡ false)) }
     {
         self.index.find(a)
+    }
+
+    /// The unit that answers an address, as `unit_at` finds it, and up to where it answers all addresses, or none does.
+    pub(crate) fn unit_from(&self, a: u64) -> Owner
+        requires { a < last_address }
+        ensures after { a < result.until }
+        ensures unit { IsUnitOf (sections self.now) result.unit a result.until }
+        ensures within { IfSome result.unit (λ i. i < length (units (sections self.now).info)) }
+    {
+        Owner {
+            unit: self.index.find(a),
+            until: self.index.steady(a),
+        }
     }
 
     /// The bytes of the file.

@@ -9,11 +9,13 @@ mod frames;
 mod image;
 mod kept;
 mod location;
+mod pieces;
 mod refusals;
 mod solver;
+mod span;
 mod unit_place;
 
-pub use answer::{Answer, Frame, Location, UnitFault};
+pub use answer::{Answer, Frame, Location, Piece, UnitFault};
 pub use context::Context;
 pub use image::Image;
 pub use solver::law_of_shown;

@@ -53,7 +53,7 @@ fn nowhere() -> Location
 }
 
 /// Line 0 is no line, and without a line no column is told.
-fn location_at(path: Option<Vec<u8>>, line: Option<u64>, column: Option<u64>) -> Location
+pub(crate) fn location_at(path: Option<Vec<u8>>, line: Option<u64>, column: Option<u64>) -> Location
     ensures { location_shown result ≡ model.location_at (option_map (λ path. path.items) path) line column }
 {
     match line {

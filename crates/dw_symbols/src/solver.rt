@@ -1,16 +1,16 @@
 //! A context answers the queries of a pool.
 
 ghost use Rattle.std.specs.Prelude.{◌≡◌, List, ℕ, map};
-ghost use Rattle.dw_model.specs.Answer as model;
+ghost use Rattle.ticket_core.specs.declared.query.Query.{Query as Asked};
 ghost use Rattle.dw_symbols.specs.declared.answer.Answer.{Answer};
 ghost use Rattle.dw_symbols.specs.Answer.{answer_shown};
-ghost use Rattle.dw_symbols.specs.Told.{told, meaning};
+ghost use Rattle.dw_symbols.specs.Told.{told, means, meaning};
 
 use crate::answer::Answer;
 use crate::context::Context;
-use ticket_core::{NoMemory, Solver};
+use ticket_core::{NoMemory, Query, Solver};
 
-/// What an address means under the bytes of a file is the file's answer, shown as its record.
+/// What a query means under the bytes of a file is the file's answer, shown as its record.
 impl<'b, 'a> Solver for Context<'b, 'a> {
     type Answer = Answer<'a>;
 
@@ -26,15 +26,15 @@ impl<'b, 'a> Solver for Context<'b, 'a> {
         self.bytes()
     }
 
-    fn solve(&mut self, a: u64) -> Result<Answer<'a>, NoMemory> {
-        self.find_frames(a)
+    fn solve(&mut self, query: Query) -> Result<Answer<'a>, NoMemory> {
+        self.find(query)
     }
 }
 
-/// An answer shows what its address means only if it is the file's answer:
-/// - `one`: as a record, for one address;
-/// - `all`: for answers and addresses in their order.
+/// An answer shows what its query means only if it is the file's answer:
+/// - `one`: as a record, for one query;
+/// - `all`: for answers and queries in their order.
 pub fn law_of_shown()
-    ensures one { (file : List ℕ) (a : ℕ) (answer : Answer) → told answer ≡ meaning file a → answer_shown answer ≡ model.answer file a }
-    ensures all { (file : List ℕ) (addresses : List ℕ) (answers : List Answer) → map told answers ≡ map (meaning file) addresses → map answer_shown answers ≡ map (model.answer file) addresses }
+    ensures one { (file : List ℕ) (query : Asked) (answer : Answer) → told answer ≡ meaning file query → answer_shown answer ≡ means file query }
+    ensures all { (file : List ℕ) (queries : List Asked) (answers : List Answer) → map told answers ≡ map (meaning file) queries → map answer_shown answers ≡ map (means file) queries }
 {}

@@ -5,28 +5,22 @@ use Rattle.std.specs.Option.{option_map_or}
 use Rattle.std.specs.Map.{lookup}
 use Rattle.dw_model.specs.Options.{◌>>=◌, only_if}
 use Rattle.dw_model.specs.Form.{Value}
-use Rattle.dw_model.specs.Entry.{classes, attribute}
+use Rattle.dw_model.specs.Entry.{Attribute, Entry, classes, attribute}
 use Rattle.dw_forms.specs.Value.{value_shown}
 use Rattle.dw_units.specs.declared.attributes.Attribute.{Attribute as CodeAttribute}
-use Rattle.dw_units.specs.declared.entry.Entry.{Entry}
-use Rattle.dw_units.specs.Entry.{attribute_shown, entry_shown}
+use Rattle.dw_units.specs.Entry.{attribute_shown}
 
 -- the value counts for the name
 abbrev pub Counts : ℕ → Value → Bool
 Counts name value = option_map_or (λ counts. counts value) (lookup (nat_eq name) classes) false
 
-find-shown : (name : ℕ) (attributes : List CodeAttribute) → find (λ found. found.name == name) (map attribute_shown attributes) ≡ option_map attribute_shown (find (λ found. found.name == name) attributes)
-find-shown name [] = refl
-find-shown name (first ∷ attributes) = by (first.name == name) (find-shown name attributes)
-  where
-    by : (here : Bool) → find (λ found. found.name == name) (map attribute_shown attributes) ≡ option_map attribute_shown (find (λ found. found.name == name) attributes)
-        → cond here (Some (attribute_shown first)) (find (λ found. found.name == name) (map attribute_shown attributes)) ≡ option_map attribute_shown (cond here (Some first) (find (λ found. found.name == name) attributes))
-    by true others = refl
-    by false others = others
+-- the value of the first attribute of a name
+abbrev pub value_of : ℕ → List Attribute → Option Value
+value_of name attributes = option_map (λ (first : Attribute). first.value) (find (λ (first : Attribute). first.name == name) attributes)
 
--- what is given of an attribute that was found
-abbrev pub given : ℕ → CodeAttribute → Option Value
-given name found = cond (Counts name (value_shown found.value)) (Some (value_shown found.value)) None
+-- what is given of a value that was found
+abbrev given : ℕ → Value → Option Value
+given name value = cond (Counts name value) (Some value) None
 
 counted : (name : ℕ) (value : Value) (class : Option (Value → Bool)) → (class >>= λ counts. only_if (counts value) >>= λ _. Some value) ≡ cond (option_map_or (λ counts. counts value) class false) (Some value) None
 counted name value None = refl
@@ -36,25 +30,41 @@ counted name value (Some counts) = by (counts value)
     by true = refl
     by false = refl
 
-through : (name : ℕ) (o : Option CodeAttribute) → (option_map attribute_shown o >>= λ found. lookup (nat_eq name) classes >>= λ counts. only_if (counts found.value) >>= λ _. Some found.value) ≡ option_and_then (given name) o
+through : (name : ℕ) (o : Option Attribute) → (o >>= λ found. lookup (nat_eq name) classes >>= λ counts. only_if (counts found.value) >>= λ _. Some found.value) ≡ option_and_then (given name) (option_map (λ (found : Attribute). found.value) o)
 through name None = refl
-through name (Some found) = counted name (value_shown found.value) (lookup (nat_eq name) classes)
+through name (Some found) = counted name found.value (lookup (nat_eq name) classes)
 
-pub attribute_is : (name : ℕ) (entry : Entry) (o : Option CodeAttribute) → o ≡ find (λ found. found.name == name) entry.attrs → attribute name (entry_shown entry) ≡ option_and_then (given name) o
+attribute_is : (name : ℕ) (entry : Entry) (value : Option Value) → value ≡ value_of name entry.attributes → attribute name entry ≡ option_and_then (given name) value
 unfolding attribute
-attribute_is name entry o e =
-    let shown : find (λ found. found.name == name) (map attribute_shown entry.attrs) ≡ option_map attribute_shown o = find-shown name entry.attrs ∙ ap (option_map attribute_shown) (sym e) in
-    rw shown (through name o)
+attribute_is name entry value e = through name (find (λ (found : Attribute). found.name == name) entry.attributes) ∙ ap (option_and_then (given name)) (sym e)
 
-pub absent : (name : ℕ) (entry : Entry) → None ≡ find (λ found. found.name == name) entry.attrs → None ≡ attribute name (entry_shown entry)
+pub absent : (name : ℕ) (entry : Entry) → None ≡ value_of name entry.attributes → None ≡ attribute name entry
 absent name entry e = sym (attribute_is name entry None e)
 
-pub not_counted : (name : ℕ) (entry : Entry) (found : CodeAttribute) → Some found ≡ find (λ found. found.name == name) entry.attrs → Counts name (value_shown found.value) ≡ false → None ≡ attribute name (entry_shown entry)
-not_counted name entry found e other =
-    let none : given name found ≡ None = rw other refl in
-    sym (attribute_is name entry (Some found) e ∙ none)
+pub not_counted : (name : ℕ) (entry : Entry) (value : Value) → Some value ≡ value_of name entry.attributes → Counts name value ≡ false → None ≡ attribute name entry
+not_counted name entry value e other =
+    let none : given name value ≡ None = rw other refl in
+    sym (attribute_is name entry (Some value) e ∙ none)
 
-pub is_given : (name : ℕ) (entry : Entry) (found : CodeAttribute) → Some found ≡ find (λ found. found.name == name) entry.attrs → Counts name (value_shown found.value) ≡ true → Some (value_shown found.value) ≡ attribute name (entry_shown entry)
-is_given name entry found e counts =
-    let some : given name found ≡ Some (value_shown found.value) = rw counts refl in
-    sym (attribute_is name entry (Some found) e ∙ some)
+pub is_given : (name : ℕ) (entry : Entry) (value : Value) → Some value ≡ value_of name entry.attributes → Counts name value ≡ true → Some value ≡ attribute name entry
+is_given name entry value e counts =
+    let some : given name value ≡ Some value = rw counts refl in
+    sym (attribute_is name entry (Some value) e ∙ some)
+
+-- the same of attributes as the code has them
+find-shown : (name : ℕ) (attributes : List CodeAttribute) → find (λ (found : Attribute). found.name == name) (map attribute_shown attributes) ≡ option_map attribute_shown (find (λ found. found.name == name) attributes)
+find-shown name [] = refl
+find-shown name (first ∷ attributes) = by (first.name == name) (find-shown name attributes)
+  where
+    by : (here : Bool) → find (λ (found : Attribute). found.name == name) (map attribute_shown attributes) ≡ option_map attribute_shown (find (λ found. found.name == name) attributes)
+        → cond here (Some (attribute_shown first)) (find (λ (found : Attribute). found.name == name) (map attribute_shown attributes)) ≡ option_map attribute_shown (cond here (Some first) (find (λ found. found.name == name) attributes))
+    by true others = refl
+    by false others = others
+
+pub shown-value : (name : ℕ) (attributes : List CodeAttribute) (found : Option CodeAttribute) → found ≡ find (λ found. found.name == name) attributes → option_map (λ (found : CodeAttribute). value_shown found.value) found ≡ value_of name (map attribute_shown attributes)
+shown-value name attributes found e =
+    same found ∙ ap (option_map (λ (first : Attribute). first.value)) (ap (option_map attribute_shown) e ∙ sym (find-shown name attributes))
+  where
+    same : (found : Option CodeAttribute) → option_map (λ (found : CodeAttribute). value_shown found.value) found ≡ option_map (λ (first : Attribute). first.value) (option_map attribute_shown found)
+    same None = refl
+    same (Some found) = refl

@@ -6,10 +6,10 @@ use Rattle.std.specs.List.Sorted.{IsNonDecreasingBy, IsPartitionPoint}
 use Rattle.std.specs.Result.{result_unwrap_or}
 use Rattle.std.proofs.lemmas.Bool.{le-ltb, lt-ltb, leb-true}
 use Rattle.std.proofs.lemmas.Option.{slice_get_read, slice_get-map}
-use Rattle.dw_model.specs.declared.dwarf.TheConstants.{OFFSET_SIZE_32}
 use Rattle.dw_model.specs.Reading.{start}
 use Rattle.dw_model.specs.Faults.{Refusal}
-use Rattle.dw_model.specs.Unit.{DwarfUnit, Test, untested, cut, AreUnits, extent_at}
+use Rattle.dw_model.specs.InitialLength.{Width, offset_size, length_size}
+use Rattle.dw_model.specs.Unit.{DwarfUnit, Test, untested, cut, Content, IsUnitOf, AreUnits, extent_at}
 use Rattle.dw_model.specs.Unit as model
 use Rattle.dw_model.specs.Section.{Sections}
 use Rattle.dw_model.specs.Name.{holding}
@@ -27,19 +27,20 @@ lower : (low high : ℕ) (units : List DwarfUnit) → low ≤ high → Ascending
 lower low high [] h a = tt
 lower low high (unit ∷ units) h a = (omega (arith, h, a.0), a.1, a.2)
 
-units-ascend : (test : Test) (at : ℕ) (contents : List (List ℕ)) (found : List DwarfUnit) → AreUnits test at contents found → Ascending at found
-units-ascend test at [] found u = subst (Ascending at) (sym u) tt
-units-ascend test at ([] ∷ contents) found u =
-    let same : u.1 ≡ found = sym (u.2 ∙ ap (λ (o : Option DwarfUnit). cons_option o u.1) u.3) in
-    subst (Ascending at) same (lower at (at + 4 + 0) u.1 (omega arith) (units-ascend test (at + 4 + 0) contents u.1 u.4))
-units-ascend test at ((c ∷ content) ∷ contents) found u =
+-- the unit of a piece, and those behind it
+piece-ascends : (test : Test) (at : ℕ) (width : Width) (content : List ℕ) (unit : Option DwarfUnit) (others : List DwarfUnit) → IsUnitOf test at width content unit → Ascending (at + length_size width + length content) others → Ascending at (cons_option unit others)
+piece-ascends test at width [] unit others u a = rw (u) (lower at (at + length_size width + 0) others (omega arith) a)
+piece-ascends test at width (c ∷ content) unit others u a =
     let n : ℕ = length (c ∷ content) in
-    let unit = u.3.0 in
-    let same : unit ∷ u.1 ≡ found = sym (u.2 ∙ ap (λ (o : Option DwarfUnit). cons_option o u.1) u.3.1) in
-    let w = unit_of-within (extent_at at (c ∷ content)) OFFSET_SIZE_32 (c ∷ content) unit refl u.3.2 in
-    let others = units-ascend test (at + 4 + n) contents u.1 u.4 in
-    let all : Ascending at (unit ∷ u.1) = (omega (arith, w.offset), omega (arith, w.offset, w.end), lower unit.end (at + 4 + n) u.1 (omega (arith, w.end)) others) in
-    subst (Ascending at) same all
+    let w = unit_of-within (extent_at at width (c ∷ content)) (offset_size width) (c ∷ content) u.0 refl u.2 in
+    let all : Ascending at (u.0 ∷ others) = (omega (arith, w.offset), omega (arith, w.offset, w.end), lower u.0.end (at + length_size width + n) others (omega (arith, w.end)) a) in
+    rw (u.1) all
+
+units-ascend : (test : Test) (at : ℕ) (contents : List Content) (found : List DwarfUnit) → AreUnits test at contents found → Ascending at found
+units-ascend test at [] found u = subst (Ascending at) (sym u) tt
+units-ascend test at (content ∷ contents) found u =
+    let others = units-ascend test (at + length_size content.width + length content.bytes) contents u.1 u.4 in
+    subst (Ascending at) (sym u.2) (piece-ascends test at content.width content.bytes u.0 u.1 u.3 others)
 
 pub cut-ascends : (info : List ℕ) (found : List DwarfUnit) → cut info ≡ Ok found → Ascending 0 found
 cut-ascends info found e =

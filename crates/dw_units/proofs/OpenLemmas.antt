@@ -11,8 +11,8 @@ use Rattle.dw_model.specs.Entry.{Entry, entry_at}
 use Rattle.dw_model.specs.Unit.{DwarfUnit, is_skipped}
 use Rattle.dw_model.specs.Section.{Sections}
 use Rattle.dw_model.specs.Root.{place_in, entry, root, has_root}
-use Rattle.dw_model.specs.declared.dwarf.TheConstants.{OFFSET_SIZE_32}
 use Rattle.dw_model.specs.Text.{bases_in}
+use Rattle.dw_bytes.specs.Width.{size_of}
 use Rattle.dw_forms.specs.Tables.{bases_shown}
 use Rattle.dw_units.specs.declared.header.Header.{Header}
 use Rattle.dw_units.specs.declared.unit.Unit.{Unit as CodeUnit}
@@ -105,11 +105,11 @@ found-first found first given h is =
     let here = subst (λ found. FindsEntry (Ok found) given) is h in
     (first, here.0, refl, here.1, here.2)
 
-pub opened : (s : Sections) (read : Read) (header : Header) (unit : CodeUnit) (found : Option CodeEntry) (table : Option ℕ) → unit_shown unit ≡ header_shown header → bases_shown unit.bases ≡ bases_in OFFSET_SIZE_32 (option_map entry_shown found) → unit.root ≡ found → unit.table ≡ table
+pub opened : (s : Sections) (read : Read) (header : Header) (unit : CodeUnit) (found : Option CodeEntry) (table : Option ℕ) → unit_shown unit ≡ header_shown header → bases_shown unit.bases ≡ bases_in (size_of header.width) (option_map entry_shown found) → unit.root ≡ found → unit.table ≡ table
     → root s (header_shown header) ≡ option_map entry_shown found → (is_skipped (header_shown header).kind ≡ false → IsFound found (entry s (header_shown header) header.first_entry)) → HasEntries s read (header_shown header) table → IsOpened s read unit
 opened s read header unit found table same bases first placed is here h = record {
   root = ap (option_map entry_shown) first ∙ sym is ∙ ap (root s) (sym same);
   first = rw first (subst (λ (u : DwarfUnit). is_skipped u.kind ≡ false → IsFound found (entry s u u.first_entry)) (sym same) here);
-  bases = bases ∙ ap (bases_in OFFSET_SIZE_32) (sym is ∙ ap (root s) (sym same));
+  bases = bases ∙ ap (bases_in (size_of header.width)) (sym is) ∙ ap (λ (u : DwarfUnit). bases_in u.offset_size (root s u)) (sym same);
   table = rw placed (subst (λ u. HasEntries s read u table) (sym same) h);
 }

@@ -34,7 +34,7 @@ got None Q xs i some past = sym (slice_get_past xs i past)
 got (Some x) Q xs i is within = sym (slice_get_read xs (length xs) i x.now refl within.0 is)
 
 -- attributes that were read have the names that were asked for
-names-read : (size : ℕ) (specifications : List Specification) (p : Place) (x : List Attribute × Place) → attributes_at size specifications p ≡ Ok x → map (λ (a : Attribute). a.name) x.0 ≡ map (λ (s : Specification). s.name) specifications
+pub names-read : (size : ℕ) (specifications : List Specification) (p : Place) (x : List Attribute × Place) → attributes_at size specifications p ≡ Ok x → map (λ (a : Attribute). a.name) x.0 ≡ map (λ (s : Specification). s.name) specifications
 unfolding attributes_at
 names-read size [] p x e = ap (map (λ (a : Attribute). a.name)) (ap (λ (y : List Attribute × Place). y.0) (sym (ok_is ([], p) x e)))
 names-read size (specification ∷ specifications) p x e =
@@ -48,7 +48,7 @@ shown-names : (attributes : List CodeAttribute) → names_in attributes ≡ map 
 shown-names [] = refl
 shown-names (x ∷ attributes) = ap (λ (names : List ℕ). x.name ∷ names) (shown-names attributes)
 
-spec-names : (specs : List Spec) → map (λ (s : Specification). s.name) (map spec_shown specs) ≡ map (λ (s : Spec). s.name) specs
+pub spec-names : (specs : List Spec) → map (λ (s : Specification). s.name) (map spec_shown specs) ≡ map (λ (s : Spec). s.name) specs
 spec-names [] = refl
 spec-names (x ∷ specs) = ap (λ (names : List ℕ). x.name ∷ names) (spec-names specs)
 

@@ -1,5 +1,5 @@
 -- What is told of the entries of a unit, one after the other.
-use Rattle.std.specs.Prelude.{◌≡◌, true, false, List, Option, Some, None, Result, Ok, Err, MatchOption}
+use Rattle.std.specs.Prelude.{◌≡◌, ℕ, true, false, List, Option, Some, None, Result, Ok, Err, MatchOption}
 use Rattle.dw_model.specs.Reading.{Place}
 use Rattle.dw_model.specs.Faults.{Fault}
 use Rattle.dw_model.specs.Abbrev.{Declaration, abbreviations}
@@ -15,9 +15,10 @@ use Rattle.dw_units.specs.declared.entries.Next.TheVariants.{Null, Function, Pas
 use Rattle.dw_units.specs.declared.entry.Entry.{Entry as CodeEntry}
 use Rattle.dw_units.specs.Entry.{entry_shown}
 
--- the declarations of a unit, and the place of its next entry
+-- the declarations of a unit, how many bytes its offsets have, and the place of its next entry
 pub record Walk : Type 0 where
   pub declarations : List Declaration
+  pub offset_size : ℕ
   pub place : Place
 
 -- the walk over a unit's entries begins at its first one; just the skipped units have none
@@ -27,6 +28,7 @@ WalksFrom sections unit (Some walk) =
     (abbreviations sections.abbrevs unit.debug_abbrev_offset ≡ Ok walk.declarations)
     × (walk.place ≡ place_in sections unit unit.first_entry)
     × (is_skipped unit.kind ≡ false)
+    × (walk.offset_size ≡ unit.offset_size)
 
 -- it is a null entry, or a function, which is kept, or an entry that is none, of which only the children are told
 abbrev pub IsNext : Next → CodeEntry → Option Entry → Type 0

@@ -1,7 +1,7 @@
 -- What the header of a unit and its kind stand for.
 use Rattle.std.specs.Prelude.{◌≡◌, true}
-use Rattle.dw_model.specs.declared.dwarf.TheConstants.{OFFSET_SIZE_32}
 use Rattle.dw_model.specs.Unit as model
+use Rattle.dw_bytes.specs.Width.{size_of}
 use Rattle.dw_units.specs.declared.header.Kind.{Kind}
 use Rattle.dw_units.specs.declared.header.Kind.TheVariants.{Compile, Partial, Skeleton, Skipped}
 use Rattle.dw_units.specs.declared.header.Header.{Header}
@@ -19,7 +19,7 @@ header_shown header = record {
   end = header.end;
   version = header.version;
   kind = kind_shown header.kind;
-  offset_size = OFFSET_SIZE_32;
+  offset_size = size_of header.width;
   debug_abbrev_offset = header.debug_abbrev_offset;
   first_entry = header.first_entry;
 }

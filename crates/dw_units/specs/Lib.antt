@@ -4,8 +4,12 @@ pub mod Entries
 pub mod Entry
 pub mod Header
 pub mod Null
+pub mod OpenUnit
 pub mod Sections
 pub mod Shared
 pub mod SharedInside
 pub mod Unit
+pub mod UnitAt
 pub mod Units
+pub mod View
+pub mod ViewInside

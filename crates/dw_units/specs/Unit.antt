@@ -1,10 +1,10 @@
 -- What a unit stands for.
 use Rattle.std.specs.Prelude.{◌≡◌, ◌≤◌, ℕ, true, false, length, take, Option, Some, None, option_map, IsOk, MatchOption}
-use Rattle.dw_model.specs.declared.dwarf.TheConstants.{OFFSET_SIZE_32}
 use Rattle.dw_model.specs.Unit.{DwarfUnit, is_skipped}
 use Rattle.dw_model.specs.Section.{Sections}
 use Rattle.dw_model.specs.Abbrev.{abbreviations}
 use Rattle.dw_model.specs.Root as model
+use Rattle.dw_bytes.specs.Width.{size_of}
 use Rattle.dw_elf.specs.declared.fault.OpenFault.{OpenFault}
 use Rattle.dw_elf.specs.OpenFault.{refusal_of}
 use Rattle.dw_forms.specs.Tables.{bases_shown}
@@ -19,7 +19,7 @@ unit_shown unit = record {
   end = unit.end;
   version = unit.version;
   kind = kind_shown unit.kind;
-  offset_size = OFFSET_SIZE_32;
+  offset_size = size_of unit.width;
   debug_abbrev_offset = unit.debug_abbrev_offset;
   first_entry = unit.first_entry;
 }

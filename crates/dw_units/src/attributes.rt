@@ -1,14 +1,14 @@
 //! The attributes of entries, by section 7.5.3 of DWARF 5.
 
 ghost use Rattle.std.specs.Prelude.{◌≡◌, ◌==◌, [], Err, IfErr, MatchOption, find, length, map, option_map};
-ghost use Rattle.dw_model.specs.declared.dwarf.TheConstants.{OFFSET_SIZE_32};
 ghost use Rattle.dw_model.specs.Entry.{attributes_at};
 ghost use Rattle.dw_model.specs.Answers.{ReadsUnlessMemory};
+ghost use Rattle.dw_bytes.specs.Width.{size_of};
 ghost use Rattle.dw_forms.specs.Fault.{form_fault, HidesNoFault, Passes};
 ghost use Rattle.dw_forms.specs.Declaration.{spec_shown};
 ghost use Rattle.dw_units.specs.Attribute.{attribute_shown};
 
-use dw_bytes::Cursor;
+use dw_bytes::{Cursor, Width};
 use dw_forms::{Decl, Firsts, FormFault, Spec, Value, read_value};
 use std::alloc::Global;
 use std::marker::Model;
@@ -40,44 +40,50 @@ impl<'a> Model for Attributes<'a> {
     ghost invariant = { ArePlaced };
 }
 
-/// Passes over the values that a declaration asks for.
-pub(crate) fn pass_attributes(cursor: &mut Cursor<'_>, specs: &[Spec]) -> Result<(), FormFault>
-    ensures { Passes result (attributes_at OFFSET_SIZE_32 (map spec_shown specs.now) cursor.old) cursor.new }
+/// Passes over the values that a declaration asks for, where offsets have a width.
+pub(crate) fn pass_attributes(
+    cursor: &mut Cursor<'_>,
+    specs: &[Spec],
+    width: Width,
+) -> Result<(), FormFault>
+    ensures { Passes result (attributes_at (size_of width) (map spec_shown specs.now) cursor.old) cursor.new }
 {
     for spec in specs {
-        read_value(cursor, spec.form, spec.implicit)?;
+        read_value(cursor, spec.form, spec.implicit, width)?;
     }
     Ok(())
 }
 
 /// Why values can't be read where memory was refused: their first fault, or `Memory` where they have none.
-fn fault_in_values(cursor: &mut Cursor<'_>, specs: &[Spec]) -> FormFault
-    ensures fault { MatchOption (form_fault result) (Unit {0}) (λ told. attributes_at OFFSET_SIZE_32 (map spec_shown specs.now) cursor.old ≡ Err told) }
-    ensures memory { HidesNoFault result (attributes_at OFFSET_SIZE_32 (map spec_shown specs.now) cursor.old) }
+fn fault_in_values(cursor: &mut Cursor<'_>, specs: &[Spec], width: Width) -> FormFault
+    ensures fault { MatchOption (form_fault result) (Unit {0}) (λ told. attributes_at (size_of width) (map spec_shown specs.now) cursor.old ≡ Err told) }
+    ensures memory { HidesNoFault result (attributes_at (size_of width) (map spec_shown specs.now) cursor.old) }
 {
-    match pass_attributes(cursor, specs) {
+    match pass_attributes(cursor, specs, width) {
         Ok(()) => FormFault::Memory,
         Err(fault) => fault,
     }
 }
 
-/// Reads the values that a declaration asks for, in place of those that were kept.
+/// Reads the values that a declaration asks for, where offsets have a width, in place of those that
+/// were kept.
 fn read_attributes<'a>(
     attributes: &mut Vec<Attribute<'a>>,
     cursor: &mut Cursor<'a>,
     specs: &[Spec],
+    width: Width,
 ) -> Result<(), FormFault>
-    ensures read { ReadsUnlessMemory (λ _. map attribute_shown attributes.new.items) form_fault result (attributes_at OFFSET_SIZE_32 (map spec_shown specs.now) cursor.old) cursor.new }
-    ensures memory { IfErr result (λ fault. HidesNoFault fault (attributes_at OFFSET_SIZE_32 (map spec_shown specs.now) cursor.old)) }
+    ensures read { ReadsUnlessMemory (λ _. map attribute_shown attributes.new.items) form_fault result (attributes_at (size_of width) (map spec_shown specs.now) cursor.old) cursor.new }
+    ensures memory { IfErr result (λ fault. HidesNoFault fault (attributes_at (size_of width) (map spec_shown specs.now) cursor.old)) }
 {
     attributes.clear();
     // A cursor of its own stays in registers.
     let mut place = cursor.fork();
     for spec in specs {
-        let value = read_value(&mut place, spec.form, spec.implicit)?;
+        let value = read_value(&mut place, spec.form, spec.implicit, width)?;
         let name = spec.name;
         let Ok(()) = attributes.push(Attribute { name, value }) else {
-            return Err(fault_in_values(&mut cursor.fork(), specs));
+            return Err(fault_in_values(&mut cursor.fork(), specs, width));
         };
     }
     *cursor = place;
@@ -140,12 +146,13 @@ impl<'a> Attributes<'a> {
         &mut self,
         cursor: &mut Cursor<'a>,
         declaration: &Decl,
+        width: Width,
     ) -> Result<(), FormFault>
-        ensures read { ReadsUnlessMemory (λ _. map attribute_shown self.new) form_fault result (attributes_at OFFSET_SIZE_32 (map spec_shown declaration.now.specs.items) cursor.old) cursor.new }
-        ensures memory { IfErr result (λ fault. HidesNoFault fault (attributes_at OFFSET_SIZE_32 (map spec_shown declaration.now.specs.items) cursor.old)) }
+        ensures read { ReadsUnlessMemory (λ _. map attribute_shown self.new) form_fault result (attributes_at (size_of width) (map spec_shown declaration.now.specs.items) cursor.old) cursor.new }
+        ensures memory { IfErr result (λ fault. HidesNoFault fault (attributes_at (size_of width) (map spec_shown declaration.now.specs.items) cursor.old)) }
     {
         self.firsts = Firsts::unknown();
-        read_attributes(&mut self.list, cursor, declaration.specs.as_slice())?;
+        read_attributes(&mut self.list, cursor, declaration.specs.as_slice(), width)?;
         self.firsts = declaration.firsts();
         Ok(())
     }

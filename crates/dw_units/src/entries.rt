@@ -1,15 +1,15 @@
 //! The entries of a unit, one after the other.
 
 ghost use Rattle.std.specs.Prelude.{◌≡◌, ◌==◌, ◌||◌, IfOk, IfErr, length, map, OnErr};
-ghost use Rattle.dw_model.specs.declared.dwarf.TheConstants.{OFFSET_SIZE_32};
 ghost use Rattle.dw_model.specs.Entry.{attributes_at, entry_at};
+ghost use Rattle.dw_bytes.specs.Width.{size_of};
 ghost use Rattle.dw_forms.specs.Declaration.{spec_shown};
 ghost use Rattle.dw_forms.specs.Fault.{HidesNoFault, Passes};
 ghost use Rattle.dw_units.specs.Entries.{ReadsNext, IsBefore};
 
 use crate::attributes::pass_attributes;
 use crate::entry::Entry;
-use dw_bytes::Cursor;
+use dw_bytes::{Cursor, Width};
 use dw_forms::{Abbrevs, Decl, FormFault};
 use dw_model::dwarf::{DW_TAG_inlined_subroutine, DW_TAG_subprogram};
 use std::alloc::Global;
@@ -29,21 +29,24 @@ pub enum Next {
     },
 }
 
-/// A walk over the entries of a unit. Contracts see the unit's declarations and the place of the
-/// next entry, whose offset counts from the first byte of .debug_info.
+/// A walk over the entries of a unit. Contracts see the unit's declarations, how many bytes its
+/// offsets have, and the place of the next entry, whose offset counts from the first byte of
+/// .debug_info.
 #[derive(Drop)]
 pub struct Entries<'b, 'a> {
     abbrevs: &'b Abbrevs,
+    width: Width,
     cursor: Cursor<'a>,
 }
 
 impl<'b, 'a> Model for Entries<'b, 'a> {
     ghost use Rattle.dw_forms.specs.Fault.{HidesNoFault, Passes};
+    ghost use Rattle.dw_bytes.specs.Width.{size_of};
     ghost use Rattle.dw_units.specs.Entries.{Walk};
 
     ghost Value = { Walk };
 
-    ghost view = { λ entries. record { declarations = entries.abbrevs.now; place = entries.cursor } };
+    ghost view = { λ entries. record { declarations = entries.abbrevs.now; offset_size = size_of entries.width; place = entries.cursor } };
 
     ghost invariant = { λ entries. Unit {0} };
 }
@@ -57,11 +60,15 @@ fn is_function(tag: u64) -> bool
 
 /// Passes over the values of an entry, in one step where its declaration tells how far.
 #[inline(always)]
-fn pass_values(cursor: &mut Cursor<'_>, declaration: &Decl) -> Result<(), FormFault>
-    ensures { Passes result (attributes_at OFFSET_SIZE_32 (map spec_shown declaration.now.specs.items) cursor.old) cursor.new }
+pub(crate) fn pass_values(
+    cursor: &mut Cursor<'_>,
+    declaration: &Decl,
+    width: Width,
+) -> Result<(), FormFault>
+    ensures { Passes result (attributes_at (size_of width) (map spec_shown declaration.now.specs.items) cursor.old) cursor.new }
 {
-    let Some(size) = declaration.size() else {
-        return pass_attributes(cursor, declaration.specs.as_slice());
+    let Some(size) = declaration.size(width) else {
+        return pass_attributes(cursor, declaration.specs.as_slice(), width);
     };
     let _values = cursor.take(size).ok_or(FormFault::End)?;
     Ok(())
@@ -74,11 +81,12 @@ fn pass_values(cursor: &mut Cursor<'_>, declaration: &Decl) -> Result<(), FormFa
 fn next_of<'a>(
     cursor: &mut Cursor<'a>,
     abbrevs: &Abbrevs,
+    width: Width,
     kept: &mut Entry<'a>,
 ) -> Result<Next, FormFault>
-    ensures next { ReadsNext result kept.new (entry_at OFFSET_SIZE_32 abbrevs.now cursor.old) cursor.new }
+    ensures next { ReadsNext result kept.new (entry_at (size_of width) abbrevs.now cursor.old) cursor.new }
     ensures past { IfOk result (λ next. IsBefore next kept.old kept.new cursor.new) }
-    ensures memory { IfErr result (λ fault. HidesNoFault fault (entry_at OFFSET_SIZE_32 abbrevs.now cursor.old)) }
+    ensures memory { IfErr result (λ fault. HidesNoFault fault (entry_at (size_of width) abbrevs.now cursor.old)) }
 {
     let offset = cursor.at() as u64;
     let code = cursor.uleb()?;
@@ -88,10 +96,10 @@ fn next_of<'a>(
     let declaration = abbrevs.get(code).ok_or(FormFault::Code)?;
     let children = declaration.children;
     if !is_function(declaration.tag) {
-        pass_values(cursor, declaration)?;
+        pass_values(cursor, declaration, width)?;
         return Ok(Next::Passed { children });
     }
-    kept.attrs.read(cursor, declaration)?;
+    kept.attrs.read(cursor, declaration, width)?;
     kept.offset = offset;
     kept.next = cursor.at() as u64;
     kept.tag = declaration.tag;
@@ -100,12 +108,17 @@ fn next_of<'a>(
 }
 
 impl<'b, 'a> Entries<'b, 'a> {
-    /// A walk that begins at a cursor.
-    pub(crate) fn new(abbrevs: &'b Abbrevs, cursor: Cursor<'a>) -> Self
+    /// A walk that begins at a cursor, in a unit of a width.
+    pub(crate) fn new(abbrevs: &'b Abbrevs, width: Width, cursor: Cursor<'a>) -> Self
         ensures declarations { result.declarations ≡ abbrevs.now }
+        ensures offset_size { result.offset_size ≡ size_of width }
         ensures place { result.place ≡ cursor.entry }
     {
-        Entries { abbrevs, cursor }
+        Entries {
+            abbrevs,
+            width,
+            cursor,
+        }
     }
 
     /// No byte of the unit is left.
@@ -121,13 +134,14 @@ impl<'b, 'a> Entries<'b, 'a> {
     #[inline(always)]
     pub fn next_function(&mut self, kept: &mut Entry<'a>) -> Result<Next, FormFault>
         ensures declarations { self.new.declarations ≡ self.old.declarations }
-        ensures next { ReadsNext result kept.new (entry_at OFFSET_SIZE_32 self.old.declarations self.old.place) self.new.place }
+        ensures offset_size { self.new.offset_size ≡ self.old.offset_size }
+        ensures next { ReadsNext result kept.new (entry_at self.old.offset_size self.old.declarations self.old.place) self.new.place }
         ensures past { IfOk result (λ next. IsBefore next kept.old kept.new self.new.place) }
         ensures stays { OnErr result (self.new.place ≡ self.old.place) }
-        ensures memory { IfErr result (λ fault. HidesNoFault fault (entry_at OFFSET_SIZE_32 self.old.declarations self.old.place)) }
+        ensures memory { IfErr result (λ fault. HidesNoFault fault (entry_at self.old.offset_size self.old.declarations self.old.place)) }
     {
         let mut place = self.cursor.fork();
-        let next = next_of(&mut place, self.abbrevs, kept)?;
+        let next = next_of(&mut place, self.abbrevs, self.width, kept)?;
         self.cursor = place;
         Ok(next)
     }

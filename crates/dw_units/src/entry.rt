@@ -1,12 +1,12 @@
 //! Entries of units, by sections 7.5.2 to 7.5.6 of DWARF 5.
 
 ghost use Rattle.std.specs.Prelude.{◌≡◌, ◌<◌, true, false, Ok, IfOk, IfErr, length, option_map, take, MatchOption};
-ghost use Rattle.dw_model.specs.declared.dwarf.TheConstants.{OFFSET_SIZE_32};
 ghost use Rattle.dw_model.specs.Entry.{entry_at};
 ghost use Rattle.dw_model.specs.Entry as model;
 ghost use Rattle.dw_model.specs.Abbrev.{abbreviations};
 ghost use Rattle.dw_model.specs.Root.{place_in, entry};
 ghost use Rattle.dw_model.specs.Answers.{ReadsUnlessMemory};
+ghost use Rattle.dw_bytes.specs.Width.{size_of};
 ghost use Rattle.dw_forms.specs.Fault.{form_fault, HidesNoFault};
 ghost use Rattle.dw_forms.specs.Value.{value_shown};
 ghost use Rattle.dw_units.specs.Entry.{entry_shown, shown_where, unread, FindsEntry, ReadsEntry};
@@ -18,7 +18,7 @@ use crate::attributes::Attributes;
 use crate::class::counts;
 use crate::header::Header;
 use crate::sections::Sections;
-use dw_bytes::Cursor;
+use dw_bytes::{Cursor, Width};
 use dw_forms::{Abbrevs, FormFault, Value};
 use std::alloc::Global;
 
@@ -42,11 +42,12 @@ pub(crate) fn read_entry<'a>(
     kept: &mut Entry<'a>,
     cursor: &mut Cursor<'a>,
     abbrevs: &Abbrevs,
+    width: Width,
 ) -> Result<bool, FormFault>
-    ensures entry { ReadsUnlessMemory (λ found. shown_where found kept.new) form_fault result (entry_at OFFSET_SIZE_32 abbrevs.now cursor.old) cursor.new }
+    ensures entry { ReadsUnlessMemory (λ found. shown_where found kept.new) form_fault result (entry_at (size_of width) abbrevs.now cursor.old) cursor.new }
     ensures next { IfOk result (λ found. found ≡ true → kept.new.next ≡ cursor.new.at) }
     ensures stays { IfOk result (λ found. found ≡ false → kept.new ≡ kept.old) }
-    ensures memory { IfErr result (λ fault. HidesNoFault fault (entry_at OFFSET_SIZE_32 abbrevs.now cursor.old)) }
+    ensures memory { IfErr result (λ fault. HidesNoFault fault (entry_at (size_of width) abbrevs.now cursor.old)) }
 {
     let offset = cursor.at() as u64;
     let code = cursor.uleb()?;
@@ -54,7 +55,7 @@ pub(crate) fn read_entry<'a>(
         return Ok(false);
     }
     let declaration = abbrevs.get(code).ok_or(FormFault::Code)?;
-    kept.attrs.read(cursor, declaration)?;
+    kept.attrs.read(cursor, declaration, width)?;
     kept.offset = offset;
     kept.next = cursor.at() as u64;
     kept.tag = declaration.tag;
@@ -134,7 +135,7 @@ pub(crate) fn read_in<'a>(
     let Some(mut cursor) = cursor_at(sections, unit, offset) else {
         return Err(FormFault::End);
     };
-    read_entry(kept, &mut cursor, abbrevs)
+    read_entry(kept, &mut cursor, abbrevs, unit.width)
 }
 
 /// The entry at an offset of .debug_info that lies between a unit's first entry and its end; `None`

@@ -1,18 +1,17 @@
 //! The header of a unit of .debug_info, by section 7.5.1 of DWARF 5.
 
 ghost use Rattle.std.specs.Prelude.{◌≡◌, ◌+◌, ◌<◌, ◌^◌, IfOk, IfSome, length, option_map};
-ghost use Rattle.dw_model.specs.declared.dwarf.TheConstants.{OFFSET_SIZE_32};
 ghost use Rattle.dw_model.specs.Unit as model;
 ghost use Rattle.dw_model.specs.Root.{answers};
 ghost use Rattle.dw_model.specs.Answers.{Gives};
+ghost use Rattle.dw_bytes.specs.Width.{size_of};
 ghost use Rattle.dw_elf.specs.OpenFault.{refusal_of};
 ghost use Rattle.dw_units.specs.Header.{kind_shown, header_shown, extent_shown, IsWhole};
 
-use dw_bytes::Cursor;
+use dw_bytes::{Cursor, Initial, Width};
 use dw_elf::OpenFault;
 use dw_model::dwarf::{
-    ADDRESS_SIZE, DW_LENGTH_64BIT, DW_LENGTH_RESERVED, DW_UT_COMPILE, DW_UT_PARTIAL,
-    DW_UT_SKELETON, DWARF_VERSION, DWO_ID_SIZE,
+    ADDRESS_SIZE, DW_UT_COMPILE, DW_UT_PARTIAL, DW_UT_SKELETON, DWARF_VERSION, DWO_ID_SIZE,
 };
 use std::fmt;
 
@@ -37,6 +36,8 @@ pub(crate) struct Header {
     /// The version of the standard by which it is written.
     pub version: u16,
     pub kind: Kind,
+    /// How many bytes its offsets have.
+    pub width: Width,
     /// Where its abbreviations begin in .debug_abbrev; 0 in a skipped unit.
     pub debug_abbrev_offset: u64,
     /// The offset of its first entry; its end in a skipped unit.
@@ -107,8 +108,8 @@ impl fmt::Display for Kind {
     }
 }
 
-fn skipped_unit(extent: Extent, version: u16) -> Header
-    ensures header { header_shown result ≡ model.skipped_unit (extent_shown extent) OFFSET_SIZE_32 version }
+fn skipped_unit(extent: Extent, width: Width, version: u16) -> Header
+    ensures header { header_shown result ≡ model.skipped_unit (extent_shown extent) (size_of width) version }
     ensures whole { IsWhole result }
 {
     Header {
@@ -116,6 +117,7 @@ fn skipped_unit(extent: Extent, version: u16) -> Header
         end: extent.end,
         version,
         kind: Kind::Skipped,
+        width,
         debug_abbrev_offset: 0,
         first_entry: extent.end,
     }
@@ -123,14 +125,19 @@ fn skipped_unit(extent: Extent, version: u16) -> Header
 
 /// The header of a unit that isn't skipped, behind its type.
 #[tactic(auto, unfolding(dw_model::specs::Unit::kept_unit))]
-fn kept_unit(extent: Extent, kind: Kind, cursor: &mut Cursor<'_>) -> Result<Header, OpenFault>
+fn kept_unit(
+    extent: Extent,
+    width: Width,
+    kind: Kind,
+    cursor: &mut Cursor<'_>,
+) -> Result<Header, OpenFault>
     requires { extent.base + (cursor.old.at + length cursor.old.left) < 2 ^ 64 }
-    ensures header { Gives header_shown refusal_of result (model.kept_unit (extent_shown extent) OFFSET_SIZE_32 (kind_shown kind) cursor.old) }
+    ensures header { Gives header_shown refusal_of result (model.kept_unit (extent_shown extent) (size_of width) (kind_shown kind) cursor.old) }
     ensures kind { IfOk result (λ header. header.kind ≡ kind) }
 {
     let fault = OpenFault::UnitHeader(extent.offset);
     let address_size = cursor.u8().ok_or(fault)?;
-    let debug_abbrev_offset = cursor.u32().ok_or(fault)?;
+    let debug_abbrev_offset = cursor.offset(width).ok_or(fault)?;
     cursor.take(kind.dwo_id_size()).ok_or(fault)?;
     if address_size != ADDRESS_SIZE {
         return Err(OpenFault::AddressSize(extent.offset));
@@ -140,29 +147,30 @@ fn kept_unit(extent: Extent, kind: Kind, cursor: &mut Cursor<'_>) -> Result<Head
         end: extent.end,
         version: DWARF_VERSION,
         kind,
-        debug_abbrev_offset: u64::from(debug_abbrev_offset),
+        width,
+        debug_abbrev_offset,
         first_entry: extent.base + cursor.at() as u64,
     })
 }
 
 /// The unit whose bytes behind its length are these.
 #[tactic(auto, unfolding(dw_model::specs::Unit::unit_of))]
-fn unit_of(extent: Extent, bytes: &[u8]) -> Result<Header, OpenFault>
+fn unit_of(extent: Extent, width: Width, bytes: &[u8]) -> Result<Header, OpenFault>
     requires { extent.base + length bytes.now < 2 ^ 64 }
-    ensures header { Gives header_shown refusal_of result (model.unit_of (extent_shown extent) OFFSET_SIZE_32 bytes.now) }
+    ensures header { Gives header_shown refusal_of result (model.unit_of (extent_shown extent) (size_of width) bytes.now) }
     ensures whole { IfOk result IsWhole }
 {
     let fault = OpenFault::UnitHeader(extent.offset);
     let mut cursor = Cursor::new(bytes);
     let version = cursor.u16().ok_or(fault)?;
     if version != DWARF_VERSION {
-        return Ok(skipped_unit(extent, version));
+        return Ok(skipped_unit(extent, width, version));
     }
     let kind = Kind::of_type(cursor.u8().ok_or(fault)?);
     if kind.is_skipped() {
-        return Ok(skipped_unit(extent, version));
+        return Ok(skipped_unit(extent, width, version));
     }
-    kept_unit(extent, kind, &mut cursor)
+    kept_unit(extent, width, kind, &mut cursor)
 }
 
 /// The piece of .debug_info at the cursor, which goes just past it: the header of a unit, or
@@ -174,19 +182,16 @@ pub(crate) fn piece(cursor: &mut Cursor<'_>) -> Result<Option<Header>, OpenFault
 {
     let offset = cursor.at() as u64;
     let fault = OpenFault::UnitHeader(offset);
-    let unit_length = cursor.u32().ok_or(fault)?;
-    if unit_length == DW_LENGTH_64BIT {
-        return Err(OpenFault::WideFormat(offset));
-    }
-    if unit_length >= DW_LENGTH_RESERVED {
+    let initial = cursor.initial_length().ok_or(fault)?;
+    let Initial::Bytes(unit_length, width) = initial else {
         return Err(fault);
-    }
+    };
     let base = cursor.at() as u64;
     let bytes = cursor.take(unit_length as usize).ok_or(fault)?;
     if unit_length == 0 {
         return Ok(None);
     }
     let end = cursor.at() as u64;
-    let header = unit_of(Extent { offset, base, end }, bytes)?;
+    let header = unit_of(Extent { offset, base, end }, width, bytes)?;
     Ok(Some(header))
 }

@@ -1,11 +1,11 @@
 //! A unit of .debug_info with what its first entry says of it, by section 7.5 of DWARF 5.
 
 ghost use Rattle.std.specs.Prelude.{◌≡◌, IfOk, IfErr, option_map};
-ghost use Rattle.dw_model.specs.declared.dwarf.TheConstants.{OFFSET_SIZE_32};
 ghost use Rattle.dw_model.specs.Text.{bases_in};
 ghost use Rattle.dw_model.specs.Root.{has_root};
 ghost use Rattle.dw_model.specs.Faults.{root};
 ghost use Rattle.dw_model.specs.Answers.{GivesUnlessMemory};
+ghost use Rattle.dw_bytes.specs.Width.{size_of};
 ghost use Rattle.dw_elf.specs.OpenFault.{refusal_of};
 ghost use Rattle.dw_forms.specs.Fault.{form_fault};
 ghost use Rattle.dw_forms.specs.Tables.{bases_shown};
@@ -20,6 +20,7 @@ use crate::entry::{Entry, entry_in};
 use crate::header::{Header, Kind};
 use crate::sections::Sections;
 use crate::shared::Shared;
+use dw_bytes::Width;
 use dw_elf::OpenFault;
 use dw_forms::{Bases, FormFault};
 use std::alloc::Global;
@@ -34,6 +35,8 @@ pub struct Unit<'a> {
     /// The version of the standard by which it is written.
     pub version: u16,
     pub kind: Kind,
+    /// How many bytes its offsets have.
+    pub width: Width,
     /// Where its abbreviations begin in .debug_abbrev; 0 in a skipped unit.
     pub debug_abbrev_offset: u64,
     /// The offset of its first entry; its end in a skipped unit.
@@ -50,7 +53,7 @@ impl<'a> Unit<'a> {
     /// The unit of this header and this first entry.
     fn new(header: Header, table: Option<usize>, root: Option<Entry<'a>>) -> Self
         ensures header { unit_shown result ≡ header_shown header }
-        ensures bases { bases_shown result.bases ≡ bases_in OFFSET_SIZE_32 (option_map entry_shown root.entry) }
+        ensures bases { bases_shown result.bases ≡ bases_in (size_of header.width) (option_map entry_shown root.entry) }
         ensures root { result.root ≡ root.entry }
         ensures table { result.table ≡ table }
     {
@@ -59,9 +62,10 @@ impl<'a> Unit<'a> {
             end: header.end,
             version: header.version,
             kind: header.kind,
+            width: header.width,
             debug_abbrev_offset: header.debug_abbrev_offset,
             first_entry: header.first_entry,
-            bases: bases_of(&root),
+            bases: bases_of(&root, header.width),
             root,
             table,
         }
@@ -76,6 +80,7 @@ impl<'a> Unit<'a> {
             end: self.end,
             version: self.version,
             kind: self.kind,
+            width: self.width,
             debug_abbrev_offset: self.debug_abbrev_offset,
             first_entry: self.first_entry,
         }

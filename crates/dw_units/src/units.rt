@@ -1,6 +1,6 @@
 //! The units of a file, in order of offset.
 
-ghost use Rattle.std.specs.Prelude.{◌≡◌, ◌≤◌, ◌<◌, true, false, nat_le, option_and_then, None, OnOk, IfOk, IfErr, IfSome, Some, length, option_map, slice_get};
+ghost use Rattle.std.specs.Prelude.{◌≡◌, ◌≤◌, ◌<◌, true, false, nat_le, option_and_then, None, OnOk, IfOk, IfErr, IfSome, MatchOption, Some, length, option_map, slice_get};
 ghost use Rattle.std.specs.List.Sorted.{IsNonDecreasingBy, IsPartitionPoint};
 ghost use Rattle.dw_model.specs.Section as model_sections;
 ghost use Rattle.dw_model.specs.Unit.{units};
@@ -13,16 +13,18 @@ ghost use Rattle.dw_units.specs.Entry.{entry_shown, FindsEntry, ReadsEntry};
 ghost use Rattle.dw_units.specs.Entries.{WalksFrom};
 ghost use Rattle.dw_units.specs.Unit.{unit_shown, HasFirst};
 ghost use Rattle.dw_units.specs.Null.{IsNull, IsPastNull};
+ghost use Rattle.dw_units.specs.UnitAt.{unit_at, HasNoEntry, HasEntriesBy};
+ghost use Rattle.dw_units.specs.Sections.{sections_shown};
 
 use crate::entries::Entries;
-use crate::entry::{Entry, cursor_at, end_of_null, entry_in, read_in};
+use crate::entry::Entry;
 use crate::header::piece;
 use crate::sections::Sections;
 use crate::shared::Shared;
 use crate::unit::{Unit, open_unit};
 use dw_bytes::Cursor;
 use dw_elf::{Elf, OpenFault};
-use dw_forms::{FormFault, Tables};
+use dw_forms::{Abbrevs, FormFault, Tables};
 use std::alloc::Global;
 use std::marker::Model;
 
@@ -124,6 +126,23 @@ impl<'a> Units<'a> {
         &self.sections.tables
     }
 
+    /// The sections of the file.
+    pub(crate) fn sections(&self) -> &Sections<'a>
+        ensures { sections_shown result.now ≡ self.now }
+    {
+        &self.sections
+    }
+
+    /// The declarations of the unit at an index; `None` just for a skipped unit, which has no entry.
+    #[inline(always)]
+    pub(crate) fn abbrevs(&self, index: usize) -> Option<&Abbrevs>
+        requires { index < length (units self.now.info) }
+        ensures { MatchOption result (HasNoEntry (unit_at self.now index)) (λ abbrevs. HasEntriesBy self.now (unit_at self.now index) abbrevs.now) }
+    {
+        let table = self.units[index].table?;
+        Some(self.shared.get(table))
+    }
+
     /// The entry at an offset of .debug_info, in the unit at a place; `None` for a null entry, which
     /// ends a list of children.
     ///
@@ -140,17 +159,7 @@ impl<'a> Units<'a> {
         ensures entry { IfSome (slice_get (units self.now.info) i) (λ unit. FindsEntry result (model.entry self.now unit offset)) }
         ensures memory { IfErr result (λ fault. IfSome (slice_get (units self.now.info) i) (λ unit. HidesNoFault fault (model.entry self.now unit offset))) }
     {
-        let unit = &self.units[i];
-        let Some(table) = unit.table else {
-            return Err(FormFault::End);
-        };
-        entry_in(
-            alloc,
-            &self.sections,
-            &unit.header(),
-            self.shared.get(table),
-            offset,
-        )
+        self.at(i).entry(alloc, offset)
     }
 
     /// Reads the entry at an offset of .debug_info, in the unit at a place, in place of the one that was
@@ -162,12 +171,7 @@ impl<'a> Units<'a> {
         ensures entry { IfSome (slice_get (units self.now.info) i) (λ unit. ReadsEntry result kept.new (model.entry self.now unit offset)) }
         ensures memory { IfErr result (λ fault. IfSome (slice_get (units self.now.info) i) (λ unit. HidesNoFault fault (model.entry self.now unit offset))) }
     {
-        let unit = &self.units[i];
-        let Some(table) = unit.table else {
-            return Err(FormFault::End);
-        };
-        let abbrevs = self.shared.get(table);
-        read_in(kept, &self.sections, &unit.header(), abbrevs, offset)
+        self.at(i).read_entry(offset, kept)
     }
 
     /// A walk over the entries of the unit at a place, from its first one on; `None` just for a skipped
@@ -176,10 +180,7 @@ impl<'a> Units<'a> {
         requires { i < length (units self.now.info) }
         ensures { IfSome (slice_get (units self.now.info) i) (λ unit. WalksFrom self.now unit (option_map (λ entries. entries) result)) }
     {
-        let unit = &self.units[i];
-        let table = unit.table?;
-        let cursor = cursor_at(&self.sections, &unit.header(), unit.first_entry)?;
-        Some(Entries::new(self.shared.get(table), cursor))
+        self.at(i).entries()
     }
 
     /// The offset just past a null entry, in the unit at a place. Its code may be padded, so it may
@@ -189,6 +190,6 @@ impl<'a> Units<'a> {
         requires null { IfSome (slice_get (units self.now.info) i) (λ unit. IsNull (model.entry self.now unit offset)) }
         ensures { IfSome (slice_get (units self.now.info) i) (λ unit. IsPastNull result (model.entry self.now unit offset)) }
     {
-        end_of_null(&self.sections, &self.units[i].header(), offset)
+        self.at(i).past_null(offset)
     }
 }

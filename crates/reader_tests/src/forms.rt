@@ -1,6 +1,6 @@
 //! Values, declarations, texts and addresses, worked out by hand from the standard's tables.
 
-use dw_bytes::Cursor;
+use dw_bytes::{Cursor, Width};
 use dw_forms::{Abbrevs, Bases, FormFault, Tables, Value, read_value};
 use dw_model::dwarf::{
     DW_AT_high_pc, DW_AT_low_pc, DW_AT_name, DW_FORM_GNU_ref_alt, DW_FORM_GNU_strp_alt,
@@ -115,14 +115,14 @@ fn value_of_each_form(rt: HostRuntime) {
     for (form, bytes, value) in ROWS {
         let mut cursor = Cursor::new(bytes);
         assert_eq!(rt;
-            read_value(&mut cursor, form, None),
+            read_value(&mut cursor, form, None, Width::Four),
             Ok(value),
             "form {form}"
         );
         assert_eq!(rt; cursor.left(), 0, "form {form}");
         let mut short = Cursor::new(bytes.split_at(bytes.len().saturating_sub(1)).0);
         assert_eq!(rt;
-            read_value(&mut short, form, None),
+            read_value(&mut short, form, None, Width::Four),
             Err(FormFault::End),
             "form {form}"
         );
@@ -134,15 +134,15 @@ fn value_of_each_form(rt: HostRuntime) {
 fn values_without_bytes(rt: HostRuntime) {
     let mut cursor = Cursor::new(&[]);
     assert_eq!(rt;
-        read_value(&mut cursor, DW_FORM_flag_present, None),
+        read_value(&mut cursor, DW_FORM_flag_present, None, Width::Four),
         Ok(Value::Flag(true))
     );
     assert_eq!(rt;
-        read_value(&mut cursor, DW_FORM_implicit_const, Some(-3)),
+        read_value(&mut cursor, DW_FORM_implicit_const, Some(-3), Width::Four),
         Ok(Value::Signed(-3))
     );
     assert_eq!(rt;
-        read_value(&mut cursor, DW_FORM_implicit_const, None),
+        read_value(&mut cursor, DW_FORM_implicit_const, None, Width::Four),
         Err(FormFault::Form)
     );
 }
@@ -173,7 +173,7 @@ fn faults_of_values(rt: HostRuntime) {
     for (form, bytes, fault) in rows {
         let mut cursor = Cursor::new(bytes);
         assert_eq!(rt;
-            read_value(&mut cursor, *form, Some(1)),
+            read_value(&mut cursor, *form, Some(1), Width::Four),
             Err(*fault),
             "form {form}"
         );
@@ -220,7 +220,7 @@ fn sizes_of_declarations(rt: HostRuntime) -> Result<(), Fail> {
     let rows: &[(u64, Option<usize>)] = &[(1, Some(10)), (2, None), (3, Some(0)), (4, None)];
     for (code, size) in rows {
         let declaration = table.get(*code).ok_or("a declaration")?;
-        assert_eq!(rt; declaration.size(), *size, "of {code}");
+        assert_eq!(rt; declaration.size(Width::Four), *size, "of {code}");
     }
     Ok(())
 }
@@ -286,12 +286,14 @@ const BASES: Bases = Bases {
     str_offsets: Some(1),
     addr: Some(1),
     rnglists: None,
+    width: Width::Four,
 };
 
 const NO_BASES: Bases = Bases {
     str_offsets: None,
     addr: None,
     rnglists: None,
+    width: Width::Four,
 };
 
 /// The texts to which values lead.

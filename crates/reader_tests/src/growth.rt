@@ -1,7 +1,6 @@
 //! How the times of building an index and of finding in it grow. tests/owners.sh shows what these
 //! tests print.
 
-use crate::draws::Draws;
 use crate::owners::drawn;
 use dw_ranges::{Index, Range};
 use std::alloc::Global;
@@ -9,6 +8,7 @@ use std::io::Write;
 use std::process::Abort;
 use std::test::Fail;
 use std::time::Instant;
+use test_inputs::draws::Draws;
 
 /// How many addresses are looked for.
 const FINDS: usize = 100_000;

@@ -1,23 +1,12 @@
 //! Line tables, worked out by hand from the standard's tables.
 
-use crate::draws::Draws;
-use crate::files::line_table;
+use dw_bytes::Width;
 use dw_forms::{Bases, Tables};
 use dw_line::{LineFault, Lines, Row};
 use std::alloc::{AllocError, Global};
 use std::test::Fail;
-
-/// The header behind its length, of a table with directory 0 `/w`, file 0 `z.c` and file 1 `a.c`:
-/// instructions of 1 byte, line_base -5, line_range 14, opcode_base 13.
-pub const HEADER: &[u8] = &[
-    5, 0, 8, 0, 0x29, 0, 0, 0, 1, 1, 1, 0xfb, 0x0e, 0x0d, 0, 1, 1, 1, 1, 0, 0, 0, 1, 0, 0, 1, 1, 1,
-    8, 1, b'/', b'w', 0, 2, 1, 8, 2, 0x0b, 2, b'z', b'.', b'c', 0, 0, b'a', b'.', b'c', 0, 0,
-];
-
-/// 0x401000 line 3, 0x401004 line 4, end 0x40100e.
-pub const TWO_ROWS: &[u8] = &[
-    0, 9, 2, 0, 0x10, 0x40, 0, 0, 0, 0, 0, 0x14, 0x4b, 2, 0x0a, 0, 1, 1,
-];
+use test_inputs::draws::Draws;
+use test_inputs::files::{HEADER, TWO_ROWS, line_table};
 
 /// Another header: instructions of 4 bytes, opcode_base 14, opcode 13 with two operands.
 const FOUR_BYTES: &[u8] = &[
@@ -29,6 +18,7 @@ const NO_BASES: Bases = Bases {
     str_offsets: None,
     addr: None,
     rnglists: None,
+    width: Width::Four,
 };
 
 /// Texts to which names of files and directories lead.

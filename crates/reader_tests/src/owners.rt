@@ -1,9 +1,9 @@
 //! The least owner of an address.
 
-use crate::draws::Draws;
 use dw_ranges::{Index, Range};
 use std::alloc::Global;
 use std::test::Fail;
+use test_inputs::draws::Draws;
 
 fn pair(begin: u64, end: u64, owner: usize) -> (Range, usize) {
     (Range { begin, end }, owner)

@@ -1,6 +1,5 @@
 //! Ranges of entries, worked out by hand from the standard's tables, and what no clause says: that calls succeed.
 
-use crate::files::{file_of, push_unit};
 use crate::units::units_of;
 use dw_forms::{Tables, Value};
 use dw_model::dwarf::{DW_AT_high_pc, DW_AT_low_pc, DW_AT_name, DW_AT_ranges, DW_TAG_subprogram};
@@ -9,6 +8,7 @@ use dw_units::{Attribute, Attributes, Entry, Units};
 use std::alloc::{AllocError, Global};
 use std::process::Abort;
 use std::test::Fail;
+use test_inputs::files::{file_of, push_unit};
 
 /// What is asked for of an entry: its ranges, or that they are bad.
 type Expected = Option<&'static [(u64, u64)]>;

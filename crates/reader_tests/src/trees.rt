@@ -1,19 +1,19 @@
 //! Functions of units, chains and names, worked out by hand, and what no clause says: that calls succeed.
 
-use crate::files::{ABBREVS, INFO, file_of, poked, sample, unit_of};
 use crate::units::units_of;
 use dw_frames::{Call, EntryId, Tree, TreeFault};
 use dw_units::{Kind, Units};
 use std::alloc::{AllocError, Global};
 use std::process::Abort;
 use std::test::Fail;
+use test_inputs::files::{ABBREVS, INFO, file_of, poked, sample, unit_of};
 
 /// The functions of the unit at an index, which isn't skipped.
-fn tree_at<'a>(
+fn tree_at<'b, 'a>(
     alloc: Global,
-    units: &Units<'a>,
+    units: &'b Units<'a>,
     i: usize,
-) -> Result<Result<Tree<'a>, TreeFault>, Fail> {
+) -> Result<Result<Tree<'b, 'a>, TreeFault>, Fail> {
     if i >= units.len() {
         return Err(Fail::from("a unit at the index"));
     }
@@ -24,7 +24,7 @@ fn tree_at<'a>(
 }
 
 /// Reads the functions of the first unit of a file.
-pub fn read_first(alloc: Global, file: &[u8]) -> Result<Result<(), TreeFault>, Fail> {
+fn read_first(alloc: Global, file: &[u8]) -> Result<Result<(), TreeFault>, Fail> {
     let units = units_of(alloc, file)?;
     match tree_at(alloc, &units, 0)? {
         Ok(_tree) => Ok(Ok(())),

@@ -1,6 +1,5 @@
 //! Units and their entries, worked out by hand from the standard's tables.
 
-use crate::files::{ABBREVS, INFO, file_of, poked, sample, unit_of};
 use dw_elf::{Elf, OpenFault};
 use dw_forms::{FormFault, Value};
 use dw_model::dwarf::{
@@ -10,6 +9,7 @@ use dw_model::dwarf::{
 use dw_units::{Entry, Kind, Next, Units};
 use std::alloc::{AllocError, Global};
 use std::test::Fail;
+use test_inputs::files::{ABBREVS, INFO, file_of, poked, sample, unit_of};
 
 /// The units of a file.
 pub fn units_of<'a>(alloc: Global, file: &'a [u8]) -> Result<Units<'a>, OpenFault> {

@@ -1,7 +1,7 @@
 -- The clients and workers of a board that was just opened are its own.
-use Rattle.std.proofs.Common.{◌≡◌, ℕ, zero, suc, ◌+◌, false, List, [], ◌∷◌, map, refl, sym, ap, subst}
+use Rattle.std.proofs.Common.{◌≡◌, ℕ, zero, suc, false, List, map, refl, sym, subst}
 use Rattle.std.specs.List.{AllByRecursion}
-use Rattle.ticket_board.specs.Ring.Ends.{RingState, AskerState}
+use Rattle.ticket_board.specs.Ring.Ends.{RingState}
 use Rattle.ticket_board.specs.Ring.Takers.{TakerState, HasEmptyHand}
 use Rattle.ticket_board.specs.Ring.Opened.{new_takers, askers_from, takers_from}
 use Rattle.ticket_board.specs.Seats.{ClientState, WorkerState, client_shown, worker_shown, new_clients, new_workers, IsClientOf, IsWorkerOf}

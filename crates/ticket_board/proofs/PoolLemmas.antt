@@ -1,6 +1,8 @@
 -- Every step-th of the queries, and the answers to them.
 use Rattle.std.proofs.Common.{◌≡◌, ℕ, zero, suc, ◌+◌, ◌-◌, ◌<◌, ◌≤◌, false, List, [], ◌∷◌, ◌++◌, length, map, get_or, drop, refl, sym, ap, subst, ◌∙◌, append_assoc, add-one, arith, drop-cons}
 use Rattle.std.proofs.lemmas.List.{drop-drop, nil_from_length}
+use Rattle.ticket_core.specs.declared.query.Query.{Query}
+use Rattle.ticket_core.specs.declared.query.QueryKind.TheVariants.{Address}
 use Rattle.ticket_core.specs.State.{Shown, Meaning}
 use Rattle.ticket_board.specs.declared.pool.task.Task.{Task}
 use Rattle.ticket_board.specs.declared.pool.task.Lot.{Lot}
@@ -10,25 +12,27 @@ use Rattle.ticket_board.specs.Seats.{ClientState, client_shown, new_clients}
 use Rattle.ticket_board.specs.Pool.{every, EachFrom, IsLane, AreLanes, IsNewSender, IsPromised}
 
 -- what is passed over is dropped
-pub every_drop : (step k : ℕ) (queries : List ℕ) → every step k queries ≡ every step 0 (drop k queries)
+pub every_drop : (step k : ℕ) (queries : List Query) → every step k queries ≡ every step 0 (drop k queries)
 every_drop step zero queries = refl
 every_drop step (suc k) [] = refl
-every_drop step (suc k) (a ∷ queries) = every_drop step k queries
+every_drop step (suc k) (query ∷ queries) = every_drop step k queries
 
 -- the next query, and those from a step further on
-pub every_next : (step next : ℕ) (queries : List ℕ) → 1 ≤ step → next < length queries
-    → every step 0 (drop next queries) ≡ get_or queries next 0 ∷ every step 0 (drop (next + step) queries)
-every_next step next queries positive within =
+pub every_next : (step next : ℕ) (queries : List Query) (query : Query) → 1 ≤ step → next < length queries → query ≡ get_or queries next query
+    → every step 0 (drop next queries) ≡ query ∷ every step 0 (drop (next + step) queries)
+every_next step next queries query positive within read =
     let further : drop (step - 1) (drop (suc next) queries) ≡ drop (next + step) queries =
     drop-drop (step - 1) (suc next) queries ∙ ap (λ n. drop n queries) (omega arith) in
-    ap (every step 0) (drop-cons queries next 0 within)
-    ∙ ap (λ rest. get_or queries next 0 ∷ rest) (every_drop step (step - 1) (drop (suc next) queries) ∙ ap (every step 0) further)
+    ap (every step 0) (drop-cons queries next query within)
+    ∙ ap (λ rest. get_or queries next query ∷ rest) (every_drop step (step - 1) (drop (suc next) queries) ∙ ap (every step 0) further)
+    ∙ ap (λ first. first ∷ every step 0 (drop (next + step) queries)) (sym read)
 
 -- one more was asked
-pub asked_next : (step next : ℕ) (queries asked : List ℕ) → 1 ≤ step → next < length queries
-    → (asked ++ get_or queries next 0 ∷ []) ++ every step 0 (drop (next + step) queries) ≡ asked ++ every step 0 (drop next queries)
-asked_next step next queries asked positive within =
-    append_assoc asked (get_or queries next 0 ∷ []) (every step 0 (drop (next + step) queries)) ∙ ap (λ rest. asked ++ rest) (sym (every_next step next queries positive within))
+pub asked_next : (step next : ℕ) (queries asked : List Query) (query : Query) → 1 ≤ step → next < length queries → query ≡ get_or queries next query
+    → (asked ++ query ∷ []) ++ every step 0 (drop (next + step) queries) ≡ asked ++ every step 0 (drop next queries)
+asked_next step next queries asked query positive within read =
+    append_assoc asked (query ∷ []) (every step 0 (drop (next + step) queries))
+    ∙ ap (λ rest. asked ++ rest) (sym (every_next step next queries query positive within read))
 
 -- ---- lists of which each is known with its place
 
@@ -72,44 +76,44 @@ many_new board clients is = ap length is ∙ count_new board 0 board.shape.sende
 
 module _ {A : Type 0} (shown : A → Shown) (meaning : Meaning) (key : List ℕ) (senders : ℕ) where
   -- one query less: the lane of each sender but the first is that of the sender before it
-  lanes_on : (k a : ℕ) (queries : List ℕ) (lanes : List (List A))
-      → EachFrom (IsLane shown meaning key senders (a ∷ queries)) (suc k) lanes → EachFrom (IsLane shown meaning key senders queries) k lanes
-  lanes_on k a queries [] all = tt
-  lanes_on k a queries (lane ∷ lanes) all = (all.0, lanes_on (suc k) a queries lanes all.1)
+  lanes_on : (k : ℕ) (query : Query) (queries : List Query) (lanes : List (List A))
+      → EachFrom (IsLane shown meaning key senders (query ∷ queries)) (suc k) lanes → EachFrom (IsLane shown meaning key senders queries) k lanes
+  lanes_on k query queries [] all = tt
+  lanes_on k query queries (lane ∷ lanes) all = (all.0, lanes_on (suc k) query queries lanes all.1)
 
   -- the first lane begins with the next answer, and without it is the last lane of the rest
-  next_answer : (a : ℕ) (queries : List ℕ) (rest : List A) (answer : A)
-      → IsLane shown meaning key senders (a ∷ queries) 0 (answer ∷ rest)
-      → (shown answer ≡ meaning key a) × IsLane shown meaning key senders queries (senders - 1) rest
-  next_answer a queries rest answer right = (cc right, cc right)
+  next_answer : (query : Query) (queries : List Query) (rest : List A) (answer : A)
+      → IsLane shown meaning key senders (query ∷ queries) 0 (answer ∷ rest)
+      → (shown answer ≡ meaning key query) × IsLane shown meaning key senders queries (senders - 1) rest
+  next_answer query queries rest answer right = (cc right, cc right)
 
   -- it comes last
-  pub turned : (i : ℕ) (queries : List ℕ) (lanes lanes' new : List (List A)) (lane : List A) (answer : A)
+  pub turned : (i : ℕ) (queries : List Query) (lanes lanes' new : List (List A)) (lane : List A) (answer : A)
       → i < length queries → length lanes ≡ senders → lanes ≡ (answer ∷ lane) ∷ lanes' → new ≡ lanes' ++ lane ∷ []
       → AreLanes shown meaning key senders (drop i queries) lanes
-      → (shown answer ≡ meaning key (get_or queries i 0)) × AreLanes shown meaning key senders (drop (i + 1) queries) new
+      → (shown answer ≡ meaning key (get_or queries i (Address 0))) × AreLanes shown meaning key senders (drop (i + 1) queries) new
   turned i queries lanes lanes' new lane answer within len is new_is all =
-      let a = get_or queries i 0 in
+      let query = get_or queries i (Address 0) in
       let later = drop (suc i) queries in
-      let cut : drop i queries ≡ a ∷ later = drop-cons queries i 0 within in
-      let each : AreLanes shown meaning key senders (a ∷ later) ((answer ∷ lane) ∷ lanes') =
-      subst (λ (x : List ℕ × List (List A)). AreLanes shown meaning key senders x.0 x.1) (λ j. (cut j, is j)) all in
-      let next = next_answer a later lane answer each.0 in
+      let cut : drop i queries ≡ query ∷ later = drop-cons queries i (Address 0) within in
+      let each : AreLanes shown meaning key senders (query ∷ later) ((answer ∷ lane) ∷ lanes') =
+      subst (λ (x : List Query × List (List A)). AreLanes shown meaning key senders x.0 x.1) (λ j. (cut j, is j)) all in
+      let next = next_answer query later lane answer each.0 in
       let many : senders - 1 ≡ 0 + length lanes' = omega (arith, len, ap length is) in
       let last : IsLane shown meaning key senders later (0 + length lanes') lane = subst (λ (k : ℕ). IsLane shown meaning key senders later k lane) many next.1 in (
         next.0,
         subst (λ (x : ℕ × List (List A)). AreLanes shown meaning key senders (drop x.0 queries) x.1)
-            (λ j. (sym (add-one i) j, sym new_is j)) (each_from_added (IsLane shown meaning key senders later) 0 lanes' lane (lanes_on 0 a later lanes' each.1) last),
+            (λ j. (sym (add-one i) j, sym new_is j)) (each_from_added (IsLane shown meaning key senders later) 0 lanes' lane (lanes_on 0 query later lanes' each.1) last),
       )
 
   -- while queries are left, the first lane isn't empty
-  pub not_empty : (i : ℕ) (queries : List ℕ) (lanes lanes' : List (List A)) → i < length queries → lanes ≡ [] ∷ lanes'
+  pub not_empty : (i : ℕ) (queries : List Query) (lanes lanes' : List (List A)) → i < length queries → lanes ≡ [] ∷ lanes'
       → AreLanes shown meaning key senders (drop i queries) lanes → ⊥
   not_empty i queries lanes lanes' within is all =
-      let a = get_or queries i 0 in
-      let cut : drop i queries ≡ a ∷ drop (suc i) queries = drop-cons queries i 0 within in
-      let each : AreLanes shown meaning key senders (a ∷ drop (suc i) queries) ([] ∷ lanes') =
-      subst (λ (x : List ℕ × List (List A)). AreLanes shown meaning key senders x.0 x.1) (λ j. (cut j, is j)) all in
+      let query = get_or queries i (Address 0) in
+      let cut : drop i queries ≡ query ∷ drop (suc i) queries = drop-cons queries i (Address 0) within in
+      let each : AreLanes shown meaning key senders (query ∷ drop (suc i) queries) ([] ∷ lanes') =
+      subst (λ (x : List Query × List (List A)). AreLanes shown meaning key senders x.0 x.1) (λ j. (cut j, is j)) all in
       cc each.0
 
 -- what a thread promised is the lane of its sender

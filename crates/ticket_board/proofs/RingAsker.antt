@@ -1,10 +1,10 @@
 -- What a sender's end has received is right.
-use Rattle.std.proofs.Common.{◌≡◌, ℕ, ◌+◌, ◌≤◌, Bool, List, map, take, sym, ◌∙◌, ap, subst, arith}
+use Rattle.std.proofs.Common.{◌≡◌, ℕ, Bool, map, take, ◌∙◌, ap, arith}
 use Rattle.atomic_table.specs.Table as table
 use Rattle.atomic_table.specs.Seated.{TableId}
 use Rattle.ticket_core.specs.declared.shape.Shape.{Shape}
 use Rattle.ticket_core.specs.State.{Meaning}
-use Rattle.ticket_board.specs.Ring.Views.{View, asking_of, next_asked, next_received}
+use Rattle.ticket_board.specs.Ring.Views.{View, asking_of}
 use Rattle.ticket_board.specs.Ring.Ends.{IsAsker, IsRightAsker, asker_shown}
 
 pub right-asker : {S : Type 0} (meaning : Meaning) (sender asked received : ℕ) (found : Bool) (shape : Shape) (table_id : TableId) (me : table.Me S View)

@@ -1,6 +1,6 @@
 -- Bounds that the ring's code needs.
-use Rattle.std.proofs.Common.{◌≡◌, ℕ, ◌+◌, ◌*◌, ◌%◌, ◌<◌, ◌≤◌, mul_comm, arith}
-use Rattle.std.proofs.lemmas.Nat.{mul-add-lt, mul-le, mod_below}
+use Rattle.std.proofs.Common.{ℕ, ◌*◌, ◌%◌, ◌<◌, ◌≤◌, arith}
+use Rattle.std.proofs.lemmas.Nat.{mul-le, mod_below}
 use Rattle.ticket_core.specs.declared.shape.Shape.{Shape}
 use Rattle.ticket_core.specs.Shape.{Fits}
 use Rattle.ticket_board.specs.Ring.Layout.{cell_of, cells_in}

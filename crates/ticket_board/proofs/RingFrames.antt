@@ -5,14 +5,14 @@ use Rattle.std.proofs.lemmas.List.{length-set}
 use mathlib.Core.Option.{some}
 use lib.ListN.{get_elem?}
 use Rattle.ticket_core.specs.declared.shape.Shape.{Shape}
-use Rattle.ticket_core.specs.State.{Meaning, State, sender_at, hand_at, place_of, address_of}
+use Rattle.ticket_core.specs.State.{Meaning, State, sender_at, hand_at, place_of, query_of}
 use Rattle.ticket_core.specs.Sound.{IsSound}
 use Rattle.ticket_core.specs.Runs.{once_finished}
 use Rattle.ticket_core.proofs.CallerLemmas.{held-asked}
-use Rattle.ticket_board.specs.Ring.Layout.{cells_in, words_in, state_at, address_at}
+use Rattle.ticket_board.specs.Ring.Layout.{cells_in, words_in, state_at, first_at, second_at}
 use Rattle.ticket_board.specs.Ring.Homes.{Home, home_at}
 use Rattle.ticket_board.specs.Ring.Views.{Asking, Working, View, asker, worker, sender_seat, worker_seat, view_at, asking_of, working_of, asking_at, working_at}
-use Rattle.ticket_board.specs.Ring.Shows.{Board, SenderShows, WorkerShows, Seated, Sits, times, times_done, Shows}
+use Rattle.ticket_board.specs.Ring.Shows.{Board, IsKnown, SenderShows, WorkerShows, Seated, Sits, times, times_done, Shows}
 use Rattle.ticket_board.proofs.ViewLemmas.{changed}
 use Rattle.ticket_board.proofs.RingViews.{view-is, seat-there, view-else, view-here, times-set}
 use Rattle.ticket_board.proofs.RingSenders.{carried}
@@ -38,8 +38,8 @@ module _ (meaning : Meaning) (shape : Shape) (key : List ℕ) (board : Board) (s
     asking-is = ap (λ (view : View). asking_of view.role)
         (ap (view_at board.views) (sym asker-seated.stands.0) ∙ view-is board.views seat (asker shape key s asking) sits)
 
-    pub sender-shows : SenderShows shape (state_at shape board.words s) (address_at shape board.words s) (home_at shape board.homes s) asking (sender_at state s)
-    sender-shows = subst (λ (x : Asking). SenderShows shape (state_at shape board.words s) (address_at shape board.words s) (home_at shape board.homes s) x (sender_at state s))
+    pub sender-shows : SenderShows shape (state_at shape board.words s) (first_at shape board.words s) (second_at shape board.words s) (home_at shape board.homes s) asking (sender_at state s)
+    sender-shows = subst (λ (x : Asking). SenderShows shape (state_at shape board.words s) (first_at shape board.words s) (second_at shape board.words s) (home_at shape board.homes s) x (sender_at state s))
         asking-is (shows.senders s asker-seated.stands.1)
 
     module _ (words : List ℕ) (homes : List Home) (asking' : Asking) (new : State) where
@@ -60,15 +60,15 @@ module _ (meaning : Meaning) (shape : Shape) (key : List ℕ) (board : Board) (s
           (λ e. let at : seat ≡ sender_seat s = asker-seated.stands.0 in let h : s < shape.senders = asker-seated.stands.1 in omega arith))
 
       pub asker-frame : new.shape ≡ shape → new.key ≡ key → IsSound meaning new → length words ≡ words_in shape → length homes ≡ cells_in shape
-          → SenderShows shape (state_at shape words s) (address_at shape words s) (home_at shape homes s) asking' (sender_at new s)
-          → ((t n : ℕ) → t ≢ s → (state_at shape words t n ≡ state_at shape board.words t n) × (address_at shape words t n ≡ address_at shape board.words t n)
-          × (home_at shape homes t n ≡ home_at shape board.homes t n))
+          → SenderShows shape (state_at shape words s) (first_at shape words s) (second_at shape words s) (home_at shape homes s) asking' (sender_at new s)
+          → ((t n : ℕ) → t ≢ s → (state_at shape words t n ≡ state_at shape board.words t n) × (first_at shape words t n ≡ first_at shape board.words t n)
+          × (second_at shape words t n ≡ second_at shape board.words t n) × (home_at shape homes t n ≡ home_at shape board.homes t n))
           → ((t : ℕ) → t ≢ s → sender_at new t ≡ sender_at state t)
           → ((w : ℕ) → hand_at new w ≡ hand_at state w)
-          → ((n : ℕ) → n < length (sender_at state s).asked → address_of (sender_at new s) n ≡ address_of (sender_at state s) n)
+          → ((n : ℕ) → n < length (sender_at state s).asked → query_of (sender_at new s) n ≡ query_of (sender_at state s) n)
           → ((t n : ℕ) → once_finished (place_of (sender_at new t) n) ≡ once_finished (place_of (sender_at state t) n))
           → Shows meaning shape key (record { words = words; homes = homes; views = views_sent }) new
-      asker-frame shape_is key_is sound in_words in_homes mine others senders hands addresses counted = record {
+      asker-frame shape_is key_is sound in_words in_homes mine others senders hands queries counted = record {
         shape_is = shape_is;
         key_is = key_is;
         fits = shows.fits;
@@ -78,20 +78,21 @@ module _ (meaning : Meaning) (shape : Shape) (key : List ℕ) (board : Board) (s
         seated = reseated seat (asker shape key s asking) (asker shape key s asking') sits
             (record { shape_is = refl; key_is = refl; stands = asker-seated.stands });
         senders = λ t h. elim (cases_eq t s) [
-          | inl e ↦ subst (λ (x : ℕ). SenderShows shape (state_at shape words x) (address_at shape words x) (home_at shape homes x) (asking_at views_sent x) (sender_at new x)) (sym e)
-              (subst (λ (x : Asking). SenderShows shape (state_at shape words s) (address_at shape words s) (home_at shape homes s) x (sender_at new s)) (sym asking-here) mine)
-          | inr ne ↦ carried shape (state_at shape board.words t) (state_at shape words t) (address_at shape board.words t) (address_at shape words t)
-              (home_at shape board.homes t) (home_at shape homes t) (asking_at board.views t) (asking_at views_sent t) (sender_at state t) (sender_at new t)
-              (λ n. (others t n ne).0) (λ n. (others t n ne).1) (λ n. (others t n ne).2) (asking-else t ne) (senders t ne) (shows.senders t h)
+          | inl e ↦ subst (λ (x : ℕ). SenderShows shape (state_at shape words x) (first_at shape words x) (second_at shape words x) (home_at shape homes x) (asking_at views_sent x) (sender_at new x)) (sym e)
+              (subst (λ (x : Asking). SenderShows shape (state_at shape words s) (first_at shape words s) (second_at shape words s) (home_at shape homes s) x (sender_at new s)) (sym asking-here) mine)
+          | inr ne ↦ carried shape (state_at shape board.words t) (state_at shape words t) (first_at shape board.words t) (first_at shape words t)
+              (second_at shape board.words t) (second_at shape words t) (home_at shape board.homes t) (home_at shape homes t) (asking_at board.views t) (asking_at views_sent t) (sender_at state t) (sender_at new t)
+              (λ n. (others t n ne).0) (λ n. (others t n ne).1) (λ n. (others t n ne).2) (λ n. (others t n ne).3) (asking-else t ne) (senders t ne) (shows.senders t h)
         ];
         workers = λ w. subst (λ (x : Working). WorkerShows shape new w x) (sym (working-same w)) (record {
           hand = hands w ∙ (shows.workers w).hand;
-          read = λ t n a holds is.
+          read = λ t n holds.
               let asked : n < length (sender_at state t).asked = held-asked meaning state shows.sound w t n ((shows.workers w).hand ∙ holds) in
-              (shows.workers w).read t n a holds is ∙ elim (cases_eq t s) [
-                | inl e ↦ sym (subst (λ (x : ℕ). n < length (sender_at state x).asked → address_of (sender_at new x) n ≡ address_of (sender_at state x) n) (sym e) (addresses n) asked)
-                | inr ne ↦ sym (ap (λ sender. address_of sender n) (senders t ne))
-              ];
+              let same : query_of (sender_at new t) n ≡ query_of (sender_at state t) n = elim (cases_eq t s) [
+                | inl e ↦ subst (λ (x : ℕ). n < length (sender_at state x).asked → query_of (sender_at new x) n ≡ query_of (sender_at state x) n) (sym e) (queries n) asked
+                | inr ne ↦ ap (λ sender. query_of sender n) (senders t ne)
+              ] in
+              subst (IsKnown (working_at shape board.views w).read) (sym same) ((shows.workers w).read t n holds);
           seen = (shows.workers w).seen;
         });
         done = λ t n.
@@ -137,13 +138,13 @@ module _ (meaning : Meaning) (shape : Shape) (key : List ℕ) (board : Board) (s
 
       pub worker-frame : new.shape ≡ shape → new.key ≡ key → IsSound meaning new → length words ≡ words_in shape → length homes ≡ cells_in shape
           → ((t : ℕ) → t < shape.senders
-          → SenderShows shape (state_at shape words t) (address_at shape words t) (home_at shape homes t) (asking_at board.views t) (sender_at new t))
+          → SenderShows shape (state_at shape words t) (first_at shape words t) (second_at shape words t) (home_at shape homes t) (asking_at board.views t) (sender_at new t))
           → WorkerShows shape new w working'
           → ((v : ℕ) → v ≢ w → hand_at new v ≡ hand_at state v)
-          → ((t n : ℕ) → address_of (sender_at new t) n ≡ address_of (sender_at state t) n)
+          → ((t n : ℕ) → query_of (sender_at new t) n ≡ query_of (sender_at state t) n)
           → ((t n : ℕ) → times t n working'.done + once_finished (place_of (sender_at state t) n) ≡ times t n working.done + once_finished (place_of (sender_at new t) n))
           → Shows meaning shape key (record { words = words; homes = homes; views = views_worked }) new
-      worker-frame shape_is key_is sound in_words in_homes senders mine hands addresses counted = record {
+      worker-frame shape_is key_is sound in_words in_homes senders mine hands queries counted = record {
         shape_is = shape_is;
         key_is = key_is;
         fits = shows.fits;
@@ -152,14 +153,14 @@ module _ (meaning : Meaning) (shape : Shape) (key : List ℕ) (board : Board) (s
         homes = in_homes;
         seated = reseated seat (worker shape key w working) (worker shape key w working') sits
             (record { shape_is = refl; key_is = refl; stands = worker-seated.stands });
-        senders = λ t h. subst (λ (x : Asking). SenderShows shape (state_at shape words t) (address_at shape words t) (home_at shape homes t) x (sender_at new t))
+        senders = λ t h. subst (λ (x : Asking). SenderShows shape (state_at shape words t) (first_at shape words t) (second_at shape words t) (home_at shape homes t) x (sender_at new t))
             (sym (asking-same t h)) (senders t h);
         workers = λ v. elim (cases_eq v w) [
           | inl e ↦ subst (λ (x : ℕ). WorkerShows shape new x (working_at shape views_worked x)) (sym e)
               (subst (λ (x : Working). WorkerShows shape new w x) (sym working-here) mine)
           | inr ne ↦ subst (λ (x : Working). WorkerShows shape new v x) (sym (working-else v ne)) (record {
             hand = hands v ne ∙ (shows.workers v).hand;
-            read = λ t n a holds is. (shows.workers v).read t n a holds is ∙ sym (addresses t n);
+            read = λ t n holds. subst (IsKnown (working_at shape board.views v).read) (sym (queries t n)) ((shows.workers v).read t n holds);
             seen = (shows.workers v).seen;
           })
         ];

@@ -1,9 +1,8 @@
 -- Which cells gave a worker nothing, over several tries.
 use Rattle.std.specs.Prelude.{MatchBool}
-use Rattle.std.proofs.Common.{◌≡◌, ℕ, ◌+◌, ◌<◌, ◌≤◌, ◌⊎◌, Bool, true, false, List, ◌++◌, IsSome, inl, inr, ⊎_elim, refl, sym, ◌∙◌, ap, append_assoc, arith}
+use Rattle.std.proofs.Common.{◌≡◌, ℕ, ◌+◌, ◌<◌, ◌⊎◌, Bool, true, false, List, ◌++◌, IsSome, inl, inr, ⊎_elim, ◌∙◌, ap, append_assoc, arith}
 use Rattle.std.proofs.lemmas.Bool.{cases_eq, cases_lt}
 use Rattle.std.proofs.lemmas.List.Elements.{Contains-append_left, Contains-append_right}
-use Rattle.std.specs.List.{Contains}
 use Rattle.ticket_board.specs.Ring.Views.{Working}
 use Rattle.ticket_board.specs.Ring.Takers.{TakerState, HasSought, MissedEach, Between, knowing}
 

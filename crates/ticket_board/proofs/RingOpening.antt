@@ -1,18 +1,18 @@
 -- What the ring shows when it is opened, and when a seat is cut off.
-use Rattle.std.proofs.Common.{◌≡◌, ◌≢◌, ℕ, zero, suc, ◌+◌, ◌-◌, ◌*◌, ◌%◌, ◌<◌, ◌≤◌, Bool, true, false, ltb, if◌then◌else◌, List, [], ◌∷◌, ◌++◌, length, get_or, replicate, set, Some, None, inl, inr, refl, sym, ◌∙◌, ap, subst, mod-eq_of_lt, arith}
+use Rattle.std.proofs.Common.{◌≡◌, ◌≢◌, ℕ, zero, suc, ◌+◌, ◌-◌, ◌%◌, ◌<◌, Bool, true, false, ltb, if◌then◌else◌, List, [], ◌∷◌, ◌++◌, length, replicate, set, None, inl, inr, refl, sym, ◌∙◌, ap, subst, mod-eq_of_lt, arith}
 use Rattle.std.proofs.lemmas.Bool.{cases_lt, lt-ltb, le-ltb}
-use Rattle.std.proofs.lemmas.List.{length-append, length-set, length-replicate, get_or-replicate, get_or_past, get_or-set_same, get_or-set_other}
+use Rattle.std.proofs.lemmas.List.{length-append, length-set, length-replicate, get_or-replicate, get_or_past, get_or-set_other}
 use Rattle.std.proofs.lemmas.Nat.{mod-mul-add, mod_below}
 use mathlib.Core.Option.{some, some-ne-none, some-injective}
 use lib.ListN.{get_elem?}
 use Rattle.ticket_core.specs.declared.shape.Shape.{Shape}
 use Rattle.ticket_core.specs.Shape.{Fits}
-use Rattle.ticket_core.specs.State.{Meaning, Place, Unasked, Sender, fresh, State, sender_at, hand_at, place_of, opening}
+use Rattle.ticket_core.specs.State.{Meaning, Place, Unasked, Sender, fresh, State, sender_at, place_of, opening}
 use Rattle.ticket_core.specs.Runs.{once_finished}
 use Rattle.ticket_core.proofs.ReadLemmas.{appended}
 use Rattle.ticket_core.proofs.StepLemmas.{opening-sender, opening-place, opening-hand, opening-sound}
-use Rattle.ticket_board.specs.Ring.Layout.{cell_of, cells_in, state_at, address_at, state_field, word_of, free_word}
-use Rattle.ticket_board.specs.Ring.Homes.{Home, Out, Empty, home_at}
+use Rattle.ticket_board.specs.Ring.Layout.{cell_of, cells_in, state_at, first_at, second_at, free_word}
+use Rattle.ticket_board.specs.Ring.Homes.{Out, Empty, home_at}
 use Rattle.ticket_board.specs.Ring.Views.{Asking, Working, Role, Opens, Asks, Works, View, opener, nobody, new_asking, new_working, sender_seat, worker_seat, view_at, asking_of, working_of, asking_at, working_at}
 use Rattle.ticket_board.specs.Ring.Shows.{Board, CellShows, SenderShows, WorkerShows, Seated, StandsAt, Sits, times, times_done, Shows}
 use Rattle.ticket_board.specs.Ring.Opening.{AreFree, opened, next_seat, cut_off}
@@ -48,7 +48,7 @@ module _ (meaning : Meaning) (shape : Shape) (key : List ℕ) (fits : Fits shape
   home-empty s n h = get_or-replicate (cells_in shape) (cell_of shape s n) Empty Out (cell-within shape some_room s n h)
 
   new-shows : (s : ℕ) → s < shape.senders
-      → SenderShows shape (state_at shape words s) (address_at shape words s) (home_at shape (replicate (cells_in shape) Empty) s) new_asking fresh
+      → SenderShows shape (state_at shape words s) (first_at shape words s) (second_at shape words s) (home_at shape (replicate (cells_in shape) Empty) s) new_asking fresh
   new-shows s h = record {
     asked = refl;
     received = refl;
@@ -57,8 +57,9 @@ module _ (meaning : Meaning) (shape : Shape) (key : List ℕ) (fits : Fits shape
         let none : place_of fresh n ≡ Unasked = get_or_past [] n Unasked (omega arith) in
         subst (λ (place : Place). CellShows n 0 None place (state_at shape words s n) (home_at shape (replicate (cells_in shape) Empty) s n)) (sym none)
         (state-free s n h (omega arith), home-empty s n h);
-    addresses = λ n from below. absurd (omega arith);
-    ahead = λ a e. absurd (cc);
+    words = λ n from below. absurd (omega arith);
+    ahead = tt;
+    room = λ some. absurd (some refl);
     found = λ e. absurd (cc);
     collecting = λ answer e. absurd (cc);
   }
@@ -78,11 +79,11 @@ module _ (meaning : Meaning) (shape : Shape) (key : List ℕ) (fits : Fits shape
     homes = length-replicate (cells_in shape) Empty;
     seated = first-seated;
     senders = λ s h. subst (λ (x : Asking × Sender).
-        SenderShows shape (state_at shape words s) (address_at shape words s) (home_at shape (replicate (cells_in shape) Empty) s) x.0 x.1)
+        SenderShows shape (state_at shape words s) (first_at shape words s) (second_at shape words s) (home_at shape (replicate (cells_in shape) Empty) s) x.0 x.1)
         (λ i. (sym (asking-is-new s) i, sym (opening-sender meaning shape key s) i)) (new-shows s h);
     workers = λ w. subst (λ (x : Working). WorkerShows shape first_state w x) (sym (working-is-new w)) (record {
       hand = opening-hand meaning shape key w;
-      read = λ s n a e is. absurd (cc);
+      read = λ s n e. absurd (cc);
       seen = λ s n e. absurd (cc);
     });
     done = λ s n. sym (ap once_finished (opening-place meaning shape key s n));
@@ -172,7 +173,7 @@ module _ (meaning : Meaning) (shape : Shape) (key : List ℕ) (board : Board) (s
     words = shows.words;
     homes = shows.homes;
     seated = cut-seated;
-    senders = λ s h. subst (λ (x : Asking). SenderShows shape (state_at shape board.words s) (address_at shape board.words s) (home_at shape board.homes s) x (sender_at state s))
+    senders = λ s h. subst (λ (x : Asking). SenderShows shape (state_at shape board.words s) (first_at shape board.words s) (second_at shape board.words s) (home_at shape board.homes s) x (sender_at state s))
         (sym (asking-same s)) (shows.senders s h);
     workers = λ w. subst (λ (x : Working). WorkerShows shape state w x) (sym (working-same w)) (shows.workers w);
     done = λ s n.

@@ -5,7 +5,7 @@ use Rattle.std.proofs.lemmas.List.{get_or-set_same, get_or-set_other}
 use Rattle.std.proofs.lemmas.Nat.{same_from_place, mul-add-lt, mod_below, mod-mul-add, div-add-mod'}
 use Rattle.atomic_table.proofs.Lists.{one_turn}
 use Rattle.ticket_core.specs.declared.shape.Shape.{Shape}
-use Rattle.ticket_board.specs.Ring.Layout.{cells_in, cell_of, cell_words, state_field, address_field, word_of, words_in, state_place, address_place, state_at, address_at}
+use Rattle.ticket_board.specs.Ring.Layout.{cells_in, cell_of, cell_words, state_field, first_field, second_field, word_of, words_in, state_place, first_place, second_place, state_at, first_at, second_at}
 use Rattle.ticket_board.specs.Ring.Homes.{Home, Out, home_at}
 
 -- two words of cells are one only where the cells and the fields are
@@ -44,29 +44,43 @@ module _ (shape : Shape) (some_room : 0 < shape.window) where
   -- ---- what is read after a write
 
   module _ (words : List ℕ) (s n x : ℕ) where
-    -- of another cell
+    -- of another cell, and of another word
+    word-else : (field other t m : ℕ) → field < cell_words → other < cell_words → (cell_of shape t m ≡ cell_of shape s n → other ≡ field → ⊥)
+        → get_or (set words (word_of (cell_of shape s n) field) x) (word_of (cell_of shape t m) other) 0 ≡ get_or words (word_of (cell_of shape t m) other) 0
+    word-else field other t m h h' apart =
+        get_or-set_other words (word_of (cell_of shape s n) field) (word_of (cell_of shape t m) other) x 0
+        (word-apart (cell_of shape t m) (cell_of shape s n) other field h' h apart)
+
     pub state-else : (field t m : ℕ) → field < cell_words → cell_of shape t m ≢ cell_of shape s n
         → state_at shape (set words (word_of (cell_of shape s n) field) x) t m ≡ state_at shape words t m
-    state-else field t m h ne =
-        get_or-set_other words (word_of (cell_of shape s n) field) (state_place shape t m) x 0
-        (word-apart (cell_of shape t m) (cell_of shape s n) state_field field (omega arith) h (λ e _. ne e))
+    state-else field t m h ne = word-else field state_field t m h (omega arith) (λ e _. ne e)
 
-    pub address-else : (field t m : ℕ) → field < cell_words → cell_of shape t m ≢ cell_of shape s n
-        → address_at shape (set words (word_of (cell_of shape s n) field) x) t m ≡ address_at shape words t m
-    address-else field t m h ne =
-        get_or-set_other words (word_of (cell_of shape s n) field) (address_place shape t m) x 0
-        (word-apart (cell_of shape t m) (cell_of shape s n) address_field field (omega arith) h (λ e _. ne e))
+    pub first-else : (t m : ℕ) → cell_of shape t m ≢ cell_of shape s n
+        → first_at shape (set words (first_place shape s n) x) t m ≡ first_at shape words t m
+    first-else t m ne = word-else first_field first_field t m (omega arith) (omega arith) (λ e _. ne e)
 
-    -- of the other word
-    pub state-beside : (t m : ℕ) → state_at shape (set words (address_place shape s n) x) t m ≡ state_at shape words t m
-    state-beside t m =
-        get_or-set_other words (address_place shape s n) (state_place shape t m) x 0
-        (word-apart (cell_of shape t m) (cell_of shape s n) state_field address_field (omega arith) (omega arith) (λ _ e. absurd (omega arith)))
+    pub second-else : (t m : ℕ) → cell_of shape t m ≢ cell_of shape s n
+        → second_at shape (set words (second_place shape s n) x) t m ≡ second_at shape words t m
+    second-else t m ne = word-else second_field second_field t m (omega arith) (omega arith) (λ e _. ne e)
 
-    pub address-beside : (t m : ℕ) → address_at shape (set words (state_place shape s n) x) t m ≡ address_at shape words t m
-    address-beside t m =
-        get_or-set_other words (state_place shape s n) (address_place shape t m) x 0
-        (word-apart (cell_of shape t m) (cell_of shape s n) address_field state_field (omega arith) (omega arith) (λ _ e. absurd (omega arith)))
+    pub state-beside : (field t m : ℕ) → 0 < field → field < cell_words
+        → state_at shape (set words (word_of (cell_of shape s n) field) x) t m ≡ state_at shape words t m
+    state-beside field t m some h = word-else field state_field t m h (omega arith) (λ _ e. omega arith)
+
+    pub first-beside : (field t m : ℕ) → field < cell_words → first_field ≢ field
+        → first_at shape (set words (word_of (cell_of shape s n) field) x) t m ≡ first_at shape words t m
+    first-beside field t m h ne = word-else field first_field t m h (omega arith) (λ _ e. ne e)
+
+    pub second-beside : (field t m : ℕ) → field < cell_words → second_field ≢ field
+        → second_at shape (set words (word_of (cell_of shape s n) field) x) t m ≡ second_at shape words t m
+    second-beside field t m h ne = word-else field second_field t m h (omega arith) (λ _ e. ne e)
+
+    -- what a state word leaves of the other two
+    pub first-stays : (t m : ℕ) → first_at shape (set words (state_place shape s n) x) t m ≡ first_at shape words t m
+    first-stays t m = first-beside state_field t m (omega arith) (λ e. omega arith)
+
+    pub second-stays : (t m : ℕ) → second_at shape (set words (state_place shape s n) x) t m ≡ second_at shape words t m
+    second-stays t m = second-beside state_field t m (omega arith) (λ e. omega arith)
 
     -- of what was written
     pub word-here : (field : ℕ) → field < cell_words → s < shape.senders → length words ≡ words_in shape

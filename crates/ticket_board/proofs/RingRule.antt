@@ -1,19 +1,21 @@
 -- Each step of a sender keeps the rule of the ring's table.
-use Rattle.std.proofs.Common.{◌≡◌, ℕ, suc, ◌+◌, ◌<◌, true, List, [], ◌∷◌, length, map, get_or, set, Option, Some, None, refl, sym, ◌∙◌, ap, subst, arith}
+use Rattle.std.proofs.Common.{◌≡◌, ℕ, ◌+◌, true, List, ◌∷◌, length, map, get_or, set, Option, Some, None, refl, sym, ◌∙◌, ap, subst}
 use Rattle.std.proofs.lemmas.List.{map-set}
 use mathlib.Core.Option as maybe
-use lib.ListN.{get_elem?}
 use Rattle.atomic_table.specs.Table as table
+use Rattle.ticket_core.specs.declared.query.Query.{Query}
+use Rattle.ticket_core.specs.declared.query.QueryKind.TheVariants.{Address}
 use Rattle.ticket_core.specs.declared.shape.Shape.{Shape}
-use Rattle.ticket_core.specs.State.{Address, Shown, Meaning, Unasked, Answered, State, sender_at, place_of, address_of}
-use Rattle.ticket_core.proofs.ReadLemmas.{inside}
-use Rattle.ticket_board.specs.Ring.Layout.{cell_of, state_place, address_place, state_at, free_word, asked_word, answered_word, collecting_word}
+use Rattle.ticket_core.specs.Query.{IsQuery, first_word, second_word, of_words}
+use Rattle.ticket_core.specs.State.{Shown, Meaning, State}
+use Rattle.ticket_core.proofs.QueryLemmas.{of_words-words}
+use Rattle.ticket_board.specs.Ring.Layout.{cell_of, state_place, first_place, second_place, free_word, asked_word, collecting_word}
 use Rattle.ticket_board.specs.Ring.Homes.{Home, Out, Empty, Full, home_at, answer_at_home}
-use Rattle.ticket_board.specs.Ring.Views.{Asking, Role, Opens, Asks, Works, View, asker, asking_of, next_asked, next_received}
-use Rattle.ticket_board.specs.Ring.Shows.{Board, Seated, Sits, Shows}
-use Rattle.ticket_board.specs.Ring.Steps.{SenderStep, WritesAddress, Publishes, LooksNext, BringsOut, Receives, HasRoom, asking_after, sent}
+use Rattle.ticket_board.specs.Ring.Views.{FirstWord, Whole, first_known, Asking, Role, Opens, Asks, Works, View, asker, asking_of, next_asked, next_received, HasRoom}
+use Rattle.ticket_board.specs.Ring.Shows.{Seated, Sits, Shows}
+use Rattle.ticket_board.specs.Ring.Steps.{WritesFirst, WritesSecond, Publishes, LooksNext, BringsOut, Receives, asking_after, sent}
 use Rattle.ticket_board.specs.Ring.Rule.{home_shown, board_shown, Holds, sender_of, IsSender, ahead_of, collecting_of, KnowsSent, KnowsAnswer}
-use Rattle.ticket_board.proofs.RingSenderSteps.{writes-address, publishes, looks-next, has-answer, brings-out, receives, right-answer}
+use Rattle.ticket_board.proofs.RingSenderSteps.{writes-first, writes-second, publishes, looks-next, has-answer, brings-out, receives, right-answer}
 use Rattle.ticket_board.proofs.RingHomes.{set-same, home-full}
 
 is-sender : (role : Role) → IsSender role → role ≡ Asks (sender_of role) (asking_of role)
@@ -44,26 +46,57 @@ module _ {A : Type 0} (shown : A → Shown) (meaning : Meaning) (shape : Shape) 
   ShowsWith state core words homes new =
       Shows meaning shape key (record { words = words; homes = homes; views = set state.views id (asker shape key s new) }) core
 
-  pub writes-allowed : (place a : ℕ) → HasRoom me.0.shape asking → place ≡ address_place me.0.shape s (next_asked asking)
-      → Allowed place (λ _. a) (λ _. KnowsSent (WritesAddress a) 0 Out me.1 me)
-  writes-allowed place a room at state holds deep sits fits =
+  pub first-allowed : (place word : ℕ) → HasRoom me.0.shape asking → place ≡ first_place me.0.shape s (next_asked asking)
+      → Allowed place (λ _. word) (λ _. KnowsSent (WritesFirst word) 0 Out me.1 me)
+  first-allowed place word room at state holds deep sits fits =
       let seated : Seated shape key (length state.views) id me.0 = holds.1.seated id me.0 sits in
       let room' : HasRoom shape asking = subst (λ (x : Shape). HasRoom x asking) seated.shape_is room in
-      let at' : place ≡ address_place shape s (next_asked asking) = at ∙ ap (λ (x : Shape). address_place x s (next_asked asking)) seated.shape_is in
-      let law : Shows meaning shape key (sent shape key id s asking (WritesAddress a) (board_shown shown state)) holds.0 =
-      writes-address meaning shape key (board_shown shown state) holds.0 id s asking holds.1 (sits ∙ ap maybe.some (view-is (length state.views) seated)) a room' in (
-        asker shape key s (asking_after asking (WritesAddress a) 0 Out),
+      let at' : place ≡ first_place shape s (next_asked asking) = at ∙ ap (λ (x : Shape). first_place x s (next_asked asking)) seated.shape_is in
+      let law : Shows meaning shape key (sent shape key id s asking (WritesFirst word) (board_shown shown state)) holds.0 =
+      writes-first meaning shape key (board_shown shown state) holds.0 id s asking holds.1 (sits ∙ ap maybe.some (view-is (length state.views) seated)) word room' in (
+        asker shape key s (asking_after asking (WritesFirst word) 0 Out),
         table.keeps,
         tt,
         (
           holds.0,
-          subst (λ (x : ℕ). ShowsWith state holds.0 (set state.words x a) (map (home_shown shown) state.homes) (asking_after asking (WritesAddress a) 0 Out))
+          subst (λ (x : ℕ). ShowsWith state holds.0 (set state.words x word) (map (home_shown shown) state.homes) (asking_after asking (WritesFirst word) 0 Out))
               (sym at') law,
         ),
-        (λ i. (after-is (length state.views) (asking_after asking (WritesAddress a) 0 Out) seated i, me.1)),
+        (λ i. (after-is (length state.views) (asking_after asking (WritesFirst word) 0 Out) seated i, me.1)),
       )
 
-  pub publishes-allowed : (place word : ℕ) → asking.ahead ≡ Some (ahead_of me.0.role) → place ≡ state_place me.0.shape s (next_asked asking)
+  pub second-allowed : (place word : ℕ) (query : Query) → asking.ahead ≡ FirstWord (first_word query) → IsQuery query → word ≡ second_word query
+      → place ≡ second_place me.0.shape s (next_asked asking)
+      → Allowed place (λ _. word) (λ _. KnowsSent (WritesSecond query) 0 Out me.1 me)
+  second-allowed place word query written valid is at state holds deep sits fits =
+      let seated : Seated shape key (length state.views) id me.0 = holds.1.seated id me.0 sits in
+      let at' : place ≡ second_place shape s (next_asked asking) = at ∙ ap (λ (x : Shape). second_place x s (next_asked asking)) seated.shape_is in
+      let law : Shows meaning shape key (sent shape key id s asking (WritesSecond query) (board_shown shown state)) holds.0 =
+      writes-second meaning shape key (board_shown shown state) holds.0 id s asking holds.1 (sits ∙ ap maybe.some (view-is (length state.views) seated)) query written valid in (
+        asker shape key s (asking_after asking (WritesSecond query) 0 Out),
+        table.keeps,
+        tt,
+        (
+          holds.0,
+          subst (λ (x : ℕ × ℕ). ShowsWith state holds.0 (set state.words x.0 x.1) (map (home_shown shown) state.homes) (asking_after asking (WritesSecond query) 0 Out))
+              (λ i. (sym at' i, sym is i)) law,
+        ),
+        (λ i. (after-is (length state.views) (asking_after asking (WritesSecond query) 0 Out) seated i, me.1)),
+      )
+
+  -- the query is told by its words
+  pub ahead-is : (word : ℕ) (query : Query) → asking.ahead ≡ FirstWord (first_word query) → IsQuery query → word ≡ second_word query
+      → of_words (first_known asking.ahead) word ≡ query
+  ahead-is word query written valid is = (λ i. of_words (first_known (written i)) (is i)) ∙ of_words-words query valid
+
+  pub second-word-allowed : (place word : ℕ) (query : Query) → asking.ahead ≡ FirstWord (first_word query) → IsQuery query → word ≡ second_word query
+      → place ≡ second_place me.0.shape s (next_asked asking)
+      → Allowed place (λ _. word) (λ _. KnowsSent (WritesSecond (of_words (first_known asking.ahead) word)) 0 Out me.1 me)
+  second-word-allowed place word query written valid is at =
+      subst (λ (x : Query). Allowed place (λ _. word) (λ _. KnowsSent (WritesSecond x) 0 Out me.1 me)) (sym (ahead-is word query written valid is))
+      (second-allowed place word query written valid is at)
+
+  pub publishes-allowed : (place word : ℕ) → asking.ahead ≡ Whole (ahead_of me.0.role) → place ≡ state_place me.0.shape s (next_asked asking)
       → word ≡ asked_word (next_asked asking)
       → Allowed place (λ _. word) (λ _. KnowsSent (Publishes (ahead_of me.0.role)) 0 Out me.1 me)
   publishes-allowed place word written at is state holds deep sits fits =
@@ -131,7 +164,7 @@ module _ {A : Type 0} (shown : A → Shown) (meaning : Meaning) (shape : Shape) 
           stood.0,
           (
             right.0,
-            stood.2 ∙ right.1 ∙ (λ i. meaning (sym seated.key_is i) (get_or asking.asked (next_received asking) 0)),
+            stood.2 ∙ right.1 ∙ (λ i. meaning (sym seated.key_is i) (get_or asking.asked (next_received asking) (Address 0))),
             (λ i. (
               after-is (length state.views) out seated i,
               (cell_of (sym seated.shape_is i) s (next_received asking), Some stood.0) ∷ me.1,

@@ -4,21 +4,32 @@ use Rattle.std.proofs.lemmas.Bool.{cases_eq}
 use Rattle.std.proofs.lemmas.List.{get_or-set_same, get_or-set_other}
 use Rattle.std.proofs.lemmas.Nat.{mod_below}
 use mathlib.Core.Path.{fun_ext}
+use Rattle.ticket_core.specs.declared.query.Query.{Query}
 use Rattle.ticket_core.specs.declared.shape.Shape.{Shape}
 use Rattle.ticket_core.specs.State.{Shown, Place, Unasked, Waiting, Held, Answered, Collected, Sender, place_of}
 use Rattle.ticket_core.specs.Events.{puts}
 use Rattle.ticket_board.specs.Ring.Layout.{asked_word, answered_word, collecting_word}
 use Rattle.ticket_board.specs.Ring.Homes.{Home, Out, Full, answer_at_home}
-use Rattle.ticket_board.specs.Ring.Views.{Asking, next_received}
-use Rattle.ticket_board.specs.Ring.Shows.{CellShows, SenderShows}
+use Rattle.ticket_board.specs.Ring.Views.{Known, Asking, next_received}
+use Rattle.ticket_board.specs.Ring.Shows.{CellShows, HasWords, IsAhead, SenderShows}
 use Rattle.ticket_board.proofs.RingPlaces.{standing}
 
-pub carried : (shape : Shape) (state state' address address' : ℕ → ℕ) (home home' : ℕ → Home) (asking asking' : Asking) (sender sender' : Sender)
-    → ((n : ℕ) → state' n ≡ state n) → ((n : ℕ) → address' n ≡ address n) → ((n : ℕ) → home' n ≡ home n) → asking' ≡ asking → sender' ≡ sender
-    → SenderShows shape state address home asking sender → SenderShows shape state' address' home' asking' sender'
-carried shape state state' address address' home home' asking asking' sender sender' es ea eh e e' old =
-    subst (λ (x : (ℕ → ℕ) × (ℕ → ℕ) × (ℕ → Home) × Asking × Sender). SenderShows shape x.0 x.1 x.2 x.3 x.4)
-    (λ i. (sym (fun_ext es) i, sym (fun_ext ea) i, sym (fun_ext eh) i, sym e i, sym e' i)) old
+pub carried : (shape : Shape) (state state' first first' second second' : ℕ → ℕ) (home home' : ℕ → Home) (asking asking' : Asking) (sender sender' : Sender)
+    → ((n : ℕ) → state' n ≡ state n) → ((n : ℕ) → first' n ≡ first n) → ((n : ℕ) → second' n ≡ second n) → ((n : ℕ) → home' n ≡ home n)
+    → asking' ≡ asking → sender' ≡ sender
+    → SenderShows shape state first second home asking sender → SenderShows shape state' first' second' home' asking' sender'
+carried shape state state' first first' second second' home home' asking asking' sender sender' es ef e2 eh e e' old =
+    subst (λ (x : (ℕ → ℕ) × (ℕ → ℕ) × (ℕ → ℕ) × (ℕ → Home) × Asking × Sender). SenderShows shape x.0 x.1 x.2 x.3 x.4 x.5)
+    (λ i. (sym (fun_ext es) i, sym (fun_ext ef) i, sym (fun_ext e2) i, sym (fun_ext eh) i, sym e i, sym e' i)) old
+
+-- the words of a query, where they stand
+pub words-moved : (query query' : Query) (first first' second second' : ℕ) → query' ≡ query → first' ≡ first → second' ≡ second
+    → HasWords query first second → HasWords query' first' second'
+words-moved query query' first first' second second' eq ef es old =
+    subst (λ (x : Query × ℕ × ℕ). HasWords x.0 x.1 x.2) (λ i. (sym eq i, sym ef i, sym es i)) old
+
+pub ahead-moved : (known : Known) (first first' second second' : ℕ) → first' ≡ first → second' ≡ second → IsAhead known first second → IsAhead known first' second'
+ahead-moved known first first' second second' ef es old = subst (λ (x : ℕ × ℕ). IsAhead known x.0 x.1) (λ i. (sym ef i, sym es i)) old
 
 -- ---- one cell
 
@@ -74,8 +85,8 @@ collecting-cell n next collecting Collected word home answer shows e is = absurd
 
 -- ---- one cell of a sender changed by a worker
 
-module _ (shape : Shape) (state address : ℕ → ℕ) (home : ℕ → Home) (asking : Asking) (sender : Sender)
-    (old : SenderShows shape state address home asking sender) where
+module _ (shape : Shape) (state first second : ℕ → ℕ) (home : ℕ → Home) (asking : Asking) (sender : Sender)
+    (old : SenderShows shape state first second home asking sender) where
   -- the number whose word says that it waits
   pub waits : (n : ℕ) → 0 < shape.window → ((m : ℕ) → m % shape.window ≡ n % shape.window → state m ≡ state n) → state n ≡ asked_word n
       → (next_received asking ≤ n) × (n < next_received asking + shape.window) × (place_of sender n ≡ Waiting)
@@ -93,7 +104,7 @@ module _ (shape : Shape) (state address : ℕ → ℕ) (home : ℕ → Home) (as
       → next_received asking ≤ n → n < next_received asking + shape.window → state n < answered_word n
       → ((m : ℕ) → next_received asking ≤ m → m < next_received asking + shape.window → m ≢ n → (state' m ≡ state m) × (home' m ≡ home m))
       → n < length sender.places → CellShows n (next_received asking) asking.collecting place (state' n) (home' n)
-      → SenderShows shape state' address home' asking (puts n place sender)
+      → SenderShows shape state' first second home' asking (puts n place sender)
   put-there state' home' n place from below early same there shows = record {
     asked = old.asked;
     received = old.received;
@@ -105,8 +116,9 @@ module _ (shape : Shape) (state address : ℕ → ℕ) (home : ℕ → Home) (as
       | inr ne ↦ cell-moved m (next_received asking) asking.collecting (place_of sender m) (place_of (puts n place sender) m) (state m) (state' m) (home m) (home' m)
           (get_or-set_other sender.places n m place Unasked ne) (same m m_from m_below ne).0 (same m m_from m_below ne).1 (old.cells m m_from m_below)
     ];
-    addresses = old.addresses;
+    words = old.words;
     ahead = old.ahead;
+    room = old.room;
     found = λ f. let was : state (next_received asking) ≡ answered_word (next_received asking) = old.found f in
         elim (cases_eq (next_received asking) n) [
           | inl e ↦ absurd (let was_n : state n ≡ answered_word n = subst (λ (x : ℕ). state x ≡ answered_word x) e was in omega arith)

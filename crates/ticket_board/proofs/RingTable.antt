@@ -1,22 +1,20 @@
 -- The ring's table as it is opened, and seats that are cut off from it.
-use Rattle.std.proofs.Common.{◌≡◌, ℕ, zero, suc, ◌+◌, ◌-◌, ◌*◌, ◌%◌, ◌<◌, ◌≤◌, Bool, if◌then◌else◌, List, [], ◌∷◌, ◌++◌, length, get_or, map, replicate, Option, None, inl, inr, refl, sym, ◌∙◌, ap, subst, arith}
+use Rattle.std.proofs.Common.{◌≡◌, ℕ, zero, suc, ◌+◌, ◌-◌, ◌*◌, ◌%◌, ◌<◌, ◌≤◌, Bool, if◌then◌else◌, List, [], ◌∷◌, ◌++◌, length, get_or, replicate, Option, None, inl, inr, refl, sym, ◌∙◌, ap, subst, arith}
 use Rattle.std.proofs.lemmas.Bool.{cases_lt, lt-ltb, le-ltb}
 use Rattle.std.proofs.lemmas.List.{length-append, get_or_append_left}
 use Rattle.std.proofs.Math.Seq.{get_or-append_seam}
 use Rattle.std.proofs.lemmas.Nat.{mul-le}
-use mathlib.Core.Option as maybe
-use lib.ListN.{get_elem?}
 use Rattle.atomic_table.specs.Table as table
 use Rattle.ticket_core.specs.declared.shape.Shape.{Shape}
 use Rattle.ticket_core.specs.Shape.{Fits}
-use Rattle.ticket_core.specs.State.{Shown, Meaning, State, opening}
+use Rattle.ticket_core.specs.State.{Shown, Meaning, opening}
 use Rattle.atomic_table.specs.Seated.{TableId}
 use Rattle.ticket_board.specs.Ring.Layout.{cells_in, words_in, state_field, word_of, free_word}
 use Rattle.ticket_board.specs.Ring.Homes.{Home, Empty}
 use Rattle.ticket_board.specs.Ring.Views.{View, Asks, Works, opener, asker, worker, new_asking, new_working}
 use Rattle.ticket_board.specs.Ring.Shows.{Shows}
 use Rattle.ticket_board.specs.Ring.Opening.{AreFree, opened, next_seat}
-use Rattle.ticket_board.specs.Ring.Rule.{home_shown, board_shown, Holds, cut_of, left_after, cut_from}
+use Rattle.ticket_board.specs.Ring.Rule.{board_shown, Holds, cut_of, left_after, cut_from}
 use Rattle.ticket_board.specs.Ring.Ends.{RingState, AskerState}
 use Rattle.ticket_board.specs.Ring.Takers.{TakerState}
 use Rattle.ticket_board.specs.Ring.Opened.{IsDesk, new_asker, new_taker, askers_from, takers_from}
@@ -55,15 +53,18 @@ some-words shape fits = let some : 1 * 1 ≤ shape.senders * shape.window = mul-
 
 -- ---- the words
 
-pub free-more : (window cell : ℕ) (words words' words'' : List ℕ) → length words ≡ 2 * cell
+pub free-more : (window cell : ℕ) (words words' words'' all : List ℕ) → length words ≡ 3 * cell
     → ((k : ℕ) → k < cell → get_or words (word_of k state_field) 0 ≡ free_word (k % window))
-    → words' ≡ words ++ free_word (cell % window) ∷ [] → words'' ≡ words' ++ 0 ∷ []
-    → (k : ℕ) → k < cell + 1 → get_or words'' (word_of k state_field) 0 ≡ free_word (k % window)
-free-more window cell words words' words'' len below is is' k h =
-    let long : length words' ≡ 2 * cell + 1 = ap length is ∙ length-append words (free_word (cell % window) ∷ []) ∙ omega arith in
+    → words' ≡ words ++ free_word (cell % window) ∷ [] → words'' ≡ words' ++ 0 ∷ [] → all ≡ words'' ++ 0 ∷ []
+    → (k : ℕ) → k < cell + 1 → get_or all (word_of k state_field) 0 ≡ free_word (k % window)
+free-more window cell words words' words'' all len below is is' is'' k h =
+    let long : length words' ≡ 3 * cell + 1 = ap length is ∙ length-append words (free_word (cell % window) ∷ []) ∙ omega arith in
+    let longer : length words'' ≡ 3 * cell + 2 = ap length is' ∙ length-append words' (0 ∷ []) ∙ omega arith in
+    let second : get_or all (word_of k state_field) 0 ≡ get_or words'' (word_of k state_field) 0 =
+    ap (λ (xs : List ℕ). get_or xs (word_of k state_field) 0) is'' ∙ get_or_append_left words'' (0 ∷ []) 0 (word_of k state_field) (omega arith) in
     let first : get_or words'' (word_of k state_field) 0 ≡ get_or words' (word_of k state_field) 0 =
     ap (λ (xs : List ℕ). get_or xs (word_of k state_field) 0) is' ∙ get_or_append_left words' (0 ∷ []) 0 (word_of k state_field) (omega arith) in
-    first ∙ ap (λ (xs : List ℕ). get_or xs (word_of k state_field) 0) is
+    second ∙ first ∙ ap (λ (xs : List ℕ). get_or xs (word_of k state_field) 0) is
     ∙ elim (cases_lt k cell) [
       | inl lt ↦ get_or_append_left words (free_word (cell % window) ∷ []) 0 (word_of k state_field) (omega arith) ∙ below k lt
       | inr le ↦ (

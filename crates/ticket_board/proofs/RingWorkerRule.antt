@@ -1,5 +1,5 @@
 -- Each step of a worker keeps the rule of the ring's table.
-use Rattle.std.proofs.Common.{◌≡◌, ◌≢◌, ℕ, suc, ◌+◌, ◌*◌, ◌/◌, ◌%◌, ◌<◌, ◌≤◌, Bool, true, false, eqb, if◌then◌else◌, List, [], ◌∷◌, ◌++◌, length, map, get_or, set, Option, Some, None, inl, inr, ⊎_elim, refl, sym, ◌∙◌, ap, subst, eq-eqb, arith}
+use Rattle.std.proofs.Common.{◌≡◌, ℕ, ◌+◌, ◌*◌, ◌/◌, ◌%◌, ◌<◌, Bool, true, false, eqb, if◌then◌else◌, List, [], ◌∷◌, ◌++◌, length, map, get_or, set, Option, Some, None, inl, inr, ⊎_elim, refl, sym, ◌∙◌, ap, subst, eq-eqb, arith}
 use Rattle.std.proofs.lemmas.Bool.{cases_eq, ne_eqb}
 use Rattle.std.proofs.lemmas.List.{map-set}
 use Rattle.std.proofs.lemmas.Nat.{div_below, mod_below, div-add-mod'}
@@ -7,16 +7,18 @@ use prog.Atomic.{either}
 use mathlib.Core.Option as maybe
 use lib.ListN.{get_elem?}
 use Rattle.atomic_table.specs.Table as table
+use Rattle.ticket_core.specs.declared.query.Query.{Query}
 use Rattle.ticket_core.specs.declared.shape.Shape.{Shape}
-use Rattle.ticket_core.specs.State.{Address, Shown, Meaning, Place, Unasked, Waiting, Held, Answered, Collected, Ticket, State, sender_at, place_of}
-use Rattle.ticket_board.specs.Ring.Layout.{cell_of, cells_in, cell_words, state_field, word_of, state_place, address_place, state_at, asked_word, taken_word, answered_word, collecting_word}
+use Rattle.ticket_core.specs.Query.{AreWords}
+use Rattle.ticket_core.specs.State.{Shown, Meaning, Place, Unasked, Waiting, Held, Answered, Collected, State, sender_at, place_of}
+use Rattle.ticket_board.specs.Ring.Layout.{cell_of, cells_in, cell_words, state_field, word_of, state_place, first_place, second_place, state_at, asked_word, taken_word, answered_word, collecting_word}
 use Rattle.ticket_board.specs.Ring.Homes.{Home, Out, Empty, Full, home_at}
-use Rattle.ticket_board.specs.Ring.Views.{Working, Role, Opens, Asks, Works, View, worker, working_of, next_received, asking_at}
-use Rattle.ticket_board.specs.Ring.Shows.{Board, CellShows, SenderShows, Seated, Sits, Shows}
-use Rattle.ticket_board.specs.Ring.Steps.{WorkerStep, LooksAt, Takes, ReadsAddress, Answers, GivesBack, working_after, worked}
-use Rattle.ticket_board.specs.Ring.Rule.{home_shown, board_shown, Holds, worker_of, IsWorker, IsOfCell, KnowsWorked, KnowsLooked, KnowsTried}
+use Rattle.ticket_board.specs.Ring.Views.{Nothing, FirstWord, Whole, Working, Role, Opens, Asks, Works, View, worker, working_of, next_received, asking_at}
+use Rattle.ticket_board.specs.Ring.Shows.{Board, CellShows, Seated, Sits, Shows}
+use Rattle.ticket_board.specs.Ring.Steps.{LooksAt, Takes, ReadsFirst, ReadsSecond, Answers, GivesBack, working_after, worked}
+use Rattle.ticket_board.specs.Ring.Rule.{home_shown, board_shown, Holds, worker_of, IsWorker, IsOfCell, KnowsWorked, KnowsLooked, KnowsTried, KnowsSecond}
 use Rattle.ticket_board.proofs.RingPlaces.{standing}
-use Rattle.ticket_board.proofs.RingWorkerSteps.{looks-at, hits, misses, reads-address, answers, gives-back, slot-waits}
+use Rattle.ticket_board.proofs.RingWorkerSteps.{looks-at, hits, misses, reads-first, reads-second, are-words, answers, gives-back, slot-waits}
 use Rattle.ticket_board.proofs.RingHomes.{set-same, home-empty}
 
 is-worker : (role : Role) → IsWorker role → role ≡ Works (worker_of role) (working_of role)
@@ -128,7 +130,7 @@ module _ {A : Type 0} (shown : A → Shown) (meaning : Meaning) (shape : Shape) 
     abbrev tried : Bool → Working
     tried hit = record working {
       hand = if hit then Some (s, n) else None;
-      read = None;
+      read = Nothing;
       seen = None;
       missed = if hit then working.missed else working.missed ++ cell_of shape s n ∷ [];
     }
@@ -194,43 +196,67 @@ module _ {A : Type 0} (shown : A → Shown) (meaning : Meaning) (shape : Shape) 
       subst (λ (x : ℕ × ℕ). Allowed place (λ word. either (eqb word x.0) x.1 word) (λ word. KnowsTried (s, n) word me))
       (λ i. (sym is i, sym is' i)) (takes-allowed place s n empty saw at)
 
-  -- ---- the address of the number in its hand
+  -- ---- the query of the number in its hand
 
-  pub reads-allowed : (place s n : ℕ) → working.hand ≡ Some (s, n) → place ≡ address_place me.0.shape s n
-      → Allowed place (λ word. word) (λ word. KnowsWorked (ReadsAddress s n) word me.1 me)
-  reads-allowed place s n holding at state holds deep sits fits =
+  pub first-allowed : (place s n : ℕ) → working.hand ≡ Some (s, n) → place ≡ first_place me.0.shape s n
+      → Allowed place (λ word. word) (λ word. KnowsWorked (ReadsFirst s n) word me.1 me)
+  first-allowed place s n holding at state holds deep sits fits =
       let seated : Seated shape key (length state.views) id me.0 = holds.1.seated id me.0 sits in
-      let at' : place ≡ address_place shape s n = at ∙ ap (λ (x : Shape). address_place x s n) seated.shape_is in
+      let at' : place ≡ first_place shape s n = at ∙ ap (λ (x : Shape). first_place x s n) seated.shape_is in
       let word : ℕ = get_or state.words place 0 in
-      let law : Shows meaning shape key (worked shape key id w working (ReadsAddress s n) (board_shown shown state)) holds.0 =
-      reads-address meaning shape key (board_shown shown state) holds.0 holds.1 id w working (sits ∙ ap maybe.some (view-is (length state.views) seated)) s n holding in (
-        worker shape key w (working_after shape working (ReadsAddress s n) word),
+      let law : Shows meaning shape key (worked shape key id w working (ReadsFirst s n) (board_shown shown state)) holds.0 =
+      reads-first meaning shape key (board_shown shown state) holds.0 holds.1 id w working (sits ∙ ap maybe.some (view-is (length state.views) seated)) s n holding in (
+        worker shape key w (working_after shape working (ReadsFirst s n) word),
         table.keeps,
         tt,
         (
           holds.0,
-          subst (λ (x : List ℕ × ℕ). ShowsWith state holds.0 x.0 (map (home_shown shown) state.homes) (working_after shape working (ReadsAddress s n) (get_or state.words x.1 0)))
+          subst (λ (x : List ℕ × ℕ). ShowsWith state holds.0 x.0 (map (home_shown shown) state.homes) (working_after shape working (ReadsFirst s n) (get_or state.words x.1 0)))
               (λ i. (sym (set-same state.words place) i, sym at' i)) law,
         ),
-        (λ i. (worker (sym seated.shape_is i) (sym seated.key_is i) w (working_after (sym seated.shape_is i) working (ReadsAddress s n) word), me.1)),
+        (λ i. (worker (sym seated.shape_is i) (sym seated.key_is i) w (working_after (sym seated.shape_is i) working (ReadsFirst s n) word), me.1)),
+      )
+
+  pub second-allowed : (place s n first : ℕ) → working.hand ≡ Some (s, n) → working.read ≡ FirstWord first → place ≡ second_place me.0.shape s n
+      → Allowed place (λ word. word) (λ word. KnowsSecond (s, n) first word me)
+  second-allowed place s n first holding read at state holds deep sits fits =
+      let seated : Seated shape key (length state.views) id me.0 = holds.1.seated id me.0 sits in
+      let sits' : Sits (board_shown shown state) id (worker shape key w working) = sits ∙ ap maybe.some (view-is (length state.views) seated) in
+      let at' : place ≡ second_place shape s n = at ∙ ap (λ (x : Shape). second_place x s n) seated.shape_is in
+      let word : ℕ = get_or state.words place 0 in
+      let law : Shows meaning shape key (worked shape key id w working (ReadsSecond s n first) (board_shown shown state)) holds.0 =
+      reads-second meaning shape key (board_shown shown state) holds.0 holds.1 id w working sits' s n first holding read in
+      let both = are-words meaning shape key (board_shown shown state) holds.0 holds.1 id w working sits' s n first holding read in (
+        worker shape key w (working_after shape working (ReadsSecond s n first) word),
+        table.keeps,
+        tt,
+        (
+          holds.0,
+          subst (λ (x : List ℕ × ℕ). ShowsWith state holds.0 x.0 (map (home_shown shown) state.homes) (working_after shape working (ReadsSecond s n first) (get_or state.words x.1 0)))
+              (λ i. (sym (set-same state.words place) i, sym at' i)) law,
+        ),
+        (
+          (λ i. (worker (sym seated.shape_is i) (sym seated.key_is i) w (working_after (sym seated.shape_is i) working (ReadsSecond s n first) word), me.1)),
+          subst (λ (x : ℕ). AreWords first (get_or state.words x 0)) (sym at') both,
+        ),
       )
 
   -- ---- the number in its hand is put down
 
-  pub answers-allowed : (place word s n a : ℕ) (answer : A) → working.hand ≡ Some (s, n) → working.read ≡ Some a → shown answer ≡ meaning me.0.key a
+  pub answers-allowed : (place word s n : ℕ) (query : Query) (answer : A) → working.hand ≡ Some (s, n) → working.read ≡ Whole query → shown answer ≡ meaning me.0.key query
       → me.1 ≡ (cell_of me.0.shape s n, Some answer) ∷ table.rest me.1 → place ≡ state_place me.0.shape s n → word ≡ answered_word n
-      → Allowed place (λ _. word) (λ _. KnowsWorked (Answers s n a (shown answer)) 0 (table.rest me.1) me)
-  answers-allowed place word s n a answer holding read right carries at is state holds deep sits fits =
+      → Allowed place (λ _. word) (λ _. KnowsWorked (Answers s n query (shown answer)) 0 (table.rest me.1) me)
+  answers-allowed place word s n query answer holding read right carries at is state holds deep sits fits =
       let seated : Seated shape key (length state.views) id me.0 = holds.1.seated id me.0 sits in
       let at' : place ≡ state_place shape s n = at ∙ ap (λ (x : Shape). state_place x s n) seated.shape_is in
-      let right' : shown answer ≡ meaning key a = right ∙ ap (λ (x : List ℕ). meaning x a) seated.key_is in
+      let right' : shown answer ≡ meaning key query = right ∙ ap (λ (x : List ℕ). meaning x query) seated.key_is in
       let home : map (home_shown shown) (table.put_back state.homes me.1) ≡ set (map (home_shown shown) state.homes) (cell_of shape s n) (Full (shown answer)) =
       ap (λ (x : List (ℕ × Option A)). map (home_shown shown) (table.put_back state.homes x)) carries
       ∙ map-set (home_shown shown) state.homes (cell_of me.0.shape s n) (maybe.some (Some answer))
       ∙ ap (λ (x : Shape). set (map (home_shown shown) state.homes) (cell_of x s n) (Full (shown answer))) seated.shape_is in
-      let new : Working = working_after shape working (Answers s n a (shown answer)) 0 in
+      let new : Working = working_after shape working (Answers s n query (shown answer)) 0 in
       let law = answers meaning shape key (board_shown shown state) holds.0 holds.1 id w working (sits ∙ ap maybe.some (view-is (length state.views) seated)) s n holding
-      a (shown answer) read right' in (
+      query (shown answer) read right' in (
         worker shape key w new,
         table.gives,
         tt,

@@ -3,8 +3,10 @@ use Rattle.std.proofs.Common.{◌≡◌, ◌≢◌, ℕ, ◌+◌, ◌*◌, ◌/�
 use Rattle.std.proofs.lemmas.Bool.{cases_eq, cases_lt, ne_eqb}
 use Rattle.std.proofs.lemmas.List.{length-set}
 use Rattle.std.proofs.lemmas.Nat.{div_below}
+use Rattle.ticket_core.specs.declared.query.Query.{Query}
 use Rattle.ticket_core.specs.declared.shape.Shape.{Shape}
-use Rattle.ticket_core.specs.State.{Address, Shown, Meaning, Place, Unasked, Waiting, Held, Answered, Collected, Sender, Ticket, State, sender_at, hand_at, place_of, address_of}
+use Rattle.ticket_core.specs.Query.{first_word, AreWords, of_words}
+use Rattle.ticket_core.specs.State.{Shown, Meaning, Place, Unasked, Waiting, Held, Answered, Collected, Sender, Ticket, State, sender_at, hand_at, place_of, query_of}
 use Rattle.ticket_core.specs.Events.{Event, Take, Finish, GiveBack, puts, with_sender, ticket_in, meaning_of, puts_down, Can, after}
 use Rattle.ticket_core.specs.Sound.{IsSound}
 use Rattle.ticket_core.specs.Runs.{is_ticket, once_finished, finishes}
@@ -13,13 +15,14 @@ use Rattle.ticket_core.proofs.StateLemmas.{sender_changed, hand_changed}
 use Rattle.ticket_core.proofs.StepLemmas.{step-sound}
 use Rattle.ticket_core.proofs.CountLemmas.{step-counted}
 use Rattle.ticket_core.proofs.CallerLemmas.{held-sender, held-asked}
-use Rattle.ticket_board.specs.Ring.Layout.{cell_of, cells_in, state_field, word_of, state_place, state_at, address_at, asked_word, taken_word, answered_word}
+use Rattle.ticket_core.proofs.QueryLemmas.{of_words-words, words-allowed}
+use Rattle.ticket_board.specs.Ring.Layout.{cell_of, cells_in, state_field, word_of, state_place, state_at, first_at, second_at, asked_word, taken_word, answered_word}
 use Rattle.ticket_board.specs.Ring.Homes.{Home, Out, Empty, Full, home_at}
-use Rattle.ticket_board.specs.Ring.Views.{Asking, Working, worker, next_asked, next_received, asking_at}
-use Rattle.ticket_board.specs.Ring.Shows.{Board, CellShows, SenderShows, WorkerShows, Sits, Shows, times}
-use Rattle.ticket_board.specs.Ring.Steps.{LooksAt, ReadsAddress, Answers, GivesBack, is_asked_word, working_after, worked}
+use Rattle.ticket_board.specs.Ring.Views.{Nothing, FirstWord, Whole, Asking, Working, worker, next_asked, next_received, asking_at}
+use Rattle.ticket_board.specs.Ring.Shows.{Board, CellShows, HasWords, IsKnown, SenderShows, WorkerShows, Sits, Shows, times}
+use Rattle.ticket_board.specs.Ring.Steps.{LooksAt, ReadsFirst, ReadsSecond, Answers, GivesBack, is_asked_word, working_after, worked}
 use Rattle.ticket_board.specs.Ring.Laws.{ShowsAfter}
-use Rattle.ticket_board.proofs.RingPlaces.{numbers-apart, senders-apart, state-else, address-beside, word-here, home-else, home-here}
+use Rattle.ticket_board.proofs.RingPlaces.{numbers-apart, senders-apart, state-else, first-stays, second-stays, word-here, home-else, home-here}
 use Rattle.ticket_board.proofs.RingSenders.{carried, cell-moved, waits, put-there}
 use Rattle.ticket_board.proofs.RingViews.{times-append}
 use Rattle.ticket_board.proofs.RingFrames.{worker-frame, worker-seated, worker-shows}
@@ -53,7 +56,7 @@ module _ (meaning : Meaning) (shape : Shape) (key : List ℕ) (board : Board) (s
   states = state_at shape board.words
 
   abbrev SenderNow : ℕ → Type 0
-  SenderNow s = SenderShows shape (states s) (address_at shape board.words s) (home_at shape board.homes s) (asking s) (sender_at state s)
+  SenderNow s = SenderShows shape (states s) (first_at shape board.words s) (second_at shape board.words s) (home_at shape board.homes s) (asking s) (sender_at state s)
 
   sender-there' : (s : ℕ) → s < shape.senders → s < length state.senders
   sender-there' s h = let e : state.shape.senders ≡ shape.senders = ap (λ x. x.senders) shows.shape_is in omega (arith, shows.sound.senders)
@@ -99,8 +102,8 @@ module _ (meaning : Meaning) (shape : Shape) (key : List ℕ) (board : Board) (s
         (home_at shape board.homes s n) (home_at shape board.homes s n) (sym held-is) refl refl
         ((shows.senders s held-of).cells n held-from held-window))
 
-    held-address : address_at shape board.words s n ≡ address_of (sender_at state s) n
-    held-address = (shows.senders s held-of).addresses n held-from held-below
+    held-words : HasWords (query_of (sender_at state s) n) (first_at shape board.words s n) (second_at shape board.words s n)
+    held-words = (shows.senders s held-of).words n held-from held-below
 
   -- ---- a number that isn't answered yet stands at another place
 
@@ -114,13 +117,14 @@ module _ (meaning : Meaning) (shape : Shape) (key : List ℕ) (board : Board) (s
     abbrev homes_put : List Home
     homes_put = set board.homes (cell_of shape s n) home
 
-    put-sender : SenderShows shape (state_at shape words_put s) (address_at shape words_put s) (home_at shape homes_put s) (asking s) (puts n place (sender_at state s))
+    put-sender : SenderShows shape (state_at shape words_put s) (first_at shape words_put s) (second_at shape words_put s) (home_at shape homes_put s) (asking s) (puts n place (sender_at state s))
     put-sender =
         let old : SenderNow s = shows.senders s there in
-        carried shape (state_at shape words_put s) (state_at shape words_put s) (address_at shape board.words s) (address_at shape words_put s)
+        carried shape (state_at shape words_put s) (state_at shape words_put s) (first_at shape board.words s) (first_at shape words_put s)
+        (second_at shape board.words s) (second_at shape words_put s)
         (home_at shape homes_put s) (home_at shape homes_put s) (asking s) (asking s) (puts n place (sender_at state s)) (puts n place (sender_at state s))
-        (λ _. refl) (λ m. address-beside shape some_room board.words s n x s m) (λ _. refl) refl refl
-        (put-there shape (states s) (address_at shape board.words s) (home_at shape board.homes s) (asking s) (sender_at state s) old
+        (λ _. refl) (λ m. first-stays shape some_room board.words s n x s m) (λ m. second-stays shape some_room board.words s n x s m) (λ _. refl) refl refl
+        (put-there shape (states s) (first_at shape board.words s) (second_at shape board.words s) (home_at shape board.homes s) (asking s) (sender_at state s) old
         (state_at shape words_put s) (home_at shape homes_put s) n place from below early
         (λ m m_from m_below ne. (
           state-else shape some_room board.words s n x state_field s m (omega arith)
@@ -134,22 +138,23 @@ module _ (meaning : Meaning) (shape : Shape) (key : List ℕ) (board : Board) (s
         (home-here shape some_room board.homes s n home there shows.homes) cell))
 
     pub put-senders : (t : ℕ) → t < shape.senders
-        → SenderShows shape (state_at shape words_put t) (address_at shape words_put t) (home_at shape homes_put t) (asking t) (sender_at new t)
+        → SenderShows shape (state_at shape words_put t) (first_at shape words_put t) (second_at shape words_put t) (home_at shape homes_put t) (asking t) (sender_at new t)
     put-senders t h = elim (cases_eq t s) [
-      | inl e ↦ subst (λ (y : ℕ). SenderShows shape (state_at shape words_put y) (address_at shape words_put y) (home_at shape homes_put y) (asking y) (sender_at new y)) (sym e)
-          (subst (λ (y : Sender). SenderShows shape (state_at shape words_put s) (address_at shape words_put s) (home_at shape homes_put s) (asking s) y) (sym changed) put-sender)
-      | inr ne ↦ carried shape (states t) (state_at shape words_put t) (address_at shape board.words t) (address_at shape words_put t)
+      | inl e ↦ subst (λ (y : ℕ). SenderShows shape (state_at shape words_put y) (first_at shape words_put y) (second_at shape words_put y) (home_at shape homes_put y) (asking y) (sender_at new y)) (sym e)
+          (subst (λ (y : Sender). SenderShows shape (state_at shape words_put s) (first_at shape words_put s) (second_at shape words_put s) (home_at shape homes_put s) (asking s) y) (sym changed) put-sender)
+      | inr ne ↦ carried shape (states t) (state_at shape words_put t) (first_at shape board.words t) (first_at shape words_put t)
+          (second_at shape board.words t) (second_at shape words_put t)
           (home_at shape board.homes t) (home_at shape homes_put t) (asking t) (asking t) (sender_at state t) (sender_at new t)
           (λ m. state-else shape some_room board.words s n x state_field t m (omega arith) (senders-apart shape some_room s n t m ne))
-          (λ m. address-beside shape some_room board.words s n x t m)
+          (λ m. first-stays shape some_room board.words s n x t m) (λ m. second-stays shape some_room board.words s n x t m)
           (λ m. home-else shape some_room board.homes s n home t m (senders-apart shape some_room s n t m ne)) refl (others t ne) (shows.senders t h)
     ]
 
     -- what was asked stays asked
-    pub put-addresses : (t m : ℕ) → address_of (sender_at new t) m ≡ address_of (sender_at state t) m
-    put-addresses t m = elim (cases_eq t s) [
-      | inl e ↦ subst (λ (y : ℕ). address_of (sender_at new y) m ≡ address_of (sender_at state y) m) (sym e) (ap (λ sender. address_of sender m) changed)
-      | inr ne ↦ ap (λ sender. address_of sender m) (others t ne)
+    pub put-queries : (t m : ℕ) → query_of (sender_at new t) m ≡ query_of (sender_at state t) m
+    put-queries t m = elim (cases_eq t s) [
+      | inl e ↦ subst (λ (y : ℕ). query_of (sender_at new y) m ≡ query_of (sender_at state y) m) (sym e) (ap (λ sender. query_of sender m) changed)
+      | inr ne ↦ ap (λ sender. query_of sender m) (others t ne)
     ]
 
   -- ---- the steps
@@ -182,18 +187,46 @@ module _ (meaning : Meaning) (shape : Shape) (key : List ℕ) (board : Board) (s
               (get_or board.words (word_of cell state_field) 0 / 8) shape.senders s n (div_below cell shape.window shape.senders some_room within) e;
         }) refl
 
-    pub reads-address : (s n : ℕ) → working.hand ≡ Some (s, n)
-        → Shows meaning shape key (worked shape key seat w working (ReadsAddress s n) board) state
-    reads-address s n holds =
-        note (working_after shape working (ReadsAddress s n) (address_at shape board.words s n)) (record {
+    pub reads-first : (s n : ℕ) → working.hand ≡ Some (s, n)
+        → Shows meaning shape key (worked shape key seat w working (ReadsFirst s n) board) state
+    reads-first s n holds =
+        note (working_after shape working (ReadsFirst s n) (first_at shape board.words s n)) (record {
           hand = mine.hand;
-          read = λ t m a held is.
+          read = λ t m held.
               let parts : (s ≡ t) × (n ≡ m) = ticket-parts s n t m (sym holds ∙ held) in
-              let word : address_at shape board.words s n ≡ address_of (sender_at state s) n = held-address w s n (mine.hand ∙ holds) in
-              let same : a ≡ address_at shape board.words s n = cc in
-              same ∙ word ∙ (λ i. address_of (sender_at state (parts.0 i)) (parts.1 i));
+              (held-words w s n (mine.hand ∙ holds)).0 ∙ (λ i. first_word (query_of (sender_at state (parts.0 i)) (parts.1 i)));
           seen = mine.seen;
         }) refl
+
+    -- ---- both words are read
+
+    module _ (s n first : ℕ) (holds : working.hand ≡ Some (s, n)) (read : working.read ≡ FirstWord first) where
+      words-read : HasWords (query_of (sender_at state s) n) first (second_at shape board.words s n)
+      words-read =
+          let held : HasWords (query_of (sender_at state s) n) (first_at shape board.words s n) (second_at shape board.words s n) =
+          held-words w s n (mine.hand ∙ holds) in (
+            subst (λ known. IsKnown known (query_of (sender_at state s) n)) read (mine.read s n holds),
+            held.1,
+            held.2,
+          )
+
+      -- they are those of the query that was asked
+      query-read : of_words first (second_at shape board.words s n) ≡ query_of (sender_at state s) n
+      query-read = (λ i. of_words (words-read.0 i) (words-read.1 i)) ∙ of_words-words (query_of (sender_at state s) n) words-read.2
+
+      pub are-words : AreWords first (second_at shape board.words s n)
+      are-words = subst (λ (x : ℕ × ℕ). AreWords x.0 x.1) (λ i. (sym words-read.0 i, sym words-read.1 i))
+          (words-allowed (query_of (sender_at state s) n) words-read.2)
+
+      pub reads-second : Shows meaning shape key (worked shape key seat w working (ReadsSecond s n first) board) state
+      reads-second =
+          note (working_after shape working (ReadsSecond s n first) (second_at shape board.words s n)) (record {
+            hand = mine.hand;
+            read = λ t m held.
+                let parts : (s ≡ t) × (n ≡ m) = ticket-parts s n t m (sym holds ∙ held) in
+                query-read ∙ (λ i. query_of (sender_at state (parts.0 i)) (parts.1 i));
+            seen = mine.seen;
+          }) refl
 
     -- ---- a number is taken
 
@@ -204,7 +237,7 @@ module _ (meaning : Meaning) (shape : Shape) (key : List ℕ) (board : Board) (s
       module _ (found : states s n ≡ asked_word n) where
         stands : (next_received (asking s) ≤ n) × (n < next_received (asking s) + shape.window) × (place_of (sender_at state s) n ≡ Waiting)
         stands =
-            waits shape (states s) (address_at shape board.words s) (home_at shape board.homes s) (asking s) (sender_at state s)
+            waits shape (states s) (first_at shape board.words s) (second_at shape board.words s) (home_at shape board.homes s) (asking s) (sender_at state s)
             (shows.senders s of-sender) n some_room
             (λ m e. ap (λ (k : ℕ). get_or board.words (word_of (s * shape.window + k) state_field) 0) e) found
 
@@ -218,7 +251,7 @@ module _ (meaning : Meaning) (shape : Shape) (key : List ℕ) (board : Board) (s
         shows-taken : Shows meaning shape key (record {
           words = set board.words (state_place shape s n) (taken_word n);
           homes = set board.homes (cell_of shape s n) Out;
-          views = set board.views seat (worker shape key w (record working { hand = Some (s, n); read = None; seen = None }));
+          views = set board.views seat (worker shape key w (record working { hand = Some (s, n); read = Nothing; seen = None }));
         }) taken
         shows-taken =
             let was : place_of (sender_at state s) n ≡ Unasked → ⊥ = λ e. let waiting : place_of (sender_at state s) n ≡ Waiting = stands.2 in cc in
@@ -229,17 +262,17 @@ module _ (meaning : Meaning) (shape : Shape) (key : List ℕ) (board : Board) (s
             let early : states s n < answered_word n = omega (arith, found) in
             worker-frame meaning shape key board state shows seat w working sits
             (set board.words (state_place shape s n) (taken_word n)) (set board.homes (cell_of shape s n) Out)
-            (record working { hand = Some (s, n); read = None; seen = None }) taken
+            (record working { hand = Some (s, n); read = Nothing; seen = None }) taken
             shows.shape_is shows.key_is (step-sound meaning (Take w s n) state shows.sound can-take)
             (length-set board.words (state_place shape s n) (taken_word n) ∙ shows.words) (length-set board.homes (cell_of shape s n) Out ∙ shows.homes)
             (put-senders s n (taken_word n) Out (Held w) taken of-sender stands.0 stands.1 early was (refl, refl) changed others)
             (record {
               hand = hand_changed (with_sender s (puts n (Held w) (sender_at state s)) state) w (Some (s, n)) w (λ x. x ≡ Some (s, n)) hand-there (λ _. refl) (λ ne. absurd (ne refl));
-              read = λ t m a held is. absurd (cc);
+              read = λ t m held. tt;
               seen = λ t m is. absurd (cc);
             })
             (λ v ne. hand_changed (with_sender s (puts n (Held w) (sender_at state s)) state) w (Some (s, n)) v (λ x. x ≡ hand_at state v) hand-there (λ e. absurd (ne e)) (λ _. refl))
-            (put-addresses s n (taken_word n) Out (Held w) taken of-sender stands.0 stands.1 early was (refl, refl) changed others)
+            (put-queries s n (taken_word n) Out (Held w) taken of-sender stands.0 stands.1 early was (refl, refl) changed others)
             (λ t m. let c : 0 + once_finished (place_of (sender_at state t) m) ≡ once_finished (place_of (sender_at taken t) m) =
             step-counted meaning (Take w s n) state t m shows.sound can-take in omega arith)
 
@@ -253,17 +286,17 @@ module _ (meaning : Meaning) (shape : Shape) (key : List ℕ) (board : Board) (s
         pub hits : ShowsAfter meaning shape key (Some (Take w s n)) state (record {
           words = set board.words (state_place shape s n) (taken_word n);
           homes = set board.homes (cell_of shape s n) Out;
-          views = set board.views seat (worker shape key w (record working { hand = Some (s, n); read = None; seen = None }));
+          views = set board.views seat (worker shape key w (record working { hand = Some (s, n); read = Nothing; seen = None }));
         })
         hits = (taken, (can-take, refl), shows-taken)
 
       pub misses : Shows meaning shape key (record {
         words = board.words;
         homes = board.homes;
-        views = set board.views seat (worker shape key w (record working { hand = None; read = None; seen = None; missed = working.missed ++ cell_of shape s n ∷ [] }));
+        views = set board.views seat (worker shape key w (record working { hand = None; read = Nothing; seen = None; missed = working.missed ++ cell_of shape s n ∷ [] }));
       }) state
-      misses = note (record working { hand = None; read = None; seen = None; missed = working.missed ++ cell_of shape s n ∷ [] })
-          (record { hand = mine.hand ∙ empty; read = λ t m a held is. absurd (cc); seen = λ t m is. absurd (cc) }) refl
+      misses = note (record working { hand = None; read = Nothing; seen = None; missed = working.missed ++ cell_of shape s n ∷ [] })
+          (record { hand = mine.hand ∙ empty; read = λ t m held. tt; seen = λ t m is. absurd (cc) }) refl
 
       abbrev After : Bool → Type 0
       After hit = ShowsAfter meaning shape key (if hit then Some (Take w s n) else None) state (record {
@@ -271,7 +304,7 @@ module _ (meaning : Meaning) (shape : Shape) (key : List ℕ) (board : Board) (s
         homes = if hit then set board.homes (cell_of shape s n) Out else board.homes;
         views = set board.views seat (worker shape key w (record working {
           hand = if hit then Some (s, n) else None;
-          read = None;
+          read = Nothing;
           seen = None;
           missed = if hit then working.missed else working.missed ++ cell_of shape s n ∷ [];
         }));
@@ -299,7 +332,7 @@ module _ (meaning : Meaning) (shape : Shape) (key : List ℕ) (board : Board) (s
         puts-down : ShowsAfter meaning shape key (Some event) state (record {
           words = set board.words (state_place shape s n) x;
           homes = set board.homes (cell_of shape s n) home;
-          views = set board.views seat (worker shape key w (record working { hand = None; read = None; done = done }));
+          views = set board.views seat (worker shape key w (record working { hand = None; read = Nothing; done = done }));
         })
         puts-down =
             let from : next_received (asking s) ≤ n = held-from w s n holds-now in
@@ -316,17 +349,17 @@ module _ (meaning : Meaning) (shape : Shape) (key : List ℕ) (board : Board) (s
               (can, sym is),
               worker-frame meaning shape key board state shows seat w working sits
                   (set board.words (state_place shape s n) x) (set board.homes (cell_of shape s n) home)
-                  (record working { hand = None; read = None; done = done }) down
+                  (record working { hand = None; read = Nothing; done = done }) down
                   shows.shape_is shows.key_is (subst (IsSound meaning) is (step-sound meaning event state shows.sound can))
                   (length-set board.words (state_place shape s n) x ∙ shows.words) (length-set board.homes (cell_of shape s n) home ∙ shows.homes)
                   (put-senders s n x home place down of from below early was cell changed others)
                   (record {
                     hand = hand_changed (with_sender s (puts n place (sender_at state s)) state) w None w (λ y. y ≡ None) hand-there (λ _. refl) (λ ne. absurd (ne refl));
-                    read = λ t m a held same. absurd (cc);
+                    read = λ t m held. tt;
                     seen = mine.seen;
                   })
                   (λ v ne. hand_changed (with_sender s (puts n place (sender_at state s)) state) w None v (λ y. y ≡ hand_at state v) hand-there (λ e. absurd (ne e)) (λ _. refl))
-                  (put-addresses s n x home place down of from below early was cell changed others)
+                  (put-queries s n x home place down of from below early was cell changed others)
                   (λ t m.
                   let c : (if finishes event state t m then 1 else 0) + once_finished (place_of (sender_at state t) m) ≡ once_finished (place_of (sender_at down t) m) =
                   subst (λ (y : State). (if finishes event state t m then 1 else 0) + once_finished (place_of (sender_at state t) m) ≡ once_finished (place_of (sender_at y t) m)) is
@@ -339,11 +372,11 @@ module _ (meaning : Meaning) (shape : Shape) (key : List ℕ) (board : Board) (s
           puts-down (GiveBack w) (subst (λ (hand : Option Ticket). IsSome hand) (sym holds-now) refl) (asked_word n) Empty Waiting working.done
           (ap (λ (hand : Option Ticket). puts_down w (ticket_in hand) Waiting state) holds-now) (refl, refl) (λ t m. omega arith)
 
-      pub answers : (a : Address) (answer : Shown) → working.read ≡ Some a → answer ≡ meaning key a
-          → ShowsAfter meaning shape key (Some (Finish w)) state (worked shape key seat w working (Answers s n a answer) board)
-      answers a answer read right =
-          let address : a ≡ address_of (sender_at state s) n = mine.read s n a holds read in
-          let means : answer ≡ meaning_of meaning state (s, n) = right ∙ (λ i. meaning (sym shows.key_is i) (address i)) in
+      pub answers : (query : Query) (answer : Shown) → working.read ≡ Whole query → answer ≡ meaning key query
+          → ShowsAfter meaning shape key (Some (Finish w)) state (worked shape key seat w working (Answers s n query answer) board)
+      answers query answer read right =
+          let asked : query ≡ query_of (sender_at state s) n = subst (λ known. IsKnown known (query_of (sender_at state s) n)) read (mine.read s n holds) in
+          let means : answer ≡ meaning_of meaning state (s, n) = right ∙ (λ i. meaning (sym shows.key_is i) (asked i)) in
           puts-down (Finish w) (subst (λ (hand : Option Ticket). IsSome hand) (sym holds-now) refl) (answered_word n) (Full answer)
           (Answered (meaning_of meaning state (s, n))) (working.done ++ (s, n) ∷ [])
           (ap (λ (hand : Option Ticket). puts_down w (ticket_in hand) (Answered (meaning_of meaning state (ticket_in hand))) state) holds-now)

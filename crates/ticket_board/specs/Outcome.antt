@@ -1,18 +1,20 @@
 -- What a client is told of its next number, and what a worker did.
 use Rattle.std.specs.Prelude.{◌≡◌, ◌<◌, ℕ, List, [], ◌∷◌, ◌++◌, slice_index_or}
 use Rattle.std.specs.List.{Contains}
+use Rattle.ticket_core.specs.declared.query.Query.{Query}
+use Rattle.ticket_core.specs.declared.query.QueryKind.TheVariants.{Address}
 use Rattle.ticket_core.specs.declared.shape.Shape.{Shape}
-use Rattle.ticket_core.specs.State.{Address, Ticket}
+use Rattle.ticket_core.specs.State.{Ticket}
 use Rattle.ticket_board.specs.declared.outcome.Next.{Next}
 use Rattle.ticket_board.specs.declared.outcome.Next.TheVariants.{Pending, Answer, Ended}
 use Rattle.ticket_board.specs.declared.outcome.Turn.{Turn}
 use Rattle.ticket_board.specs.declared.outcome.Turn.TheVariants.{Answered, Idle}
 use Rattle.ticket_board.specs.Ring.Layout.{cells_in}
-use Rattle.ticket_board.specs.Seats.{ClientState, WorkerState}
+use Rattle.ticket_board.specs.Seats.{ClientState}
 
 -- what it asked at a number
-abbrev pub address_of : ClientState → ℕ → Address
-address_of client n = slice_index_or client.asked n 0
+abbrev pub query_of : ClientState → ℕ → Query
+query_of client n = slice_index_or client.asked n (Address 0)
 
 module _ {A : Type 0} where
   abbrev pub IsEnded : Next A → Type 0

@@ -1,9 +1,10 @@
 -- What a pool answers, and how its queries are dealt to its senders.
 use Rattle.std.specs.Prelude.{◌≡◌, ℕ, zero, suc, ◌-◌, ◌*◌, ◌≤◌, false, List, [], ◌∷◌, length, map}
 use Rattle.std.specs.List.{AllByRecursion}
+use Rattle.ticket_core.specs.declared.query.Query.{Query}
 use Rattle.ticket_core.specs.declared.shape.Shape.{Shape}
 use Rattle.ticket_core.specs.Shape.{Fits}
-use Rattle.ticket_core.specs.State.{Address, Shown, Meaning}
+use Rattle.ticket_core.specs.State.{Shown, Meaning}
 use Rattle.ticket_board.specs.declared.pool.fault.PoolFault.{PoolFault}
 use Rattle.ticket_board.specs.declared.pool.fault.PoolFault.TheVariants.{BadShape, Memory}
 use Rattle.ticket_board.specs.declared.pool.sending.Came.{Came}
@@ -16,7 +17,7 @@ use Rattle.ticket_board.specs.Seats.{ClientState, WorkerState, IsClientOf, IsWor
 -- ---- what a pool answers
 
 -- the answers to these queries, in their order, and as many as they are
-abbrev pub AreAnswers : {A : Type 0} → (A → Shown) → Meaning → List ℕ → List Address → List A → Type 0
+abbrev pub AreAnswers : {A : Type 0} → (A → Shown) → Meaning → List ℕ → List Query → List A → Type 0
 AreAnswers shown meaning key queries answers = map shown answers ≡ map (meaning key) queries
 
 -- the shape is within its limits, and no sender has more of so many queries than it may ask
@@ -31,10 +32,10 @@ RefusesPool Memory shape queries = PoolFits shape queries
 -- ---- how queries are dealt
 
 -- of these queries every step-th, after the first k
-abbrev pub every : ℕ → ℕ → List Address → List Address
+abbrev pub every : ℕ → ℕ → List Query → List Query
 every step k [] = []
-every step zero (a ∷ queries) = a ∷ every step (step - 1) queries
-every step (suc k) (a ∷ queries) = every step k queries
+every step zero (query ∷ queries) = query ∷ every step (step - 1) queries
+every step (suc k) (query ∷ queries) = every step k queries
 
 -- what holds of each and its place, where the first has the place k
 abbrev pub EachFrom : {V : Type 0} → (ℕ → V → Type 0) → ℕ → List V → Type 0
@@ -42,11 +43,11 @@ EachFrom F k [] = Unit {0}
 EachFrom F k (x ∷ xs) = F k x × EachFrom F (suc k) xs
 
 -- the answers of one sender: those to its queries, of all that are dealt to so many senders
-abbrev pub IsLane : {A : Type 0} → (A → Shown) → Meaning → List ℕ → ℕ → List Address → ℕ → List A → Type 0
+abbrev pub IsLane : {A : Type 0} → (A → Shown) → Meaning → List ℕ → ℕ → List Query → ℕ → List A → Type 0
 IsLane shown meaning key senders queries sender lane = AreAnswers shown meaning key (every senders sender queries) lane
 
 -- the answers of each sender, in order
-abbrev pub AreLanes : {A : Type 0} → (A → Shown) → Meaning → List ℕ → ℕ → List Address → List (List A) → Type 0
+abbrev pub AreLanes : {A : Type 0} → (A → Shown) → Meaning → List ℕ → ℕ → List Query → List (List A) → Type 0
 AreLanes shown meaning key senders queries lanes = EachFrom (IsLane shown meaning key senders queries) 0 lanes
 
 -- ---- threads

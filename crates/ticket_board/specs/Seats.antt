@@ -1,8 +1,9 @@
 -- What a client and a worker of a board show.
-use Rattle.std.specs.Prelude.{◌≡◌, ℕ, ◌-◌, ◌<◌, ◌≤◌, Bool, true, false, List, [], ◌∷◌, ◌++◌, length, map, take, Option, Some, None, nat_le, if◌then◌else◌}
+use Rattle.std.specs.Prelude.{◌≡◌, ℕ, ◌-◌, ◌≤◌, Bool, true, false, List, [], ◌∷◌, ◌++◌, length, map, take, Option, Some, None, nat_le, if◌then◌else◌}
 use Rattle.atomic_table.specs.Seated.{TableId}
+use Rattle.ticket_core.specs.declared.query.Query.{Query}
 use Rattle.ticket_core.specs.declared.shape.Shape.{Shape}
-use Rattle.ticket_core.specs.State.{Address, Shown, Meaning, Ticket}
+use Rattle.ticket_core.specs.State.{Shown, Meaning, Ticket}
 use Rattle.ticket_board.specs.declared.fault.AskFault.{AskFault}
 use Rattle.ticket_board.specs.declared.fault.AskFault.TheVariants.{Full, Closed, Exhausted}
 use Rattle.ticket_board.specs.Ring.Ends.{RingState, AskerState}
@@ -22,7 +23,7 @@ pub record ClientSeat : Type 0 where
 -- answered, and the numbers that weren't when it looked
 pub record ClientState : Type 0 where
   pub seat : ClientSeat
-  pub asked : List Address
+  pub asked : List Query
   pub received : List Shown
   pub closed : Bool
   pub found : Bool
@@ -53,9 +54,9 @@ client_shown closed asker = record {
 abbrev pub new_clients : RingState → List ClientState
 new_clients board = map (client_shown false) (new_askers board)
 
--- an address is asked about
-abbrev pub asks : Address → ClientState → ClientState
-asks a client = record client { asked = client.asked ++ a ∷ [] }
+-- a query is asked
+abbrev pub asks : Query → ClientState → ClientState
+asks query client = record client { asked = client.asked ++ query ∷ [] }
 
 -- nothing more is asked
 abbrev pub closes : ClientState → ClientState

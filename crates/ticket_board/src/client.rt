@@ -2,14 +2,14 @@
 
 ghost use Rattle.std.specs.Prelude.{◌≡◌, ◌<◌, ◌↔◌, true, false, None, Some, IfOk, OnOk, OnErr, MatchResult, length, nat_eq};
 ghost use Rattle.ticket_board.specs.Seats.{IsClientOf, IsRightClient, HasEnded, asks, closes, finds, receives, ask_refusal};
-ghost use Rattle.ticket_board.specs.Outcome.{address_of, IsEnded, IfEnded, IfPending, OnAnswer};
+ghost use Rattle.ticket_board.specs.Outcome.{query_of, IsEnded, IfEnded, IfPending, OnAnswer};
 
 use crate::board::Board;
 use crate::fault::AskFault;
 use crate::outcome::Next;
 use crate::ring::Asker;
 use std::marker::Model;
-use ticket_core::Solver;
+use ticket_core::{Query, Solver};
 
 /// A sender's client. Contracts see what it asked and received, by number, whether it is closed, whether the next
 /// number was found answered, and which numbers weren't when it looked.
@@ -28,23 +28,22 @@ impl<S: Solver> Model for Client<S> {
 }
 
 impl<S: Solver> Client<S> {
-    /// Asks about an address, and returns the query's number, counted from 0. It waits for nobody and takes no
-    /// memory.
+    /// Asks a query, and returns its number, counted from 0. It waits for nobody and takes no memory.
     ///
     /// The errors, tested in this order: `Closed` after `close`; `Exhausted` where as many were asked
     /// as the shape allows; `Full` where as many are outstanding as the window allows.
-    pub fn ask<'a>(&mut self, board: &Board<'a, S>, a: u64) -> Result<u64, AskFault>
+    pub fn ask<'a>(&mut self, board: &Board<'a, S>, query: Query) -> Result<u64, AskFault>
         requires { IsClientOf board.now self.old }
         ensures seat { self.new.seat ≡ self.old.seat }
         ensures number { IfOk result (λ n. n ≡ length self.old.asked) }
-        ensures asked { OnOk result (self.new ≡ asks a self.old) }
+        ensures asked { OnOk result (self.new ≡ asks query self.old) }
         ensures refused { OnErr result (self.new ≡ self.old) }
         ensures refusal { MatchResult result (λ _. ask_refusal self.old ≡ None) (λ fault. ask_refusal self.old ≡ Some fault) }
     {
         if self.closed {
             return Err(AskFault::Closed);
         }
-        self.asker.ask(&board.ring, a)
+        self.asker.ask(&board.ring, query)
     }
 
     /// Whether the next number was found answered. Then `next` gives it. It waits for nobody and takes no memory.
@@ -71,7 +70,7 @@ impl<S: Solver> Client<S> {
         ensures seat { self.new.seat ≡ self.old.seat }
         ensures ended { IsEnded result ↔ HasEnded self.old }
         ensures number { OnAnswer result (λ n answer. (n ≡ length self.old.received) × (n < length self.old.asked)) }
-        ensures answer { OnAnswer result (λ n answer. S.shown answer ≡ S.meaning self.old.seat.key (address_of self.old n)) }
+        ensures answer { OnAnswer result (λ n answer. S.shown answer ≡ S.meaning self.old.seat.key (query_of self.old n)) }
         ensures received { OnAnswer result (λ n answer. self.new ≡ receives (S.shown answer) self.old) }
         ensures pending { IfPending result ((self.old.found ≡ false) × (self.new ≡ finds false self.old)) }
         ensures stays { IfEnded result (self.new ≡ self.old) }

@@ -34,7 +34,7 @@ use stop::Stop;
 use task::Task;
 use ticket_core::{Shape, Solver};
 
-/// Answers all queries: the answer at `i` is that of `queries.addresses[i]`, by the maker's key. There is a
+/// Answers all queries: the answer at `i` is that of `queries.asked[i]`, by the maker's key. There is a
 /// thread for each sender and each worker of the shape, and query `i` is asked by sender
 /// `i % senders`. Each worker's solver is made on its thread. When the call returns, all threads have
 /// ended.
@@ -57,11 +57,11 @@ pub fn run_pool<
     queries: Queries<'_>,
     gate: &G,
 ) -> Result<Vec<S::Answer>, PoolFault>
-    ensures answers { IfOk result (λ answers. AreAnswers S.shown S.meaning (M.key maker.now) queries.entry.addresses.now answers.items) }
-    ensures fits { OnOk result (PoolFits shape (length queries.entry.addresses.now)) }
-    ensures refusal { IfErr result (λ fault. RefusesPool fault shape (length queries.entry.addresses.now)) }
+    ensures answers { IfOk result (λ answers. AreAnswers S.shown S.meaning (M.key maker.now) queries.entry.asked.now answers.items) }
+    ensures fits { OnOk result (PoolFits shape (length queries.entry.asked.now)) }
+    ensures refusal { IfErr result (λ fault. RefusesPool fault shape (length queries.entry.asked.now)) }
 {
-    if !pool_fits(&shape, queries.addresses.len()) {
+    if !pool_fits(&shape, queries.asked.len()) {
         return Err(PoolFault::BadShape);
     }
     let stop = Stop::new();
@@ -69,7 +69,7 @@ pub fn run_pool<
     let (board, clients, workers) = open::<S>(alloc, shape, key)?;
     let task = Task {
         key,
-        queries: queries.addresses,
+        queries: queries.asked,
         senders: shape.senders,
     };
     let owned = Owned {

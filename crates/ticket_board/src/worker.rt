@@ -111,11 +111,11 @@ impl<S: Solver> Worker<S> {
         ensures refused { S.refused solver.new ≡ (if is_ok result then S.refused solver.old else S.refused solver.old + 1) }
         ensures counted { steps.new ≤ steps.old + 2 * cells_in board.now.shape + 4 }
     {
-        let Some((sender, number, a)) = self.taker.take_counted(&board.ring, steps) else {
+        let Some((sender, number, query)) = self.taker.take_counted(&board.ring, steps) else {
             return Ok(Turn::Idle);
         };
-        gate.enter(sender, number, a);
-        match solver.solve(a) {
+        gate.enter(sender, number, query);
+        match solver.solve(query) {
             Ok(answer) => {
                 self.taker.answer(&board.ring, answer, steps);
                 Ok(Turn::Answered(sender, number))

@@ -4,7 +4,8 @@ use Rattle.std.proofs.lemmas.List.{length-map}
 use Rattle.ticket_core.specs.declared.shape.Shape.{Shape}
 use Rattle.ticket_core.specs.declared.fault.CoreFault.{CoreFault}
 use Rattle.ticket_core.specs.declared.lane.Lane.{Lane}
-use Rattle.ticket_core.specs.State.{Address, Shown, Meaning, Ticket, State}
+use Rattle.ticket_core.specs.declared.query.Query.{Query}
+use Rattle.ticket_core.specs.State.{Shown, Meaning, Ticket, State}
 use Rattle.ticket_core.specs.Events.{Ask, Collect, Close, asks, collects, closes, Step}
 use Rattle.ticket_core.specs.Refusals.{refusal, ask_refusal, collect_refusal, RefusesOrMemory, Refuses}
 use Rattle.ticket_core.specs.Sound.{IsSound}
@@ -23,29 +24,29 @@ module _ {A : Type 0} (shown : A → Shown) (meaning : Meaning) (shape : Shape) 
   there : s < length lanes
   there = omega (arith, shaped, sound.senders, length-map lanes (sender_shown shown))
 
-  pub ask-event : (a : Address) (result : Result ℕ CoreFault)
-      → OnOk result ((f : A → Shown) → sender_shown f new ≡ asks a (sender_shown f lane))
+  pub ask-event : (query : Query) (result : Result ℕ CoreFault)
+      → OnOk result ((f : A → Shown) → sender_shown f new ≡ asks query (sender_shown f lane))
       → ((f : A → Shown) → MatchResult result (λ _. ask_refusal shape (sender_shown f lane) ≡ None) (λ fault. RefusesOrMemory fault (ask_refusal shape (sender_shown f lane))))
-      → OnOk result (Step meaning (Ask s a) now later)
-  ask-event a result asked refused =
-      rw (← is) (core.ask-event shown meaning shape key lanes hands s lane new there read a result shaped asked refused)
+      → OnOk result (Step meaning (Ask s query) now later)
+  ask-event query result asked refused =
+      rw (← is) (core.ask-event shown meaning shape key lanes hands s lane new there read query result shaped asked refused)
 
-  pub ask-refused : (a : Address) (result : Result ℕ CoreFault)
+  pub ask-refused : (query : Query) (result : Result ℕ CoreFault)
       → ((f : A → Shown) → MatchResult result (λ _. ask_refusal shape (sender_shown f lane) ≡ None) (λ fault. RefusesOrMemory fault (ask_refusal shape (sender_shown f lane))))
-      → IfErr result (λ fault. RefusesOrMemory fault (refusal (Ask s a) now))
-  ask-refused a result refused = rw (← is) (core.ask-refused shown meaning shape key lanes hands s lane new there read a result refused)
+      → IfErr result (λ fault. RefusesOrMemory fault (refusal (Ask s query) now))
+  ask-refused query result refused = rw (← is) (core.ask-refused shown meaning shape key lanes hands s lane new there read query result refused)
 
   pub kept : {T : Type 0} (result : Result T CoreFault) → OnErr result ((f : A → Shown) → sender_shown f new ≡ sender_shown f lane) → OnErr result (later ≡ now)
   kept result same = rw (← is) (core.kept shown meaning shape key lanes hands s lane new there read result same)
 
-  pub ask-sound : (a : Address) (result : Result ℕ CoreFault)
-      → OnOk result ((f : A → Shown) → sender_shown f new ≡ asks a (sender_shown f lane))
+  pub ask-sound : (query : Query) (result : Result ℕ CoreFault)
+      → OnOk result ((f : A → Shown) → sender_shown f new ≡ asks query (sender_shown f lane))
       → OnErr result ((f : A → Shown) → sender_shown f new ≡ sender_shown f lane)
       → ((f : A → Shown) → MatchResult result (λ _. ask_refusal shape (sender_shown f lane) ≡ None) (λ fault. RefusesOrMemory fault (ask_refusal shape (sender_shown f lane))))
       → IsSound meaning later
-  ask-sound a result asked same refused =
-      core.call-sound meaning (Ask s a) (state_shown shown shape key lanes hands) later result sound
-      (core.ask-event shown meaning shape key lanes hands s lane new there read a result shaped asked refused)
+  ask-sound query result asked same refused =
+      core.call-sound meaning (Ask s query) (state_shown shown shape key lanes hands) later result sound
+      (core.ask-event shown meaning shape key lanes hands s lane new there read query result shaped asked refused)
       (core.kept shown meaning shape key lanes hands s lane new there read result same)
 
   pub collect-event : (result : Result ℕ CoreFault)

@@ -6,7 +6,8 @@ use Rattle.ticket_core.specs.declared.shape.Shape.{Shape}
 use Rattle.ticket_core.specs.declared.fault.CoreFault.{CoreFault}
 use Rattle.ticket_core.specs.declared.fault.CoreFault.TheVariants.{Full, Closed, Exhausted, NotReady, Ended}
 use Rattle.ticket_core.specs.declared.lane.Lane.{Lane}
-use Rattle.ticket_core.specs.State.{Address, Shown, Meaning, Place, Unasked, Waiting, Held, Answered, Collected, Sender, fresh, Ticket, State, sender_at, place_of, next_of, outstanding}
+use Rattle.ticket_core.specs.declared.query.Query.{Query}
+use Rattle.ticket_core.specs.State.{Shown, Meaning, Place, Unasked, Waiting, Held, Answered, Collected, Sender, fresh, Ticket, State, sender_at, place_of, next_of, outstanding}
 use Rattle.ticket_core.specs.Events.{Event, Ask, Collect, Close, asks, collects, closes, with_sender, Step, IsAnswered}
 use Rattle.ticket_core.specs.Refusals.{refusal, ask_refusal, collect_refusal, is_answered, has_ended, RefusesOrMemory, Refuses}
 use Rattle.ticket_core.specs.Sound.{IsSound}
@@ -80,21 +81,21 @@ module _ {A : Type 0} (shown : A → Shown) (meaning : Meaning) (shape : Shape) 
   module _ (s : ℕ) (lane new : Lane A) (there : s < length lanes) (read : lane ≡ get_or lanes s lane) where
     -- ---- ask
 
-    pub ask-event : (a : Address) (result : Result ℕ CoreFault) → s < shape.senders
-        → OnOk result ((f : A → Shown) → sender_shown f new ≡ asks a (sender_shown f lane))
+    pub ask-event : (query : Query) (result : Result ℕ CoreFault) → s < shape.senders
+        → OnOk result ((f : A → Shown) → sender_shown f new ≡ asks query (sender_shown f lane))
         → ((f : A → Shown) → MatchResult result (λ _. ask_refusal shape (sender_shown f lane) ≡ None) (λ fault. RefusesOrMemory fault (ask_refusal shape (sender_shown f lane))))
-        → OnOk result (Step meaning (Ask s a) old (with_lane s new))
-    ask-event a (Ok n) h asked refused =
+        → OnOk result (Step meaning (Ask s query) old (with_lane s new))
+    ask-event query (Ok n) h asked refused =
         let can : (((sender_shown shown lane).closed ≡ false) × (length (sender_shown shown lane).asked < shape.most) × (outstanding (sender_shown shown lane) < shape.window)) = ask-can shape (sender_shown shown lane) (refused shown) in
         let e : sender_at old s ≡ sender_shown shown lane = lane-sender s lane there read in
-        ((h, rw e can.0, rw e can.1, rw e can.2), lane-changed s lane new (asks a) there read (asked shown))
-    ask-event a (Err fault) h asked refused = tt
+        ((h, rw e can.0, rw e can.1, rw e can.2), lane-changed s lane new (asks query) there read (asked shown))
+    ask-event query (Err fault) h asked refused = tt
 
-    pub ask-refused : (a : Address) (result : Result ℕ CoreFault)
+    pub ask-refused : (query : Query) (result : Result ℕ CoreFault)
         → ((f : A → Shown) → MatchResult result (λ _. ask_refusal shape (sender_shown f lane) ≡ None) (λ fault. RefusesOrMemory fault (ask_refusal shape (sender_shown f lane))))
-        → IfErr result (λ fault. RefusesOrMemory fault (refusal (Ask s a) old))
-    ask-refused a (Ok n) refused = tt
-    ask-refused a (Err fault) refused = rw (lane-sender s lane there read) (refused shown)
+        → IfErr result (λ fault. RefusesOrMemory fault (refusal (Ask s query) old))
+    ask-refused query (Ok n) refused = tt
+    ask-refused query (Err fault) refused = rw (lane-sender s lane there read) (refused shown)
 
     pub kept : {T : Type 0} (result : Result T CoreFault) → OnErr result ((f : A → Shown) → sender_shown f new ≡ sender_shown f lane)
         → OnErr result (with_lane s new ≡ old)

@@ -2,7 +2,8 @@
 use Rattle.std.proofs.Common.{◌≡◌, ℕ, ◌+◌, ◌<◌, inl, inr, Bool, true, false, eqb, length, Option, Some, refl, sym, eq-eqb, arith, if◌then◌else◌}
 use Rattle.std.proofs.lemmas.Bool.{ne_eqb, cases_eq}
 use Rattle.std.proofs.lemmas.List.{get_or_past}
-use Rattle.ticket_core.specs.State.{Address, Meaning, Place, Unasked, Waiting, Held, Answered, Collected, Ticket, State, sender_at, hand_at, place_of, next_of}
+use Rattle.ticket_core.specs.declared.query.Query.{Query}
+use Rattle.ticket_core.specs.State.{Meaning, Place, Unasked, Waiting, Held, Answered, Collected, Ticket, State, sender_at, hand_at, place_of, next_of}
 use Rattle.ticket_core.specs.Events.{Event, Ask, Take, Finish, GiveBack, Collect, Close, asks, collects, closes, puts, with_sender, ticket_in, meaning_of, Can, after}
 use Rattle.ticket_core.specs.Runs.{is_ticket, finishes, once_finished}
 use Rattle.ticket_core.specs.Sound.{IsSound}
@@ -28,10 +29,10 @@ same_count : (state : State) (s n : ℕ) (was : Place) → place_at state s n �
 same_count state s n was e none p h = rw e (omega (arith, none, h))
 
 module _ (meaning : Meaning) where
-  ask-counted : (state : State) (s : ℕ) (a : Address) (t m : ℕ) → IsSound meaning state → Can (Ask s a) state
-      → 0 + once_finished (place_at state t m) ≡ once_finished (place_at (after meaning (Ask s a) state) t m)
-  ask-counted state s a t m sound can =
-      sender_changed state s (asks a (sender_at state s)) t (λ x. 0 + once_finished (place_at state t m) ≡ once_finished (place_of x m))
+  ask-counted : (state : State) (s : ℕ) (query : Query) (t m : ℕ) → IsSound meaning state → Can (Ask s query) state
+      → 0 + once_finished (place_at state t m) ≡ once_finished (place_at (after meaning (Ask s query) state) t m)
+  ask-counted state s query t m sound can =
+      sender_changed state s (asks query (sender_at state s)) t (λ x. 0 + once_finished (place_at state t m) ≡ once_finished (place_of x m))
       (omega (arith, can.0, sound.senders))
       (λ ts. rw ts (appended (sender_at state s).places Waiting Unasked m (λ p. 0 + once_finished (place_at state s m) ≡ once_finished p)
       (λ _. omega arith)
@@ -96,7 +97,7 @@ module _ (meaning : Meaning) where
 
   pub step-counted : (event : Event) (state : State) (t m : ℕ) → IsSound meaning state → Can event state
       → (if finishes event state t m then 1 else 0) + once_finished (place_at state t m) ≡ once_finished (place_at (after meaning event state) t m)
-  step-counted (Ask s a) state t m sound can = ask-counted state s a t m sound can
+  step-counted (Ask s query) state t m sound can = ask-counted state s query t m sound can
   step-counted (Take w s n) state t m sound can = take-counted state w s n t m can
   step-counted (Finish w) state t m sound can = finish-counted state w t m sound can
   step-counted (GiveBack w) state t m sound can = give_back-counted state w t m sound can

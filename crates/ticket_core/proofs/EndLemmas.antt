@@ -2,7 +2,8 @@
 use Rattle.std.proofs.Common.{◌≡◌, ℕ, ◌<◌, ◌⊎◌, inl, inr, Bool, true, false, List, length, Some, refl, sym, ◌∙◌, ap, arith}
 use Rattle.std.proofs.lemmas.Bool.{cases_lt}
 use Rattle.std.proofs.lemmas.List.{get_or_past}
-use Rattle.ticket_core.specs.State.{Address, Meaning, Place, Unasked, Waiting, Held, Answered, Collected, Sender, State, sender_at, hand_at, place_of, next_of}
+use Rattle.ticket_core.specs.declared.query.Query.{Query}
+use Rattle.ticket_core.specs.State.{Meaning, Place, Unasked, Waiting, Held, Answered, Collected, Sender, State, sender_at, hand_at, place_of, next_of}
 use Rattle.ticket_core.specs.Events.{Event, Ask, Take, Finish, GiveBack, Collect, Close, asks, collects, closes, puts, with_sender, answer_in, ticket_in, meaning_of, Can, after}
 use Rattle.ticket_core.specs.Runs.{HasEnded}
 use Rattle.ticket_core.specs.Sound.{IsSoundSender, IsSound}
@@ -38,10 +39,10 @@ module _ (meaning : Meaning) where
       let same : (b : Bool) → b ≡ true → record { asked = sender.asked; received = sender.received; closed = true; places = sender.places } ≡ record { asked = sender.asked; received = sender.received; closed = b; places = sender.places } = λ b f. ap (λ x. record { asked = sender.asked; received = sender.received; closed = x; places = sender.places }) (sym f) in
       same sender.closed e
 
-  ask-ended : (state : State) (s : ℕ) (a : Address) (t : ℕ) → IsSound meaning state → Can (Ask s a) state → HasEnded (sender_at state t)
-      → sender_at (after meaning (Ask s a) state) t ≡ sender_at state t
-  ask-ended state s a t sound can ended =
-      other-kept state s (asks a (sender_at state s)) t (omega (arith, can.0, sound.senders))
+  ask-ended : (state : State) (s : ℕ) (query : Query) (t : ℕ) → IsSound meaning state → Can (Ask s query) state → HasEnded (sender_at state t)
+      → sender_at (after meaning (Ask s query) state) t ≡ sender_at state t
+  ask-ended state s query t sound can ended =
+      other-kept state s (asks query (sender_at state s)) t (omega (arith, can.0, sound.senders))
       (λ same. absurd (let open_ : (sender_at state s).closed ≡ false = can.1 in let shut : (sender_at state s).closed ≡ true = rw (← same) ended.0 in cc))
 
   take-ended : (state : State) (w s n t : ℕ) → IsSound meaning state → Can (Take w s n) state → HasEnded (sender_at state t)
@@ -72,7 +73,7 @@ module _ (meaning : Meaning) where
 
   pub step-ended : (event : Event) (state : State) (t : ℕ) → IsSound meaning state → Can event state → HasEnded (sender_at state t)
       → sender_at (after meaning event state) t ≡ sender_at state t
-  step-ended (Ask s a) state t sound can ended = ask-ended state s a t sound can ended
+  step-ended (Ask s query) state t sound can ended = ask-ended state s query t sound can ended
   step-ended (Take w s n) state t sound can ended = take-ended state w s n t sound can ended
   step-ended (Finish w) state t sound can ended =
       put_down-ended state w (ticket_in (hand_at state w)).0 (ticket_in (hand_at state w)).1 (Answered (meaning_of meaning state (ticket_in (hand_at state w)))) t sound (some_ticket meaning (hand_at state w) can) ended

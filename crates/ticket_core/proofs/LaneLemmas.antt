@@ -4,13 +4,14 @@ use Rattle.std.proofs.lemmas.Bool.{ne_eqb}
 use Rattle.std.proofs.lemmas.List.{map-set, map-append, get_or-map, length-map}
 use Rattle.ticket_core.specs.declared.lane.Slot.{Slot}
 use Rattle.ticket_core.specs.declared.lane.Slot.TheVariants.{Open, Out, Filled, Spent}
-use Rattle.ticket_core.specs.State.{Address, Shown, Place, Unasked, Answered, Collected, Sender}
+use Rattle.ticket_core.specs.declared.query.Query.{Query}
+use Rattle.ticket_core.specs.State.{Shown, Place, Unasked, Answered, Collected, Sender}
 use Rattle.ticket_core.specs.Events.{puts, collects, answer_in}
 use Rattle.ticket_core.specs.declared.fault.CoreFault.TheVariants.{NotReady}
 use Rattle.ticket_core.specs.Refusals.{collect_refusal, is_answered}
 use Rattle.ticket_core.specs.Shown.{place_shown}
 
-abbrev sender : List Address → List Shown → Bool → List Place → Sender
+abbrev sender : List Query → List Shown → Bool → List Place → Sender
 sender asked received closed places = record { asked = asked; received = received; closed = closed; places = places }
 
 pub and_false : (b : Bool) → (b && false) ≡ false
@@ -25,14 +26,14 @@ module _ {A : Type 0} (shown : A → Shown) where
   pub place-shown : (slots : List (Slot A)) (n : ℕ) (d : Slot A) → n < length slots → get_or (places slots) n Unasked ≡ place_shown shown (get_or slots n d)
   place-shown slots n d h = get_or-map (place_shown shown) slots n d Unasked h
 
-  pub put-shown : (asked : List Address) (received : List Shown) (closed : Bool) (slots : List (Slot A)) (n : ℕ) (slot : Slot A)
+  pub put-shown : (asked : List Query) (received : List Shown) (closed : Bool) (slots : List (Slot A)) (n : ℕ) (slot : Slot A)
       → sender asked received closed (places (set slots n slot)) ≡ puts n (place_shown shown slot) (sender asked received closed (places slots))
   put-shown asked received closed slots n slot = ap (sender asked received closed) (map-set (place_shown shown) slots n slot)
 
   pub answer-shown : (place : Place) (answer : A) → place ≡ Answered (shown answer) → answer_in place ≡ shown answer
   answer-shown place answer e = ap answer_in e
 
-  pub collected-shown : (asked : List Address) (received : List A) (closed : Bool) (slots : List (Slot A)) (answer : A) (d : Slot A)
+  pub collected-shown : (asked : List Query) (received : List A) (closed : Bool) (slots : List (Slot A)) (answer : A) (d : Slot A)
       → length received < length slots → get_or slots (length received) d ≡ Filled answer
       → sender asked (map shown (received ++ answer ∷ [])) closed (places (set slots (length received) Spent))
       ≡ collects (sender asked (map shown received) closed (places slots))
@@ -57,7 +58,7 @@ module _ {A : Type 0} (shown : A → Shown) where
   unfilled (Filled answer) f = absurd (f answer refl)
   unfilled Spent f = refl
 
-  pub not_ready-shown : (asked : List Address) (received : List A) (closed : Bool) (slots : List (Slot A)) (slot : Slot A)
+  pub not_ready-shown : (asked : List Query) (received : List A) (closed : Bool) (slots : List (Slot A)) (slot : Slot A)
       → length slots ≡ length asked → length received < length slots → slot ≡ get_or slots (length received) slot
       → ((answer : A) → slot ≡ Filled answer → ⊥)
       → collect_refusal (sender asked (map shown received) closed (places slots)) ≡ Some NotReady
@@ -74,7 +75,7 @@ module _ {A : Type 0} (shown : A → Shown) where
   read : (slots : List (Slot A)) (n : ℕ) (slot there : Slot A) → slot ≡ there → there ≡ get_or slots n there → slot ≡ get_or slots n slot
   read slots n slot there e at = rw e at
 
-  pub collected-read : (asked : List Address) (received now : List A) (closed : Bool) (slots : List (Slot A)) (n : ℕ) (slot there left : Slot A) (answer : A)
+  pub collected-read : (asked : List Query) (received now : List A) (closed : Bool) (slots : List (Slot A)) (n : ℕ) (slot there left : Slot A) (answer : A)
       → n ≡ length received → n < length slots → slot ≡ there → there ≡ get_or slots n there → slot ≡ Filled answer → left ≡ Spent
       → now ≡ received ++ answer ∷ []
       → sender asked (map shown now) closed (places (set slots n left)) ≡ collects (sender asked (map shown received) closed (places slots))
@@ -83,13 +84,13 @@ module _ {A : Type 0} (shown : A → Shown) where
       let at2 : get_or slots (length received) slot ≡ Filled answer = rw (← e) (sym (read slots n slot there same at) ∙ is) in
       rw (after, items, e) (collected-shown asked received closed slots answer slot h2 at2)
 
-  pub put_back-read : (asked : List Address) (received : List Shown) (closed : Bool) (slots : List (Slot A)) (n : ℕ) (other slot there : Slot A)
+  pub put_back-read : (asked : List Query) (received : List Shown) (closed : Bool) (slots : List (Slot A)) (n : ℕ) (other slot there : Slot A)
       → slot ≡ there → there ≡ get_or slots n there
       → sender asked received closed (places (set (set slots n other) n slot)) ≡ sender asked received closed (places slots)
   put_back-read asked received closed slots n other slot there same at =
       ap (λ now. sender asked received closed (places now)) (put_back-shown slots n other slot (read slots n slot there same at))
 
-  pub not_ready-read : (asked : List Address) (received : List A) (closed : Bool) (slots : List (Slot A)) (n : ℕ) (slot there : Slot A)
+  pub not_ready-read : (asked : List Query) (received : List A) (closed : Bool) (slots : List (Slot A)) (n : ℕ) (slot there : Slot A)
       → slot ≡ there → there ≡ get_or slots n there → ((answer : A) → slot ≡ Filled answer → ⊥)
       → n ≡ length received → length slots ≡ length asked → n < length slots
       → collect_refusal (sender asked (map shown received) closed (places slots)) ≡ Some NotReady

@@ -1,3 +1,4 @@
+pub mod QueryLemmas
 pub mod LaneLemmas
 pub mod ReadLemmas
 pub mod SenderLemmas

@@ -2,8 +2,9 @@
 use Rattle.std.proofs.Common.{◌≡◌, ℕ, ◌+◌, ◌<◌, ◌≤◌, inl, inr, List, [], ◌∷◌, ◌++◌, length, replicate, get_or, IsSome, Option, Some, None, refl, sym, ◌∙◌, ap, subst, arith}
 use Rattle.std.proofs.lemmas.Bool.{cases_order}
 use Rattle.std.proofs.lemmas.List.{length-append, length-set, length-replicate, get_or-replicate, get_or_past}
+use Rattle.ticket_core.specs.declared.query.Query.{Query}
 use Rattle.ticket_core.specs.declared.shape.Shape.{Shape}
-use Rattle.ticket_core.specs.State.{Address, Shown, Meaning, Place, Unasked, Waiting, Held, Answered, Collected, Sender, fresh, Ticket, State, sender_at, hand_at, place_of, next_of, opening}
+use Rattle.ticket_core.specs.State.{Shown, Meaning, Place, Unasked, Waiting, Held, Answered, Collected, Sender, fresh, Ticket, State, sender_at, hand_at, place_of, next_of, opening}
 use Rattle.ticket_core.specs.Events.{Event, Ask, Take, Finish, GiveBack, Collect, Close, asks, puts, collects, closes, answer_in, with_sender, with_hand, ticket_in, meaning_of, puts_down, Can, after}
 use Rattle.ticket_core.specs.Sound.{IsSoundSender, IsSound}
 use Rattle.ticket_core.proofs.ReadLemmas.{appended, replaced, inside}
@@ -39,11 +40,11 @@ module _ (meaning : Meaning) where
             (λ _ e. sound.in_hand w t n e);
       }
 
-  ask-sound : (state : State) (s : ℕ) (a : Address) → IsSound meaning state → Can (Ask s a) state → IsSound meaning (after meaning (Ask s a) state)
-  ask-sound state s a sound can =
+  ask-sound : (state : State) (s : ℕ) (query : Query) → IsSound meaning state → Can (Ask s query) state → IsSound meaning (after meaning (Ask s query) state)
+  ask-sound state s query sound can =
       let sender : Sender = sender_at state s in
-      let longer : length ((sender_at state s).asked ++ a ∷ []) ≡ length (sender_at state s).asked + 1 = length-append (sender_at state s).asked (a ∷ []) in
-      with_sender-sound state s (asks a (sender_at state s)) sound can.0 (asks-sound meaning state.key a (sender_at state s) (sound.each s))
+      let longer : length ((sender_at state s).asked ++ query ∷ []) ≡ length (sender_at state s).asked + 1 = length-append (sender_at state s).asked (query ∷ []) in
+      with_sender-sound state s (asks query (sender_at state s)) sound can.0 (asks-sound meaning state.key query (sender_at state s) (sound.each s))
       (let r : length (sender_at state s).received ≤ length (sender_at state s).asked = (sound.each s).within in omega (arith, longer, can.3))
       (omega (arith, longer, can.2))
       (λ n w e. appended (sender_at state s).places Waiting Unasked n (λ p. p ≡ Held w) (λ _. e)
@@ -155,7 +156,7 @@ module _ (meaning : Meaning) where
       (some_ticket (hand_at state w) can) (λ e. cc) (λ e. cc) (λ v e. cc) (λ answer e. absurd (cc))
 
   pub step-sound : (event : Event) (state : State) → IsSound meaning state → Can event state → IsSound meaning (after meaning event state)
-  step-sound (Ask s a) state sound can = ask-sound state s a sound can
+  step-sound (Ask s query) state sound can = ask-sound state s query sound can
   step-sound (Take w s n) state sound can = take-sound state w s n sound can
   step-sound (Finish w) state sound can = finish-sound state w sound can
   step-sound (GiveBack w) state sound can = give_back-sound state w sound can

@@ -3,8 +3,10 @@ use Rattle.std.specs.Prelude.{ℕ, Bool, List, Option, refl, ◌≡◌, ◌⊎�
 use mathlib.Core.Logic.{inl, inr}
 use base.Stored.{coded_unit}
 use Rattle.std.specs.Coded.{Coded, code_by, coded×, coded⊎, coded_ℕ, coded_bool, coded_list, coded_option}
+use Rattle.ticket_core.specs.declared.query.Query.{Query}
+use Rattle.ticket_core.specs.declared.query.QueryKind.TheVariants.{Address, Span}
 use Rattle.ticket_core.specs.declared.shape.Shape.{Shape}
-use Rattle.ticket_core.specs.State.{Address, Shown, Place, Unasked, Waiting, Held, Answered, Collected, Sender, Ticket, State}
+use Rattle.ticket_core.specs.State.{Shown, Place, Unasked, Waiting, Held, Answered, Collected, Sender, Ticket, State}
 
 abbrev pub shown_code : Coded Shown
 shown_code = record { code = λ shown. shown; inj = λ x y same. same }
@@ -14,6 +16,22 @@ shape_code =
     code_by (ℕ × (ℕ × (ℕ × ℕ))) (coded× coded_ℕ (coded× coded_ℕ (coded× coded_ℕ coded_ℕ)))
     (λ shape. (shape.senders, (shape.workers, (shape.window, shape.most))))
     (λ p. record { senders = p.0; workers = p.1.0; window = p.1.1.0; most = p.1.1.1 }) (λ _. refl)
+
+-- by number: an address, a span
+abbrev pub query_parts : Query → ℕ ⊎ (ℕ × ℕ)
+query_parts (Address a) = inl a
+query_parts (Span low high) = inr (low, high)
+
+abbrev pub query_from : ℕ ⊎ (ℕ × ℕ) → Query
+query_from (inl a) = Address a
+query_from (inr (low, high)) = Span low high
+
+pub query_back : (query : Query) → query_from (query_parts query) ≡ query
+query_back (Address a) = refl
+query_back (Span low high) = refl
+
+abbrev pub query_code : Coded Query
+query_code = code_by (ℕ ⊎ (ℕ × ℕ)) (coded⊎ coded_ℕ (coded× coded_ℕ coded_ℕ)) query_parts query_from query_back
 
 -- by number: no place, waiting, held, answered, collected
 abbrev pub place_parts : Place → Unit {0} ⊎ (Unit {0} ⊎ (ℕ ⊎ (Shown ⊎ Unit {0})))
@@ -44,8 +62,8 @@ place_code =
 
 abbrev pub sender_code : Coded Sender
 sender_code =
-    code_by (List Address × (List Shown × (Bool × List Place)))
-    (coded× (coded_list coded_ℕ) (coded× (coded_list shown_code) (coded× coded_bool (coded_list place_code))))
+    code_by (List Query × (List Shown × (Bool × List Place)))
+    (coded× (coded_list query_code) (coded× (coded_list shown_code) (coded× coded_bool (coded_list place_code))))
     (λ sender. (sender.asked, (sender.received, (sender.closed, sender.places))))
     (λ p. record { asked = p.0; received = p.1.0; closed = p.1.1.0; places = p.1.1.1 }) (λ _. refl)
 

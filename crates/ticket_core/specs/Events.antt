@@ -1,11 +1,12 @@
 -- What can happen to a core: six kinds of event, each with its condition and the state after it.
 use Rattle.std.specs.Prelude.{◌≡◌, ℕ, ◌<◌, true, false, [], ◌∷◌, ◌++◌, length, slice_set, Option, Some, None, IsSome}
 use base.Stored.{gnil}
-use Rattle.ticket_core.specs.State.{Address, Shown, Meaning, Place, Waiting, Held, Answered, Collected, Sender, Ticket, State, sender_at, hand_at, place_of, address_of, next_of, outstanding}
+use Rattle.ticket_core.specs.declared.query.Query.{Query}
+use Rattle.ticket_core.specs.State.{Shown, Meaning, Place, Waiting, Held, Answered, Collected, Sender, Ticket, State, sender_at, hand_at, place_of, query_of, next_of, outstanding}
 
 pub data Event : Type 0 where
-  -- a sender asks about an address
-  Ask : (s : ℕ) (a : Address) → Event
+  -- a sender asks a query
+  Ask : (s : ℕ) (query : Query) → Event
   -- a worker takes a number that waits, whichever it is
   Take : (w s n : ℕ) → Event
   -- a worker answers the number in its hand
@@ -19,10 +20,10 @@ pub data Event : Type 0 where
 
 -- ---- one sender, changed
 
--- it asked one address more, whose number waits
-abbrev pub asks : Address → Sender → Sender
-asks a sender = record {
-  asked = sender.asked ++ a ∷ [];
+-- it asked one query more, whose number waits
+abbrev pub asks : Query → Sender → Sender
+asks query sender = record {
+  asked = sender.asked ++ query ∷ [];
   received = sender.received;
   closed = sender.closed;
   places = sender.places ++ Waiting ∷ [];
@@ -90,9 +91,9 @@ abbrev pub ticket_in : Option Ticket → Ticket
 ticket_in (Some ticket) = ticket
 ticket_in None = (0, 0)
 
--- the meaning of the address that was asked
+-- the meaning of the query that was asked
 abbrev pub meaning_of : Meaning → State → Ticket → Shown
-meaning_of meaning state ticket = meaning state.key (address_of (sender_at state ticket.0) ticket.1)
+meaning_of meaning state ticket = meaning state.key (query_of (sender_at state ticket.0) ticket.1)
 
 -- a worker takes a ticket into its hand
 abbrev pub picks_up : ℕ → Ticket → State → State
@@ -112,7 +113,7 @@ puts_down w ticket place state =
 -- taking, by an empty hand, of a number that waits; finishing and giving back, by a hand that isn't empty; collecting,
 -- where the next number is answered; closing, always
 abbrev pub Can : Event → State → Type 0
-Can (Ask s a) state =
+Can (Ask s query) state =
     (s < state.shape.senders) × ((sender_at state s).closed ≡ false)
     × (length (sender_at state s).asked < state.shape.most)
     × (outstanding (sender_at state s) < state.shape.window)
@@ -125,7 +126,7 @@ Can (Close s) state = s < state.shape.senders
 
 -- the state after it
 abbrev pub after : Meaning → Event → State → State
-after meaning (Ask s a) state = with_sender s (asks a (sender_at state s)) state
+after meaning (Ask s query) state = with_sender s (asks query (sender_at state s)) state
 after meaning (Take w s n) state = picks_up w (s, n) state
 after meaning (Finish w) state =
     puts_down w (ticket_in (hand_at state w))

@@ -1,4 +1,5 @@
 pub mod Shape
+pub mod Query
 pub mod State
 pub mod Events
 pub mod Refusals

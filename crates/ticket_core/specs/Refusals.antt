@@ -51,7 +51,7 @@ collect_refusal sender =
 
 -- the first condition of the event that fails, where one does
 abbrev pub refusal : Event → State → Option CoreFault
-refusal (Ask s a) state = ask_refusal state.shape (sender_at state s)
+refusal (Ask s query) state = ask_refusal state.shape (sender_at state s)
 refusal (Take w s n) state = take_refusal (hand_at state w) (place_of (sender_at state s) n)
 refusal (Finish w) state = hand_refusal (hand_at state w)
 refusal (GiveBack w) state = hand_refusal (hand_at state w)
@@ -60,7 +60,7 @@ refusal (Close s) state = None
 
 -- the event names a sender and a worker of the shape
 abbrev pub IsOfShape : Event → State → Type 0
-IsOfShape (Ask s a) state = s < state.shape.senders
+IsOfShape (Ask s query) state = s < state.shape.senders
 IsOfShape (Take w s n) state = (w < state.shape.workers) × (s < state.shape.senders)
 IsOfShape (Finish w) state = w < state.shape.workers
 IsOfShape (GiveBack w) state = w < state.shape.workers

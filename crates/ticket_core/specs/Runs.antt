@@ -1,7 +1,7 @@
 -- Runs of a core: lists of events, one after the other.
 use Rattle.std.specs.Prelude.{◌≡◌, ℕ, ◌+◌, ◌<◌, ◌≤◌, ◌↔◌, Bool, true, false, ◌&&◌, List, [], ◌∷◌, length, Option, Some, None, nat_eq, if◌then◌else◌}
 use Rattle.ticket_core.specs.declared.shape.Shape.{Shape}
-use Rattle.ticket_core.specs.State.{Meaning, Place, Unasked, Held, Answered, Collected, Sender, Ticket, State, sender_at, hand_at, place_of, address_of, answer_of, opening}
+use Rattle.ticket_core.specs.State.{Meaning, Place, Unasked, Held, Answered, Collected, Sender, Ticket, State, sender_at, hand_at, place_of, query_of, answer_of, opening}
 use Rattle.ticket_core.specs.Events.{Event, Finish, Can, after}
 
 -- the events lead from one state to another: each can happen where it does
@@ -13,11 +13,11 @@ Run meaning old (event ∷ events) new = Can event old × Run meaning (after mea
 abbrev pub Reaches : Meaning → Shape → List ℕ → List Event → State → Type 0
 Reaches meaning shape key events state = Run meaning (opening shape key) events state
 
--- what a sender received is no longer than what it asked, and each answer is the meaning of the address asked at its number
+-- what a sender received is no longer than what it asked, and each answer is the meaning of the query asked at its number
 abbrev pub IsRight : Meaning → List ℕ → Sender → Type 0
 IsRight meaning key sender =
     (length sender.received ≤ length sender.asked)
-    × ((n : ℕ) → n < length sender.received → answer_of sender n ≡ meaning key (address_of sender n))
+    × ((n : ℕ) → n < length sender.received → answer_of sender n ≡ meaning key (query_of sender n))
 
 -- ---- how often a number is finished
 

@@ -1,19 +1,17 @@
 -- The state of a core: who asked what, who received what, and where each query stands.
 use Rattle.std.specs.Prelude.{ℕ, ◌-◌, Bool, false, List, [], length, replicate, slice_index_or, Option, None}
 use base.Stored.{Gv, gnil}
+use Rattle.ticket_core.specs.declared.query.Query.{Query}
+use Rattle.ticket_core.specs.declared.query.QueryKind.TheVariants.{Address}
 use Rattle.ticket_core.specs.declared.shape.Shape.{Shape}
-
--- what a query asks about
-abbrev pub Address : Type 0
-Address = ℕ
 
 -- what an answer shows: a tree of numbers, in which a text is its bytes
 abbrev pub Shown : Type 0
 Shown = Gv
 
--- what an address means under a key
+-- what a query means under a key
 abbrev pub Meaning : Type 0
-Meaning = List ℕ → Address → Shown
+Meaning = List ℕ → Query → Shown
 
 -- where one number of a sender stands: it is outstanding while it waits, is held or is answered
 pub data Place : Type 0 where
@@ -23,10 +21,10 @@ pub data Place : Type 0 where
   Answered : (answer : Shown) → Place
   Collected : Place
 
--- a sender: the addresses that it asked and the answers that it received, both by number, whether it is closed, and the
+-- a sender: the queries that it asked and the answers that it received, both by number, whether it is closed, and the
 -- place of each number that it asked
 pub record Sender : Type 0 where
-  pub asked : List Address
+  pub asked : List Query
   pub received : List Shown
   pub closed : Bool
   pub places : List Place
@@ -56,8 +54,8 @@ hand_at state w = slice_index_or state.hands w None
 abbrev pub place_of : Sender → ℕ → Place
 place_of sender n = slice_index_or sender.places n Unasked
 
-abbrev pub address_of : Sender → ℕ → Address
-address_of sender n = slice_index_or sender.asked n 0
+abbrev pub query_of : Sender → ℕ → Query
+query_of sender n = slice_index_or sender.asked n (Address 0)
 
 abbrev pub answer_of : Sender → ℕ → Shown
 answer_of sender n = slice_index_or sender.received n gnil

@@ -4,6 +4,8 @@ ghost use Rattle.std.specs.Prelude.{◌≡◌, ◌≤◌, vec_len, vec_capacity}
 
 mod calls;
 
+use crate::query::Query;
+
 /// Where a query stands that was asked.
 #[derive(Drop)]
 pub enum Slot<A: Drop> {
@@ -20,7 +22,7 @@ pub enum Slot<A: Drop> {
 /// The queries of one sender, by number. Nothing is searched: each call looks at one slot.
 #[derive(Drop)]
 pub struct Lane<A: Drop> {
-    asked: Vec<u64>,
+    asked: Vec<Query>,
     received: Vec<A>,
     closed: bool,
     slots: Vec<Slot<A>>,

@@ -12,7 +12,7 @@ ghost use Rattle.ticket_core.specs.Runs.{Run, Reaches, IsRight, times_finished, 
 
 /// Whatever events happened to a core of whatever shape and key, one after the other:
 /// - `right`: what each sender received is no longer than what it asked, and holds the meaning of
-///   each asked address at its number;
+///   each asked query at its number;
 /// - `finished_once`: each number that is answered or received was finished by just one of the
 ///   events, and every other by none;
 /// - `hands_agree`: a worker holds a number exactly where that number's place says so;

@@ -9,11 +9,13 @@ mod fault;
 mod lane;
 mod laws;
 mod machine;
+mod query;
 mod shape;
 mod solver;
 
 pub use fault::{CoreFault, NewFault};
 pub use laws::{law_of_refusals, law_of_runs};
 pub use machine::Core;
+pub use query::{Query, QueryKind};
 pub use shape::Shape;
 pub use solver::{NoMemory, Solver};

@@ -12,6 +12,7 @@ ghost use Rattle.ticket_core.specs.Shown.{sender_shown};
 
 use crate::fault::{CoreFault, NewFault};
 use crate::lane::{Lane, Slot};
+use crate::query::Query;
 use crate::shape::Shape;
 use crate::solver::Solver;
 use std::alloc::{AllocError, Global};
@@ -101,8 +102,8 @@ impl<'a, S: Solver> Core<'a, S> {
         let _ = &self.lanes;
     }
 
-    /// The addresses that a sender asked about, by number.
-    pub fn asked(&self, sender: usize) -> &[u64]
+    /// The queries that a sender asked, by number.
+    pub fn asked(&self, sender: usize) -> &[Query]
         requires { sender < self.now.shape.senders }
         ensures { result.now ≡ (sender_at self.now sender).asked }
     {
@@ -110,7 +111,7 @@ impl<'a, S: Solver> Core<'a, S> {
     }
 
     /// The answers that a sender received, by number. They are right: each shows the meaning of
-    /// the address that was asked at its number.
+    /// the query that was asked at its number.
     pub fn received(&self, sender: usize) -> &[S::Answer]
         requires { sender < self.now.shape.senders }
         ensures received { map S.shown result.now ≡ (sender_at self.now sender).received }
@@ -122,14 +123,14 @@ impl<'a, S: Solver> Core<'a, S> {
     /// Asks a query for a sender, and gives its number. The sender's numbers rise from 0.
     ///
     /// The error is `Closed`, `Exhausted`, `Full` or `Memory`, in this order. It changes nothing.
-    pub fn ask(&mut self, sender: usize, a: u64) -> Result<u64, CoreFault>
+    pub fn ask(&mut self, sender: usize, query: Query) -> Result<u64, CoreFault>
         requires { sender < self.old.shape.senders }
-        ensures event { OnOk result (Step S.meaning (Ask sender a) self.old self.new) }
+        ensures event { OnOk result (Step S.meaning (Ask sender query) self.old self.new) }
         ensures number { IfOk result (λ n. n ≡ length (sender_at self.old sender).asked) }
-        ensures refusal { IfErr result (λ fault. RefusesOrMemory fault (refusal (Ask sender a) self.old)) }
+        ensures refusal { IfErr result (λ fault. RefusesOrMemory fault (refusal (Ask sender query) self.old)) }
         ensures refused { OnErr result (self.new ≡ self.old) }
     {
-        self.lanes[sender].ask(&self.shape, a)
+        self.lanes[sender].ask(&self.shape, query)
     }
 
     /// Gives a number that waits to a worker, whichever number of whichever sender it is.

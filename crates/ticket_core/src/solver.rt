@@ -1,14 +1,16 @@
 //! Who answers queries.
 
 ghost use Rattle.std.specs.Prelude.{◌≡◌, ◌+◌, ℕ, List, IfOk, is_ok, if◌then◌else◌};
-ghost use Rattle.ticket_core.specs.State.{Address, Shown};
+ghost use Rattle.ticket_core.specs.declared.query.Query.{Query};
+ghost use Rattle.ticket_core.specs.State.{Shown};
 
+use crate::query::Query;
 use std::alloc::AllocError;
 
 /// Want of memory.
 pub type NoMemory = AllocError;
 
-/// Answers queries: an address has one meaning under a key, whoever answers it and whenever.
+/// Answers queries: a query has one meaning under a key, whoever answers it and whenever.
 pub trait Solver {
     /// What a query is answered with.
     type Answer: Drop + Send;
@@ -17,8 +19,8 @@ pub trait Solver {
     /// this alone.
     ghost shown: { Self.Answer → Shown };
 
-    /// What an address means under a key. It depends on these two alone.
-    ghost meaning: { List ℕ → Address → Shown };
+    /// What a query means under a key. It depends on these two alone.
+    ghost meaning: { List ℕ → Query → Shown };
 
     /// The key that a solver answers by.
     ghost key: { Self → List ℕ };
@@ -31,8 +33,8 @@ pub trait Solver {
         ensures { result.now ≡ key self.now };
 
     /// Answers the query. The error says that a growth of memory was refused.
-    fn solve(&mut self, a: u64) -> Result<Self::Answer, NoMemory>
-        ensures right { IfOk result (λ answer. shown answer ≡ meaning (key self.old) a) }
+    fn solve(&mut self, query: Query) -> Result<Self::Answer, NoMemory>
+        ensures right { IfOk result (λ answer. shown answer ≡ meaning (key self.old) query) }
         ensures key_stays { key self.new ≡ key self.old }
         ensures counted { refused self.new ≡ (if is_ok result then refused self.old else refused self.old + 1) };
 }

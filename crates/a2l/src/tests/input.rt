@@ -23,26 +23,16 @@ fn lines_of_input(rt: HostRuntime) -> Result<(), Fail> {
         (b"0X00000000000000fF\n", 0, "??:0\n"),
     ];
     for (input, status, output) in table {
-        expect(
-            &rt,
-            &run_over(&rt, rt.alloc(), &file, input, &PLAIN),
-            status,
-            output,
-            "",
-        );
-        let setting = Setting {
-            file: Some(&file),
-            input,
-            read_most: 1,
-            ..Setting::NOTHING
-        };
-        expect(
-            &rt,
-            &run_in(&rt, rt.alloc(), setting, &PLAIN),
-            status,
-            output,
-            "",
-        );
+        for read_most in [usize::MAX, 1] {
+            let setting = Setting {
+                file: Some(&file),
+                input,
+                read_most,
+                ..Setting::NOTHING
+            };
+            let outcome = run_in(&rt, rt.alloc(), setting, &PLAIN);
+            expect(&rt, &outcome, status, output, "");
+        }
     }
     Ok(())
 }
@@ -94,7 +84,9 @@ fn faults_and_bad_lines(rt: HostRuntime) -> Result<(), Fail> {
 #[test]
 fn same_for_all_pools(rt: HostRuntime) -> Result<(), Fail> {
     let file = poked(rt.alloc(), FOLLOWED, 64 + 0x23, &[0x63])?;
-    let text = "!unit 0x0 fault 1\n!bad address\n!bad address\n??\n??:0\n";
+    let input = b"0x401000\nzz\n\n0x500001\n401000-40100e\n";
+    let text = "!unit 0x0 fault 1\n!bad address\n!bad address\n??\n??:0\n\
+        0x0000000000401000-0x0000000000401004 /w/a.c:3\n0x0000000000401004-0x000000000040100e /w/a.c:4\n";
     for workers in ["1", "2", "64"] {
         for senders in ["1", "3", "64"] {
             let words = &[
@@ -106,7 +98,7 @@ fn same_for_all_pools(rt: HostRuntime) -> Result<(), Fail> {
                 "--senders",
                 senders,
             ];
-            let outcome = run_over(&rt, rt.alloc(), &file, b"0x401000\nzz\n\n0x500001\n", words);
+            let outcome = run_over(&rt, rt.alloc(), &file, input, words);
             expect(&rt, &outcome, 1, text, "");
         }
     }

@@ -8,46 +8,58 @@ pub const LIST: [&str; 3] = ["-e", "FILE", "--units"];
 
 pub const INLINED_LISTING: &str = "0x0 version 5 compile\n0x5b version 5 partial\n";
 
+/// Where the header of .debug_line stands in the sample: the size is at 32 of it.
+const LINE_HEADER: usize = 366 + 3 * 64;
+
+/// A sample, bytes that are put into it at a place, and its listing then.
+const LISTINGS: [(&str, usize, &[u8], &str); 4] = [
+    (SMALLEST, 0, &[], ""),
+    (
+        MIXED,
+        0,
+        &[],
+        "0x0 version 4 skipped\n0xb version 5 compile\n0x66 version 5 partial\n",
+    ),
+    // without .debug_line
+    (INLINED, 354, b"x", INLINED_LISTING),
+    // the first entry's address is one by index, and no base is named: a listing reads no address
+    (INLINED, 180, &[0x1b], INLINED_LISTING),
+];
+
 #[test]
 fn listings(rt: HostRuntime) -> Result<(), Fail> {
-    let alloc = rt.alloc();
-    let smallest = hex::decode(alloc, SMALLEST)?;
-    expect(&rt, &run_on(&rt, rt.alloc(), &smallest, &LIST), 0, "", "");
-    let mixed = hex::decode(alloc, MIXED)?;
-    let listing = "0x0 version 4 skipped\n0xb version 5 compile\n0x66 version 5 partial\n";
-    expect(&rt, &run_on(&rt, rt.alloc(), &mixed, &LIST), 0, listing, "");
+    for (sample, at, new, text) in LISTINGS {
+        let file = poked(rt.alloc(), sample, at, new)?;
+        expect(&rt, &run_on(&rt, rt.alloc(), &file, &LIST), 0, text, "");
+    }
+    Ok(())
+}
+
+#[test]
+fn cut_files(rt: HostRuntime) -> Result<(), Fail> {
+    let rows = [
+        (SMALLEST, 63, "a2l: file refused: 1 NotElf\n"),
+        (INLINED, 685, "a2l: file refused: 4 SectionTable\n"),
+    ];
+    for (sample, size, line) in rows {
+        let file = hex::decode(rt.alloc(), sample)?;
+        let short = file.get(..size).ok_or("so many bytes")?;
+        expect(&rt, &run_on(&rt, rt.alloc(), short, &LIST), 2, "", line);
+    }
     Ok(())
 }
 
 #[test]
 fn refusals(rt: HostRuntime) -> Result<(), Fail> {
     let alloc = rt.alloc();
-    let smallest = hex::decode(alloc, SMALLEST)?;
-    let short = smallest.get(..63).ok_or("63 bytes")?;
-    expect(
-        &rt,
-        &run_on(&rt, rt.alloc(), short, &LIST),
-        2,
-        "",
-        "a2l: file refused: 1 NotElf\n",
-    );
-    let inlined = hex::decode(alloc, INLINED)?;
-    let short = inlined.get(..685).ok_or("685 bytes")?;
-    expect(
-        &rt,
-        &run_on(&rt, rt.alloc(), short, &LIST),
-        2,
-        "",
-        "a2l: file refused: 4 SectionTable\n",
-    );
-    let table: [(usize, &[u8], &str); 14] = [
+    let table: [(usize, &[u8], &str); 15] = [
         (0, &[0], "1 NotElf"),
         (4, &[1], "2 NotElf64Little"),
         (5, &[2], "2 NotElf64Little"),
         (16, &[1], "3 Relocatable"),
         (58, &[63], "4 SectionTable"),
         (64, &[0x58], "7 UnitHeader 0x5c"),
-        (64, &[0xff, 0xff, 0xff, 0xff], "8 WideFormat 0x0"),
+        (64, &[0xff, 0xff, 0xff, 0xff], "7 UnitHeader 0x0"),
         (71, &[4], "9 AddressSize 0x0"),
         (567, &[8], "6 Compressed .debug_line"),
         (344, b".zdebug_line\0", "6 Compressed .debug_line"),
@@ -57,6 +69,8 @@ fn refusals(rt: HostRuntime) -> Result<(), Fail> {
         (167, &[0], "10 Root 0x5b"),
         (167, &[9], "10 Root 0x5b"),
         (167, &[2], "10 Root 0x5b"),
+        // the second byte of the size of .debug_line
+        (LINE_HEADER + 33, &[4], "5 SectionRange .debug_line"),
     ];
     for (at, new, fault) in table {
         let file = poked(alloc, INLINED, at, new)?;
@@ -66,42 +80,11 @@ fn refusals(rt: HostRuntime) -> Result<(), Fail> {
     Ok(())
 }
 
+/// A section of type SHT_NOBITS takes no bytes of the file.
 #[test]
-fn section_past_the_end(rt: HostRuntime) -> Result<(), Fail> {
-    // The size of .debug_line stands at 366 + 3 * 64 + 32.
-    let file = poked(rt.alloc(), INLINED, 366 + 3 * 64 + 33, &[4])?;
-    let line = "a2l: file refused: 5 SectionRange .debug_line\n";
-    expect(&rt, &run_on(&rt, rt.alloc(), &file, &LIST), 2, "", line);
-    // A section of type SHT_NOBITS takes no bytes of the file.
-    let mut file = file;
-    *file.get_mut(366 + 3 * 64 + 4).ok_or("the section's type")? = 8;
-    expect(
-        &rt,
-        &run_on(&rt, rt.alloc(), &file, &LIST),
-        0,
-        INLINED_LISTING,
-        "",
-    );
-    Ok(())
-}
-
-#[test]
-fn without_lines(rt: HostRuntime) -> Result<(), Fail> {
-    let file = poked(rt.alloc(), INLINED, 354, b"x")?;
-    expect(
-        &rt,
-        &run_on(&rt, rt.alloc(), &file, &LIST),
-        0,
-        INLINED_LISTING,
-        "",
-    );
-    Ok(())
-}
-
-#[test]
-fn root_without_its_base(rt: HostRuntime) -> Result<(), Fail> {
-    // The first entry's address is one by index, and no base is named: a listing reads no address.
-    let file = poked(rt.alloc(), INLINED, 180, &[0x1b])?;
+fn section_without_bytes(rt: HostRuntime) -> Result<(), Fail> {
+    let mut file = poked(rt.alloc(), INLINED, LINE_HEADER + 33, &[4])?;
+    *file.get_mut(LINE_HEADER + 4).ok_or("the section's type")? = 8;
     expect(
         &rt,
         &run_on(&rt, rt.alloc(), &file, &LIST),
@@ -118,27 +101,24 @@ fn no_device(rt: HostRuntime) {
     expect(&rt, &outcome, 3, "", "a2l: cannot read file\n");
 }
 
+/// How many bytes a write takes at most, and how a listing ends then.
+const SHORT_WRITES: [(usize, u8, &str, &str); 2] = [
+    (7, 0, INLINED_LISTING, ""),
+    (0, 3, "", "a2l: write failed\n"),
+];
+
 #[test]
 fn short_writes(rt: HostRuntime) -> Result<(), Fail> {
     let file = hex::decode(rt.alloc(), INLINED)?;
-    let setting = Setting {
-        file: Some(&file),
-        write_most: 7,
-        ..Setting::NOTHING
-    };
-    expect(
-        &rt,
-        &run_in(&rt, rt.alloc(), setting, &LIST),
-        0,
-        INLINED_LISTING,
-        "",
-    );
-    let setting = Setting {
-        write_most: 0,
-        ..setting
-    };
-    let outcome = run_in(&rt, rt.alloc(), setting, &LIST);
-    expect(&rt, &outcome, 3, "", "a2l: write failed\n");
+    for (write_most, status, output, errors) in SHORT_WRITES {
+        let setting = Setting {
+            file: Some(&file),
+            write_most,
+            ..Setting::NOTHING
+        };
+        let outcome = run_in(&rt, rt.alloc(), setting, &LIST);
+        expect(&rt, &outcome, status, output, errors);
+    }
     Ok(())
 }
 

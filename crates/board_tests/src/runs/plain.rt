@@ -1,15 +1,16 @@
-//! The core once more, as plainly as it can be said: lists that are searched. An address is its own answer.
+//! The core once more, as plainly as it can be said: lists that are searched. A query is answered with what it
+//! asks about.
 
 use std::alloc::{AllocError, AllocFailed, Global};
-use ticket_core::{CoreFault, Shape};
+use ticket_core::{CoreFault, Query, QueryKind, Shape};
 
 /// A sender: what it asked, which numbers wait, and the answers so far.
 #[derive(Drop)]
 pub struct Sender {
-    pub asked: Vec<u64>,
+    pub asked: Vec<Query>,
     waiting: Vec<u64>,
-    answers: Vec<(u64, u64)>,
-    pub received: Vec<u64>,
+    answers: Vec<(u64, QueryKind)>,
+    pub received: Vec<QueryKind>,
     closed: bool,
 }
 
@@ -71,7 +72,7 @@ impl Plain {
         Ok(self.senders.get(s).ok_or(Misuse)?.received.len() as u64)
     }
 
-    pub fn ask(&mut self, s: usize, a: u64) -> Result<Result<u64, CoreFault>, Misuse> {
+    pub fn ask(&mut self, s: usize, query: Query) -> Result<Result<u64, CoreFault>, Misuse> {
         let shape = self.shape;
         let sender = self.senders.get_mut(s).ok_or(Misuse)?;
         let number = sender.asked.len();
@@ -84,7 +85,7 @@ impl Plain {
         if number == sender.received.len().saturating_add(shape.window) {
             return Ok(Err(CoreFault::Full));
         }
-        sender.asked.push(a)?;
+        sender.asked.push(query)?;
         sender.waiting.push(number as u64)?;
         Ok(Ok(number as u64))
     }
@@ -109,8 +110,8 @@ impl Plain {
             return Ok(Err(CoreFault::HandEmpty));
         };
         let sender = self.senders.get_mut(s).ok_or(Misuse)?;
-        let a = *sender.asked.get(n as usize).ok_or(Misuse)?;
-        sender.answers.push((n, a))?;
+        let query = *sender.asked.get(n as usize).ok_or(Misuse)?;
+        sender.answers.push((n, query.kind()))?;
         *hand = None;
         Ok(Ok((s, n)))
     }

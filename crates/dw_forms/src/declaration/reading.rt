@@ -1,11 +1,11 @@
 //! Abbreviation declarations are read, by section 7.5.3 of DWARF 5.
 
 ghost use Rattle.std.specs.Prelude.{◌≡◌, IfSome, map, option_map};
-ghost use Rattle.dw_model.specs.declared.dwarf.TheConstants.{OFFSET_SIZE_32};
 ghost use Rattle.dw_model.specs.Entry.{attributes_at};
 ghost use Rattle.dw_model.specs.Reading.{items};
 ghost use Rattle.dw_model.specs.Abbrev.{next_specification, declaration_behind, next_declaration};
 ghost use Rattle.dw_model.specs.Answers.{ReadsOn, ReadsUnlessMemory};
+ghost use Rattle.dw_bytes.specs.Width.{size_of};
 ghost use Rattle.dw_forms.specs.Fault.{form_fault};
 ghost use Rattle.dw_forms.specs.Declaration.{spec_shown, declaration_shown};
 ghost use Rattle.dw_forms.specs.Size.{size_in, Skips};
@@ -15,19 +15,23 @@ use crate::declaration::{Decl, Spec};
 use crate::fault::FormFault;
 use crate::firsts::Firsts;
 use crate::size::size_of_all;
-use dw_bytes::Cursor;
+use dw_bytes::{Cursor, Width};
 use dw_model::dwarf::DW_FORM_implicit_const;
 use smallvec::SmallVec;
 use std::alloc::Global;
 
 impl Decl {
-    /// How many bytes the values of an entry take, where the form of each has one size: then each entry
-    /// is read over in one step. `None` where a form has no one size, or the sum doesn't fit 64 bits.
-    pub fn size(&self) -> Option<usize>
-        ensures size { result ≡ size_in (map spec_shown self.now.specs.items) }
-        ensures skips { IfSome result (λ n. Skips n (attributes_at OFFSET_SIZE_32 (map spec_shown self.now.specs.items))) }
+    /// How many bytes the values of an entry take in a unit whose offsets have a width, where the
+    /// form of each has one size: then each entry is read over in one step. `None` where a form has
+    /// no one size, or the sum doesn't fit 64 bits.
+    pub fn size(&self, width: Width) -> Option<usize>
+        ensures size { result ≡ size_in (size_of width) (map spec_shown self.now.specs.items) }
+        ensures skips { IfSome result (λ n. Skips n (attributes_at (size_of width) (map spec_shown self.now.specs.items))) }
     {
-        self.size
+        match width {
+            Width::Four => self.size_32,
+            Width::Eight => self.size_64,
+        }
     }
 
     /// Where the first attribute of each name that tells of a function stands, where a byte holds that.
@@ -85,14 +89,16 @@ fn declaration_of(alloc: Global, cursor: &mut Cursor<'_>, code: u64) -> Result<D
     let tag = cursor.uleb()?;
     let children = cursor.u8().ok_or(FormFault::End)?;
     let specs = specs_of(alloc, cursor)?;
-    let size = size_of_all(specs.as_slice());
+    let size_32 = size_of_all(specs.as_slice(), Width::Four);
+    let size_64 = size_of_all(specs.as_slice(), Width::Eight);
     let firsts = Firsts::of(specs.as_slice());
     Ok(Decl {
         code,
         tag,
         children: children != 0,
         specs,
-        size,
+        size_32,
+        size_64,
         firsts,
     })
 }

@@ -1,10 +1,9 @@
 //! Reading the header of a line table, by section 6.2.4 of DWARF 5.
 
 ghost use Rattle.std.specs.Prelude.{◌<◌};
-ghost use Rattle.dw_model.specs.declared.dwarf.TheConstants.{OFFSET_SIZE_32};
-ghost use Rattle.dw_model.specs.LineHeader.{fields_at, table_behind, length_of, line_header};
-ghost use Rattle.dw_model.specs.InitialLength.{initial_length_of};
-ghost use Rattle.dw_model.specs.Answers.{Gives, GivesUnlessMemory};
+ghost use Rattle.dw_model.specs.LineHeader.{fields_at, table_behind, line_header};
+ghost use Rattle.dw_model.specs.Answers.{GivesUnlessMemory};
+ghost use Rattle.dw_bytes.specs.Width.{size_of};
 ghost use Rattle.dw_forms.specs.Tables.{tables_shown, bases_shown};
 ghost use Rattle.dw_line.specs.Fault.{line_fault};
 ghost use Rattle.dw_line.specs.Header.{header_shown};
@@ -12,12 +11,13 @@ ghost use Rattle.dw_line.specs.Header.{header_shown};
 use crate::entries::entry_list_of;
 use crate::fault::LineFault;
 use crate::header::Header;
-use dw_bytes::Cursor;
+use dw_bytes::{Cursor, Initial, Width};
 use dw_forms::{Bases, Tables};
-use dw_model::dwarf::{ADDRESS_SIZE, DW_LENGTH_RESERVED, DWARF_VERSION};
+use dw_model::dwarf::{ADDRESS_SIZE, DWARF_VERSION};
 use std::alloc::Global;
 
-/// The fields behind header_length; `program` is what stands behind the header.
+/// The fields behind header_length, where offsets have a width; `program` is what stands behind the
+/// header.
 #[tactic(auto, unfolding(dw_model::specs::LineHeader::fields_at))]
 fn fields_of<'a>(
     alloc: Global,
@@ -25,8 +25,9 @@ fn fields_of<'a>(
     bases: &Bases,
     program: &'a [u8],
     cursor: &mut Cursor<'a>,
+    width: Width,
 ) -> Result<Header<'a>, LineFault>
-    ensures { GivesUnlessMemory header_shown line_fault result (fields_at (tables_shown tables.now) (bases_shown bases.now) OFFSET_SIZE_32 program.now cursor.old) }
+    ensures { GivesUnlessMemory header_shown line_fault result (fields_at (tables_shown tables.now) (bases_shown bases.now) (size_of width) program.now cursor.old) }
 {
     let minimum_instruction_length = cursor.u8().ok_or(LineFault::Bad)?;
     let maximum_operations_per_instruction = cursor.u8().ok_or(LineFault::Bad)?;
@@ -42,8 +43,8 @@ fn fields_of<'a>(
     if line_range == 0 || opcode_base == 0 {
         return Err(LineFault::Bad);
     }
-    let directories = entry_list_of(alloc, cursor)?;
-    let files = entry_list_of(alloc, cursor)?;
+    let directories = entry_list_of(alloc, cursor, width)?;
+    let files = entry_list_of(alloc, cursor, width)?;
     Ok(Header {
         tables: *tables,
         bases: *bases,
@@ -58,20 +59,21 @@ fn fields_of<'a>(
     })
 }
 
-/// The table whose bytes behind its length these are.
+/// The table whose bytes behind its length these are, where offsets have a width.
 #[tactic(auto, unfolding(dw_model::specs::LineHeader::table_behind))]
 fn table_of<'a>(
     alloc: Global,
     tables: &Tables<'a>,
     bases: &Bases,
     cursor: &mut Cursor<'a>,
+    width: Width,
 ) -> Result<Header<'a>, LineFault>
-    ensures { GivesUnlessMemory header_shown line_fault result (table_behind (tables_shown tables.now) (bases_shown bases.now) OFFSET_SIZE_32 cursor.old) }
+    ensures { GivesUnlessMemory header_shown line_fault result (table_behind (tables_shown tables.now) (bases_shown bases.now) (size_of width) cursor.old) }
 {
     let version = cursor.u16().ok_or(LineFault::Bad)?;
     let address_size = cursor.u8().ok_or(LineFault::Bad)?;
     let _segment_selector_size = cursor.u8().ok_or(LineFault::Bad)?;
-    let header_length = cursor.u32().ok_or(LineFault::Bad)?;
+    let header_length = cursor.offset(width).ok_or(LineFault::Bad)?;
     let header = cursor.take(header_length as usize).ok_or(LineFault::Bad)?;
     if version != DWARF_VERSION {
         return Err(LineFault::Bad);
@@ -82,21 +84,12 @@ fn table_of<'a>(
     let Some(program) = cursor.take(cursor.left()) else {
         return Err(LineFault::Bad);
     };
-    fields_of(alloc, tables, bases, program, &mut Cursor::new(header))
+    let mut fields = Cursor::new(header);
+    fields_of(alloc, tables, bases, program, &mut fields, width)
 }
 
-/// The length that an initial length is (section 7.4). The 64-bit format isn't read.
-fn length(n: u32) -> Result<u32, LineFault>
-    ensures { Gives (λ n. (n, OFFSET_SIZE_32)) line_fault result (length_of (initial_length_of n)) }
-{
-    if n >= DW_LENGTH_RESERVED {
-        return Err(LineFault::Bad);
-    }
-    Ok(n)
-}
-
-/// The header of the table at an offset of .debug_line.
-#[tactic(auto, unfolding(dw_model::specs::LineHeader::line_header))]
+/// The header of the table at an offset of .debug_line, in the format of the table's own length.
+#[tactic(auto, using(crate::proofs::HeaderLemmas::past_end), unfolding(dw_model::specs::LineHeader::line_header))]
 pub(crate) fn header_at<'a>(
     alloc: Global,
     section: &'a [u8],
@@ -113,8 +106,10 @@ pub(crate) fn header_at<'a>(
     let Some(_) = cursor.take(offset as usize) else {
         return Err(LineFault::Bad);
     };
-    let unit_length = cursor.u32().ok_or(LineFault::Bad)?;
-    let len = length(unit_length)?;
-    let table = cursor.take(len as usize).ok_or(LineFault::Bad)?;
-    table_of(alloc, tables, bases, &mut Cursor::new(table))
+    let initial = cursor.initial_length().ok_or(LineFault::Bad)?;
+    let Initial::Bytes(unit_length, width) = initial else {
+        return Err(LineFault::Bad);
+    };
+    let table = cursor.take(unit_length as usize).ok_or(LineFault::Bad)?;
+    table_of(alloc, tables, bases, &mut Cursor::new(table), width)
 }

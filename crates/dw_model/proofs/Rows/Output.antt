@@ -1,7 +1,8 @@
 -- The bytes that are written.
 use Rattle.std.specs.Prelude.{◌≡◌, ℕ, true, false, List, ◌∷◌, [], ◌++◌, Some, None, codes, refl}
-use Rattle.dw_model.specs.Output.{Options, inputs, address_in, text, has_faults}
-use Rattle.dw_model.proofs.Samples.{poke, smallest, inlined, inlined_info, with_info, mixed_versions, wide_unit, narrow_unit, overlapping, bare_unit, deep}
+use Rattle.dw_model.specs.Query.{address, span}
+use Rattle.dw_model.specs.Output.{Options, inputs, address_in, query_in, text, has_faults}
+use Rattle.dw_model.proofs.Samples.{hex, poke, smallest, inlined, inlined_info, with_info, mixed_versions, wide_unit, narrow_unit, wide_unit_64, narrow_unit_64, overlapping, overlapping_by, bare_unit, deep}
 use Rattle.dw_model.proofs.OnSamples.{on_samples}
 
 abbrev plain : Options
@@ -53,6 +54,14 @@ mixed_versions_text = refl
 wide_unit_first : text functions (overlapping (wide_unit ++ narrow_unit)) (word (codes "2000")) ≡ codes "??\n??:0\n"
 unfolding on_samples
 wide_unit_first = refl
+
+wide_unit_64_first : text functions (overlapping (wide_unit_64 ++ narrow_unit)) (word (codes "2000")) ≡ codes "??\n??:0\n"
+unfolding on_samples
+wide_unit_64_first = refl
+
+narrow_unit_64_first : text functions (overlapping (narrow_unit_64 ++ wide_unit)) (word (codes "2000")) ≡ codes "??\n/w/a.c:3\n"
+unfolding on_samples
+narrow_unit_64_first = refl
 
 narrow_unit_first : text functions (overlapping (narrow_unit ++ wide_unit)) (word (codes "2000")) ≡ codes "??\n/w/a.c:3\n"
 unfolding on_samples
@@ -153,6 +162,110 @@ x_alone = refl
 twice : address_in (codes "0x0x4") ≡ None
 unfolding on_samples
 twice = refl
+
+-- ---- spans
+
+an_address : query_in (codes "0x401004") ≡ Some (address 0x401004)
+unfolding on_samples
+an_address = refl
+
+a_span : query_in (codes "0x401000-40100E") ≡ Some (span 0x401000 0x40100e)
+unfolding on_samples
+a_span = refl
+
+all_addresses : query_in (codes "0-ffffffffffffffff") ≡ Some (span 0 0xffffffffffffffff)
+unfolding on_samples
+all_addresses = refl
+
+empty_span : query_in (codes "401000-401000") ≡ None
+unfolding on_samples
+empty_span = refl
+
+falling_span : query_in (codes "401004-401000") ≡ None
+unfolding on_samples
+falling_span = refl
+
+no_end : query_in (codes "401000-") ≡ None
+unfolding on_samples
+no_end = refl
+
+no_begin : query_in (codes "-401000") ≡ None
+unfolding on_samples
+no_begin = refl
+
+two_dashes : query_in (codes "1-2-3") ≡ None
+unfolding on_samples
+two_dashes = refl
+
+long_end : query_in (codes "1-00000000000000002") ≡ None
+unfolding on_samples
+long_end = refl
+
+blank_behind_the_dash : query_in (codes "1- 2") ≡ None
+unfolding on_samples
+blank_behind_the_dash = refl
+
+pieces_cut_off : text plain inlined (word (codes "401002-401006")) ≡ codes "0x0000000000401002-0x0000000000401004 /w/a.c:3\n0x0000000000401004-0x0000000000401006 /w/a.c:4\n"
+unfolding on_samples
+pieces_cut_off = refl
+
+-- with -f and -i the same, and with -a the span before its pieces; no address of it is covered before the unit and behind it
+pieces_with_the_span : text all inlined (word (codes "400ffe-401010")) ≡ codes "0x0000000000400ffe-0x0000000000401010\n0x0000000000401000-0x0000000000401004 /w/a.c:3\n0x0000000000401004-0x000000000040100e /w/a.c:4\n"
+unfolding on_samples
+pieces_with_the_span = refl
+
+whole_pieces : text plain inlined (word (codes "400000-410000")) ≡ codes "0x0000000000401000-0x0000000000401004 /w/a.c:3\n0x0000000000401004-0x000000000040100e /w/a.c:4\n"
+unfolding on_samples
+whole_pieces = refl
+
+no_pieces : text plain inlined (word (codes "400000-401000")) ≡ codes "??:0\n"
+unfolding on_samples
+no_pieces = refl
+
+no_span : text plain inlined (word (codes "401000-401000")) ≡ codes "!bad address\n"
+unfolding on_samples
+no_span = refl
+
+no_span_told : has_faults inlined (word (codes "401000-401000")) ≡ true
+unfolding on_samples
+no_span_told = refl
+
+span_of_the_narrow_unit : text plain (overlapping (narrow_unit ++ wide_unit)) (word (codes "1000-3000")) ≡ codes "0x0000000000002000-0x0000000000002010 /w/a.c:3\n"
+unfolding on_samples
+span_of_the_narrow_unit = refl
+
+span_of_the_wide_unit : text plain (overlapping (wide_unit ++ narrow_unit)) (word (codes "1000-3000")) ≡ codes "??:0\n"
+unfolding on_samples
+span_of_the_wide_unit = refl
+
+-- two rows of one location
+joined_rows : text plain (overlapping_by (hex (codes "00 09 02 00 20 00 00 00 00 00 00 14 20 02 0f 00 01 01")) narrow_unit) (word (codes "2000-2010")) ≡ codes "0x0000000000002000-0x0000000000002010 /w/a.c:3\n"
+unfolding on_samples
+joined_rows = refl
+
+-- the same with a column in the second
+rows_of_two_columns : text plain (overlapping_by (hex (codes "00 09 02 00 20 00 00 00 00 00 00 14 05 04 20 02 0f 00 01 01")) narrow_unit) (word (codes "2000-2010")) ≡ codes "0x0000000000002000-0x0000000000002001 /w/a.c:3\n0x0000000000002001-0x0000000000002010 /w/a.c:3\n"
+unfolding on_samples
+rows_of_two_columns = refl
+
+span_without_lines : text all (poke inlined 354 (0x78 ∷ [])) (word (codes "400ff8-401001")) ≡ codes "0x0000000000400ff8-0x0000000000401001\n!unit 0x0 fault 4\n"
+unfolding on_samples
+span_without_lines = refl
+
+span_without_lines_told : has_faults (poke inlined 354 (0x78 ∷ [])) (word (codes "400ff8-401001")) ≡ true
+unfolding on_samples
+span_without_lines_told = refl
+
+span_before_a_fault : text plain (poke inlined 354 (0x78 ∷ [])) (word (codes "400ff8-401000")) ≡ codes "??:0\n"
+unfolding on_samples
+span_before_a_fault = refl
+
+-- a fault of the entries is none of a span
+span_without_entries : text plain faulty (word (codes "401003-401005")) ≡ codes "0x0000000000401003-0x0000000000401004 /w/a.c:3\n0x0000000000401004-0x0000000000401005 /w/a.c:4\n"
+unfolding on_samples
+span_without_entries = refl
+
+-- ---- lines of input
 
 lines_of_input : inputs [] (codes "1\r\n2\n\n3") ≡ codes "1" ∷ codes "2" ∷ [] ∷ codes "3" ∷ []
 unfolding on_samples

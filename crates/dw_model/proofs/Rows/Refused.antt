@@ -1,9 +1,9 @@
 -- What is refused, and what is listed.
-use Rattle.std.specs.Prelude.{◌≡◌, [], length, take, Some, None, codes, refl}
-use Rattle.dw_model.specs.Faults.{not_elf, not_elf64_little, relocatable, section_table, section_range, compressed, unit_header, wide_format, address_size, root, root_ranges}
+use Rattle.std.specs.Prelude.{◌≡◌, [], ◌++◌, length, take, Some, None, codes, refl}
+use Rattle.dw_model.specs.Faults.{not_elf, not_elf64_little, relocatable, section_table, section_range, compressed, unit_header, address_size, root, root_ranges}
 use Rattle.dw_model.specs.Refusal.{refusal, listing_refusal}
 use Rattle.dw_model.specs.Output.{listing}
-use Rattle.dw_model.proofs.Samples.{hex, poke, smallest, inlined, mixed_versions}
+use Rattle.dw_model.proofs.Samples.{hex, poke, smallest, inlined_info, inlined, mixed_versions, with_info, wide_unit, narrow_unit, wide_unit_64, narrow_unit_64, overlapping}
 use Rattle.dw_model.proofs.OnSamples.{on_samples}
 
 inlined_length : length inlined ≡ 686
@@ -78,9 +78,29 @@ unit_too_long : refusal (poke inlined 64 (hex (codes "58"))) ≡ Some (unit_head
 unfolding on_samples
 unit_too_long = refl
 
-wide_length : refusal (poke inlined 64 (hex (codes "ff ff ff ff"))) ≡ Some (wide_format 0)
+wide_length_too_long : refusal (poke inlined 64 (hex (codes "ff ff ff ff"))) ≡ Some (unit_header 0)
 unfolding on_samples
-wide_length = refl
+wide_length_too_long = refl
+
+wide_length_cut : refusal (with_info (hex (codes "ff ff ff ff 00 00 00 00 00 00 00"))) ≡ Some (unit_header 0)
+unfolding on_samples
+wide_length_cut = refl
+
+wide_padding_listing : listing (with_info (hex (codes "ff ff ff ff 00 00 00 00 00 00 00 00") ++ inlined_info)) ≡ codes "0xc version 5 compile\n0x67 version 5 partial\n"
+unfolding on_samples
+wide_padding_listing = refl
+
+wide_unit_64_listing : listing (overlapping (wide_unit_64 ++ narrow_unit)) ≡ codes "0x0 version 5 compile\n0x25 version 5 compile\n"
+unfolding on_samples
+wide_unit_64_listing = refl
+
+narrow_unit_64_listing : listing (overlapping (narrow_unit_64 ++ wide_unit)) ≡ codes "0x0 version 5 compile\n0x2d version 5 compile\n"
+unfolding on_samples
+narrow_unit_64_listing = refl
+
+wide_skeleton_cut : refusal (with_info (hex (codes "ff ff ff ff 13 00 00 00 00 00 00 00 05 00 04 08 00 00 00 00 00 00 00 00 00 00 00 00 00 00 00"))) ≡ Some (unit_header 0)
+unfolding on_samples
+wide_skeleton_cut = refl
 
 reserved_length : refusal (poke inlined 64 (hex (codes "f0 ff ff ff"))) ≡ Some (unit_header 0)
 unfolding on_samples

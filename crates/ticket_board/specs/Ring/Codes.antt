@@ -1,26 +1,47 @@
 -- How a view is stored as a tree of numbers.
 use Rattle.std.specs.Prelude.{ℕ, Bool, List, Option, refl, ◌≡◌, ◌⊎◌}
 use mathlib.Core.Logic.{inl, inr}
+use base.Stored.{coded_unit}
 use Rattle.std.specs.Coded.{Coded, code_by, coded×, coded⊎, coded_ℕ, coded_bool, coded_list, coded_option}
+use Rattle.ticket_core.specs.declared.query.Query.{Query}
 use Rattle.ticket_core.specs.declared.shape.Shape.{Shape}
-use Rattle.ticket_core.specs.State.{Address, Shown, Ticket}
-use Rattle.ticket_core.specs.Codes.{shown_code, shape_code}
-use Rattle.ticket_board.specs.Ring.Views.{Asking, Working, Role, Opens, Asks, Works, View}
+use Rattle.ticket_core.specs.State.{Shown, Ticket}
+use Rattle.ticket_core.specs.Codes.{shown_code, shape_code, query_code}
+use Rattle.ticket_board.specs.Ring.Views.{Known, Nothing, FirstWord, Whole, Asking, Working, Role, Opens, Asks, Works, View}
 
 abbrev pub ticket_code : Coded Ticket
 ticket_code = coded× coded_ℕ coded_ℕ
 
+-- by number: neither word, the first, both
+abbrev pub known_parts : Known → Unit {0} ⊎ (ℕ ⊎ Query)
+known_parts Nothing = inl tt
+known_parts (FirstWord word) = inr (inl word)
+known_parts (Whole query) = inr (inr query)
+
+abbrev pub known_from : Unit {0} ⊎ (ℕ ⊎ Query) → Known
+known_from (inl _) = Nothing
+known_from (inr (inl word)) = FirstWord word
+known_from (inr (inr query)) = Whole query
+
+pub known_back : (known : Known) → known_from (known_parts known) ≡ known
+known_back Nothing = refl
+known_back (FirstWord word) = refl
+known_back (Whole query) = refl
+
+abbrev pub known_code : Coded Known
+known_code = code_by (Unit {0} ⊎ (ℕ ⊎ Query)) (coded⊎ coded_unit (coded⊎ coded_ℕ query_code)) known_parts known_from known_back
+
 abbrev pub asking_code : Coded Asking
 asking_code =
-    code_by (List Address × (List Shown × (Option Address × (Bool × (Option Shown × List ℕ)))))
-    (coded× (coded_list coded_ℕ) (coded× (coded_list shown_code) (coded× (coded_option coded_ℕ) (coded× coded_bool (coded× (coded_option shown_code) (coded_list coded_ℕ))))))
+    code_by (List Query × (List Shown × (Known × (Bool × (Option Shown × List ℕ)))))
+    (coded× (coded_list query_code) (coded× (coded_list shown_code) (coded× known_code (coded× coded_bool (coded× (coded_option shown_code) (coded_list coded_ℕ))))))
     (λ asking. (asking.asked, (asking.received, (asking.ahead, (asking.found, (asking.collecting, asking.missed))))))
     (λ p. record { asked = p.0; received = p.1.0; ahead = p.1.1.0; found = p.1.1.1.0; collecting = p.1.1.1.1.0; missed = p.1.1.1.1.1 }) (λ _. refl)
 
 abbrev pub working_code : Coded Working
 working_code =
-    code_by (Option Ticket × (Option Address × (Option Ticket × (List ℕ × List Ticket))))
-    (coded× (coded_option ticket_code) (coded× (coded_option coded_ℕ) (coded× (coded_option ticket_code) (coded× (coded_list coded_ℕ) (coded_list ticket_code)))))
+    code_by (Option Ticket × (Known × (Option Ticket × (List ℕ × List Ticket))))
+    (coded× (coded_option ticket_code) (coded× known_code (coded× (coded_option ticket_code) (coded× (coded_list coded_ℕ) (coded_list ticket_code)))))
     (λ working. (working.hand, (working.read, (working.seen, (working.missed, working.done)))))
     (λ p. record { hand = p.0; read = p.1.0; seen = p.1.1.0; missed = p.1.1.1.0; done = p.1.1.1.1 }) (λ _. refl)
 

@@ -1,16 +1,16 @@
 -- What the ring shows its callers, and what a sender's end of it shows.
-use Rattle.std.specs.Prelude.{◌≡◌, ℕ, ◌+◌, ◌-◌, ◌<◌, ◌≤◌, Bool, false, List, [], ◌∷◌, ◌++◌, length, map, take, slice_index_or, Option, Some, None, nat_le, if◌then◌else◌}
+use Rattle.std.specs.Prelude.{◌≡◌, ℕ, ◌+◌, ◌-◌, ◌<◌, ◌≤◌, Bool, false, List, [], ◌∷◌, ◌++◌, map, take, slice_index_or, Option, Some, None, nat_le, if◌then◌else◌}
 use Rattle.atomic_table.specs.Table as table
 use Rattle.atomic_table.specs.Seated.{TableId}
+use Rattle.ticket_core.specs.declared.query.Query.{Query}
+use Rattle.ticket_core.specs.declared.query.QueryKind.TheVariants.{Address}
 use Rattle.ticket_core.specs.declared.shape.Shape.{Shape}
 use Rattle.ticket_core.specs.Shape.{Fits}
-use Rattle.ticket_core.specs.State.{Address, Shown, Meaning}
+use Rattle.ticket_core.specs.State.{Shown, Meaning}
 use Rattle.ticket_board.specs.declared.fault.AskFault.{AskFault}
 use Rattle.ticket_board.specs.declared.fault.AskFault.TheVariants.{Full, Exhausted}
 use Rattle.ticket_board.specs.Ring.Layout.{words_in}
-use Rattle.ticket_board.specs.Ring.Views.{Asking, View, asking_of, next_asked, next_received}
-use Rattle.ticket_board.specs.Ring.Steps.{WritesAddress, Publishes, asking_after}
-use Rattle.ticket_board.specs.Ring.Homes.{Out}
+use Rattle.ticket_board.specs.Ring.Views.{Nothing, Asking, View, asking_of, next_asked, next_received}
 use Rattle.ticket_board.specs.Ring.Rule.{IsSender, sender_of}
 
 -- the ring: its shape and key, and which table it is
@@ -73,8 +73,8 @@ asking_refusal shape asking =
     else None
 
 -- what it asked at a number
-abbrev pub asked_at : Asking → ℕ → Address
-asked_at asking n = slice_index_or asking.asked n 0
+abbrev pub asked_at : Asking → ℕ → Query
+asked_at asking n = slice_index_or asking.asked n (Address 0)
 
 -- it was seen whether the next number is answered
 abbrev pub looks : Bool → Asking → Asking
@@ -87,6 +87,6 @@ looks found asking = record asking {
 abbrev pub receives_one : Shown → Asking → Asking
 receives_one answer asking = record asking { received = asking.received ++ answer ∷ []; found = false; collecting = None }
 
--- one address more is asked about
-abbrev pub asks_one : Address → Asking → Asking
-asks_one a asking = asking_after (asking_after asking (WritesAddress a) 0 Out) (Publishes a) 0 Out
+-- one query more is asked
+abbrev pub asks_one : Query → Asking → Asking
+asks_one query asking = record asking { asked = asking.asked ++ query ∷ []; ahead = Nothing }

@@ -12,16 +12,19 @@ cells_in shape = shape.senders * shape.window
 abbrev pub cell_of : Shape → ℕ → ℕ → ℕ
 cell_of shape s n = s * shape.window + n % shape.window
 
--- ---- the words of a cell: its state, then the address that was asked
+-- ---- the words of a cell: its state, then the two words of the query that was asked
 
 abbrev pub cell_words : ℕ
-cell_words = 2
+cell_words = 3
 
 abbrev pub state_field : ℕ
 state_field = 0
 
-abbrev pub address_field : ℕ
-address_field = 1
+abbrev pub first_field : ℕ
+first_field = 1
+
+abbrev pub second_field : ℕ
+second_field = 2
 
 -- the place of a cell's word among all words
 abbrev pub word_of : ℕ → ℕ → ℕ
@@ -30,8 +33,11 @@ word_of cell field = cell * cell_words + field
 abbrev pub state_place : Shape → ℕ → ℕ → ℕ
 state_place shape s n = word_of (cell_of shape s n) state_field
 
-abbrev pub address_place : Shape → ℕ → ℕ → ℕ
-address_place shape s n = word_of (cell_of shape s n) address_field
+abbrev pub first_place : Shape → ℕ → ℕ → ℕ
+first_place shape s n = word_of (cell_of shape s n) first_field
+
+abbrev pub second_place : Shape → ℕ → ℕ → ℕ
+second_place shape s n = word_of (cell_of shape s n) second_field
 
 -- how many words there are
 abbrev pub words_in : Shape → ℕ
@@ -41,8 +47,11 @@ words_in shape = cells_in shape * cell_words
 abbrev pub state_at : Shape → List ℕ → ℕ → ℕ → ℕ
 state_at shape words s n = slice_index_or words (state_place shape s n) 0
 
-abbrev pub address_at : Shape → List ℕ → ℕ → ℕ → ℕ
-address_at shape words s n = slice_index_or words (address_place shape s n) 0
+abbrev pub first_at : Shape → List ℕ → ℕ → ℕ → ℕ
+first_at shape words s n = slice_index_or words (first_place shape s n) 0
+
+abbrev pub second_at : Shape → List ℕ → ℕ → ℕ → ℕ
+second_at shape words s n = slice_index_or words (second_place shape s n) 0
 
 -- ---- the state word: eight times the number, and its phase
 

@@ -1,9 +1,9 @@
 -- The ring as it is opened, and the seats that are cut off one by one.
-use Rattle.std.specs.Prelude.{◌≡◌, ℕ, suc, ◌+◌, ◌-◌, ◌%◌, ◌<◌, List, [], ◌∷◌, ◌++◌, length, replicate, slice_index_or, slice_set, nat_lt, if◌then◌else◌}
+use Rattle.std.specs.Prelude.{◌≡◌, ℕ, suc, ◌-◌, ◌%◌, ◌<◌, List, [], ◌∷◌, ◌++◌, length, replicate, slice_index_or, slice_set, nat_lt, if◌then◌else◌}
 use Rattle.ticket_core.specs.declared.shape.Shape.{Shape}
 use Rattle.ticket_board.specs.Ring.Layout.{cells_in, words_in, state_field, word_of, free_word}
 use Rattle.ticket_board.specs.Ring.Homes.{Empty}
-use Rattle.ticket_board.specs.Ring.Views.{Role, Asks, Works, View, new_asking, new_working, opener}
+use Rattle.ticket_board.specs.Ring.Views.{Asks, Works, View, new_asking, new_working, opener}
 use Rattle.ticket_board.specs.Ring.Shows.{Board}
 
 -- each cell is free for the first number that uses it

@@ -3,13 +3,16 @@ use Rattle.std.specs.Prelude.{◌≡◌, ℕ, suc, ◌/◌, ◌%◌, ◌<◌, Li
 use base.Stored.{gnil}
 use mathlib.Core.Option as maybe
 use Rattle.atomic_table.specs.Table as table
+use Rattle.ticket_core.specs.declared.query.Query.{Query}
+use Rattle.ticket_core.specs.declared.query.QueryKind.TheVariants.{Address}
 use Rattle.ticket_core.specs.declared.shape.Shape.{Shape}
-use Rattle.ticket_core.specs.State.{Address, Shown, Meaning, Ticket, State}
+use Rattle.ticket_core.specs.Query.{AreWords, of_words}
+use Rattle.ticket_core.specs.State.{Shown, Meaning, Ticket, State}
 use Rattle.ticket_board.specs.Ring.Layout.{cell_of, asked_word}
 use Rattle.ticket_board.specs.Ring.Homes.{Home, Out, Empty, Full}
-use Rattle.ticket_board.specs.Ring.Views.{Role, Opens, Asks, Works, View, Asking, opener, asker, worker, asking_of, working_of, next_asked, next_received}
+use Rattle.ticket_board.specs.Ring.Views.{Role, Opens, Asks, Works, View, opener, asker, worker, first_known, query_known, asking_of, working_of, next_asked, next_received}
 use Rattle.ticket_board.specs.Ring.Shows.{Board, Shows}
-use Rattle.ticket_board.specs.Ring.Steps.{SenderStep, BringsOut, WorkerStep, LooksAt, Takes, ReadsAddress, Answers, GivesBack, asking_after, working_after}
+use Rattle.ticket_board.specs.Ring.Steps.{SenderStep, BringsOut, WorkerStep, LooksAt, Takes, ReadsFirst, ReadsSecond, Answers, GivesBack, asking_after, working_after}
 use Rattle.ticket_board.specs.Ring.Opening.{next_seat}
 
 -- a slot of the table: out with a seat, or with an answer or none
@@ -49,23 +52,29 @@ cut_of _ = 0
 
 -- ---- what it knows
 
--- the address that a sender wrote ahead
-abbrev pub ahead_of : Role → Address
-ahead_of role = unwrap_or (asking_of role).ahead 0
+-- the query that a sender wrote ahead; and where it wrote the first word alone, the query of that and this second word
+abbrev pub ahead_of : Role → Query
+ahead_of role = query_known (asking_of role).ahead
+
+abbrev pub ahead_with : Role → ℕ → Query
+ahead_with role second = of_words (first_known (asking_of role).ahead) second
 
 -- the answer that is in a sender's hand
 abbrev pub collecting_of : Role → Shown
 collecting_of role = unwrap_or (asking_of role).collecting gnil
 
--- the number that a worker saw asked, and the one in its hand, with its address
+-- the number that a worker saw asked, and the one in its hand, with its query, or the first word of that, where no more is read
 abbrev pub seen_of : Role → Ticket
 seen_of role = unwrap_or (working_of role).seen (0, 0)
 
 abbrev pub hand_of : Role → Ticket
 hand_of role = unwrap_or (working_of role).hand (0, 0)
 
-abbrev pub read_of : Role → Address
-read_of role = unwrap_or (working_of role).read 0
+abbrev pub read_of : Role → Query
+read_of role = query_known (working_of role).read
+
+abbrev pub first_read_of : Role → ℕ
+first_read_of role = first_known (working_of role).read
 
 -- ---- what a step tells the seat that made it
 
@@ -82,7 +91,7 @@ module _ {A : Type 0} where
   abbrev pub carries : ℕ → Option A → table.Me (Option A) View → table.Me (Option A) View
   carries cell value me = (me.0, (cell, value) ∷ table.rest me.1)
 
-  -- it is that of the number in a worker's hand, and has the meaning of the address that was asked
+  -- it is that of the number in a worker's hand, and has the meaning of the query that was asked
   abbrev pub CarriesMeaning : (A → Shown) → Meaning → table.Me (Option A) View → Type 0
   CarriesMeaning shown meaning me =
       (answer : A) × CarriesFirst (cell_of me.0.shape (hand_of me.0.role).0 (hand_of me.0.role).1) (Some answer) me
@@ -97,7 +106,7 @@ module _ {A : Type 0} where
   abbrev pub KnowsAnswer : (A → Shown) → Meaning → A → table.Me (Option A) View → table.Me (Option A) View → Type 0
   KnowsAnswer shown meaning answer old new =
       (next_received (asking_of old.0.role) < next_asked (asking_of old.0.role))
-      × (shown answer ≡ meaning old.0.key (slice_index_or (asking_of old.0.role).asked (next_received (asking_of old.0.role)) 0))
+      × (shown answer ≡ meaning old.0.key (slice_index_or (asking_of old.0.role).asked (next_received (asking_of old.0.role)) (Address 0)))
       × KnowsSent BringsOut 0 (Full (shown answer))
       ((cell_of old.0.shape (sender_of old.0.role) (next_received (asking_of old.0.role)), Some answer) ∷ old.1) old new
 
@@ -116,13 +125,18 @@ module _ {A : Type 0} where
       KnowsWorked (Takes ticket.0 ticket.1) word
       (if nat_eq word (asked_word ticket.1) then (cell_of old.0.shape ticket.0 ticket.1, None) ∷ old.1 else old.1) old new
 
-  -- it read the address of the number in its hand
-  abbrev pub KnowsRead : Ticket → ℕ → table.Me (Option A) View → table.Me (Option A) View → Type 0
-  KnowsRead ticket word old new = KnowsWorked (ReadsAddress ticket.0 ticket.1) word old.1 old new
+  -- it read the first word of the query of the number in its hand
+  abbrev pub KnowsFirst : Ticket → ℕ → table.Me (Option A) View → table.Me (Option A) View → Type 0
+  KnowsFirst ticket word old new = KnowsWorked (ReadsFirst ticket.0 ticket.1) word old.1 old new
 
-  -- it answered the number in its hand; what it knows then is the same for all addresses and answers
+  -- it read the second too, and they are the words of a query
+  abbrev pub KnowsSecond : Ticket → ℕ → ℕ → table.Me (Option A) View → table.Me (Option A) View → Type 0
+  KnowsSecond ticket first word old new =
+      KnowsWorked (ReadsSecond ticket.0 ticket.1 first) word old.1 old new × AreWords first word
+
+  -- it answered the number in its hand; what it knows then is the same for all queries and answers
   abbrev pub KnowsAnswered : Ticket → List (ℕ × Option A) → table.Me (Option A) View → table.Me (Option A) View → Type 0
-  KnowsAnswered ticket slots old new = KnowsWorked (Answers ticket.0 ticket.1 0 gnil) 0 slots old new
+  KnowsAnswered ticket slots old new = KnowsWorked (Answers ticket.0 ticket.1 (Address 0) gnil) 0 slots old new
 
   -- it gave the number in its hand back
   abbrev pub KnowsGivenBack : Ticket → List (ℕ × Option A) → table.Me (Option A) View → table.Me (Option A) View → Type 0

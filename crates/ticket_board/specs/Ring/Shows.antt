@@ -1,15 +1,17 @@
 -- Which state of the core the ring shows.
-use Rattle.std.specs.Prelude.{◌≡◌, ℕ, suc, ◌+◌, ◌<◌, ◌≤◌, ◌⊎◌, Bool, true, false, ◌&&◌, List, [], ◌∷◌, length, Option, Some, nat_eq, if◌then◌else◌}
+use Rattle.std.specs.Prelude.{◌≡◌, ◌≢◌, ℕ, suc, ◌+◌, ◌<◌, ◌≤◌, ◌⊎◌, Bool, true, false, ◌&&◌, List, [], ◌∷◌, length, Option, Some, nat_eq, if◌then◌else◌}
 use mathlib.Core.Option.{some}
 use lib.ListN.{get_elem?}
+use Rattle.ticket_core.specs.declared.query.Query.{Query}
 use Rattle.ticket_core.specs.declared.shape.Shape.{Shape}
-use Rattle.ticket_core.specs.State.{Address, Shown, Meaning, Place, Unasked, Waiting, Held, Answered, Collected, Sender, Ticket, State, sender_at, hand_at, place_of, address_of}
+use Rattle.ticket_core.specs.Query.{IsQuery, first_word, second_word}
+use Rattle.ticket_core.specs.State.{Shown, Meaning, Place, Unasked, Waiting, Held, Answered, Collected, Sender, Ticket, State, sender_at, hand_at, place_of, query_of}
 use Rattle.ticket_core.specs.Shape.{Fits}
 use Rattle.ticket_core.specs.Sound.{IsSound}
 use Rattle.ticket_core.specs.Runs.{once_finished}
-use Rattle.ticket_board.specs.Ring.Layout.{cells_in, words_in, state_at, address_at, free_word, asked_word, taken_word, answered_word, collecting_word}
+use Rattle.ticket_board.specs.Ring.Layout.{cells_in, words_in, state_at, first_at, second_at, free_word, asked_word, taken_word, answered_word, collecting_word}
 use Rattle.ticket_board.specs.Ring.Homes.{Home, Out, Empty, Full, home_at}
-use Rattle.ticket_board.specs.Ring.Views.{Asking, Working, Role, Opens, Asks, Works, View, next_asked, next_received, sender_seat, worker_seat, asking_at, working_at, working_of}
+use Rattle.ticket_board.specs.Ring.Views.{Known, Nothing, FirstWord, Whole, Asking, Working, Role, Opens, Asks, Works, View, next_asked, next_received, HasRoom, sender_seat, worker_seat, asking_at, working_at, working_of}
 
 -- what the ring is made of: its words, its slots, and what each seat knows
 pub record Board : Type 0 where
@@ -33,9 +35,27 @@ CellShows n next collecting (Held w) word home = (word ≡ taken_word n) × (hom
 CellShows n next collecting (Answered answer) word home = AnswerShows n next collecting answer word home
 CellShows n next collecting Collected word home = ⊥
 
--- ---- a sender, with the state word, the address word and the slot of each of its numbers
+-- ---- the words of a query
 
-pub record SenderShows (shape : Shape) (state address : ℕ → ℕ) (home : ℕ → Home) (asking : Asking) (sender : Sender) : Type 0 where
+-- the two words are this query's
+abbrev pub HasWords : Query → ℕ → ℕ → Type 0
+HasWords query first second = (first ≡ first_word query) × (second ≡ second_word query) × IsQuery query
+
+-- of a query that is written ahead, the words that are known stand there
+abbrev pub IsAhead : Known → ℕ → ℕ → Type 0
+IsAhead Nothing first second = Unit {0}
+IsAhead (FirstWord word) first second = first ≡ word
+IsAhead (Whole query) first second = HasWords query first second
+
+-- what is known of a query is this query's
+abbrev pub IsKnown : Known → Query → Type 0
+IsKnown Nothing query = Unit {0}
+IsKnown (FirstWord word) query = word ≡ first_word query
+IsKnown (Whole known) query = known ≡ query
+
+-- ---- a sender, with the words and the slot of each of its numbers
+
+pub record SenderShows (shape : Shape) (state first second : ℕ → ℕ) (home : ℕ → Home) (asking : Asking) (sender : Sender) : Type 0 where
   pub asked : sender.asked ≡ asking.asked
   pub received : sender.received ≡ asking.received
   -- closing stands in the client alone
@@ -43,11 +63,11 @@ pub record SenderShows (shape : Shape) (state address : ℕ → ℕ) (home : ℕ
   -- the cells stand for the numbers from the next one to be received on
   pub cells : (n : ℕ) → next_received asking ≤ n → n < next_received asking + shape.window
       → CellShows n (next_received asking) asking.collecting (place_of sender n) (state n) (home n)
-  -- and hold the address of each that was asked
-  pub addresses : (n : ℕ) → next_received asking ≤ n → n < next_asked asking → address n ≡ address_of sender n
-  -- an address is written ahead only where one more may be asked
-  pub ahead : (a : Address) → asking.ahead ≡ Some a
-      → (next_asked asking < next_received asking + shape.window) × (next_asked asking < shape.most) × (address (next_asked asking) ≡ a)
+  -- and hold both words of each query that was asked
+  pub words : (n : ℕ) → next_received asking ≤ n → n < next_asked asking → HasWords (query_of sender n) (first n) (second n)
+  -- the cell of the next number holds what is written ahead, which is written only where one more may be asked
+  pub ahead : IsAhead asking.ahead (first (next_asked asking)) (second (next_asked asking))
+  pub room : asking.ahead ≢ Nothing → HasRoom shape asking
   pub found : asking.found ≡ true → state (next_received asking) ≡ answered_word (next_received asking)
   pub collecting : (answer : Shown) → asking.collecting ≡ Some answer → state (next_received asking) ≡ collecting_word (next_received asking)
 
@@ -55,8 +75,8 @@ pub record SenderShows (shape : Shape) (state address : ℕ → ℕ) (home : ℕ
 
 pub record WorkerShows (shape : Shape) (state : State) (w : ℕ) (working : Working) : Type 0 where
   pub hand : hand_at state w ≡ working.hand
-  -- the address that it read is the one that was asked
-  pub read : (s n : ℕ) (a : Address) → working.hand ≡ Some (s, n) → working.read ≡ Some a → a ≡ address_of (sender_at state s) n
+  -- what it read is of the query that was asked
+  pub read : (s n : ℕ) → working.hand ≡ Some (s, n) → IsKnown working.read (query_of (sender_at state s) n)
   -- what it saw is some sender's
   pub seen : (s n : ℕ) → working.seen ≡ Some (s, n) → s < shape.senders
 
@@ -104,7 +124,7 @@ pub record Shows (meaning : Meaning) (shape : Shape) (key : List ℕ) (board : B
   pub homes : length board.homes ≡ cells_in shape
   pub seated : (seat : ℕ) (view : View) → Sits board seat view → Seated shape key (length board.views) seat view
   pub senders : (s : ℕ) → s < shape.senders
-      → SenderShows shape (state_at shape board.words s) (address_at shape board.words s) (home_at shape board.homes s) (asking_at board.views s) (sender_at state s)
+      → SenderShows shape (state_at shape board.words s) (first_at shape board.words s) (second_at shape board.words s) (home_at shape board.homes s) (asking_at board.views s) (sender_at state s)
   pub workers : (w : ℕ) → WorkerShows shape state w (working_at shape board.views w)
   -- each number that is answered or received was answered once, and every other never
   pub done : (s n : ℕ) → times_done s n board.views ≡ once_finished (place_of (sender_at state s) n)

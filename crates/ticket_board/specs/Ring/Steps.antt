@@ -1,20 +1,24 @@
 -- The steps of the ring, each on one word by one seat: when a step may be made, what it changes, and which event it is.
 use Rattle.std.specs.Prelude.{◌≡◌, ℕ, ◌+◌, ◌/◌, ◌%◌, ◌<◌, Bool, true, false, List, [], ◌∷◌, ◌++◌, slice_index_or, slice_set, Option, Some, None, nat_eq, if◌then◌else◌}
+use Rattle.ticket_core.specs.declared.query.Query.{Query}
 use Rattle.ticket_core.specs.declared.shape.Shape.{Shape}
-use Rattle.ticket_core.specs.State.{Address, Shown, Meaning}
+use Rattle.ticket_core.specs.Query.{IsQuery, first_word, second_word, of_words}
+use Rattle.ticket_core.specs.State.{Shown, Meaning}
 use Rattle.ticket_core.specs.Events.{Event, Ask, Take, Finish, GiveBack, Collect}
-use Rattle.ticket_board.specs.Ring.Layout.{cells_in, cell_of, state_field, word_of, state_place, address_place, state_at, free_word, asked_word, taken_word, answered_word, collecting_word}
+use Rattle.ticket_board.specs.Ring.Layout.{cells_in, cell_of, state_field, word_of, state_place, first_place, second_place, state_at, free_word, asked_word, taken_word, answered_word, collecting_word}
 use Rattle.ticket_board.specs.Ring.Homes.{Home, Out, Empty, Full, home_at, answer_at_home}
-use Rattle.ticket_board.specs.Ring.Views.{Asking, Working, next_asked, next_received, asker, worker}
+use Rattle.ticket_board.specs.Ring.Views.{Nothing, FirstWord, Whole, Asking, Working, next_asked, next_received, HasRoom, asker, worker}
 use Rattle.ticket_board.specs.Ring.Shows.{Board}
 
 -- ---- a sender's steps
 
 pub data SenderStep : Type 0 where
-  -- stores an address in the cell of the number that it asks next
-  WritesAddress : (a : Address) → SenderStep
+  -- stores the first word of a query in the cell of the number that it asks next
+  WritesFirst : (word : ℕ) → SenderStep
+  -- stores the second word of that query
+  WritesSecond : (query : Query) → SenderStep
   -- stores that this number waits
-  Publishes : (a : Address) → SenderStep
+  Publishes : (query : Query) → SenderStep
   -- loads the state of the number that it receives next
   LooksNext : SenderStep
   -- stores that this number's answer is on its way out, and takes the slot
@@ -22,22 +26,20 @@ pub data SenderStep : Type 0 where
   -- stores that the cell is free for a later number, and gives the empty slot back
   Receives : (answer : Shown) → SenderStep
 
--- one number more may be asked
-abbrev pub HasRoom : Shape → Asking → Type 0
-HasRoom shape asking = (next_asked asking < next_received asking + shape.window) × (next_asked asking < shape.most)
-
 -- when the step may be made
 abbrev pub MaySend : Shape → Asking → SenderStep → Type 0
-MaySend shape asking (WritesAddress a) = HasRoom shape asking
-MaySend shape asking (Publishes a) = asking.ahead ≡ Some a
+MaySend shape asking (WritesFirst word) = HasRoom shape asking
+MaySend shape asking (WritesSecond query) = (asking.ahead ≡ FirstWord (first_word query)) × IsQuery query
+MaySend shape asking (Publishes query) = asking.ahead ≡ Whole query
 MaySend shape asking LooksNext = asking.collecting ≡ None
 MaySend shape asking BringsOut = asking.found ≡ true
 MaySend shape asking (Receives answer) = asking.collecting ≡ Some answer
 
 -- the words after it
 abbrev pub words_sent : Shape → ℕ → Asking → SenderStep → List ℕ → List ℕ
-words_sent shape s asking (WritesAddress a) words = slice_set words (address_place shape s (next_asked asking)) a
-words_sent shape s asking (Publishes a) words = slice_set words (state_place shape s (next_asked asking)) (asked_word (next_asked asking))
+words_sent shape s asking (WritesFirst word) words = slice_set words (first_place shape s (next_asked asking)) word
+words_sent shape s asking (WritesSecond query) words = slice_set words (second_place shape s (next_asked asking)) (second_word query)
+words_sent shape s asking (Publishes query) words = slice_set words (state_place shape s (next_asked asking)) (asked_word (next_asked asking))
 words_sent shape s asking LooksNext words = words
 words_sent shape s asking BringsOut words = slice_set words (state_place shape s (next_received asking)) (collecting_word (next_received asking))
 words_sent shape s asking (Receives answer) words =
@@ -55,8 +57,9 @@ is_answered_word asking word = nat_eq word (answered_word (next_received asking)
 
 -- what the sender knows after it; of the number that it receives next, this is the state word, and this lies in the slot
 abbrev pub asking_after : Asking → SenderStep → ℕ → Home → Asking
-asking_after asking (WritesAddress a) word home = record asking { ahead = Some a }
-asking_after asking (Publishes a) word home = record asking { asked = asking.asked ++ a ∷ []; ahead = None }
+asking_after asking (WritesFirst first) word home = record asking { ahead = FirstWord first }
+asking_after asking (WritesSecond query) word home = record asking { ahead = Whole query }
+asking_after asking (Publishes query) word home = record asking { asked = asking.asked ++ query ∷ []; ahead = Nothing }
 asking_after asking LooksNext word home = record asking {
   found = is_answered_word asking word;
   missed = if is_answered_word asking word then asking.missed else asking.missed ++ next_received asking ∷ [];
@@ -75,7 +78,7 @@ sent shape key seat s asking step board = record {
 
 -- the event of the core that it is, if it is one
 abbrev pub event_sent : ℕ → SenderStep → Option Event
-event_sent s (Publishes a) = Some (Ask s a)
+event_sent s (Publishes query) = Some (Ask s query)
 event_sent s (Receives answer) = Some (Collect s)
 event_sent s _ = None
 
@@ -86,10 +89,12 @@ pub data WorkerStep : Type 0 where
   LooksAt : (cell : ℕ) → WorkerStep
   -- exchanges the word that says that the number waits for one that says that it is taken, in one try; and takes the slot
   Takes : (s n : ℕ) → WorkerStep
-  -- loads the address of the number in its hand
-  ReadsAddress : (s n : ℕ) → WorkerStep
+  -- loads the first word of the query of the number in its hand
+  ReadsFirst : (s n : ℕ) → WorkerStep
+  -- loads the second word of that query, of which it read this first word
+  ReadsSecond : (s n first : ℕ) → WorkerStep
   -- stores that this number is answered, and gives the slot back with the answer
-  Answers : (s n : ℕ) (a : Address) (answer : Shown) → WorkerStep
+  Answers : (s n : ℕ) (query : Query) (answer : Shown) → WorkerStep
   -- stores that this number waits, and gives the empty slot back
   GivesBack : (s n : ℕ) → WorkerStep
 
@@ -97,31 +102,33 @@ pub data WorkerStep : Type 0 where
 abbrev pub MayWork : Meaning → Shape → List ℕ → Working → WorkerStep → Type 0
 MayWork meaning shape key working (LooksAt cell) = (working.hand ≡ None) × (cell < cells_in shape)
 MayWork meaning shape key working (Takes s n) = (working.hand ≡ None) × (working.seen ≡ Some (s, n))
-MayWork meaning shape key working (ReadsAddress s n) = working.hand ≡ Some (s, n)
-MayWork meaning shape key working (Answers s n a answer) =
-    (working.hand ≡ Some (s, n)) × (working.read ≡ Some a) × (answer ≡ meaning key a)
+MayWork meaning shape key working (ReadsFirst s n) = working.hand ≡ Some (s, n)
+MayWork meaning shape key working (ReadsSecond s n first) = (working.hand ≡ Some (s, n)) × (working.read ≡ FirstWord first)
+MayWork meaning shape key working (Answers s n query answer) =
+    (working.hand ≡ Some (s, n)) × (working.read ≡ Whole query) × (answer ≡ meaning key query)
 MayWork meaning shape key working (GivesBack s n) = working.hand ≡ Some (s, n)
 
 -- the place of the word on which it is made
 abbrev pub word_worked : Shape → WorkerStep → ℕ
 word_worked shape (LooksAt cell) = word_of cell state_field
 word_worked shape (Takes s n) = state_place shape s n
-word_worked shape (ReadsAddress s n) = address_place shape s n
-word_worked shape (Answers s n a answer) = state_place shape s n
+word_worked shape (ReadsFirst s n) = first_place shape s n
+word_worked shape (ReadsSecond s n first) = second_place shape s n
+word_worked shape (Answers s n query answer) = state_place shape s n
 word_worked shape (GivesBack s n) = state_place shape s n
 
 -- the words after it, where it found this one
 abbrev pub words_worked : Shape → WorkerStep → ℕ → List ℕ → List ℕ
 words_worked shape (Takes s n) word words =
     if nat_eq word (asked_word n) then slice_set words (state_place shape s n) (taken_word n) else words
-words_worked shape (Answers s n a answer) word words = slice_set words (state_place shape s n) (answered_word n)
+words_worked shape (Answers s n query answer) word words = slice_set words (state_place shape s n) (answered_word n)
 words_worked shape (GivesBack s n) word words = slice_set words (state_place shape s n) (asked_word n)
 words_worked shape _ word words = words
 
 -- the slots after it
 abbrev pub homes_worked : Shape → WorkerStep → ℕ → List Home → List Home
 homes_worked shape (Takes s n) word homes = if nat_eq word (asked_word n) then slice_set homes (cell_of shape s n) Out else homes
-homes_worked shape (Answers s n a answer) word homes = slice_set homes (cell_of shape s n) (Full answer)
+homes_worked shape (Answers s n query answer) word homes = slice_set homes (cell_of shape s n) (Full answer)
 homes_worked shape (GivesBack s n) word homes = slice_set homes (cell_of shape s n) Empty
 homes_worked shape _ word homes = homes
 
@@ -137,13 +144,14 @@ working_after shape working (LooksAt cell) word = record working {
 }
 working_after shape working (Takes s n) word = record working {
   hand = if nat_eq word (asked_word n) then Some (s, n) else None;
-  read = None;
+  read = Nothing;
   seen = None;
   missed = if nat_eq word (asked_word n) then working.missed else working.missed ++ cell_of shape s n ∷ [];
 }
-working_after shape working (ReadsAddress s n) word = record working { read = Some word }
-working_after shape working (Answers s n a answer) word = record working { hand = None; read = None; done = working.done ++ (s, n) ∷ [] }
-working_after shape working (GivesBack s n) word = record working { hand = None; read = None }
+working_after shape working (ReadsFirst s n) word = record working { read = FirstWord word }
+working_after shape working (ReadsSecond s n first) word = record working { read = Whole (of_words first word) }
+working_after shape working (Answers s n query answer) word = record working { hand = None; read = Nothing; done = working.done ++ (s, n) ∷ [] }
+working_after shape working (GivesBack s n) word = record working { hand = None; read = Nothing }
 
 -- the ring after it
 abbrev pub worked : Shape → List ℕ → ℕ → ℕ → Working → WorkerStep → Board → Board
@@ -157,6 +165,6 @@ worked shape key seat w working step board = record {
 -- the event of the core that it is, if it is one
 abbrev pub event_worked : ℕ → WorkerStep → ℕ → Option Event
 event_worked w (Takes s n) word = if nat_eq word (asked_word n) then Some (Take w s n) else None
-event_worked w (Answers s n a answer) word = Some (Finish w)
+event_worked w (Answers s n query answer) word = Some (Finish w)
 event_worked w (GivesBack s n) word = Some (GiveBack w)
 event_worked w _ word = None

@@ -3,11 +3,12 @@ use Rattle.std.specs.Prelude.{◌≡◌, ℕ, ◌+◌, ◌*◌, ◌^◌, ◌<◌
 use Rattle.std.specs.List.{Contains}
 use Rattle.atomic_table.specs.Table as table
 use Rattle.atomic_table.specs.Seated.{TableId}
+use Rattle.ticket_core.specs.declared.query.Query.{Query}
 use Rattle.ticket_core.specs.declared.shape.Shape.{Shape}
 use Rattle.ticket_core.specs.Shape.{Fits}
-use Rattle.ticket_core.specs.State.{Address, Shown, Meaning, Ticket}
+use Rattle.ticket_core.specs.State.{Shown, Meaning, Ticket}
 use Rattle.ticket_board.specs.Ring.Layout.{cell_of, cells_in}
-use Rattle.ticket_board.specs.Ring.Views.{Working, View, working_of}
+use Rattle.ticket_board.specs.Ring.Views.{Nothing, Whole, Working, View, working_of}
 use Rattle.ticket_board.specs.Ring.Rule.{IsWorker, worker_of}
 use Rattle.ticket_board.specs.Ring.Ends.{RingState}
 
@@ -40,21 +41,21 @@ pub record HasSought (old new : TakerState) : Type 0 where
   pub same : new ≡ knowing new.working old
   pub done : new.working.done ≡ old.working.done
 
--- its hand holds this number of this sender, whose address it read
-abbrev pub HoldsRead : ℕ × ℕ × Address → Working → Type 0
-HoldsRead found working = (working.hand ≡ Some (found.0, found.1)) × (working.read ≡ Some found.2)
+-- its hand holds this number of this sender, whose query it read
+abbrev pub HoldsRead : ℕ × ℕ × Query → Working → Type 0
+HoldsRead found working = (working.hand ≡ Some (found.0, found.1)) × (working.read ≡ Whole found.2)
 
--- this answer is the meaning of the address that it read
+-- this answer is the meaning of the query that it read
 abbrev pub IsMeaning : {A : Type 0} → (A → Shown) → Meaning → A → TakerState → Type 0
 IsMeaning shown meaning answer taker =
-    (a : Address) × (taker.working.read ≡ Some a) × (shown answer ≡ meaning taker.key a) × IsSome taker.working.hand
+    (query : Query) × (taker.working.read ≡ Whole query) × (shown answer ≡ meaning taker.key query) × IsSome taker.working.hand
 
 -- the number in its hand is answered, or given back
 abbrev pub answers_one : Ticket → Working → Working
-answers_one ticket working = record working { hand = None; read = None; done = working.done ++ ticket ∷ [] }
+answers_one ticket working = record working { hand = None; read = Nothing; done = working.done ++ ticket ∷ [] }
 
 abbrev pub gives_one : Working → Working
-gives_one working = record working { hand = None; read = None }
+gives_one working = record working { hand = None; read = Nothing }
 
 -- its hand is empty, and each of these cells is among those that gave it nothing since
 pub record MissedEach (cells : ℕ → Type 0) (old new : Working) : Type 0 where

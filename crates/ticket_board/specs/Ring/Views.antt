@@ -1,16 +1,37 @@
 -- What a seat at the ring knows.
-use Rattle.std.specs.Prelude.{ℕ, suc, ◌+◌, Bool, false, List, [], length, slice_index_or, Option, None}
+use Rattle.std.specs.Prelude.{ℕ, suc, ◌+◌, ◌<◌, Bool, false, List, [], length, slice_index_or, Option, None}
+use Rattle.ticket_core.specs.declared.query.Query.{Query}
+use Rattle.ticket_core.specs.declared.query.QueryKind.TheVariants.{Address}
 use Rattle.ticket_core.specs.declared.shape.Shape.{Shape}
-use Rattle.ticket_core.specs.State.{Address, Shown, Ticket}
+use Rattle.ticket_core.specs.State.{Shown, Ticket}
+
+-- ---- a query, as far as its words are known
+
+pub data Known : Type 0 where
+  -- neither of them
+  Nothing : Known
+  -- the first
+  FirstWord : (word : ℕ) → Known
+  -- both
+  Whole : (query : Query) → Known
+
+-- the first word, where that alone is known, and the query, where both words are
+abbrev pub first_known : Known → ℕ
+first_known (FirstWord word) = word
+first_known _ = 0
+
+abbrev pub query_known : Known → Query
+query_known (Whole query) = query
+query_known _ = Address 0
 
 -- ---- a sender
 
 pub record Asking : Type 0 where
   -- what it asked and what it received, both by number
-  pub asked : List Address
+  pub asked : List Query
   pub received : List Shown
-  -- the address that stands in the cell of the next number, which isn't asked yet
-  pub ahead : Option Address
+  -- the query that stands in the cell of the next number, which isn't asked yet
+  pub ahead : Known
   -- the next number to be received was found answered
   pub found : Bool
   -- the answer of the next number, on its way out of the slot
@@ -26,15 +47,19 @@ next_asked asking = length asking.asked
 abbrev pub next_received : Asking → ℕ
 next_received asking = length asking.received
 
+-- one number more may be asked
+abbrev pub HasRoom : Shape → Asking → Type 0
+HasRoom shape asking = (next_asked asking < next_received asking + shape.window) × (next_asked asking < shape.most)
+
 abbrev pub new_asking : Asking
-new_asking = record { asked = []; received = []; ahead = None; found = false; collecting = None; missed = [] }
+new_asking = record { asked = []; received = []; ahead = Nothing; found = false; collecting = None; missed = [] }
 
 -- ---- a worker
 
 pub record Working : Type 0 where
-  -- what it took and neither answered nor gave back, and its address, once that is read
+  -- what it took and neither answered nor gave back, and what it read of its query
   pub hand : Option Ticket
-  pub read : Option Address
+  pub read : Known
   -- what it saw asked when it looked
   pub seen : Option Ticket
   -- the cells that gave it nothing when it looked or tried
@@ -43,7 +68,7 @@ pub record Working : Type 0 where
   pub done : List Ticket
 
 abbrev pub new_working : Working
-new_working = record { hand = None; read = None; seen = None; missed = []; done = [] }
+new_working = record { hand = None; read = Nothing; seen = None; missed = []; done = [] }
 
 -- ---- seats
 

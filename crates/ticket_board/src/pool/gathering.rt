@@ -2,6 +2,7 @@
 
 ghost use Rattle.std.specs.Prelude.{◌≡◌, ◌+◌, ◌<◌, ◌≤◌, length, map, drop, slice_index_or, IfOk};
 ghost use Rattle.std.specs.VecDeque.{deque_len, deque_capacity};
+ghost use Rattle.ticket_core.specs.declared.query.QueryKind.TheVariants.{Address};
 ghost use Rattle.ticket_board.specs.Pool.{AreAnswers, AreLanes};
 
 use super::task::{Lane, Task};
@@ -14,7 +15,7 @@ fn take_answer<S: Solver>(task: &Task<'_>, i: usize, lanes: &mut VecDeque<Lane<S
     requires within { i < length task.now.queries.now }
     requires senders { (1 ≤ task.now.senders) × (deque_len lanes.old ≡ task.now.senders) }
     requires lanes { AreLanes S.shown S.meaning task.now.key.now task.now.senders (drop i task.now.queries.now) (map (λ lane. lane.items) lanes.old.items) }
-    ensures answer { S.shown result ≡ S.meaning task.now.key.now (slice_index_or task.now.queries.now i 0) }
+    ensures answer { S.shown result ≡ S.meaning task.now.key.now (slice_index_or task.now.queries.now i (Address 0)) }
     ensures senders { deque_len lanes.new ≡ deque_len lanes.old }
     ensures lanes { AreLanes S.shown S.meaning task.now.key.now task.now.senders (drop (i + 1) task.now.queries.now) (map (λ lane. lane.items) lanes.new.items) }
 {

@@ -1,14 +1,14 @@
 //! Which worker is to answer a query. No proof rests on it: any worker may answer any query.
 
 use crate::board::Board;
-use ticket_core::Solver;
+use ticket_core::{Query, Solver};
 
-/// The addresses that a pool answers, and which worker each of them is meant for.
+/// The queries that a pool answers, and which worker each of them is meant for.
 #[derive(Clone, Copy)]
 pub struct Queries<'q> {
-    /// The addresses.
-    pub addresses: &'q [u64],
-    /// For each address the number of its worker. An address without one is meant for each worker.
+    /// The queries.
+    pub asked: &'q [Query],
+    /// For each query the number of its worker. A query without one is meant for each worker.
     pub owners: &'q [u8],
 }
 

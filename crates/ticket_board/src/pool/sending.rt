@@ -13,7 +13,7 @@ use crate::outcome::Next;
 use std::alloc::{AllocError, Global};
 use std::collections::VecDeque;
 use std::sync::Wait;
-use ticket_core::{NoMemory, Solver};
+use ticket_core::{NoMemory, Query, Solver};
 
 /// How often in a row a sender gives way to others, before it sleeps.
 const AWAKE: u32 = 64;
@@ -23,7 +23,7 @@ const AWAKE: u32 = 64;
 fn ask_on<'a, S: Solver>(
     board: &Board<'a, S>,
     client: &mut Client<S>,
-    queries: &[u64],
+    queries: &[Query],
     next: usize,
     step: usize,
 ) -> usize

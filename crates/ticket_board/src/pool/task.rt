@@ -5,13 +5,13 @@ ghost use Rattle.std.specs.Prelude.{IfOk};
 use std::collections::VecDeque;
 use std::marker::PhantomData;
 use std::thread::Promise;
-use ticket_core::{NoMemory, Solver};
+use ticket_core::{NoMemory, Query, Solver};
 
 /// What a pool has to answer: these queries, under this key, dealt to so many senders in turn.
 #[derive(Clone, Copy)]
 pub struct Task<'q> {
     pub key: &'q [u8],
-    pub queries: &'q [u64],
+    pub queries: &'q [Query],
     pub senders: usize,
 }
 

@@ -6,12 +6,12 @@ ghost use Rattle.ticket_board.specs.Ring.Ends.{IsAskerOf, IsRightAsker, asking_r
 
 use crate::fault::AskFault;
 use crate::ring::board::Ring;
-use crate::ring::layout::{ADDRESS, CELL_WORDS, STATE, cell_at};
+use crate::ring::layout::{CELL_WORDS, FIRST, SECOND, STATE, cell_at};
 use crate::ring::rule::Place;
 use crate::ring::slots::take_out;
-use crate::ring::steps::{bring_out, look_next, publish, receive, write_address};
+use crate::ring::steps::{bring_out, look_next, publish, receive, write_first, write_second};
 use std::marker::Model;
-use ticket_core::{Shape, Solver};
+use ticket_core::{Query, Shape, Solver};
 
 /// A sender's end of the ring: it asks. Contracts see what its seat knows.
 #[derive(Drop)]
@@ -35,15 +35,14 @@ impl<S: Solver> Model for Asker<S> {
 }
 
 impl<S: Solver> Asker<S> {
-    /// Asks about an address, and gives the query's number, counted from 0. It waits for nobody and
-    /// takes no memory.
+    /// Asks a query, and gives its number, counted from 0. It waits for nobody and takes no memory.
     ///
     /// The errors, tested in this order: `Exhausted` where as many were asked as the shape allows;
     /// `Full` where as many are outstanding as the window allows. They change nothing.
-    pub fn ask<'a>(&mut self, ring: &Ring<'a, S>, a: u64) -> Result<u64, AskFault>
+    pub fn ask<'a>(&mut self, ring: &Ring<'a, S>, query: Query) -> Result<u64, AskFault>
         requires { IsAskerOf ring.now self.old }
         ensures number { IfOk result (λ n. n ≡ next_asked self.old.asking) }
-        ensures asked { OnOk result (self.new ≡ record self.old { asking = asks_one a self.old.asking }) }
+        ensures asked { OnOk result (self.new ≡ record self.old { asking = asks_one query self.old.asking }) }
         ensures refused { OnErr result (self.new ≡ self.old) }
         ensures refusal { MatchResult result (λ _. asking_refusal self.old.shape self.old.asking ≡ None) (λ fault. asking_refusal self.old.shape self.old.asking ≡ Some fault) }
     {
@@ -54,15 +53,11 @@ impl<S: Solver> Asker<S> {
             return Err(AskFault::Full);
         }
         let number = self.asked;
-        let cell = cell_at(&self.shape, self.sender, number);
+        let words = cell_at(&self.shape, self.sender, number) * CELL_WORDS;
         let shelf = &ring.table.shared;
-        write_address(shelf, &mut self.seat, cell * CELL_WORDS + ADDRESS, a);
-        publish(
-            shelf,
-            &mut self.seat,
-            cell * CELL_WORDS + STATE,
-            8 * number + 1,
-        );
+        write_first(shelf, &mut self.seat, words + FIRST, query.first());
+        write_second(shelf, &mut self.seat, words + SECOND, query);
+        publish(shelf, &mut self.seat, words + STATE, 8 * number + 1);
         self.asked = number + 1;
         Ok(number)
     }

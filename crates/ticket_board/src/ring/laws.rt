@@ -5,8 +5,9 @@
 //! one event that the step is.
 
 ghost use Rattle.std.specs.Prelude.{ℕ};
-ghost use Rattle.ticket_core.specs.State.{Address, Meaning, Shown};
-ghost use Rattle.ticket_board.specs.Ring.Steps.{SenderStep, WritesAddress, Publishes, LooksNext, BringsOut, Receives, WorkerStep, LooksAt, Takes, ReadsAddress, Answers, GivesBack};
+ghost use Rattle.ticket_core.specs.declared.query.Query.{Query};
+ghost use Rattle.ticket_core.specs.State.{Meaning, Shown};
+ghost use Rattle.ticket_board.specs.Ring.Steps.{SenderStep, WritesFirst, WritesSecond, Publishes, LooksNext, BringsOut, Receives, WorkerStep, LooksAt, Takes, ReadsFirst, ReadsSecond, Answers, GivesBack};
 ghost use Rattle.ticket_board.specs.Ring.Laws.{OpeningLaw, SeatLaw, SenderLaw, WorkerLaw};
 
 /// The opened ring shows the opening state of the core, and cutting off the seat of a sender or of a
@@ -16,14 +17,14 @@ pub fn law_of_opening()
     ensures seats { (meaning : Meaning) → SeatLaw meaning }
 {}
 
-/// A sender stores an address in the cell of the number that it asks next: no event.
+/// A sender stores the first word of a query in the cell of the number that it asks next: no event.
 pub fn law_of_k1()
-    ensures { (meaning : Meaning) (a : Address) → SenderLaw meaning (WritesAddress a) }
+    ensures { (meaning : Meaning) (word : ℕ) → SenderLaw meaning (WritesFirst word) }
 {}
 
-/// A sender stores that this number waits: it is asked.
+/// A sender stores that this number waits, of whose query both words stand in the cell: it is asked.
 pub fn law_of_k2()
-    ensures { (meaning : Meaning) (a : Address) → SenderLaw meaning (Publishes a) }
+    ensures { (meaning : Meaning) (query : Query) → SenderLaw meaning (Publishes query) }
 {}
 
 /// A sender or a worker loads a state word: no event.
@@ -38,15 +39,15 @@ pub fn law_of_k4()
     ensures { (meaning : Meaning) (s n : ℕ) → WorkerLaw meaning (Takes s n) }
 {}
 
-/// A worker loads the address of the number in its hand: no event.
+/// A worker loads the first word of the query of the number in its hand: no event.
 pub fn law_of_k5()
-    ensures { (meaning : Meaning) (s n : ℕ) → WorkerLaw meaning (ReadsAddress s n) }
+    ensures { (meaning : Meaning) (s n : ℕ) → WorkerLaw meaning (ReadsFirst s n) }
 {}
 
-/// A worker stores that the number in its hand is answered, with the meaning of its address in the
-/// slot: it is finished. Or it stores that the number waits again: it is given back.
+/// A worker stores that the number in its hand is answered, of whose query it read both words, with its
+/// meaning in the slot: it is finished. Or it stores that the number waits again: it is given back.
 pub fn law_of_k6()
-    ensures answers { (meaning : Meaning) (s n : ℕ) (a : Address) (answer : Shown) → WorkerLaw meaning (Answers s n a answer) }
+    ensures answers { (meaning : Meaning) (s n : ℕ) (query : Query) (answer : Shown) → WorkerLaw meaning (Answers s n query answer) }
     ensures gives_back { (meaning : Meaning) (s n : ℕ) → WorkerLaw meaning (GivesBack s n) }
 {}
 
@@ -58,6 +59,16 @@ pub fn law_of_k7()
 /// A sender stores that the cell is free for the number a window later: the answer is collected.
 pub fn law_of_k8()
     ensures { (meaning : Meaning) (answer : Shown) → SenderLaw meaning (Receives answer) }
+{}
+
+/// A sender stores the second word of the query whose first word it wrote ahead: no event.
+pub fn law_of_k9()
+    ensures { (meaning : Meaning) (query : Query) → SenderLaw meaning (WritesSecond query) }
+{}
+
+/// A worker loads the second word of the query whose first word it read: no event.
+pub fn law_of_k10()
+    ensures { (meaning : Meaning) (s n first : ℕ) → WorkerLaw meaning (ReadsSecond s n first) }
 {}
 
 /// Any step, by any seat. With the core's law over all runs, what that says of each sender and of
@@ -74,4 +85,6 @@ pub fn law_of_steps()
     law_of_k6();
     law_of_k7();
     law_of_k8();
+    law_of_k9();
+    law_of_k10();
 }

@@ -6,14 +6,17 @@ ghost use Rattle.ticket_board.specs.Ring.Layout as layout;
 
 use ticket_core::Shape;
 
-/// How many words a cell has: its state, then the address that was asked.
-pub const CELL_WORDS: usize = 2;
+/// How many words a cell has: its state, then the two words of the query that was asked.
+pub const CELL_WORDS: usize = 3;
 
 /// The place of the state among the words of a cell.
 pub const STATE: usize = 0;
 
-/// The place of the address among the words of a cell.
-pub const ADDRESS: usize = 1;
+/// The place of the query's first word among the words of a cell.
+pub const FIRST: usize = 1;
+
+/// The place of the query's second word among the words of a cell.
+pub const SECOND: usize = 2;
 
 /// The cell of a sender's number.
 pub fn cell_at(shape: &Shape, sender: usize, number: u64) -> usize

@@ -29,6 +29,7 @@ fn free_words(alloc: Global, shape: &Shape) -> Result<Vec<u64>, AllocError>
         let turn = cell % shape.window;
         words.push_reserved(8 * turn as u64);
         words.push_reserved(0);
+        words.push_reserved(0);
     }
     Ok(words)
 }

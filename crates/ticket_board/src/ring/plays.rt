@@ -4,9 +4,9 @@ ghost use Rattle.std.specs.Prelude.{◌/◌};
 ghost use Rattle.atomic_table.specs.Table.{rest};
 ghost use Rattle.ticket_board.specs.Ring.Layout.{cell_words};
 ghost use Rattle.ticket_board.specs.Ring.Homes.{Out};
-ghost use Rattle.ticket_board.specs.Ring.Steps.{WritesAddress, Publishes, LooksNext, Receives};
-ghost use Rattle.ticket_board.specs.Ring.Rule.{ahead_of, collecting_of, seen_of, hand_of, left_after, cut_from};
-ghost use Rattle.ticket_board.specs.Ring.Rule.{KnowsSent, KnowsAnswer, KnowsLooked, KnowsTried, KnowsRead, KnowsAnswered, KnowsGivenBack};
+ghost use Rattle.ticket_board.specs.Ring.Steps.{WritesFirst, WritesSecond, Publishes, LooksNext, Receives};
+ghost use Rattle.ticket_board.specs.Ring.Rule.{ahead_of, ahead_with, collecting_of, seen_of, hand_of, first_read_of, left_after, cut_from};
+ghost use Rattle.ticket_board.specs.Ring.Rule.{KnowsSent, KnowsAnswer, KnowsLooked, KnowsTried, KnowsFirst, KnowsSecond, KnowsAnswered, KnowsGivenBack};
 
 use crate::ring::rule::Knowledge;
 use atomic_table::{Play, Split};
@@ -22,11 +22,18 @@ impl Split<Knowledge> for CutOff {
     ghost right = { cut_from };
 }
 
-/// An address is written ahead.
-pub struct WriteAddress;
+/// The first word of a query is written ahead.
+pub struct WriteFirst;
 
-impl<T> Play<Option<T>, Knowledge> for WriteAddress {
-    ghost then = { λ step old word new. KnowsSent (WritesAddress step.first) 0 Out old.1 old new };
+impl<T> Play<Option<T>, Knowledge> for WriteFirst {
+    ghost then = { λ step old word new. KnowsSent (WritesFirst step.first) 0 Out old.1 old new };
+}
+
+/// The second word is written ahead, after the first.
+pub struct WriteSecond;
+
+impl<T> Play<Option<T>, Knowledge> for WriteSecond {
+    ghost then = { λ step old word new. KnowsSent (WritesSecond (ahead_with old.0.role step.first)) 0 Out old.1 old new };
 }
 
 /// A number is asked.
@@ -73,11 +80,18 @@ impl<T> Play<Option<T>, Knowledge> for Take {
     ghost then = { λ step old word new. KnowsTried (seen_of old.0.role) word old new };
 }
 
-/// A worker reads the address of the number in its hand.
-pub struct ReadAddress;
+/// A worker reads the first word of the query of the number in its hand.
+pub struct ReadFirst;
 
-impl<T> Play<Option<T>, Knowledge> for ReadAddress {
-    ghost then = { λ step old word new. KnowsRead (hand_of old.0.role) word old new };
+impl<T> Play<Option<T>, Knowledge> for ReadFirst {
+    ghost then = { λ step old word new. KnowsFirst (hand_of old.0.role) word old new };
+}
+
+/// A worker reads the second word, after the first.
+pub struct ReadSecond;
+
+impl<T> Play<Option<T>, Knowledge> for ReadSecond {
+    ghost then = { λ step old word new. KnowsSecond (hand_of old.0.role) (first_read_of old.0.role) word old new };
 }
 
 /// A worker answers the number in its hand.

@@ -3,42 +3,67 @@
 
 ghost use Rattle.std.specs.Prelude.{◌≡◌, ◌<◌, ◌+◌, true, Some, None};
 ghost use Rattle.atomic_table.specs.Table.{rest};
-ghost use Rattle.ticket_board.specs.Ring.Layout.{cells_in, cell_of, word_of, state_field, address_place, state_place, free_word, asked_word, taken_word, answered_word, collecting_word};
+ghost use Rattle.ticket_core.specs.Query.{first_word};
+ghost use Rattle.ticket_board.specs.Ring.Layout.{cells_in, cell_of, word_of, state_field, first_place, second_place, state_place, free_word, asked_word, taken_word, answered_word, collecting_word};
 ghost use Rattle.ticket_board.specs.Ring.Homes.{Out};
-ghost use Rattle.ticket_board.specs.Ring.Views.{asking_of, working_of, next_asked, next_received};
-ghost use Rattle.ticket_board.specs.Ring.Steps.{WritesAddress, Publishes, LooksNext, Receives, HasRoom};
-ghost use Rattle.ticket_board.specs.Ring.Rule.{IsSender, IsWorker, sender_of, ahead_of, collecting_of, seen_of, hand_of, read_of};
-ghost use Rattle.ticket_board.specs.Ring.Rule.{KnowsSent, KnowsAnswer, KnowsLooked, KnowsTried, KnowsRead, KnowsAnswered, KnowsGivenBack};
+ghost use Rattle.ticket_board.specs.Ring.Views.{FirstWord, Whole, asking_of, working_of, next_asked, next_received, HasRoom};
+ghost use Rattle.ticket_board.specs.Ring.Steps.{WritesFirst, WritesSecond, Publishes, LooksNext, Receives};
+ghost use Rattle.ticket_board.specs.Ring.Rule.{IsSender, IsWorker, sender_of, ahead_of, collecting_of, seen_of, hand_of, read_of, first_read_of};
+ghost use Rattle.ticket_board.specs.Ring.Rule.{KnowsSent, KnowsAnswer, KnowsLooked, KnowsTried, KnowsFirst, KnowsSecond, KnowsAnswered, KnowsGivenBack};
 ghost use Rattle.ticket_board.specs.Ring.Rule.{CarriesFirst, CarriesMeaning};
 
 use crate::ring::layout::{CELL_WORDS, STATE};
 use crate::ring::plays::{
-    BringOut, Finish, GiveBack, LookAt, LookNext, Publish, ReadAddress, Receive, Take, WriteAddress,
+    BringOut, Finish, GiveBack, LookAt, LookNext, Publish, ReadFirst, ReadSecond, Receive, Take,
+    WriteFirst, WriteSecond,
 };
 use crate::ring::rule::{Place, Shelf};
 use dw_bytes::Steps;
 use std::sync::ledger::Ledger;
-use ticket_core::Solver;
+use ticket_core::{Query, Solver};
 
-/// Stores an address in the cell of the number that a sender asks next.
-pub fn write_address<'a, S: Solver>(shelf: &Shelf<'a, S>, seat: &mut Place<S>, word: usize, a: u64)
+/// Stores the first word of a query in the cell of the number that a sender asks next.
+pub fn write_first<'a, S: Solver>(
+    shelf: &Shelf<'a, S>,
+    seat: &mut Place<S>,
+    word: usize,
+    first: u64,
+)
     requires table { seat.old.table_id ≡ shelf.now.table_id }
     requires within { word < shelf.now.table_id.words }
     requires sender { IsSender seat.old.me.0.role }
     requires room { HasRoom seat.old.me.0.shape (asking_of seat.old.me.0.role) }
-    requires place { word ≡ address_place seat.old.me.0.shape (sender_of seat.old.me.0.role) (next_asked (asking_of seat.old.me.0.role)) }
+    requires place { word ≡ first_place seat.old.me.0.shape (sender_of seat.old.me.0.role) (next_asked (asking_of seat.old.me.0.role)) }
     ensures same { (seat.new.table_id ≡ seat.old.table_id) × (seat.new.id ≡ seat.old.id) }
-    ensures told { KnowsSent (WritesAddress a) 0 Out seat.old.me.1 seat.old.me seat.new.me }
+    ensures told { KnowsSent (WritesFirst first) 0 Out seat.old.me.1 seat.old.me seat.new.me }
 {
-    shelf.store::<WriteAddress>(seat, word, a);
+    shelf.store::<WriteFirst>(seat, word, first);
 }
 
-/// Stores that this number waits.
+/// Stores the second word of a query, whose first word is written ahead.
+pub fn write_second<'a, S: Solver>(
+    shelf: &Shelf<'a, S>,
+    seat: &mut Place<S>,
+    word: usize,
+    query: Query,
+)
+    requires table { seat.old.table_id ≡ shelf.now.table_id }
+    requires within { word < shelf.now.table_id.words }
+    requires sender { IsSender seat.old.me.0.role }
+    requires written { (asking_of seat.old.me.0.role).ahead ≡ FirstWord (first_word query) }
+    requires place { word ≡ second_place seat.old.me.0.shape (sender_of seat.old.me.0.role) (next_asked (asking_of seat.old.me.0.role)) }
+    ensures same { (seat.new.table_id ≡ seat.old.table_id) × (seat.new.id ≡ seat.old.id) }
+    ensures told { KnowsSent (WritesSecond query) 0 Out seat.old.me.1 seat.old.me seat.new.me }
+{
+    shelf.store::<WriteSecond>(seat, word, query.second());
+}
+
+/// Stores that this number waits, whose query is written ahead.
 pub fn publish<'a, S: Solver>(shelf: &Shelf<'a, S>, seat: &mut Place<S>, word: usize, asked: u64)
     requires table { seat.old.table_id ≡ shelf.now.table_id }
     requires within { word < shelf.now.table_id.words }
     requires sender { IsSender seat.old.me.0.role }
-    requires written { (asking_of seat.old.me.0.role).ahead ≡ Some (ahead_of seat.old.me.0.role) }
+    requires written { (asking_of seat.old.me.0.role).ahead ≡ Whole (ahead_of seat.old.me.0.role) }
     requires place { word ≡ state_place seat.old.me.0.shape (sender_of seat.old.me.0.role) (next_asked (asking_of seat.old.me.0.role)) }
     requires asked { asked ≡ asked_word (next_asked (asking_of seat.old.me.0.role)) }
     ensures same { (seat.new.table_id ≡ seat.old.table_id) × (seat.new.id ≡ seat.old.id) }
@@ -135,8 +160,8 @@ pub fn try_take<'a, S: Solver, L: Ledger>(
     shelf.compare_exchange::<Take>(seat, word, asked, taken)
 }
 
-/// Loads the address of the number in a worker's hand.
-pub fn read_address<'a, S: Solver, L: Ledger>(
+/// Loads the first word of the query of the number in a worker's hand.
+pub fn read_first<'a, S: Solver, L: Ledger>(
     shelf: &Shelf<'a, S>,
     seat: &mut Place<S>,
     word: usize,
@@ -146,17 +171,38 @@ pub fn read_address<'a, S: Solver, L: Ledger>(
     requires within { word < shelf.now.table_id.words }
     requires worker { IsWorker seat.old.me.0.role }
     requires held { (working_of seat.old.me.0.role).hand ≡ Some (hand_of seat.old.me.0.role) }
-    requires place { word ≡ address_place seat.old.me.0.shape (hand_of seat.old.me.0.role).0 (hand_of seat.old.me.0.role).1 }
+    requires place { word ≡ first_place seat.old.me.0.shape (hand_of seat.old.me.0.role).0 (hand_of seat.old.me.0.role).1 }
     ensures same { (seat.new.table_id ≡ seat.old.table_id) × (seat.new.id ≡ seat.old.id) }
-    ensures told { KnowsRead (hand_of seat.old.me.0.role) result seat.old.me seat.new.me }
+    ensures told { KnowsFirst (hand_of seat.old.me.0.role) result seat.old.me seat.new.me }
     ensures counted { steps.new ≡ steps.old + 1 }
 {
     steps.tick();
-    shelf.load::<ReadAddress>(seat, word)
+    shelf.load::<ReadFirst>(seat, word)
+}
+
+/// Loads the second word of the query of the number in a worker's hand, whose first word it read.
+pub fn read_second<'a, S: Solver, L: Ledger>(
+    shelf: &Shelf<'a, S>,
+    seat: &mut Place<S>,
+    word: usize,
+    steps: &mut Steps<L>,
+) -> u64
+    requires table { seat.old.table_id ≡ shelf.now.table_id }
+    requires within { word < shelf.now.table_id.words }
+    requires worker { IsWorker seat.old.me.0.role }
+    requires held { (working_of seat.old.me.0.role).hand ≡ Some (hand_of seat.old.me.0.role) }
+    requires read { (working_of seat.old.me.0.role).read ≡ FirstWord (first_read_of seat.old.me.0.role) }
+    requires place { word ≡ second_place seat.old.me.0.shape (hand_of seat.old.me.0.role).0 (hand_of seat.old.me.0.role).1 }
+    ensures same { (seat.new.table_id ≡ seat.old.table_id) × (seat.new.id ≡ seat.old.id) }
+    ensures told { KnowsSecond (hand_of seat.old.me.0.role) (first_read_of seat.old.me.0.role) result seat.old.me seat.new.me }
+    ensures counted { steps.new ≡ steps.old + 1 }
+{
+    steps.tick();
+    shelf.load::<ReadSecond>(seat, word)
 }
 
 /// Stores that the number in a worker's hand is answered, and gives the slot back, in which the meaning of its
-/// address lies.
+/// query lies.
 pub fn finish<'a, S: Solver, L: Ledger>(
     shelf: &Shelf<'a, S>,
     seat: &mut Place<S>,
@@ -168,7 +214,7 @@ pub fn finish<'a, S: Solver, L: Ledger>(
     requires within { word < shelf.now.table_id.words }
     requires worker { IsWorker seat.old.me.0.role }
     requires held { (working_of seat.old.me.0.role).hand ≡ Some (hand_of seat.old.me.0.role) }
-    requires read { (working_of seat.old.me.0.role).read ≡ Some (read_of seat.old.me.0.role) }
+    requires read { (working_of seat.old.me.0.role).read ≡ Whole (read_of seat.old.me.0.role) }
     requires slot { CarriesMeaning S.shown S.meaning seat.old.me }
     requires place { word ≡ state_place seat.old.me.0.shape (hand_of seat.old.me.0.role).0 (hand_of seat.old.me.0.role).1 }
     requires answered { answered ≡ answered_word (hand_of seat.old.me.0.role).1 }

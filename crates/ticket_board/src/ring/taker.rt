@@ -6,14 +6,14 @@ ghost use Rattle.ticket_board.specs.Ring.Takers.{IsTakerOf, HasSought, HoldsRead
 ghost use Rattle.ticket_board.specs.Ring.Takers.{knowing, answers_one, gives_one};
 
 use crate::ring::board::Ring;
-use crate::ring::layout::{ADDRESS, CELL_WORDS, STATE, cell_at};
+use crate::ring::layout::{CELL_WORDS, FIRST, SECOND, STATE, cell_at};
 use crate::ring::rule::Place;
 use crate::ring::slots::put_in;
-use crate::ring::steps::{finish, give_back, look_at, read_address, try_take};
+use crate::ring::steps::{finish, give_back, look_at, read_first, read_second, try_take};
 use dw_bytes::Steps;
 use std::marker::{Brand, Model};
 use std::sync::ledger::{Blank, Ledger};
-use ticket_core::{Shape, Solver};
+use ticket_core::{Query, Shape, Solver};
 
 /// A worker's end of the ring: it takes numbers that wait. Contracts see what its seat knows.
 #[derive(Drop)]
@@ -104,27 +104,32 @@ impl<S: Solver> Taker<S> {
         self.try_cells(ring, 0, begin, steps)
     }
 
-    /// Reads the address of the number in the hand.
-    fn read<'a, L: Ledger>(&mut self, ring: &Ring<'a, S>, steps: &mut Steps<L>) -> (usize, u64, u64)
+    /// Reads the query of the number in the hand.
+    fn read<'a, L: Ledger>(
+        &mut self,
+        ring: &Ring<'a, S>,
+        steps: &mut Steps<L>,
+    ) -> (usize, u64, Query)
         requires ring { IsTakerOf ring.now self.old }
         requires held { IsSome self.old.working.hand }
         ensures sought { HasSought self.old self.new }
         ensures held { HoldsRead result self.new.working × (result.0 < ring.now.shape.senders) }
         ensures same { self.new.working.hand ≡ self.old.working.hand }
-        ensures counted { steps.new ≡ steps.old + 1 }
+        ensures counted { steps.new ≡ steps.old + 2 }
     {
         let Some((sender, number)) = self.hand else {
             unreachable!()
         };
-        let cell = cell_at(&self.shape, sender, number);
+        let words = cell_at(&self.shape, sender, number) * CELL_WORDS;
         let shelf = &ring.table.shared;
-        let a = read_address(shelf, &mut self.seat, cell * CELL_WORDS + ADDRESS, steps);
-        (sender, number, a)
+        let first = read_first(shelf, &mut self.seat, words + FIRST, steps);
+        let second = read_second(shelf, &mut self.seat, words + SECOND, steps);
+        (sender, number, Query::of_words(first, second))
     }
 
-    /// Takes a number that waits, and returns its sender, the number and its address; or `None`, where no cell gave
+    /// Takes a number that waits, and returns its sender, the number and its query; or `None`, where no cell gave
     /// it one in one pass over all cells. It waits for nobody and takes no memory.
-    pub fn take<'a>(&mut self, ring: &Ring<'a, S>) -> Option<(usize, u64, u64)>
+    pub fn take<'a>(&mut self, ring: &Ring<'a, S>) -> Option<(usize, u64, Query)>
         requires ring { IsTakerOf ring.now self.old }
         requires empty { self.old.working.hand ≡ None }
         ensures sought { HasSought self.old self.new }
@@ -139,7 +144,7 @@ impl<S: Solver> Taker<S> {
         &mut self,
         ring: &Ring<'a, S>,
         blank: Blank,
-    ) -> Option<(usize, u64, u64)>
+    ) -> Option<(usize, u64, Query)>
         requires name { blank.name ≡ L.name }
         requires parts { blank.parts ≡ L.parts }
         requires some { 0 < L.parts }
@@ -154,18 +159,18 @@ impl<S: Solver> Taker<S> {
     }
 
     /// Takes a number, as `take` does. A step is one load or compare-exchange of a word: there are at most two for
-    /// each cell, and one more.
+    /// each cell, and two more.
     pub fn take_counted<'a, L: Ledger>(
         &mut self,
         ring: &Ring<'a, S>,
         steps: &mut Steps<L>,
-    ) -> Option<(usize, u64, u64)>
+    ) -> Option<(usize, u64, Query)>
         requires ring { IsTakerOf ring.now self.old }
         requires empty { self.old.working.hand ≡ None }
         ensures sought { HasSought self.old self.new }
         ensures taken { IfSome result (λ found. HoldsRead found self.new.working × (found.0 < ring.now.shape.senders)) }
         ensures none { result ≡ None → MissedAll ring.now.shape self.old.working self.new.working }
-        ensures counted { steps.new ≤ steps.old + 2 * cells_in ring.now.shape + 1 }
+        ensures counted { steps.new ≤ steps.old + 2 * cells_in ring.now.shape + 2 }
     {
         if !self.seek(ring, steps) {
             return None;

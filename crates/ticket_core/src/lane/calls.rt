@@ -10,6 +10,7 @@ ghost use Rattle.ticket_core.specs.Shown.{sender_shown, place_shown};
 
 use crate::fault::CoreFault;
 use crate::lane::{Lane, Slot};
+use crate::query::Query;
 use crate::shape::Shape;
 use std::alloc::{AllocError, Global};
 use std::mem;
@@ -27,8 +28,8 @@ impl<A: Drop> Lane<A> {
         }
     }
 
-    /// The addresses that were asked, by number.
-    pub fn asked(&self) -> &[u64]
+    /// The queries that were asked, by number.
+    pub fn asked(&self) -> &[Query]
         ensures { result.now ≡ self.now.asked.items }
     {
         &self.asked
@@ -41,7 +42,7 @@ impl<A: Drop> Lane<A> {
         &self.received
     }
 
-    /// Room for one query more: its address, its slot, and its answer when it is received.
+    /// Room for one query more: its words, its slot, and its answer when it is received.
     fn grow(&mut self) -> Result<(), AllocError>
         ensures kept { (shown : A → Shown) → sender_shown shown self.new ≡ sender_shown shown self.old }
         ensures asked { OnOk result (vec_len self.new.asked < vec_capacity self.new.asked) }
@@ -55,10 +56,10 @@ impl<A: Drop> Lane<A> {
         Ok(())
     }
 
-    /// Asks about an address, and gives its number.
-    pub fn ask(&mut self, shape: &Shape, a: u64) -> Result<u64, CoreFault>
+    /// Asks a query, and gives its number.
+    pub fn ask(&mut self, shape: &Shape, query: Query) -> Result<u64, CoreFault>
         ensures number { IfOk result (λ n. n ≡ vec_len self.old.asked) }
-        ensures asked { OnOk result ((shown : A → Shown) → sender_shown shown self.new ≡ asks a (sender_shown shown self.old)) }
+        ensures asked { OnOk result ((shown : A → Shown) → sender_shown shown self.new ≡ asks query (sender_shown shown self.old)) }
         ensures kept { OnErr result ((shown : A → Shown) → sender_shown shown self.new ≡ sender_shown shown self.old) }
         ensures refusal { (shown : A → Shown) → MatchResult result
             (λ _. ask_refusal shape.now (sender_shown shown self.old) ≡ None)
@@ -75,7 +76,7 @@ impl<A: Drop> Lane<A> {
             return Err(CoreFault::Full);
         }
         self.grow()?;
-        self.asked.push_reserved(a);
+        self.asked.push_reserved(query);
         self.slots.push_reserved(Slot::Open);
         Ok(number as u64)
     }

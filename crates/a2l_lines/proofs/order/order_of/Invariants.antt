@@ -6,5 +6,5 @@ abbrev pub invariant-loop-i : goal.invariant-loop-i
 invariant-loop-i l = record {
   len : length l.order.items ≡ l.i;
   within : All (λ pair. pair.1 < length l.queries) l.order.items;
-  all : (j : ℕ) → j < l.i → (turn : ℕ) × Contains l.order.items (turn, j);
+  all : (j : ℕ) → j < l.i → (turn : ℕ × ℕ) × Contains l.order.items (turn, j);
 }

@@ -15,8 +15,8 @@ loop-i-preserved-in_default c =
 pub loop-i-preserved : goal.loop-i-preserved
 loop-i-preserved c =
     let inputs = map input_shown c.args.inputs.now in
-    let is : get_or inputs c.loop-i.i None ≡ Some c.in-Address.address = get_or-map input_shown c.args.inputs.now c.loop-i.i _ None c.loop-i-test.true ∙ ap input_shown c.in-Address.is in
+    let is : get_or inputs c.loop-i.i None ≡ Some c.in-Asked.query = get_or-map input_shown c.args.inputs.now c.loop-i.i _ None c.loop-i-test.true ∙ ap input_shown c.in-Asked.is in
     record {
-      right = pairs-more inputs c.loop-i.pairs.items c.push.new.self.items c.loop-i.i c.in-Address.address is c.in_ok-push.ensures.items c.loop-i.invariant.right;
-      found = found-more inputs c.loop-i.pairs.items c.push.new.self.items c.loop-i.i c.in-Address.address is c.in_ok-push.ensures.items c.loop-i.invariant.found;
+      right = pairs-more inputs c.loop-i.pairs.items c.push.new.self.items c.loop-i.i c.in-Asked.query is c.in_ok-push.ensures.items c.loop-i.invariant.right;
+      found = found-more inputs c.loop-i.pairs.items c.push.new.self.items c.loop-i.i c.in-Asked.query is c.in_ok-push.ensures.items c.loop-i.invariant.found;
     }

@@ -1,57 +1,52 @@
-use Rattle.std.proofs.Common.{◌≡◌, ℕ, Some, Err, [], ◌∷◌, length, sym, subst}
-use Rattle.std.specs.Prelude.{IfSome, MatchOption, slice_get}
+use Rattle.std.proofs.Common.{◌≡◌, Err, [], ◌∷◌, length, sym, subst}
+use Rattle.std.specs.Prelude.{MatchOption}
 use Rattle.std.proofs.lemmas.Result.{err_from_is_err_and}
-use Rattle.dw_model.specs.Section.{Sections}
-use Rattle.dw_model.specs.Unit.{DwarfUnit, units}
 use Rattle.dw_model.specs.Tree.{tree}
 use Rattle.dw_forms.specs.Fault.{form_fault}
-use Rattle.dw_units.specs.Entries.{Walk, WalksFrom, IsNext}
+use Rattle.dw_units.specs.Entries.{IsNext}
+use Rattle.dw_units.specs.OpenUnit.{sections_of, unit_of}
 use Rattle.dw_frames.specs.Fault.{tree_fault}
 use Rattle.dw_frames.specs.Reader.{can_be_used, nodes_on}
-use Rattle.dw_frames.proofs.SizeLemmas.{small}
 use Rattle.dw_frames.proofs.TreeLemmas.{found-some, root-unread, root-null, root-unused, began, below-faults, below-follows}
 use Rattle.dw_frames.proofs.walk.read_all.Goals as goal
 
-walks : (s : Sections) (i : ℕ) (unit : DwarfUnit) (walk : Walk) → slice_get (units s.info) i ≡ Some unit → IfSome (slice_get (units s.info) i) (λ unit. WalksFrom s unit (Some walk)) → WalksFrom s unit (Some walk)
-walks s i unit walk e h = subst (λ found. IfSome found (λ unit. WalksFrom s unit (Some walk))) e h
-
 pub returns-in_err-first : goal.returns-in_err-first
-returns-in_err-first c unit e =
+returns-in_err-first c =
     let p = err_from_is_err_and c.from_residual.result c.from_residual.ensures.1 in
-    let walk = walks c.args.units.now c.args.i unit c.in-Some.entries e c.in-Some.ensures in
-    rw (p.1) (subst (λ told. MatchOption told (Unit {0}) (λ told. tree c.args.units.now unit ≡ Err told)) (sym p.2)
-    (root-unread c.args.units.now unit c.in-Some.entries (small c.args.units.now c.args.i unit e) walk.0 walk.1 (form_fault c.in_err-first.field-0.0) c.in_err-first.ensures.next))
+    let walk = c.in-Some.ensures in
+    rw (p.1) (subst (λ told. MatchOption told (Unit {0}) (λ told. tree (sections_of c.args.unit) (unit_of c.args.unit) ≡ Err told)) (sym p.2)
+    (root-unread (sections_of c.args.unit) (unit_of c.args.unit) c.in-Some.entries walk.3 walk.0 walk.1 (form_fault c.in_err-first.field-0.0) c.in_err-first.ensures.next))
 
 pub returns-in-Null : goal.returns-in-Null
-returns-in-Null c unit e =
-    let walk = walks c.args.units.now c.args.i unit c.in-Some.entries e c.in-Some.ensures in
+returns-in-Null c =
+    let walk = c.in-Some.ensures in
     let read = c.in_ok-first.ensures.next in
-    root-null c.args.units.now unit c.in-Some.entries (small c.args.units.now c.args.i unit e) walk.0 walk.1 read.0 c.next_function.new.self.place read.1 (subst (λ next. IsNext next c.next_function.new.kept read.0) c.in-Null.is read.2)
+    root-null (sections_of c.args.unit) (unit_of c.args.unit) c.in-Some.entries walk.3 walk.0 walk.1 read.0 c.next_function.new.self.place read.1 (subst (λ next. IsNext next c.next_function.new.kept read.0) c.in-Null.is read.2)
 
 pub returns-in_err-keep : goal.returns-in_err-keep
-returns-in_err-keep c unit e =
+returns-in_err-keep c =
     let p = err_from_is_err_and c.from_residual-in_err-keep.result c.from_residual-in_err-keep.ensures.1 in
-    let walk = walks c.args.units.now c.args.i unit c.in-Some.entries e c.in-Some.ensures in
+    let walk = c.in-Some.ensures in
     let read = c.in_ok-first.ensures.next in
-    let told = subst (λ fault. MatchOption (tree_fault fault) (Unit {0}) (λ told. can_be_used c.args.units.now unit (length c.new-drafts.result.lists) read.0 ≡ Err told)) (sym p.2) (c.in_err-keep.ensures.entry unit read.0 e read.2) in
-    rw (p.1) (root-unused c.args.units.now unit c.in-Some.entries (small c.args.units.now c.args.i unit e) walk.0 walk.1 c.new-drafts.result read.0 c.next_function.new.self.place (tree_fault p.0) c.new-drafts.ensures read.1 told)
+    let told = subst (λ fault. MatchOption (tree_fault fault) (Unit {0}) (λ told. can_be_used (sections_of c.args.unit) (unit_of c.args.unit) (length c.new-drafts.result.lists) read.0 ≡ Err told)) (sym p.2) (c.in_err-keep.ensures.entry read.0 read.2) in
+    rw (p.1) (root-unused (sections_of c.args.unit) (unit_of c.args.unit) c.in-Some.entries walk.3 walk.0 walk.1 c.new-drafts.result read.0 c.next_function.new.self.place (tree_fault p.0) c.new-drafts.ensures read.1 told)
 
 pub returns-in_err-read_below : goal.returns-in_err-read_below
-returns-in_err-read_below c unit e =
+returns-in_err-read_below c =
     let p = err_from_is_err_and c.from_residual-in_err-read_below.result c.from_residual-in_err-read_below.ensures.1 in
-    let walk = walks c.args.units.now c.args.i unit c.in-Some.entries e c.in-Some.ensures in
+    let walk = c.in-Some.ensures in
     let read = c.in_ok-first.ensures.next in
     let first = found-some c.in_ok-first.first c.next_function.new.kept read.0 read.2 c.in_default-first.not-Null in
-    let kept = c.in_ok-keep.ensures.entry unit read.0 e read.2 in
-    let b = began c.args.units.now unit c.in-Some.entries (small c.args.units.now c.args.i unit e) walk.0 walk.1 c.new-drafts.result c.keep.new.drafts read.0 first.0 c.next_function.new.self c.new-drafts.ensures c.in_ok-first.ensures.declarations read.1 first.1 kept.0 kept.1 in
-    let told = subst (λ fault. MatchOption (tree_fault fault) (Unit {0}) (λ told. nodes_on c.args.units.now unit c.next_function.new.self (length c.keep.new.drafts.lists) ≡ Err told)) (sym p.2) ((rw (c.in_ok-keep.ensures.same) at c.in_err-read_below.ensures) unit (record { depth = 0; entry = b.entry } ∷ []) e b.follows) in
-    rw (p.1) (below-faults c.args.units.now unit c.in-Some.entries (small c.args.units.now c.args.i unit e) walk.0 walk.1 c.new-drafts.result c.keep.new.drafts c.next_function.new.self (tree_fault p.0) b told)
+    let kept = c.in_ok-keep.ensures.entry read.0 read.2 in
+    let b = began (sections_of c.args.unit) (unit_of c.args.unit) c.in-Some.entries walk.3 walk.0 walk.1 c.new-drafts.result c.keep.new.drafts read.0 first.0 c.next_function.new.self c.new-drafts.ensures c.in_ok-first.ensures.declarations c.in_ok-first.ensures.offset_size read.1 first.1 kept.0 kept.1 in
+    let told = subst (λ fault. MatchOption (tree_fault fault) (Unit {0}) (λ told. nodes_on (sections_of c.args.unit) (unit_of c.args.unit) c.next_function.new.self (length c.keep.new.drafts.lists) ≡ Err told)) (sym p.2) ((rw (c.in_ok-keep.ensures.same) at c.in_err-read_below.ensures) (record { depth = 0; entry = b.entry } ∷ []) b.follows) in
+    rw (p.1) (below-faults (sections_of c.args.unit) (unit_of c.args.unit) c.in-Some.entries walk.3 walk.0 walk.1 c.new-drafts.result c.keep.new.drafts c.next_function.new.self (tree_fault p.0) b told)
 
 pub returns : goal.returns
-returns c unit e =
-    let walk = walks c.args.units.now c.args.i unit c.in-Some.entries e c.in-Some.ensures in
+returns c =
+    let walk = c.in-Some.ensures in
     let read = c.in_ok-first.ensures.next in
     let first = found-some c.in_ok-first.first c.next_function.new.kept read.0 read.2 c.in_default-first.not-Null in
-    let kept = c.in_ok-keep.ensures.entry unit read.0 e read.2 in
-    let b = began c.args.units.now unit c.in-Some.entries (small c.args.units.now c.args.i unit e) walk.0 walk.1 c.new-drafts.result c.keep.new.drafts read.0 first.0 c.next_function.new.self c.new-drafts.ensures c.in_ok-first.ensures.declarations read.1 first.1 kept.0 kept.1 in
-    below-follows c.args.units.now unit c.in-Some.entries (small c.args.units.now c.args.i unit e) walk.0 walk.1 c.new-drafts.result c.keep.new.drafts c.read_below.new.drafts c.next_function.new.self b ((rw (c.in_ok-keep.ensures.same) at c.in_ok-read_below.ensures) unit (record { depth = 0; entry = b.entry } ∷ []) e b.follows)
+    let kept = c.in_ok-keep.ensures.entry read.0 read.2 in
+    let b = began (sections_of c.args.unit) (unit_of c.args.unit) c.in-Some.entries walk.3 walk.0 walk.1 c.new-drafts.result c.keep.new.drafts read.0 first.0 c.next_function.new.self c.new-drafts.ensures c.in_ok-first.ensures.declarations c.in_ok-first.ensures.offset_size read.1 first.1 kept.0 kept.1 in
+    below-follows (sections_of c.args.unit) (unit_of c.args.unit) c.in-Some.entries walk.3 walk.0 walk.1 c.new-drafts.result c.keep.new.drafts c.read_below.new.drafts c.next_function.new.self b ((rw (c.in_ok-keep.ensures.same) at c.in_ok-read_below.ensures) (record { depth = 0; entry = b.entry } ∷ []) b.follows)

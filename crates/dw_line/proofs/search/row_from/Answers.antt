@@ -34,6 +34,7 @@ loop-preserved g c =
     let is = one_more header (state_at c.loop.last.registers c.loop.cursor) c.in-Ok.found c.in-Some-found.next c.next_counted.new.cursor c.in-Some-found.is c.in-Ok.ensures.row in
     record {
       runs = λ there. placed header c.args.row c.in-Some-found.next c.next_counted.new.cursor c.args.address (c.loop.counter + 1) c.at.result c.at.ensures (goes_on header c.args.row c.loop.last c.in-Some-found.next c.loop.cursor c.next_counted.new.cursor c.args.address c.loop.counter c.loop-test.true is (c.loop.invariant.runs there) c.if-next-address.false c.if-next.false);
+      below = λ from. c.if-next-address.false;
       counted = omega (arith, c.next_counted.ensures.counted, c.loop.invariant.counted);
     }
 

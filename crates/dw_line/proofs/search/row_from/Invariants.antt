@@ -6,5 +6,6 @@ use Rattle.dw_line.proofs.search.row_from.Given as goal
 abbrev pub invariant-loop : goal.invariant-loop
 invariant-loop g l = record {
   runs : l.fn.row.place ≤ length (header_shown l.header).program → Runs (header_shown l.header) l.fn.row l.last l.cursor l.address l.counter;
+  below : l.fn.row.registers.address ≤ l.address → l.last.registers.address ≤ l.address;
   counted : l.steps ≤ l.fn.steps + l.counter;
 }

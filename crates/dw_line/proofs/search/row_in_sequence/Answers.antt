@@ -24,10 +24,11 @@ pub returns-clause-row : goal.returns-clause-row
 returns-clause-row g c = λ rows has below.
     let header = header_shown c.args.header.now in
     let next = c.partition_point-next.result in
+    let same : next ≡ (next - 1) + 1 = omega (arith, c.if-next-eq0.false) in
+    let within : next - 1 < length c.args.checkpoints.now = omega (arith, c.if-next-eq0.false, c.partition_point-next.ensures.bound) in
     let point : Splits c.args.checkpoints.now c.args.address next =
     c.partition_point-next.ensures.partitioned (λ checkpoint. nat_le checkpoint.registers.address c.args.address) (always_returns_same _ _ _ (λ a r f k. search (rules, of_calls)))
     (IsPartitionedBy-leb (λ checkpoint. checkpoint.registers.address) c.args.checkpoints.now c.args.address (rises header c.args.checkpoints.now rows has)) in
-    let same : next ≡ (next - 1) + 1 = omega (arith, c.if-next-eq0.false) in
-    let within : next - 1 < length c.args.checkpoints.now = omega (arith, c.if-next-eq0.false, c.partition_point-next.ensures.bound) in
-    finds_by_halves header c.args.checkpoints.now rows c.args.address (next - 1) none c.row_from.result has below within (subst (λ (n : ℕ). Splits c.args.checkpoints.now c.args.address n) same point)
-    (subst (λ (n : ℕ). FindsFrom header (get_or c.args.checkpoints.now (next - 1) none) n c.args.address c.row_from.result) same c.row_from.ensures.row)
+    let split = subst (λ (n : ℕ). Splits c.args.checkpoints.now c.args.address n) same point in
+    finds_by_halves header c.args.checkpoints.now rows c.args.address (next - 1) none c.row_from.result has below within split
+    (subst (λ (n : ℕ). FindsFrom header (get_or c.args.checkpoints.now (next - 1) none) n c.args.address c.row_from.result) same c.row_from.ensures.row) c.row_from.ensures.holds

@@ -1,9 +1,9 @@
 use Rattle.std.proofs.Common.{◌≡◌, false, Some, Ok, refl, rules}
 use Rattle.std.proofs.lemmas.Bool.{ne_eqb}
-use Rattle.dw_model.specs.declared.dwarf.TheConstants.{OFFSET_SIZE_32}
 use Rattle.dw_model.specs.Abbrev.{declared}
 use Rattle.dw_model.specs.Entry.{Entry, attributes_at}
 use Rattle.dw_model.specs.Tree.{is_function}
+use Rattle.dw_bytes.specs.Width.{size_of}
 use Rattle.dw_forms.specs.Declaration.{declaration_shown}
 use Rattle.dw_units.proofs.PlaceLemmas.{read-entry}
 use Rattle.dw_units.proofs.entries.next_of.Goals as goal
@@ -13,6 +13,6 @@ returns-then-not-is_function-clause-next c =
     let declaration = declaration_shown c.in_ok-declaration.declaration.now in
     let found : declared c.args.abbrevs.now c.in_ok-code.code ≡ Some declaration = search rules in
     let entry : Entry = record { offset = c.args.cursor.now.at; tag = declaration.tag; children = declaration.children; attributes = c.in_ok-pass_values.ensures.0 } in
-    let read : attributes_at OFFSET_SIZE_32 declaration.specifications c.uleb.new.self ≡ Ok (c.in_ok-pass_values.ensures.0, c.pass_values.new.cursor) = c.in_ok-pass_values.ensures.1 in
+    let read : attributes_at (size_of c.args.width) declaration.specifications c.uleb.new.self ≡ Ok (c.in_ok-pass_values.ensures.0, c.pass_values.new.cursor) = c.in_ok-pass_values.ensures.1 in
     let none : is_function entry ≡ false = search rules in
-    (Some entry, read-entry OFFSET_SIZE_32 c.args.abbrevs.now c.args.cursor.now c.uleb.new.self c.pass_values.new.cursor c.in_ok-code.code declaration c.in_ok-pass_values.ensures.0 c.in_ok-code.ensures (ne_eqb c.in_ok-code.code 0 c.if-code-eq0.false) found read, (entry, refl, none, refl))
+    (Some entry, read-entry (size_of c.args.width) c.args.abbrevs.now c.args.cursor.now c.uleb.new.self c.pass_values.new.cursor c.in_ok-code.code declaration c.in_ok-pass_values.ensures.0 c.in_ok-code.ensures (ne_eqb c.in_ok-code.code 0 c.if-code-eq0.false) found read, (entry, refl, none, refl))

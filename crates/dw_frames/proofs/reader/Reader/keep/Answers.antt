@@ -11,10 +11,10 @@ use Rattle.dw_frames.proofs.ReaderLemmas.{ranges-told}
 use Rattle.dw_frames.proofs.reader.Reader.keep.Goals as goal
 
 pub returns-in_err-add_function-in-Function-clause-entry : goal.returns-in_err-add_function-in-Function-clause-entry
-returns-in_err-add_function-in-Function-clause-entry c unit found e is =
+returns-in_err-add_function-in-Function-clause-entry c found is =
     let p = err_from_is_err_and c.from_residual-in_err-add_function-in-Function.result c.from_residual-in_err-add_function-in-Function.ensures.1 in
     let entry = entry_shown c.args.entry.now in
     let next = subst (λ next. IsNext next c.args.entry.now found) c.in-Function.is is in
     let shallow = ap (λ (depth : ℕ). refuse_if (nat_lt most_depth depth) depth_fault) (sym c.depth-depth.ensures) ∙ c.in_ok-check_depth-in-Function.ensures in
-    let told = subst (λ fault. MatchOption (tree_fault fault) (Unit {0}) (λ told. (told ≡ ranges_fault) × (is_err (entry_ranges_in c.args.self.now.of.sections unit entry) ≡ true))) (sym p.2) (c.in_err-add_function-in-Function.ensures.function unit e) in
-    rw (p.1) (ranges-told c.args.self.now.of.sections unit (length c.args.drafts.now.lists) found entry (tree_fault p.0) next.0 next.1 shallow told)
+    let told = subst (λ fault. MatchOption (tree_fault fault) (Unit {0}) (λ told. (told ≡ ranges_fault) × (is_err (entry_ranges_in c.args.self.now.of.sections c.args.self.now.of.unit entry) ≡ true))) (sym p.2) c.in_err-add_function-in-Function.ensures.function in
+    rw (p.1) (ranges-told c.args.self.now.of.sections c.args.self.now.of.unit (length c.args.drafts.now.lists) found entry (tree_fault p.0) next.0 next.1 shallow told)

@@ -12,7 +12,8 @@ loop-next-preserved g c =
       seat = c.ask.ensures.seat ∙ i.seat;
       asked =
           ap (λ client. client.asked ++ rest) c.in-Ok.ensures.asked
-          ∙ asked_next step c.loop-next.next c.args.queries.now c.loop-next.client.asked c.requires.step.0 c.loop-next-test.true
+          ∙ asked_next step c.loop-next.next c.args.queries.now c.loop-next.client.asked c.index-queries-next.result c.requires.step.0
+          c.loop-next-test.true c.index-queries-next.is
           ∙ i.asked;
       received = ap (λ client. client.received) c.in-Ok.ensures.asked ∙ i.received;
       closed = λ is. omega (arith, i.closed (sym (ap (λ client. client.closed) c.in-Ok.ensures.asked) ∙ is));

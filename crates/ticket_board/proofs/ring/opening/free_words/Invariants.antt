@@ -5,7 +5,7 @@ use Rattle.ticket_board.proofs.ring.opening.free_words.Given as goal
 
 abbrev pub invariant-loop-cell : goal.invariant-loop-cell
 invariant-loop-cell l = record {
-  len : vec_len l.words ≡ 2 * l.cell;
-  room : 2 * l.cells ≤ vec_capacity l.words;
+  len : vec_len l.words ≡ 3 * l.cell;
+  room : 3 * l.cells ≤ vec_capacity l.words;
   free : (k : ℕ) → k < l.cell → get_or l.words.items (word_of k state_field) 0 ≡ free_word (k % l.shape.window);
 }

@@ -1,8 +1,6 @@
-use Rattle.std.proofs.Common.{◌≡◌, ◌+◌, ◌<◌, refl, sym, ap, ◌∙◌, subst, arith}
+use Rattle.std.proofs.Common.{◌+◌, ◌<◌, refl, sym, subst, arith}
 use Rattle.ticket_core.specs.declared.shape.Shape.{Shape}
-use Rattle.ticket_board.specs.Ring.Views.{new_asking, asking_of}
-use Rattle.ticket_board.specs.Ring.Ends.{AskerState}
-use Rattle.ticket_board.specs.Ring.Opened.{new_asker}
+use Rattle.ticket_board.specs.Ring.Views.{asking_of}
 use Rattle.ticket_board.proofs.RingTable.{asker-cut, desk-after, askers-then}
 use Rattle.ticket_board.proofs.ring.opening.open_askers.Goals as goal
 

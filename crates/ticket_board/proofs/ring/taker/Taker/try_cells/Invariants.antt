@@ -1,5 +1,5 @@
-use Rattle.std.proofs.Common.{◌≡◌, ◌+◌, ◌*◌, ◌≤◌, None}
-use Rattle.ticket_board.specs.Ring.Takers.{IsTakerOf, HasSought, MissedEach, Between}
+use Rattle.std.proofs.Common.{◌+◌, ◌*◌, ◌≤◌}
+use Rattle.ticket_board.specs.Ring.Takers.{HasSought, MissedEach, Between}
 use Rattle.ticket_board.proofs.ring.taker.Taker.try_cells.Given as goal
 
 abbrev pub invariant-loop-cell : goal.invariant-loop-cell

@@ -1,0 +1,200 @@
+//! Reading fields one after the other, so that one that isn't there is told by its name.
+
+use crate::reason::{Stop, stop_at, stop_for};
+use crate::spot::Spot;
+use dw_bytes::{Cursor, Initial, Leb, Width};
+use dw_forms::{FormFault, Value, read_value};
+use std::alloc::{AllocError, Global};
+
+/// Reads the fields of what stands at a spot. Offsets are those of a section.
+#[derive(Drop)]
+pub(crate) struct Fields<'a> {
+    alloc: Global,
+    spot: Spot,
+    section: &'static str,
+    cursor: Cursor<'a>,
+}
+
+impl<'a> Fields<'a> {
+    /// Fields from an offset of a section on, of which the bytes up to some end are given. At its end where the
+    /// offset lies past it.
+    pub(crate) fn new(
+        alloc: Global,
+        spot: Spot,
+        section: &'static str,
+        bytes: &'a [u8],
+        offset: u64,
+    ) -> Self {
+        let mut cursor = Cursor::new(bytes);
+        let passed = bytes.len().min(offset as usize);
+        let _ = cursor.take(passed);
+        Fields {
+            alloc,
+            spot,
+            section,
+            cursor,
+        }
+    }
+
+    /// The offset of the next field.
+    pub(crate) fn at(&self) -> u64 {
+        self.cursor.at() as u64
+    }
+
+    /// How many bytes are left.
+    pub(crate) fn left(&self) -> u64 {
+        self.cursor.left() as u64
+    }
+
+    /// The value of a form, where offsets have a width.
+    pub(crate) fn value(
+        &mut self,
+        form: u64,
+        implicit: Option<i64>,
+        width: Width,
+    ) -> Result<Value<'a>, FormFault> {
+        read_value(&mut self.cursor, form, implicit, width)
+    }
+
+    /// A stop at a field, by what it holds and what was wanted of it.
+    pub(crate) fn refuse(&self, field: &str, found: String, wanted: &str) -> Stop {
+        stop_for(self.alloc, self.spot, field, found, wanted)
+    }
+
+    /// The same with a number.
+    pub(crate) fn refuse_number(&self, field: &str, found: u64, wanted: &str) -> Stop {
+        match format!(in self.alloc; "{found}") {
+            Ok(found) => self.refuse(field, found, wanted),
+            Err(_) => Stop::Memory,
+        }
+    }
+
+    /// A stop at a field of so many bytes that isn't all there.
+    fn too_short(&self, field: &str, size: u64) -> Stop {
+        let alloc = self.alloc;
+        let left = self.left();
+        let at = self.at();
+        let section = self.section;
+        let Ok(found) = format!(in alloc; "cut: {left} bytes are left at 0x{at:x} of {section}")
+        else {
+            return Stop::Memory;
+        };
+        let Ok(wanted) = format!(in alloc; "{size} bytes") else {
+            return Stop::Memory;
+        };
+        stop_at(alloc, self.spot, field, found, wanted)
+    }
+
+    /// A field that was read, or a stop at one that isn't all there.
+    fn some<T: Drop>(&self, read: Option<T>, field: &str, size: u64) -> Result<T, Stop> {
+        match read {
+            Some(value) => Ok(value),
+            None => Err(self.too_short(field, size)),
+        }
+    }
+
+    /// A number of a byte.
+    pub(crate) fn u8(&mut self, field: &str) -> Result<u8, Stop> {
+        let read = self.cursor.u8();
+        self.some(read, field, 1)
+    }
+
+    /// A number of two bytes.
+    pub(crate) fn u16(&mut self, field: &str) -> Result<u16, Stop> {
+        let read = self.cursor.u16();
+        self.some(read, field, 2)
+    }
+
+    /// A number of eight bytes.
+    pub(crate) fn u64(&mut self, field: &str) -> Result<u64, Stop> {
+        let read = self.cursor.u64();
+        self.some(read, field, 8)
+    }
+
+    /// An offset of a width.
+    pub(crate) fn offset(&mut self, width: Width, field: &str) -> Result<u64, Stop> {
+        let read = self.cursor.offset(width);
+        self.some(read, field, width.size() as u64)
+    }
+
+    /// So many bytes.
+    pub(crate) fn take(&mut self, size: u64, field: &str) -> Result<&'a [u8], Stop> {
+        let read = self.cursor.take(size as usize);
+        self.some(read, field, size)
+    }
+
+    /// A stop at a LEB128 number.
+    fn leb(&self, leb: Leb, field: &str) -> Stop {
+        match leb {
+            Leb::End => self.refuse_value(field, FormFault::End),
+            Leb::Wide => self.refuse_value(field, FormFault::Wide),
+        }
+    }
+
+    /// A stop at a value, by the fault of its form.
+    fn value_stop(&self, field: &str, fault: FormFault) -> Result<Stop, AllocError> {
+        let alloc = self.alloc;
+        let at = self.at();
+        let section = self.section;
+        match fault {
+            FormFault::End => {
+                let found = format!(in alloc; "cut, at 0x{at:x} of {section}")?;
+                Ok(self.refuse(field, found, "a value that is all there"))
+            }
+            FormFault::Form => {
+                let found = format!(in alloc; "of an unknown form, at 0x{at:x} of {section}")?;
+                Ok(self.refuse(field, found, "a form of DWARF 5"))
+            }
+            FormFault::Wide => {
+                let found = format!(in alloc; "above 64 bits, at 0x{at:x} of {section}")?;
+                Ok(self.refuse(field, found, "a number of at most 64 bits"))
+            }
+            FormFault::Memory | FormFault::Code => Ok(Stop::Memory),
+        }
+    }
+
+    /// The same, where it may take memory to say so.
+    pub(crate) fn refuse_value(&self, field: &str, fault: FormFault) -> Stop {
+        match self.value_stop(field, fault) {
+            Ok(stop) => stop,
+            Err(AllocError) => Stop::Memory,
+        }
+    }
+
+    /// An unsigned LEB128 number.
+    pub(crate) fn uleb(&mut self, field: &str) -> Result<u64, Stop> {
+        match self.cursor.uleb() {
+            Ok(number) => Ok(number),
+            Err(leb) => Err(self.leb(leb, field)),
+        }
+    }
+
+    /// A signed LEB128 number.
+    pub(crate) fn sleb(&mut self, field: &str) -> Result<i64, Stop> {
+        match self.cursor.sleb() {
+            Ok(number) => Ok(number),
+            Err(leb) => Err(self.leb(leb, field)),
+        }
+    }
+
+    /// The length of a unit or a table, which has to be all there, and the width of its offsets.
+    pub(crate) fn length(&mut self) -> Result<(u64, Width), Stop> {
+        let read = self.cursor.initial_length();
+        let (length, width) = match self.some(read, "unit_length", 4)? {
+            Initial::Bytes(length, width) => (length, width),
+            Initial::Reserved => {
+                let found = String::from_str(self.alloc, "0xfffffff0 or above")?;
+                return Err(self.refuse("unit_length", found, "a length that isn't reserved"));
+            }
+        };
+        let left = self.left();
+        if length > left {
+            let alloc = self.alloc;
+            let found = format!(in alloc; "{length}")?;
+            let section = self.section;
+            let wanted = format!(in alloc; "at most {left}, the bytes that {section} has left")?;
+            return Err(stop_at(alloc, self.spot, "unit_length", found, wanted));
+        }
+        Ok((length, width))
+    }
+}

@@ -1,0 +1,90 @@
+//! An open file, as the way of an address goes through it.
+
+ghost use Rattle.std.specs.Prelude.{◌≡◌, IfOk};
+ghost use Rattle.dw_model.specs.Section.{sections};
+
+use a2l_reasons::{SectionHeader, section_headers};
+use dw_elf::Elf;
+use dw_ranges::{Range, RangeFault, ranges_of};
+use dw_symbols::Image;
+use dw_units::{OpenUnit, Sections, Units};
+use std::alloc::{AllocError, Global};
+
+/// What is read of a file beside its image. Every call that gives it a unit gives it one of the same file.
+#[derive(Drop)]
+pub(crate) struct Scene<'b, 'a> {
+    pub(crate) alloc: Global,
+    pub(crate) image: &'b Image<'a>,
+    pub(crate) units: Units<'a>,
+    pub(crate) sections: Sections<'a>,
+    /// All section headers, in order.
+    pub(crate) headers: Vec<SectionHeader<'a>>,
+}
+
+/// The units of a file that is open, so that only memory can be refused.
+fn units_of<'a>(alloc: Global, file: &'a [u8]) -> Result<(Sections<'a>, Units<'a>), AllocError>
+    ensures { IfOk result (λ read. read.1 ≡ sections file.now) }
+{
+    let Ok(elf) = Elf::open(file) else {
+        return Err(AllocError);
+    };
+    let sections = Sections::of(&elf);
+    match Units::read(alloc, &elf) {
+        Ok(units) => Ok((sections, units)),
+        Err(_) => Err(AllocError),
+    }
+}
+
+impl<'b, 'a> Scene<'b, 'a> {
+    /// The scene of an image.
+    pub(crate) fn new(alloc: Global, image: &'b Image<'a>) -> Result<Self, AllocError>
+        ensures { IfOk result (λ scene. scene.image.now ≡ image.now) }
+    {
+        let file = image.bytes();
+        let (sections, units) = units_of(alloc, file)?;
+        let headers = section_headers(alloc, file)?;
+        Ok(Scene {
+            alloc,
+            image,
+            units,
+            sections,
+            headers,
+        })
+    }
+
+    /// The section that is loaded over an address.
+    pub(crate) fn section_at(&self, address: u64) -> Option<SectionHeader<'a>> {
+        for header in self.headers.as_slice() {
+            if header.holds(address) {
+                return Some(*header);
+            }
+        }
+        None
+    }
+}
+
+/// The ranges of a unit's first entry, none where the unit answers no address.
+pub(crate) fn ranges_in(alloc: Global, here: OpenUnit<'_, '_>) -> Result<Vec<Range>, AllocError> {
+    let unit = here.unit();
+    let Some(root) = &unit.root else {
+        return Ok(Vec::new(alloc));
+    };
+    if !unit.kind.answers() {
+        return Ok(Vec::new(alloc));
+    }
+    match ranges_of(alloc, root, unit, here.units().tables()) {
+        Ok(ranges) => Ok(ranges),
+        Err(RangeFault::Bad) => Ok(Vec::new(alloc)),
+        Err(RangeFault::Memory) => Err(AllocError),
+    }
+}
+
+/// The first of some ranges that holds an address.
+pub(crate) fn holding(ranges: &[Range], address: u64) -> Option<Range> {
+    for range in ranges {
+        if range.begin <= address && address < range.end {
+            return Some(*range);
+        }
+    }
+    None
+}

@@ -1,0 +1,463 @@
+//! The 64-bit format (sections 7.2.2, 7.4 and 7.5.1 of DWARF 5), alone and beside the 32-bit one,
+//! worked out by hand.
+
+use crate::contexts::{Wanted, expect_frames};
+use crate::texts::units_of;
+use dw_bytes::{Cursor, Initial, Width};
+use dw_elf::{Name, OpenFault};
+use dw_forms::{Abbrevs, Bases, FormFault, Tables, Value, read_value};
+use dw_line::Lines;
+use dw_model::dwarf::{
+    DW_FORM_GNU_ref_alt, DW_FORM_GNU_strp_alt, DW_FORM_data4, DW_FORM_indirect, DW_FORM_line_strp,
+    DW_FORM_ref_addr, DW_FORM_ref4, DW_FORM_sec_offset, DW_FORM_strp, DW_FORM_strp_sup,
+    DW_FORM_strx4,
+};
+use dw_symbols::{Context, Image};
+use dw_units::Kind;
+use std::alloc::{AllocError, Global};
+use std::num::NonZeroUsize;
+use std::test::Fail;
+use test_inputs::files::{HEADER, elf, file_of, line_table};
+
+/// Bytes, what the initial length is with which they begin, and how many bytes are passed.
+type Length = (&'static [u8], Option<Initial>, usize);
+
+const LENGTHS: [Length; 10] = [
+    (&[7, 0, 0, 0, 9], Some(Initial::Bytes(7, Width::Four)), 4),
+    (
+        &[0xef, 0xff, 0xff, 0xff],
+        Some(Initial::Bytes(0xffff_ffef, Width::Four)),
+        4,
+    ),
+    (&[0xf0, 0xff, 0xff, 0xff], Some(Initial::Reserved), 4),
+    (&[0xfe, 0xff, 0xff, 0xff], Some(Initial::Reserved), 4),
+    (
+        &[0xff, 0xff, 0xff, 0xff, 7, 0, 0, 0, 0, 0, 0, 0x80, 9],
+        Some(Initial::Bytes(0x8000_0000_0000_0007, Width::Eight)),
+        12,
+    ),
+    (
+        &[
+            0xff, 0xff, 0xff, 0xff, 0xff, 0xff, 0xff, 0xff, 0xff, 0xff, 0xff, 0xff,
+        ],
+        Some(Initial::Bytes(u64::MAX, Width::Eight)),
+        12,
+    ),
+    (&[0xff, 0xff, 0xff, 0xff, 7, 0, 0, 0, 0, 0, 0], None, 0),
+    (&[0xff, 0xff, 0xff, 0xff], None, 0),
+    (&[7, 0, 0], None, 0),
+    (&[], None, 0),
+];
+
+#[test]
+fn initial_lengths(rt: HostRuntime) {
+    for (bytes, initial, passed) in LENGTHS {
+        let mut cursor = Cursor::new(bytes);
+        assert_eq!(rt; cursor.initial_length(), initial, "{bytes:?}");
+        assert_eq!(rt; cursor.at(), passed, "{bytes:?}");
+    }
+}
+
+#[test]
+fn offsets(rt: HostRuntime) {
+    let mut cursor = Cursor::new(&[1, 2, 3, 4, 5, 6, 7, 8, 9, 10, 11, 12, 13]);
+    assert_eq!(rt; cursor.offset(Width::Four), Some(0x0403_0201));
+    assert_eq!(rt; cursor.offset(Width::Eight), Some(0x0c0b_0a09_0807_0605));
+    assert_eq!(rt; cursor.offset(Width::Eight), None);
+    assert_eq!(rt; cursor.offset(Width::Four), None);
+    assert_eq!(rt; cursor.at(), 12);
+}
+
+/// Eight bytes, and the numbers that they are in both formats.
+const EIGHT: &[u8] = &[1, 2, 3, 4, 5, 6, 7, 8];
+
+const SHORT: u64 = 0x0403_0201;
+
+const LONG: u64 = 0x0807_0605_0403_0201;
+
+/// The forms of offsets with their values in the 32-bit and in the 64-bit format, and three forms
+/// whose values have as many bytes in both.
+const FORMS: [(u64, Value<'static>, Value<'static>); 10] = [
+    (
+        DW_FORM_ref_addr,
+        Value::SectionRef(SHORT),
+        Value::SectionRef(LONG),
+    ),
+    (DW_FORM_strp, Value::Str(SHORT), Value::Str(LONG)),
+    (
+        DW_FORM_line_strp,
+        Value::LineStr(SHORT),
+        Value::LineStr(LONG),
+    ),
+    (
+        DW_FORM_sec_offset,
+        Value::SectionOffset(SHORT),
+        Value::SectionOffset(LONG),
+    ),
+    (DW_FORM_strp_sup, Value::Unused(SHORT), Value::Unused(LONG)),
+    (
+        DW_FORM_GNU_ref_alt,
+        Value::Unused(SHORT),
+        Value::Unused(LONG),
+    ),
+    (
+        DW_FORM_GNU_strp_alt,
+        Value::Unused(SHORT),
+        Value::Unused(LONG),
+    ),
+    (DW_FORM_ref4, Value::UnitRef(SHORT), Value::UnitRef(SHORT)),
+    (
+        DW_FORM_strx4,
+        Value::StrIndex(SHORT),
+        Value::StrIndex(SHORT),
+    ),
+    (
+        DW_FORM_data4,
+        Value::Unsigned(SHORT),
+        Value::Unsigned(SHORT),
+    ),
+];
+
+#[test]
+fn values_of_offsets(rt: HostRuntime) {
+    for (form, short, long) in FORMS {
+        let mut cursor = Cursor::new(EIGHT);
+        assert_eq!(rt;
+            read_value(&mut cursor, form, None, Width::Four),
+            Ok(short),
+            "form {form}"
+        );
+        assert_eq!(rt; cursor.at(), 4, "form {form}");
+        let mut cursor = Cursor::new(EIGHT);
+        assert_eq!(rt;
+            read_value(&mut cursor, form, None, Width::Eight),
+            Ok(long),
+            "form {form}"
+        );
+        let passed = if short == long { 4 } else { 8 };
+        assert_eq!(rt; cursor.at(), passed, "form {form}");
+        let mut cut = Cursor::new(EIGHT.split_at(3).0);
+        assert_eq!(rt;
+            read_value(&mut cut, form, None, Width::Eight),
+            Err(FormFault::End),
+            "form {form}"
+        );
+        assert_eq!(rt; cut.at(), 0, "form {form}");
+    }
+    let mut indirect = Cursor::new(&[0x0e, 1, 2, 3, 4, 5, 6, 7, 8]);
+    assert_eq!(rt;
+        read_value(&mut indirect, DW_FORM_indirect, None, Width::Eight),
+        Ok(Value::Str(LONG))
+    );
+}
+
+/// One declaration: a text by an offset, an index of a text, and a reference by an offset; and one
+/// with a text that stands in the entry.
+const SIZED: &[u8] = &[
+    1, 0x34, 0, 3, 0x0e, 3, 0x25, 0x31, 0x10, 0, 0, 2, 0x34, 0, 3, 8, 0x31, 0x10, 0, 0, 0,
+];
+
+#[test]
+fn sizes_by_width(rt: HostRuntime) -> Result<(), Fail> {
+    let abbrevs = Abbrevs::read(rt.alloc(), SIZED, 0)?;
+    let sized = abbrevs.get(1).ok_or("a declaration of 1")?;
+    assert_eq!(rt; sized.size(Width::Four), Some(9));
+    assert_eq!(rt; sized.size(Width::Eight), Some(17));
+    let unsized_one = abbrevs.get(2).ok_or("a declaration of 2")?;
+    assert_eq!(rt; unsized_one.size(Width::Four), None);
+    assert_eq!(rt; unsized_one.size(Width::Eight), None);
+    Ok(())
+}
+
+/// Texts by index: behind the base 1, an entry of 7 and one of 0 in the 64-bit format.
+const TABLES: Tables<'static> = Tables {
+    str: b"narrow\0wide\0",
+    line_str: &[],
+    str_offsets: &[0xee, 7, 0, 0, 0, 0, 0, 0, 0, 0, 0, 0, 0, 0, 0, 0, 0],
+    addr: &[0xee, 1, 0, 0, 0, 0, 0, 0, 0],
+    rnglists: &[],
+};
+
+const WIDE: Bases = Bases {
+    str_offsets: Some(1),
+    addr: Some(1),
+    rnglists: None,
+    width: Width::Eight,
+};
+
+const NARROW: Bases = Bases {
+    str_offsets: Some(1),
+    addr: Some(1),
+    rnglists: None,
+    width: Width::Four,
+};
+
+#[test]
+fn texts_by_index(rt: HostRuntime) {
+    let texts: [(u64, Option<&[u8]>, Option<&[u8]>); 4] = [
+        (0, Some(b"wide"), Some(b"wide")),
+        (1, Some(b"narrow"), Some(b"narrow")),
+        (2, None, Some(b"narrow")),
+        (u64::MAX, None, None),
+    ];
+    for (i, wide, narrow) in texts {
+        assert_eq!(rt; TABLES.text(&Value::StrIndex(i), &WIDE), wide, "index {i}");
+        assert_eq!(rt;
+            TABLES.text(&Value::StrIndex(i), &NARROW),
+            narrow,
+            "index {i}"
+        );
+    }
+    // Addresses have eight bytes in both formats.
+    assert_eq!(rt; TABLES.address(&Value::AddressIndex(0), &WIDE), Some(1));
+    assert_eq!(rt; TABLES.address(&Value::AddressIndex(0), &NARROW), Some(1));
+}
+
+/// A unit over 0x1000 to 0x3000 without lines, and one over 0x2000 to 0x2010 with lines, in both
+/// formats.
+pub const X: &[u8] = &[
+    0x15, 0, 0, 0, 5, 0, 1, 8, 0, 0, 0, 0, 1, 0, 0x10, 0, 0, 0, 0, 0, 0, 0, 0x20, 0, 0,
+];
+
+pub const Y: &[u8] = &[
+    0x19, 0, 0, 0, 5, 0, 1, 8, 0, 0, 0, 0, 2, 0, 0, 0, 0, 0, 0x20, 0, 0, 0, 0, 0, 0, 0x10, 0, 0, 0,
+];
+
+const X_WIDE: &[u8] = &[
+    0xff, 0xff, 0xff, 0xff, 0x19, 0, 0, 0, 0, 0, 0, 0, 5, 0, 1, 8, 0, 0, 0, 0, 0, 0, 0, 0, 1, 0,
+    0x10, 0, 0, 0, 0, 0, 0, 0, 0x20, 0, 0,
+];
+
+const Y_WIDE: &[u8] = &[
+    0xff, 0xff, 0xff, 0xff, 0x21, 0, 0, 0, 0, 0, 0, 0, 5, 0, 1, 8, 0, 0, 0, 0, 0, 0, 0, 0, 2, 0, 0,
+    0, 0, 0, 0, 0, 0, 0, 0x20, 0, 0, 0, 0, 0, 0, 0x10, 0, 0, 0,
+];
+
+const OVERLAPPING: &[u8] = &[
+    1, 0x11, 0, 0x11, 1, 0x12, 6, 0, 0, 2, 0x11, 0, 0x10, 0x17, 0x11, 1, 0x12, 6, 0, 0, 0,
+];
+
+/// 0x2000 line 3, end 0x2010.
+pub const ONE_ROW: &[u8] = &[0, 9, 2, 0, 0x20, 0, 0, 0, 0, 0, 0, 0x14, 2, 0x10, 0, 1, 1];
+
+/// A file of two units over one line program.
+pub fn overlapping(
+    alloc: Global,
+    first: &[u8],
+    second: &[u8],
+    program: &[u8],
+) -> Result<Vec<u8>, AllocError> {
+    let mut info = Vec::from_slice(alloc, first)?;
+    info.extend_from_slice(second)?;
+    let lines = line_table(alloc, HEADER, program)?;
+    elf(
+        alloc,
+        &[
+            (Name::DebugInfo, &info),
+            (Name::DebugAbbrev, OVERLAPPING),
+            (Name::DebugLine, &lines),
+        ],
+    )
+}
+
+/// Two units, where the second begins, and the frame at 0x2000.
+type Overlapping = (&'static [u8], &'static [u8], u64, Wanted<'static>);
+
+#[test]
+fn overlapping_units_of_both_formats(rt: HostRuntime) -> Result<(), Fail> {
+    let nothing: Wanted<'_> = (None, None, None, None);
+    let line: Wanted<'_> = (None, Some(b"/w/a.c"), Some(3), Some(0));
+    let rows: [Overlapping; 3] = [
+        (X_WIDE, Y, 0x25, nothing),
+        (Y_WIDE, X, 0x2d, line),
+        (Y, X_WIDE, 0x1d, line),
+    ];
+    for (first, second, behind, wanted) in rows {
+        let file = overlapping(rt.alloc(), first, second, ONE_ROW)?;
+        let units = units_of(rt.alloc(), &file)?;
+        if units.len() != 2 {
+            return Err(Fail::from("two units"));
+        }
+        assert_eq!(rt; (units.unit(0).offset, units.unit(1).offset), (0, behind));
+        let image = Image::open(rt.alloc(), &file)?;
+        let mut context = Context::new(rt.alloc(), &image, NonZeroUsize::MIN)?;
+        expect_frames(&rt, &context.find_frames(0x2000)?, 0, &[wanted]);
+    }
+    Ok(())
+}
+
+#[test]
+fn headers_of_the_64_bit_format(rt: HostRuntime) -> Result<(), Fail> {
+    // Padding of 12 bytes, and then a skeleton unit, whose header has 32 bytes.
+    let info: &[u8] = &[
+        0xff, 0xff, 0xff, 0xff, 0, 0, 0, 0, 0, 0, 0, 0, 0xff, 0xff, 0xff, 0xff, 0x21, 0, 0, 0, 0,
+        0, 0, 0, 5, 0, 4, 8, 0, 0, 0, 0, 0, 0, 0, 0, 1, 2, 3, 4, 5, 6, 7, 8, 1, 0, 0x10, 0, 0, 0,
+        0, 0, 0, 0, 0, 0, 0,
+    ];
+    let file = file_of(rt.alloc(), info, OVERLAPPING)?;
+    let units = units_of(rt.alloc(), &file)?;
+    if units.len() != 1 {
+        return Err(Fail::from("one unit"));
+    }
+    let unit = units.unit(0);
+    assert!(rt; matches!(unit.kind, Kind::Skeleton));
+    assert_eq!(rt; (unit.offset, unit.first_entry, unit.end), (12, 44, 57));
+    assert_eq!(rt;
+        (unit.width, unit.bases.width),
+        (Width::Eight, Width::Eight)
+    );
+    Ok(())
+}
+
+/// Beginnings of .debug_info of which the header at an offset can't be read: the length is cut,
+/// reserved, or longer than the section, and a header of the 64-bit format is cut, once without the
+/// last byte of a skeleton's.
+const UNREADABLE: [(&[u8], u64); 7] = [
+    (&[0xff, 0xff, 0xff, 0xff, 0, 0, 0, 0, 0, 0, 0], 0),
+    (&[0xff, 0xff, 0xff, 0xff], 0),
+    (&[0xfe, 0xff, 0xff, 0xff, 0, 0, 0, 0, 0, 0, 0, 0], 0),
+    (
+        &[
+            0, 0, 0, 0, 0xff, 0xff, 0xff, 0xff, 3, 0, 0, 0, 0, 0, 0, 0, 4, 0,
+        ],
+        4,
+    ),
+    (
+        &[
+            0xff, 0xff, 0xff, 0xff, 0xff, 0xff, 0xff, 0xff, 0xff, 0xff, 0xff, 0xff, 4, 0,
+        ],
+        0,
+    ),
+    (
+        &[
+            0xff, 0xff, 0xff, 0xff, 11, 0, 0, 0, 0, 0, 0, 0, 5, 0, 1, 8, 0, 0, 0, 0, 0, 0, 0,
+        ],
+        0,
+    ),
+    (
+        &[
+            0xff, 0xff, 0xff, 0xff, 19, 0, 0, 0, 0, 0, 0, 0, 5, 0, 4, 8, 0, 0, 0, 0, 0, 0, 0, 0, 1,
+            2, 3, 4, 5, 6, 7,
+        ],
+        0,
+    ),
+];
+
+#[test]
+fn unreadable_lengths(rt: HostRuntime) -> Result<(), Fail> {
+    for (info, offset) in UNREADABLE {
+        let file = file_of(rt.alloc(), info, OVERLAPPING)?;
+        assert_eq!(rt;
+            units_of(rt.alloc(), &file).err(),
+            Some(OpenFault::UnitHeader(offset)),
+            "{info:?}"
+        );
+    }
+    Ok(())
+}
+
+/// A unit of the 64-bit format and one of the 32-bit format over one table of declarations. In each
+/// stand a first entry, whose range list has the index 1, a variable, and three functions: one
+/// whose name has the index 1, one that is an instance of the other unit's first function, and one
+/// that completes its own unit's first function.
+const BOTH: &[u8] = &[
+    0xff, 0xff, 0xff, 0xff, 0x6d, 0, 0, 0, 0, 0, 0, 0, 5, 0, 1, 8, 0, 0, 0, 0, 0, 0, 0, 0,
+    // 0x18
+    1, 0, 0, 0, 0, 0, 0, 0, 0, 0, 0, 0, 0, 0, 0, 0, 0, 0, 0, 0, 0, 0, 0, 0, 0, 1,
+    // 0x32
+    3, 7, 0, 0, 0, 0, 0, 0, 0, 0x9d, 0, 0, 0, 0, 0, 0, 0, 9, // 0x44
+    2, 1, 0, 0x10, 0, 0, 0, 0, 0, 0, 0x10, 0, 0, 0, // 0x52
+    4, 0x9d, 0, 0, 0, 0, 0, 0, 0, 0x10, 0x10, 0, 0, 0, 0, 0, 0, 0x10, 0, 0, 0, // 0x67
+    5, 0x44, 0, 0, 0, 0x20, 0x10, 0, 0, 0, 0, 0, 0, 0x10, 0, 0, 0, // 0x78
+    0, // 0x79
+    0x51, 0, 0, 0, 5, 0, 1, 8, 0, 0, 0, 0, // 0x85
+    1, 0x46, 0, 0, 0, 0x10, 0, 0, 0, 0x1b, 0, 0, 0, 1, // 0x93
+    3, 0, 0, 0, 0, 0x44, 0, 0, 0, 9, // 0x9d
+    2, 1, 0, 0x20, 0, 0, 0, 0, 0, 0, 0x10, 0, 0, 0, // 0xab
+    4, 0x44, 0, 0, 0, 0x10, 0x20, 0, 0, 0, 0, 0, 0, 0x10, 0, 0, 0, // 0xbc
+    5, 0x24, 0, 0, 0, 0x20, 0x20, 0, 0, 0, 0, 0, 0, 0x10, 0, 0, 0, // 0xcd
+    0,
+];
+
+const SHARED: &[u8] = &[
+    1, 0x11, 1, 0x10, 0x17, 0x72, 0x17, 0x74, 0x17, 0x55, 0x23, 0, 0, 2, 0x2e, 0, 3, 0x25, 0x11, 1,
+    0x12, 6, 0, 0, 3, 0x34, 0, 3, 0x0e, 0x49, 0x10, 0x3a, 0x0b, 0, 0, 4, 0x2e, 0, 0x31, 0x10, 0x11,
+    1, 0x12, 6, 0, 0, 5, 0x2e, 0, 0x47, 0x13, 0x11, 1, 0x12, 6, 0, 0, 0,
+];
+
+/// The wide unit's offsets are 0 and 7, the narrow one's are 7 and 0.
+const STR_OFFSETS: &[u8] = &[
+    0, 0, 0, 0, 0, 0, 0, 0, 7, 0, 0, 0, 0, 0, 0, 0, 7, 0, 0, 0, 0, 0, 0, 0,
+];
+
+/// The list of index 1 stands behind both offsets: 0x1000 to 0x1030 for the wide unit, 0x2000 to
+/// 0x2030 for the narrow one, whose offsets begin at 0x1b.
+const RNGLISTS: &[u8] = &[
+    0, 0, 0, 0, 0, 0, 0, 0, 0x10, 0, 0, 0, 0, 0, 0, 0, 7, 0, 0x10, 0, 0, 0, 0, 0, 0, 0x30, 0, 0, 0,
+    0, 0, 8, 0, 0, 0, 7, 0, 0x20, 0, 0, 0, 0, 0, 0, 0x30, 0,
+];
+
+/// A table of the 32-bit format, which the wide unit names, with 0x1000 line 3, end 0x1030; and at
+/// 0x46 one of the 64-bit format, which the narrow unit names, with 0x2000 line 4, end 0x2030.
+const LINES: &[u8] = &[
+    0x42, 0, 0, 0, 5, 0, 8, 0, 0x29, 0, 0, 0, 1, 1, 1, 0xfb, 0x0e, 0x0d, 0, 1, 1, 1, 1, 0, 0, 0, 1,
+    0, 0, 1, 1, 1, 8, 1, b'/', b'w', 0, 2, 1, 8, 2, 0x0b, 2, b'z', b'.', b'c', 0, 0, b'a', b'.',
+    b'c', 0, 0, 0, 9, 2, 0, 0x10, 0, 0, 0, 0, 0, 0, 0x14, 2, 0x30, 0, 1, 1, 0xff, 0xff, 0xff, 0xff,
+    0x46, 0, 0, 0, 0, 0, 0, 0, 5, 0, 8, 0, 0x29, 0, 0, 0, 0, 0, 0, 0, 1, 1, 1, 0xfb, 0x0e, 0x0d, 0,
+    1, 1, 1, 1, 0, 0, 0, 1, 0, 0, 1, 1, 1, 8, 1, b'/', b'w', 0, 2, 1, 8, 2, 0x0b, 2, b'z', b'.',
+    b'c', 0, 0, b'a', b'.', b'c', 0, 0, 0, 9, 2, 0, 0x20, 0, 0, 0, 0, 0, 0, 0x15, 2, 0x30, 0, 1, 1,
+];
+
+/// A file of both units.
+fn both(alloc: Global) -> Result<Vec<u8>, AllocError> {
+    elf(
+        alloc,
+        &[
+            (Name::DebugInfo, BOTH),
+            (Name::DebugAbbrev, SHARED),
+            (Name::DebugLine, LINES),
+            (Name::DebugStr, b"narrow\0wide\0"),
+            (Name::DebugStrOffsets, STR_OFFSETS),
+            (Name::DebugRnglists, RNGLISTS),
+        ],
+    )
+}
+
+/// An address, its unit, and the name and line there.
+const FRAMES: [(u64, u64, &[u8], u64); 6] = [
+    (0x1000, 0, b"wide", 3),
+    (0x1010, 0, b"narrow", 3),
+    (0x102f, 0, b"wide", 3),
+    (0x2000, 0x79, b"narrow", 4),
+    (0x2010, 0x79, b"wide", 4),
+    (0x202f, 0x79, b"narrow", 4),
+];
+
+#[test]
+fn two_formats_over_one_table(rt: HostRuntime) -> Result<(), Fail> {
+    let file = both(rt.alloc())?;
+    let image = Image::open(rt.alloc(), &file)?;
+    let mut context = Context::new(rt.alloc(), &image, NonZeroUsize::MIN)?;
+    for (address, unit, name, line) in FRAMES {
+        let wanted: Wanted<'_> = (Some(name), Some(b"/w/a.c"), Some(line), Some(0));
+        expect_frames(&rt, &context.find_frames(address)?, unit, &[wanted]);
+    }
+    Ok(())
+}
+
+/// Initial lengths before the rest of a line table with `n` bytes, and whether it can be read then.
+#[test]
+fn lengths_of_line_tables(rt: HostRuntime) -> Result<(), Fail> {
+    let reserved = &[0xfe, 0xff, 0xff, 0xff];
+    let table = LINES.split_at(0x46).1;
+    let read = |section: &[u8]| {
+        Lines::read(rt.alloc(), section, &TABLES, &NARROW, None, 0).is_ok()
+    };
+    assert!(rt; read(table));
+    assert!(rt; !read(table.split_at(table.len().saturating_sub(1)).0));
+    assert!(rt; !read(table.split_at(11).0));
+    let mut other = Vec::from_slice(rt.alloc(), reserved)?;
+    other.extend_from_slice(table.split_at(4).1)?;
+    assert!(rt; !read(&other));
+    Ok(())
+}

@@ -1,0 +1,19 @@
+//! Tests of the crates that answer addresses of a file, by contexts, boards and pools, up to the lines of answers,
+//! through their public calls alone. They stand here so that those crates are proved once, and not once more with
+//! their tests.
+#![tactic(auto)]
+
+#[cfg(test)]
+mod boards;
+#[cfg(test)]
+mod contexts;
+#[cfg(test)]
+mod damaged;
+#[cfg(test)]
+mod formats;
+#[cfg(test)]
+mod pools;
+#[cfg(test)]
+mod spans;
+#[cfg(test)]
+mod texts;

@@ -1,0 +1,142 @@
+//! Pools of two workers, each of which waits for the other.
+
+use crate::contexts::{IN_MAIN, INLINED, expect_frames};
+use crate::spans::{PIECES, expect_pieces};
+use crate::texts::{Asked, Open, PLAIN, status_of};
+use a2l_lines::{Status, run_pool};
+use dw_symbols::{Answer, Image};
+use std::sync::atomic::{AtomicU64, Ordering};
+use std::test::Fail;
+use std::thread;
+use test_inputs::files::sample;
+use ticket_board::{Gate, PoolFault};
+use ticket_core::{Query, Shape};
+
+/// How long a worker waits at the gate for the other.
+const MOST_WAITS: u64 = 10_000_000;
+
+/// A gate at which each of two workers waits until the other has entered.
+#[derive(Drop)]
+struct Meeting {
+    /// How often number 0 entered.
+    first: AtomicU64,
+    /// How often any other number entered.
+    second: AtomicU64,
+    /// How many waited to the limit.
+    alone: AtomicU64,
+}
+
+impl Meeting {
+    fn new() -> Self {
+        Meeting {
+            first: AtomicU64::new(0),
+            second: AtomicU64::new(0),
+            alone: AtomicU64::new(0),
+        }
+    }
+
+    /// How often number 0 entered, how often any other, and how many waited to the limit.
+    fn counts(&self) -> (u64, u64, u64) {
+        (
+            self.first.load(Ordering::SeqCst),
+            self.second.load(Ordering::SeqCst),
+            self.alone.load(Ordering::SeqCst),
+        )
+    }
+}
+
+impl Gate for Meeting {
+    fn enter(&self, _sender: usize, number: u64, _query: Query) {
+        let (own, other) = match number {
+            0 => (&self.first, &self.second),
+            _ => (&self.second, &self.first),
+        };
+        own.fetch_add(1, Ordering::SeqCst);
+        for _ in 0..MOST_WAITS {
+            if other.load(Ordering::SeqCst) > 0 {
+                return;
+            }
+            thread::yield_now();
+        }
+        self.alone.fetch_add(1, Ordering::SeqCst);
+    }
+}
+
+/// Each of two numbers entered once, and the limit wasn't reached.
+const BOTH_ENTERED: (u64, u64, u64) = (1, 1, 0);
+
+#[test]
+fn two_workers_at_once(rt: HostRuntime) -> Result<(), Fail> {
+    let file = sample(rt.alloc())?;
+    let image = Image::open(rt.alloc(), &file)?;
+    let gate = Meeting::new();
+    let shape = Shape {
+        senders: 1,
+        workers: 2,
+        window: 2,
+        most: 1 << 60,
+    };
+    let queries = [Query::address(0x401000), Query::address(0x401004)];
+    let answers = run_pool(&rt, rt.alloc(), &image, shape, &queries, &gate)?;
+    assert_eq!(rt; answers.len(), 2);
+    expect_frames(&rt, &answers[0], 0, IN_MAIN);
+    expect_frames(&rt, &answers[1], 0, INLINED);
+    assert_eq!(rt; gate.counts(), BOTH_ENTERED);
+    Ok(())
+}
+
+/// A span between addresses, of which one is in it and one isn't covered.
+#[test]
+fn pool_with_a_span(rt: HostRuntime) -> Result<(), Fail> {
+    let file = sample(rt.alloc())?;
+    let image = Image::open(rt.alloc(), &file)?;
+    let shape = Shape {
+        senders: 2,
+        workers: 3,
+        window: 1,
+        most: 2,
+    };
+    let Some(span) = Query::range(0x40_1002, 0x40_1006) else {
+        return Err(Fail::from("a span"));
+    };
+    let queries = [Query::address(0x401004), span, Query::address(0)];
+    let answers = run_pool(&rt, rt.alloc(), &image, shape, &queries, &Open)?;
+    assert_eq!(rt; answers.len(), 3);
+    expect_frames(&rt, &answers[0], 0, INLINED);
+    expect_pieces(&rt, &answers[1], PIECES);
+    assert!(rt; matches!(answers[2], Answer::NotCovered));
+    Ok(())
+}
+
+#[test]
+fn shapes_past_the_limits(rt: HostRuntime) -> Result<(), Fail> {
+    let file = sample(rt.alloc())?;
+    let image = Image::open(rt.alloc(), &file)?;
+    for (senders, workers, most) in [(0, 1, 1), (1, 65, 1), (1, 1, (1 << 60) + 1), (2, 1, 1)] {
+        let shape = Shape {
+            senders,
+            workers,
+            window: 2,
+            most,
+        };
+        let queries = [Query::address(1), Query::address(2), Query::address(3)];
+        let answers = run_pool(&rt, rt.alloc(), &image, shape, &queries, &Meeting::new());
+        assert!(rt; matches!(answers, Err(PoolFault::BadShape)));
+    }
+    Ok(())
+}
+
+#[test]
+fn two_workers_write_in_order(rt: HostRuntime) -> Result<(), Fail> {
+    let file = sample(rt.alloc())?;
+    let gate = Meeting::new();
+    let asked = Asked {
+        flags: PLAIN,
+        words: &["401004", "401000"],
+        text: "/w/a.c:4\n/w/a.c:3\n",
+    };
+    let status = status_of(&rt, rt.alloc(), &file, &asked, &gate)?;
+    assert_eq!(rt; status, Some(Status::Clean));
+    assert_eq!(rt; gate.counts(), BOTH_ENTERED);
+    Ok(())
+}

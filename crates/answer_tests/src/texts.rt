@@ -1,0 +1,344 @@
+//! The lines that are written for addresses and for units, worked out by hand.
+
+ghost use Rattle.std.specs.Prelude.{◌≡◌, None, IfOk};
+
+use crate::contexts::{FAULTS, unreadable};
+use a2l_lines::{Failed, Options, RunFault, Sink, Source, Status, list_units, symbolize};
+use dw_elf::{Elf, Name, OpenFault};
+use dw_symbols::Image;
+use dw_units::Units;
+use std::alloc::{AllocError, Global};
+use std::process::Abort;
+use std::sync::Wait;
+use std::test::Fail;
+use std::thread::Threads;
+use test_inputs::files::{ABBREVS, HEADER, INFO, elf, line_table, sample};
+use ticket_board::Gate;
+use ticket_core::Query;
+
+/// No input.
+#[derive(Drop)]
+struct Nothing;
+
+impl Source for Nothing {
+    ghost failures = { λ _. 0 };
+
+    ghost left = { λ _. None };
+
+    fn read(&mut self, _buffer: &mut [u8]) -> Result<usize, Failed> {
+        Ok(0)
+    }
+}
+
+/// Compares what is written with a text, of which so much is left.
+#[derive(Drop)]
+struct Compared<'a> {
+    left: &'a [u8],
+    differs: bool,
+}
+
+impl Sink for Compared<'_> {
+    ghost failures = { λ _. 0 };
+
+    ghost told = { λ _. None };
+
+    fn write(&mut self, piece: &[u8]) -> Result<usize, Failed> {
+        let count = piece.len().min(self.left.len());
+        let (front, rest) = self.left.split_at(count);
+        if front != piece {
+            self.differs = true;
+        }
+        self.left = rest;
+        Ok(piece.len())
+    }
+}
+
+impl<'a> Compared<'a> {
+    fn new(text: &'a str) -> Self {
+        Compared {
+            left: text.as_bytes(),
+            differs: false,
+        }
+    }
+
+    /// The text was written, and nothing else.
+    fn is_whole(&self) -> bool {
+        self.left.is_empty() && !self.differs
+    }
+}
+
+/// A gate that stands open.
+#[derive(Drop)]
+pub struct Open;
+
+impl Gate for Open {
+    fn enter(&self, _sender: usize, _number: u64, _query: Query) {}
+}
+
+/// Which of `-f`, `-i` and `-a` are asked for.
+#[derive(Clone, Copy)]
+pub struct Flags {
+    functions: bool,
+    inlines: bool,
+    addresses: bool,
+}
+
+/// What is asked for by words, and the lines that answer it.
+#[derive(Clone, Copy)]
+pub struct Asked<'a> {
+    pub flags: Flags,
+    pub words: &'a [&'a str],
+    pub text: &'a str,
+}
+
+pub const PLAIN: Flags = Flags {
+    functions: false,
+    inlines: false,
+    addresses: false,
+};
+
+const INNERMOST: Flags = Flags {
+    functions: true,
+    inlines: false,
+    addresses: true,
+};
+
+const FRAMES: Flags = Flags {
+    functions: true,
+    inlines: true,
+    addresses: false,
+};
+
+const ALL: Flags = Flags {
+    functions: true,
+    inlines: true,
+    addresses: true,
+};
+
+/// What is asked for, of two workers by one sender.
+fn options<'a>(alloc: Global, asked: &Asked<'a>) -> Result<Options<'a>, AllocError>
+    ensures workers { IfOk result (λ options. options.workers ≡ 2) }
+    ensures senders { IfOk result (λ options. options.senders ≡ 1) }
+{
+    Ok(Options {
+        functions: asked.flags.functions,
+        inlines: asked.flags.inlines,
+        addresses: asked.flags.addresses,
+        workers: 2,
+        senders: 1,
+        words: Vec::from_slice(alloc, asked.words)?,
+    })
+}
+
+/// Answers the addresses that are asked for in a file, and says how that ended; where the lines aren't those, it says
+/// nothing.
+pub fn status_of<T: Threads + Wait + Sync, G: Gate + Sync>(
+    rt: &T,
+    alloc: Global,
+    file: &[u8],
+    asked: &Asked<'_>,
+    gate: &G,
+) -> Result<Option<Status>, Fail> {
+    let image = Image::open(alloc, file)?;
+    let options = options(alloc, asked)?;
+    let mut lines = Compared::new(asked.text);
+    let status = symbolize(rt, alloc, &mut Nothing, &mut lines, &image, &options, gate)?;
+    if !lines.is_whole() {
+        return Ok(None);
+    }
+    Ok(Some(status))
+}
+
+/// Of the sample.
+const ANSWERS: [Asked<'static>; 5] = [
+    Asked {
+        flags: ALL,
+        words: &["0x401004"],
+        text: "0x0000000000401004\nleaf\n/w/a.c:4\nmid\n/w/a.c:30\nmain\n/w/z.c:20\n",
+    },
+    Asked {
+        flags: INNERMOST,
+        words: &["401004"],
+        text: "0x0000000000401004\nleaf\n/w/a.c:4\n",
+    },
+    Asked {
+        flags: PLAIN,
+        words: &["401004"],
+        text: "/w/a.c:4\n",
+    },
+    Asked {
+        flags: FRAMES,
+        words: &["401000", "401006", "40100e"],
+        text: "main\n/w/a.c:3\nmid\n/w/a.c:4\nmain\n/w/z.c:20\n??\n??:0\n",
+    },
+    SPANNED,
+];
+
+/// Addresses, and a span between them.
+const SPANNED: Asked<'static> = Asked {
+    flags: FRAMES,
+    words: &["401006", "401002-401006", "40100e"],
+    text: "mid\n/w/a.c:4\nmain\n/w/z.c:20\n\
+        0x0000000000401002-0x0000000000401004 /w/a.c:3\n0x0000000000401004-0x0000000000401006 /w/a.c:4\n\
+        ??\n??:0\n",
+};
+
+#[test]
+fn lines_of_frames(rt: HostRuntime) -> Result<(), Fail> {
+    let file = sample(rt.alloc())?;
+    for asked in ANSWERS {
+        let status = status_of(&rt, rt.alloc(), &file, &asked, &Open)?;
+        let text = asked.text;
+        assert_eq!(rt; status, Some(Status::Clean), "for {text:?}");
+    }
+    Ok(())
+}
+
+/// Addresses that are asked more than once, with bad addresses between them.
+#[test]
+fn the_same_address_again(rt: HostRuntime) -> Result<(), Fail> {
+    let file = sample(rt.alloc())?;
+    let asked = Asked {
+        flags: PLAIN,
+        words: &["401004", "zz", "401000", "401004", "2", "zz", "2", "401000"],
+        text: "/w/a.c:4\n!bad address\n/w/a.c:3\n/w/a.c:4\n??:0\n!bad address\n??:0\n/w/a.c:3\n",
+    };
+    let status = status_of(&rt, rt.alloc(), &file, &asked, &Open)?;
+    assert_eq!(rt; status, Some(Status::Faults));
+    Ok(())
+}
+
+/// 0x401000 line 0, 0x401001 line 20 in file 9, which isn't there, end 0x40100e.
+const UNKNOWN: &[u8] = &[
+    0, 9, 2, 0, 0x10, 0x40, 0, 0, 0, 0, 0, 3, 0x7f, 1, 2, 1, 4, 9, 3, 20, 1, 2, 0x0d, 0, 1, 1,
+];
+
+#[test]
+fn parts_that_are_not_known(rt: HostRuntime) -> Result<(), Fail> {
+    let lines = line_table(rt.alloc(), HEADER, UNKNOWN)?;
+    let sections: [(Name, &[u8]); 3] = [
+        (Name::DebugInfo, INFO),
+        (Name::DebugAbbrev, ABBREVS),
+        (Name::DebugLine, &lines),
+    ];
+    let file = elf(rt.alloc(), &sections)?;
+    let asked = Asked {
+        flags: PLAIN,
+        words: &["401000", "401001", "2"],
+        text: "/w/a.c:?\n??:20\n??:0\n",
+    };
+    let status = status_of(&rt, rt.alloc(), &file, &asked, &Open)?;
+    assert_eq!(rt; status, Some(Status::Clean));
+    Ok(())
+}
+
+/// The lines of each fault of a unit, and of a word that is no address.
+const FAULT_LINES: [&str; 4] = [
+    "!unit 0x1af fault 1\n!bad address\n",
+    "!unit 0x1af fault 2\n!bad address\n",
+    "!unit 0x1af fault 3\n!bad address\n",
+    "!unit 0x1af fault 4\n!bad address\n",
+];
+
+#[test]
+fn faults_by_their_numbers(rt: HostRuntime) -> Result<(), Fail> {
+    for (fault, text) in FAULTS.iter().zip(FAULT_LINES.iter()) {
+        let file = unreadable(rt.alloc(), *fault)?;
+        let asked = Asked {
+            flags: FRAMES,
+            words: &["401000", "zz"],
+            text,
+        };
+        let status = status_of(&rt, rt.alloc(), &file, &asked, &Open)?;
+        assert_eq!(rt; status, Some(Status::Faults), "for {text:?}");
+    }
+    Ok(())
+}
+
+/// The units of a file.
+pub fn units_of<'a>(alloc: Global, file: &'a [u8]) -> Result<Units<'a>, OpenFault> {
+    let elf = Elf::open(file)?;
+    Units::read(alloc, &elf)
+}
+
+const UNITS: &str = "0x0 version 5 compile\n0x5b version 5 partial\n0x6e version 5 compile\n";
+
+/// Lists units. No clause says what is written, so that its callers are proved soon.
+fn list(alloc: Global, lines: &mut Compared<'_>, units: &Units<'_>) -> Result<(), RunFault> {
+    list_units(alloc, lines, units)
+}
+
+#[test]
+fn lines_of_units(rt: HostRuntime) -> Result<(), Fail> {
+    let file = sample(rt.alloc())?;
+    let units = units_of(rt.alloc(), &file)?;
+    let mut lines = Compared::new(UNITS);
+    list(rt.alloc(), &mut lines, &units)?;
+    assert!(rt; lines.is_whole());
+    Ok(())
+}
+
+/// Answers what is asked for, in the same way.
+fn answer<T: Threads + Wait + Sync>(
+    rt: &T,
+    alloc: Global,
+    lines: &mut Compared<'_>,
+    image: &Image<'_>,
+    options: &Options<'_>,
+) -> Result<Status, RunFault>
+    requires workers { options.now.workers ≡ 2 }
+    requires senders { options.now.senders ≡ 1 }
+{
+    symbolize(rt, alloc, &mut Nothing, lines, image, options, &Open)
+}
+
+/// Answers what is asked for, once more where an allocation or a thread was refused, and writes all lines.
+fn is_answered_at_last<T: Threads + Wait + Sync>(
+    rt: &T,
+    alloc: Global,
+    image: &Image<'_>,
+    options: &Options<'_>,
+    text: &str,
+) -> Result<bool, RunFault>
+    requires workers { options.now.workers ≡ 2 }
+    requires senders { options.now.senders ≡ 1 }
+{
+    let mut lines = Compared::new(text);
+    let status = match answer(rt, alloc, &mut lines, image, options) {
+        Err(RunFault::Memory) => answer(rt, alloc, &mut lines, image, options)?,
+        status => status?,
+    };
+    Ok(lines.is_whole() && status == Status::Clean)
+}
+
+/// Lists units, once more where an allocation was refused, and writes all lines.
+fn is_listed_at_last(alloc: Global, units: &Units<'_>, text: &str) -> Result<bool, RunFault> {
+    let mut lines = Compared::new(text);
+    match list(alloc, &mut lines, units) {
+        Err(RunFault::Memory) => list(alloc, &mut lines, units)?,
+        written => written?,
+    }
+    Ok(lines.is_whole())
+}
+
+/// Where an allocation or a thread is refused, answering and listing are out of memory, and nothing is written; the
+/// same call, with memory, writes all lines.
+#[test]
+fn each_allocation_refused(rt: HostRuntime) -> Result<(), Fail> {
+    let alloc = rt.alloc();
+    let Ok(file) = sample(alloc) else {
+        return Ok(());
+    };
+    let Ok(image) = Image::open(alloc, &file) else {
+        return Ok(());
+    };
+    let Ok(units) = units_of(alloc, &file) else {
+        return Ok(());
+    };
+    let Ok(options) = options(alloc, &SPANNED) else {
+        return Ok(());
+    };
+    assert!(rt; is_answered_at_last(&rt, alloc, &image, &options, SPANNED.text)?);
+    assert!(rt; is_listed_at_last(alloc, &units, UNITS)?);
+    Ok(())
+}

@@ -1,0 +1,148 @@
+//! Going through the rows of a span of addresses.
+
+ghost use Rattle.std.specs.Prelude.{◌≡◌, ◌≤◌, ◌<◌, ℕ, None, IfSome};
+ghost use Rattle.dw_model.specs.Steady.{last_address};
+ghost use Rattle.dw_line.specs.Reached.{IsLast};
+ghost use Rattle.dw_line.specs.Sequences.{used_sequences, IsOwner};
+ghost use Rattle.dw_line.specs.Walked.{IsStretch, walked_to};
+
+use crate::lines::Lines;
+use crate::rows::Row;
+use crate::search::Last;
+use crate::sequences::Owner;
+use dw_bytes::Steps;
+use std::marker::{Brand, Model};
+use std::sync::ledger::{Blank, Ledger};
+
+/// Addresses that one row has, or that no row has: from `begin` on, and below `end`.
+#[derive(Clone, Copy, Debug, PartialEq, Eq)]
+pub struct Stretch {
+    pub begin: u64,
+    pub end: u64,
+    pub row: Option<Row>,
+}
+
+/// Goes through a span of addresses of a line table, from one stretch to the next. Rows are run on from the row before;
+/// only where another sequence begins they are run anew from one of its checkpoints. Contracts see the table, the
+/// address that comes next, and the end of the span.
+#[derive(Drop)]
+pub struct Walk<'b, 'a> {
+    lines: &'b Lines<'a>,
+    at: u64,
+    high: u64,
+    /// The sequence that holds the addresses from `at` on, as far as it is known.
+    owner: Owner,
+    /// The row that was found last.
+    last: Option<Last>,
+}
+
+impl<'b, 'a> Model for Walk<'b, 'a> {
+    ghost use Rattle.dw_line.specs.Walked.{Walked};
+    ghost use Rattle.dw_line.specs.WalkInside.{walk_shown, IsWalk};
+
+    ghost Value = { Walked };
+
+    ghost view = { walk_shown };
+
+    ghost invariant = { IsWalk };
+}
+
+/// The lesser of two addresses.
+fn lesser(a: u64, b: u64) -> u64
+    ensures first { result ≤ a }
+    ensures second { result ≤ b }
+    ensures above { (c : ℕ) → c < a → c < b → c < result }
+{
+    if a <= b { a } else { b }
+}
+
+/// The sequence that holds the addresses from one on, where it may be known already.
+fn owner_from(lines: &Lines<'_>, owner: Owner, at: u64) -> Owner
+    requires at { at < last_address }
+    requires owner { IsOwner lines.now.rows owner.number at owner.until }
+    ensures after { at < result.until }
+    ensures owner { IsOwner lines.now.rows result.number at result.until }
+{
+    if at < owner.until {
+        return owner;
+    }
+    lines.owner_from(at)
+}
+
+/// The stretch from an address on and below an end at most, where one sequence or none holds all of these; and the row
+/// that was found last.
+fn stretch_from<L: Ledger>(
+    lines: &Lines<'_>,
+    number: Option<usize>,
+    last: Option<Last>,
+    begin: u64,
+    end: u64,
+    blank: Blank,
+) -> (Stretch, Option<Last>)
+    requires name { blank.name ≡ L.name }
+    requires parts { blank.parts ≡ L.parts }
+    requires some { 0 < L.parts }
+    requires order { begin < end }
+    requires owner { IsOwner lines.now.rows number begin end }
+    requires last { IsLast lines.now.header (used_sequences lines.now.rows) last }
+    ensures stretch { IsStretch lines.now.rows begin end result.0 }
+    ensures last { IsLast lines.now.header (used_sequences lines.now.rows) result.1 }
+{
+    let Some(number) = number else {
+        let row = None;
+        return (Stretch { begin, end, row }, last);
+    };
+    let mut steps = Steps::<L>::new(blank);
+    let found = lines.row_of_sequence(number, last, begin, &mut steps);
+    let stretch = Stretch {
+        begin,
+        end: lesser(found.reached.next, end),
+        row: Some(found.reached.told()),
+    };
+    (stretch, Some(found))
+}
+
+impl<'b, 'a> Walk<'b, 'a> {
+    /// Before the first stretch.
+    pub(crate) fn new(lines: &'b Lines<'a>, low: u64, high: u64) -> Self
+        ensures table { result.table ≡ lines.now }
+        ensures span { (result.at ≡ low) × (result.high ≡ high) }
+    {
+        Walk {
+            lines,
+            at: low,
+            high,
+            owner: Owner {
+                number: None,
+                until: low,
+            },
+            last: None,
+        }
+    }
+
+    /// The next stretch; `None` at the end of the span. Neighbours may have the same row.
+    pub fn next(&mut self) -> Option<Stretch>
+        ensures stretch { IfSome result (IsStretch self.old.table.rows self.old.at self.old.high) }
+        ensures moved { IfSome result (λ stretch. self.new ≡ walked_to stretch.end self.old) }
+        ensures ended { result ≡ None → self.old.high ≤ self.old.at }
+        ensures stays { result ≡ None → self.new ≡ self.old }
+    {
+        if self.at >= self.high {
+            return None;
+        }
+        let owner = owner_from(self.lines, self.owner, self.at);
+        let end = lesser(owner.until, self.high);
+        let (stretch, last) = stretch_from::<Brand>(
+            self.lines,
+            owner.number,
+            self.last,
+            self.at,
+            end,
+            Blank::new(1),
+        );
+        self.at = stretch.end;
+        self.owner = owner;
+        self.last = last;
+        Some(stretch)
+    }
+}

@@ -1,0 +1,424 @@
+-- The pieces of a span of addresses.
+use Rattle.std.proofs.Common.{◌≡◌, ◌≢◌, ◌≤◌, ◌<◌, ℕ, zero, suc, ◌+◌, ◌⊎◌, inl, inr, Bool, true, false, cond, List, [], ◌∷◌, Option, Some, None, Result, Ok, Err, refl, sym, subst, ap, ◌∙◌, arith}
+use Rattle.std.specs.Prelude.{◌&&◌, nat_le, nat_lt, nat_eq, ◌==◌, IsOk}
+use Rattle.std.specs.Cmp.Lexicographic.{pointwise, bytes_decides}
+use Rattle.std.proofs.Math.Nat.{eq-or-lt_of_le}
+use Rattle.std.proofs.lemmas.Bool.{eqb-true, eq-eqb, le-leb, lt-ltb, le-ltb, lt-leb, ltb-true, ltb-false, and_parts, true≢false}
+use Rattle.dw_model.specs.Results.{◌>>=◌}
+use Rattle.dw_model.specs.Answer.{Location, Piece}
+use Rattle.dw_model.specs.Pieces.{UnitFault, is_same_number, is_same_path, is_same, with_address, pieces_from, IsApart, AreInOrder, location_in, ArePieces, IsFirstFault, with_piece, HaveLocation}
+
+-- ---- locations that are the same
+
+same_number : (m n : Option ℕ) → is_same_number m n ≡ true → m ≡ n
+same_number None None e = refl
+same_number None (Some n) e = absurd cc
+same_number (Some m) None e = absurd cc
+same_number (Some m) (Some n) e = ap Some (eqb-true m n e)
+
+own_number : (n : Option ℕ) → is_same_number n n ≡ true
+own_number None = refl
+own_number (Some n) = eq-eqb n n refl
+
+same_path : (p q : Option (List ℕ)) → is_same_path p q ≡ true → p ≡ q
+same_path None None e = refl
+same_path None (Some q) e = absurd cc
+same_path (Some p) None e = absurd cc
+same_path (Some p) (Some q) e = ap Some ((bytes_decides p q).0 e)
+
+own_path : (p : Option (List ℕ)) → is_same_path p p ≡ true
+own_path None = refl
+own_path (Some p) = (bytes_decides p p).1 refl
+
+both : (a b : Bool) → a ≡ true → b ≡ true → (a && b) ≡ true
+both true true e f = refl
+both true false e f = absurd cc
+both false b e f = absurd cc
+
+pub same_location : (p q : Location) → is_same p q ≡ true → p ≡ q
+same_location p q e =
+    let parts = and_parts (is_same_path p.path q.path) (is_same_number p.line q.line && is_same_number p.column q.column) e in
+    let numbers = and_parts (is_same_number p.line q.line) (is_same_number p.column q.column) parts.1 in
+    let path = same_path p.path q.path parts.0 in
+    let line = same_number p.line q.line numbers.0 in
+    let column = same_number p.column q.column numbers.1 in
+    λ i. record { path = path i; line = line i; column = column i }
+
+own_location : (p : Location) → is_same p p ≡ true
+own_location p =
+    both (is_same_path p.path p.path) (is_same_number p.line p.line && is_same_number p.column p.column) (own_path p.path)
+    (both (is_same_number p.line p.line) (is_same_number p.column p.column) (own_number p.line) (own_number p.column))
+
+pub other_location : (p q : Location) → is_same p q ≡ false → p ≢ q
+other_location p q e = λ same. true≢false (sym (own_location p) ∙ ap (is_same p) same ∙ e)
+
+pub not_same : (p q : Location) → p ≢ q → is_same p q ≡ false
+not_same p q differs = by (is_same p q) refl
+  where
+    by : (same : Bool) → is_same p q ≡ same → same ≡ false
+    by true e = absurd (differs (same_location p q e))
+    by false e = refl
+
+-- ---- the piece of an address
+
+pub held : (piece : Piece) (pieces : List Piece) (a : ℕ) → piece.begin ≤ a → a < piece.end → location_in (piece ∷ pieces) a ≡ Some piece.location
+held piece pieces a from before = rw (le-leb piece.begin a from, lt-ltb a piece.end before) refl
+
+pub after : (piece : Piece) (pieces : List Piece) (a : ℕ) → piece.end ≤ a → location_in (piece ∷ pieces) a ≡ location_in pieces a
+after piece pieces a past = by (nat_le piece.begin a) (nat_lt a piece.end) (le-ltb a piece.end past)
+  where
+    by : (b c : Bool) → c ≡ false → cond {A = Option Location} (b && c) (Some piece.location) (location_in pieces a) ≡ location_in pieces a
+    by true true e = absurd cc
+    by true false e = refl
+    by false c e = refl
+
+pub ahead : (piece : Piece) (pieces : List Piece) (a : ℕ) → a < piece.begin → location_in (piece ∷ pieces) a ≡ location_in pieces a
+ahead piece pieces a before = by (nat_le piece.begin a) (lt-leb piece.begin a before)
+  where
+    by : (b : Bool) → b ≡ false → cond {A = Option Location} (b && nat_lt a piece.end) (Some piece.location) (location_in pieces a) ≡ location_in pieces a
+    by true e = absurd cc
+    by false e = refl
+
+-- before all pieces lies none
+pub before_all : (low high : ℕ) (pieces : List Piece) (a : ℕ) → AreInOrder low high pieces → a < low → location_in pieces a ≡ None
+before_all low high [] a order before = refl
+before_all low high (piece ∷ pieces) a order before =
+    ahead piece pieces a (omega (arith, order.0, before)) ∙ before_all piece.end high pieces a order.4 (omega (arith, order.0, order.1, before))
+
+-- in order from an earlier address on
+pub in_order_from : (earlier low high : ℕ) (pieces : List Piece) → earlier ≤ low → AreInOrder low high pieces → AreInOrder earlier high pieces
+in_order_from earlier low high [] e order = tt
+in_order_from earlier low high (piece ∷ pieces) e order = (omega (arith, e, order.0), order.1, order.2, order.3, order.4)
+
+-- ---- an address before the pieces of those after it
+
+decide : (m n : ℕ) → (m < n) ⊎ (n ≤ m)
+decide m n = by (nat_lt m n) refl
+  where
+    by : (b : Bool) → nat_lt m n ≡ b → (m < n) ⊎ (n ≤ m)
+    by true e = inl (ltb-true m n e)
+    by false e = inr (ltb-false m n e)
+
+module _ (location : ℕ → Result (Option Location) UnitFault) where
+  -- what holds of an address and of those after it holds from it on
+  each_from : (a high : ℕ) (pieces : List Piece) → location a ≡ Ok (location_in pieces a) → ((b : ℕ) → a + 1 ≤ b → b < high → location b ≡ Ok (location_in pieces b))
+      → (b : ℕ) → a ≤ b → b < high → location b ≡ Ok (location_in pieces b)
+  each_from a high pieces here others b from before = by (eq-or-lt_of_le from)
+    where
+      by : (a ≡ b) ⊎ (a < b) → location b ≡ Ok (location_in pieces b)
+      by (inl same) = subst (λ (b : ℕ). location b ≡ Ok (location_in pieces b)) same here
+      by (inr less) = others b (omega (arith, less)) before
+
+  none_before : (a high : ℕ) (later : List Piece) → location a ≡ Ok None → ArePieces location (a + 1) high later → ArePieces location a high later
+  none_before a high later here are = record {
+    order = in_order_from a (a + 1) high later (omega arith) are.order;
+    each = each_from a high later (here ∙ ap Ok (sym (before_all (a + 1) high later a are.order (omega arith)))) are.each;
+  }
+
+  abbrev lone : ℕ → Location → Piece
+  lone a here = record { begin = a; end = a + 1; location = here }
+
+  one_before : (a high : ℕ) (here : Location) (later : List Piece) → a < high → location a ≡ Ok (Some here) → ArePieces location (a + 1) high later → IsApart (a + 1) here later → ArePieces location a high (lone a here ∷ later)
+  one_before a high here later within is are apart = record {
+    order = (omega arith, omega arith, omega (arith, within), apart, are.order);
+    each = each_from a high (lone a here ∷ later) (is ∙ ap Ok (sym (held (lone a here) later a (omega arith) (omega arith)))) (λ b from before. are.each b from before ∙ ap Ok (sym (after (lone a here) later b from)));
+  }
+
+  abbrev longer : ℕ → Piece → Piece
+  longer a piece = record { begin = a; end = piece.end; location = piece.location }
+
+  -- a piece that begins one address earlier has the others too
+  in_longer : (a b : ℕ) (piece : Piece) (later : List Piece) → piece.begin ≤ b → a ≤ b → location_in (piece ∷ later) b ≡ location_in (longer a piece ∷ later) b
+  in_longer a b piece later from order = by (decide b piece.end)
+    where
+      by : (b < piece.end) ⊎ (piece.end ≤ b) → location_in (piece ∷ later) b ≡ location_in (longer a piece ∷ later) b
+      by (inl less) = held piece later b from less ∙ sym (held (longer a piece) later b order less)
+      by (inr more) = after piece later b more ∙ sym (after (longer a piece) later b more)
+
+  joined_before : (a high : ℕ) (here : Location) (piece : Piece) (later : List Piece) → location a ≡ Ok (Some here) → ArePieces location (a + 1) high (piece ∷ later) → piece.begin ≡ a + 1 → here ≡ piece.location → ArePieces location a high (longer a piece ∷ later)
+  joined_before a high here piece later is are begins same = record {
+    order = (omega arith, omega (arith, begins, are.order.1), are.order.2, are.order.3, are.order.4);
+    each = each_from a high (longer a piece ∷ later)
+        (is ∙ ap (λ (l : Location). Ok (Some l)) same ∙ ap Ok (sym (held (longer a piece) later a (omega arith) (omega (arith, begins, are.order.1)))))
+        (λ b from before. are.each b from before ∙ ap Ok (in_longer a b piece later (omega (arith, begins, from)) (omega (arith, from))));
+  }
+
+  pub with_one : (a high : ℕ) (here : Option Location) (later : List Piece) → a < high → location a ≡ Ok here → ArePieces location (a + 1) high later → ArePieces location a high (with_address a here later)
+  with_one a high None later within is are = none_before a high later is are
+  with_one a high (Some here) [] within is are = one_before a high here [] within is are tt
+  with_one a high (Some here) (piece ∷ later) within is are =
+      by (piece.begin == a + 1) (is_same here piece.location) refl refl
+    where
+      by : (b c : Bool) → (piece.begin == a + 1) ≡ b → is_same here piece.location ≡ c
+          → ArePieces location a high (cond (b && c) (longer a piece ∷ later) (lone a here ∷ piece ∷ later))
+      by true true e f = joined_before a high here piece later is are (eqb-true piece.begin (a + 1) e) (same_location here piece.location f)
+      by true false e f = one_before a high here (piece ∷ later) within is are (λ touches. other_location here piece.location f)
+      by false c e f = one_before a high here (piece ∷ later) within is are (λ touches. absurd (true≢false (sym (eq-eqb piece.begin (a + 1) (sym touches)) ∙ e)))
+
+  pub are_pieces : (count a high : ℕ) (found : List Piece) → high ≡ a + count → pieces_from location a count ≡ Ok found → ArePieces location a high found
+  unfolding pieces_from
+  are_pieces zero a high [] end e = record { order = tt; each = λ b from before. absurd (omega (arith, end, from, before)) }
+  are_pieces zero a high (piece ∷ found) end e = absurd cc
+  are_pieces (suc count) a high found end e =
+      by (location a) refl e (λ rest f. are_pieces count (a + 1) high rest (omega (arith, end)) f)
+    where
+      Rest : Type 0
+      Rest = (rest : List Piece) → pieces_from location (a + 1) count ≡ Ok rest → ArePieces location (a + 1) high rest
+
+      later : (here : Option Location) → location a ≡ Ok here → (rest : Result (List Piece) UnitFault) → pieces_from location (a + 1) count ≡ rest → (rest >>= λ later. Ok (with_address a here later)) ≡ Ok found → Rest → ArePieces location a high found
+      later here is (Err fault) are e on = absurd cc
+      later here is (Ok rest) are e on =
+          let same : with_address a here rest ≡ found = cc in
+          subst (ArePieces location a high) same (with_one a high here rest (omega (arith, end)) is (on rest are))
+
+      by : (here : Result (Option Location) UnitFault) → location a ≡ here → (here >>= λ here. pieces_from location (a + 1) count >>= λ later. Ok (with_address a here later)) ≡ Ok found → Rest → ArePieces location a high found
+      by (Err fault) is e on = absurd cc
+      by (Ok here) is e on = later here is (pieces_from location (a + 1) count) refl e on
+
+  -- ---- the pieces without their first address
+
+  abbrev without : ℕ → List Piece → List Piece
+  without a [] = []
+  without a (piece ∷ pieces) =
+      cond (nat_lt a piece.begin) (piece ∷ pieces) (cond (piece.end == a + 1) pieces (longer (a + 1) piece ∷ pieces))
+
+  record IsSplit (a high : ℕ) (pieces later : List Piece) : Type 0 where
+    whole : with_address a (location_in pieces a) later ≡ pieces
+    are : ArePieces location (a + 1) high later
+
+  each_later : (a high : ℕ) (pieces later : List Piece) → ArePieces location a high pieces → ((b : ℕ) → a + 1 ≤ b → location_in pieces b ≡ location_in later b)
+      → (b : ℕ) → a + 1 ≤ b → b < high → location b ≡ Ok (location_in later b)
+  each_later a high pieces later are same b from before = are.each b (omega (arith, from)) before ∙ ap Ok (same b from)
+
+  abbrev from_next : (a high : ℕ) → List Piece → Type 0
+  from_next a high pieces = AreInOrder (a + 1) high pieces
+
+  -- the first piece begins later
+  split_ahead : (a high : ℕ) (piece : Piece) (pieces : List Piece) → ArePieces location a high (piece ∷ pieces) → a < piece.begin → IsSplit a high (piece ∷ pieces) (piece ∷ pieces)
+  split_ahead a high piece pieces are less =
+      let order : from_next a high (piece ∷ pieces) = (omega (arith, less), are.order.1, are.order.2, are.order.3, are.order.4) in
+      let none : location_in (piece ∷ pieces) a ≡ None = before_all (a + 1) high (piece ∷ pieces) a order (omega arith) in
+      record {
+        whole = ap (λ (here : Option Location). with_address a here (piece ∷ pieces)) none;
+        are = record { order = order; each = each_later a high (piece ∷ pieces) (piece ∷ pieces) are (λ b from. refl) };
+      }
+
+  lone_whole : (a : ℕ) (piece : Piece) (pieces : List Piece) → piece.begin ≡ a → piece.end ≡ a + 1 → IsApart piece.end piece.location pieces → with_address a (Some piece.location) pieces ≡ piece ∷ pieces
+  lone_whole a piece [] begins ends apart = λ i. record { begin = sym begins i; end = sym ends i; location = piece.location } ∷ []
+  lone_whole a piece (next ∷ pieces) begins ends apart = by (next.begin == a + 1) (is_same piece.location next.location) refl refl
+    where
+      by : (b c : Bool) → (next.begin == a + 1) ≡ b → is_same piece.location next.location ≡ c
+          → cond (b && c) (longer a next ∷ pieces) (lone a piece.location ∷ next ∷ pieces) ≡ piece ∷ next ∷ pieces
+      by true true e f = absurd (apart (ends ∙ sym (eqb-true next.begin (a + 1) e)) (same_location piece.location next.location f))
+      by true false e f = λ i. record { begin = sym begins i; end = sym ends i; location = piece.location } ∷ next ∷ pieces
+      by false c e f = λ i. record { begin = sym begins i; end = sym ends i; location = piece.location } ∷ next ∷ pieces
+
+  -- the first piece has this address alone
+  split_lone : (a high : ℕ) (piece : Piece) (pieces : List Piece) → ArePieces location a high (piece ∷ pieces) → piece.begin ≡ a → piece.end ≡ a + 1 → IsSplit a high (piece ∷ pieces) pieces
+  split_lone a high piece pieces are begins ends =
+      let here : location_in (piece ∷ pieces) a ≡ Some piece.location = held piece pieces a (omega (arith, begins)) (omega (arith, ends)) in
+      record {
+        whole = ap (λ (here : Option Location). with_address a here pieces) here ∙ lone_whole a piece pieces begins ends are.order.3;
+        are = record {
+          order = subst (λ (n : ℕ). AreInOrder n high pieces) ends are.order.4;
+          each = each_later a high (piece ∷ pieces) pieces are (λ b from. after piece pieces b (omega (arith, from, ends)));
+        };
+      }
+
+  joined_whole : (a : ℕ) (piece : Piece) (pieces : List Piece) → piece.begin ≡ a → with_address a (Some piece.location) (longer (a + 1) piece ∷ pieces) ≡ piece ∷ pieces
+  joined_whole a piece pieces begins = by ((a + 1) == (a + 1)) (is_same piece.location piece.location) (eq-eqb (a + 1) (a + 1) refl) (own_location piece.location)
+    where
+      by : (b c : Bool) → b ≡ true → c ≡ true
+          → cond (b && c) (longer a piece ∷ pieces) (lone a piece.location ∷ longer (a + 1) piece ∷ pieces) ≡ piece ∷ pieces
+      by true true e f = λ i. record { begin = sym begins i; end = piece.end; location = piece.location } ∷ pieces
+      by true false e f = absurd cc
+      by false c e f = absurd cc
+
+  -- the first piece has others beside this address
+  split_longer : (a high : ℕ) (piece : Piece) (pieces : List Piece) → ArePieces location a high (piece ∷ pieces) → piece.begin ≡ a → a + 1 < piece.end → IsSplit a high (piece ∷ pieces) (longer (a + 1) piece ∷ pieces)
+  split_longer a high piece pieces are begins longer_end =
+      let here : location_in (piece ∷ pieces) a ≡ Some piece.location = held piece pieces a (omega (arith, begins)) (omega (arith, longer_end)) in
+      record {
+        whole = ap (λ (here : Option Location). with_address a here (longer (a + 1) piece ∷ pieces)) here ∙ joined_whole a piece pieces begins;
+        are = record {
+          order = (omega arith, longer_end, are.order.2, are.order.3, are.order.4);
+          each = each_later a high (piece ∷ pieces) (longer (a + 1) piece ∷ pieces) are (λ b from. in_longer (a + 1) b piece pieces (omega (arith, begins, from)) from);
+        };
+      }
+
+  -- ---- no other list has the pieces
+
+  record Split (a high : ℕ) (pieces : List Piece) : Type 0 where
+    later : List Piece
+    is : IsSplit a high pieces later
+
+  split : (a high : ℕ) (pieces : List Piece) → ArePieces location a high pieces → Split a high pieces
+  split a high [] are = record { later = []; is = record { whole = refl; are = record { order = tt; each = λ b from before. are.each b (omega (arith, from)) before } } }
+  split a high (piece ∷ pieces) are = by (eq-or-lt_of_le are.order.0)
+    where
+      one : a ≡ piece.begin → (a + 1 ≡ piece.end) ⊎ (a + 1 < piece.end) → Split a high (piece ∷ pieces)
+      one same (inl ends) = record { later = pieces; is = split_lone a high piece pieces are (sym same) (sym ends) }
+      one same (inr less) = record { later = longer (a + 1) piece ∷ pieces; is = split_longer a high piece pieces are (sym same) less }
+
+      by : (a ≡ piece.begin) ⊎ (a < piece.begin) → Split a high (piece ∷ pieces)
+      by (inl same) = one same (eq-or-lt_of_le (omega (arith, same, are.order.1)))
+      by (inr less) = record { later = piece ∷ pieces; is = split_ahead a high piece pieces are less }
+
+  pub pieces_are : (count a high : ℕ) (found : List Piece) → high ≡ a + count → ArePieces location a high found → pieces_from location a count ≡ Ok found
+  unfolding pieces_from
+  pieces_are zero a high [] end are = refl
+  pieces_are zero a high (piece ∷ found) end are = absurd (omega (arith, end, are.order.0, are.order.1, are.order.2))
+  pieces_are (suc count) a high found end are =
+      let s = split a high found are in
+      let here = are.each a (omega arith) (omega (arith, end)) in
+      let later = pieces_are count (a + 1) high s.later (omega (arith, end)) s.is.are in
+      rw (here, later) (ap Ok s.is.whole)
+
+  -- ---- the first fault
+
+  pub first_fault : (count a high : ℕ) (fault : UnitFault) → high ≡ a + count → pieces_from location a count ≡ Err fault → IsFirstFault location a high fault
+  unfolding pieces_from
+  first_fault zero a high fault end e = absurd cc
+  first_fault (suc count) a high fault end e =
+      by (location a) refl e (λ f. first_fault count (a + 1) high fault (omega (arith, end)) f)
+    where
+      Rest : Type 0
+      Rest = pieces_from location (a + 1) count ≡ Err fault → IsFirstFault location (a + 1) high fault
+
+      earlier : (here : Option Location) → location a ≡ Ok here → (rest : Result (List Piece) UnitFault) → pieces_from location (a + 1) count ≡ rest → (rest >>= λ later. Ok (with_address a here later)) ≡ Err fault → Rest → IsFirstFault location a high fault
+      earlier here is (Ok rest) are e on = absurd cc
+      earlier here is (Err other) are e on =
+          let same : other ≡ fault = cc in
+          let found = on (are ∙ ap Err same) in
+          record {
+            address = found.address;
+            from = omega (arith, found.from);
+            before = found.before;
+            is = found.is;
+            first = λ b from before. first_is b (eq-or-lt_of_le from) (λ less. found.first b (omega (arith, less)) before);
+          }
+        where
+          first_is : (b : ℕ) → (a ≡ b) ⊎ (a < b) → (a < b → IsOk (location b)) → IsOk (location b)
+          first_is b (inl same) later = subst (λ (b : ℕ). IsOk (location b)) same (rw is refl)
+          first_is b (inr less) later = later less
+
+      by : (here : Result (Option Location) UnitFault) → location a ≡ here → (here >>= λ here. pieces_from location (a + 1) count >>= λ later. Ok (with_address a here later)) ≡ Err fault → Rest → IsFirstFault location a high fault
+      by (Err other) is e on =
+          let same : other ≡ fault = cc in
+          record { address = a; from = omega arith; before = omega (arith, end); is = is ∙ ap Err same; first = λ b from before. absurd (omega (arith, from, before)) }
+      by (Ok here) is e on = earlier here is (pieces_from location (a + 1) count) refl e on
+
+  pub fault_first : (count a high : ℕ) (fault : UnitFault) → high ≡ a + count → IsFirstFault location a high fault → pieces_from location a count ≡ Err fault
+  unfolding pieces_from
+  fault_first zero a high fault end found = absurd (omega (arith, end, found.from, found.before))
+  fault_first (suc count) a high fault end found =
+      by (eq-or-lt_of_le found.from) (λ rest. fault_first count (a + 1) high fault (omega (arith, end)) rest)
+    where
+      not_first : (at : Result (Option Location) UnitFault) → location a ≡ at → IsOk at → pieces_from location (a + 1) count ≡ Err fault → (location a >>= λ here. pieces_from location (a + 1) count >>= λ later. Ok (with_address a here later)) ≡ Err fault
+      not_first (Err other) is ok rest = absurd cc
+      not_first (Ok here) is ok rest = rw (is, rest) refl
+
+      by : (a ≡ found.address) ⊎ (a < found.address) → (IsFirstFault location (a + 1) high fault → pieces_from location (a + 1) count ≡ Err fault)
+          → (location a >>= λ here. pieces_from location (a + 1) count >>= λ later. Ok (with_address a here later)) ≡ Err fault
+      by (inl same) on = rw (ap location same ∙ found.is) refl
+      by (inr less) on = not_first (location a) refl (found.first a (omega arith) less)
+          (on (record { address = found.address; from = omega (arith, less); before = found.before; is = found.is; first = λ b from before. found.first b (omega (arith, from)) before }))
+
+-- ---- one piece more
+
+same_tail : (piece : Piece) (xs ys : List Piece) (a : ℕ) → location_in xs a ≡ location_in ys a → location_in (piece ∷ xs) a ≡ location_in (piece ∷ ys) a
+same_tail piece xs ys a e = ap (cond {A = Option Location} (nat_le piece.begin a && nat_lt a piece.end) (Some piece.location)) e
+
+abbrev grown : Piece → Piece → Piece
+grown piece next = record { begin = piece.begin; end = next.end; location = piece.location }
+
+apart_more : (end : ℕ) (here : Location) (other : Piece) (pieces : List Piece) (next : Piece) → IsApart end here (other ∷ pieces) → IsApart end here (with_piece (other ∷ pieces) next)
+unfolding with_piece
+apart_more end here other [] next apart = by (other.end == next.begin && is_same other.location next.location)
+  where
+    by : (b : Bool) → IsApart end here (cond b (grown other next ∷ []) (other ∷ next ∷ []))
+    by true = apart
+    by false = apart
+apart_more end here other (piece ∷ pieces) next apart = apart
+
+order_more : (low : ℕ) (pieces : List Piece) (next : Piece) → AreInOrder low next.begin pieces → low ≤ next.begin → next.begin < next.end → AreInOrder low next.end (with_piece pieces next)
+unfolding with_piece
+order_more low [] next order from rises = (from, rises, omega arith, tt, tt)
+order_more low (piece ∷ []) next order from rises =
+    by (piece.end == next.begin) (is_same piece.location next.location) refl refl
+  where
+    two : IsApart piece.end piece.location (next ∷ []) → AreInOrder low next.end (piece ∷ next ∷ [])
+    two apart = (order.0, order.1, omega (arith, order.2, rises), apart, (order.2, rises, omega arith, tt, tt))
+
+    by : (b c : Bool) → (piece.end == next.begin) ≡ b → is_same piece.location next.location ≡ c → AreInOrder low next.end (cond (b && c) (grown piece next ∷ []) (piece ∷ next ∷ []))
+    by true true e f = (order.0, omega (arith, order.1, order.2, rises), omega arith, tt, tt)
+    by true false e f = two (λ touches. other_location piece.location next.location f)
+    by false c e f = two (λ touches. absurd (true≢false (sym (eq-eqb piece.end next.begin touches) ∙ e)))
+order_more low (piece ∷ other ∷ pieces) next order from rises =
+    (order.0, order.1, omega (arith, order.2, rises), apart_more piece.end piece.location other pieces next order.3, order_more piece.end (other ∷ pieces) next order.4 order.2 rises)
+
+before_more : (low : ℕ) (pieces : List Piece) (next : Piece) (a : ℕ) → AreInOrder low next.begin pieces → next.begin < next.end → a < next.begin → location_in (with_piece pieces next) a ≡ location_in pieces a
+unfolding with_piece
+before_more low [] next a order rises before = ahead next [] a before
+before_more low (piece ∷ []) next a order rises before =
+    by (piece.end == next.begin) (is_same piece.location next.location) refl
+  where
+    two : location_in (piece ∷ next ∷ []) a ≡ location_in (piece ∷ []) a
+    two = same_tail piece (next ∷ []) [] a (ahead next [] a before)
+
+    one : (a < piece.begin) ⊎ (piece.begin ≤ a) → piece.end ≡ next.begin → location_in (grown piece next ∷ []) a ≡ location_in (piece ∷ []) a
+    one (inl less) e = ahead (grown piece next) [] a less ∙ sym (ahead piece [] a less)
+    one (inr more) e = held (grown piece next) [] a more (omega (arith, before, rises)) ∙ sym (held piece [] a more (omega (arith, before, e)))
+
+    by : (b c : Bool) → (piece.end == next.begin) ≡ b → location_in (cond (b && c) (grown piece next ∷ []) (piece ∷ next ∷ [])) a ≡ location_in (piece ∷ []) a
+    by true true e = one (decide a piece.begin) (eqb-true piece.end next.begin e)
+    by true false e = two
+    by false c e = two
+before_more low (piece ∷ other ∷ pieces) next a order rises before =
+    same_tail piece (with_piece (other ∷ pieces) next) (other ∷ pieces) a (before_more piece.end (other ∷ pieces) next a order.4 rises before)
+
+in_more : (low : ℕ) (pieces : List Piece) (next : Piece) (a : ℕ) → AreInOrder low next.begin pieces → next.begin ≤ a → a < next.end → location_in (with_piece pieces next) a ≡ Some next.location
+unfolding with_piece
+in_more low [] next a order from before = held next [] a from before
+in_more low (piece ∷ []) next a order from before =
+    by (piece.end == next.begin) (is_same piece.location next.location) refl
+  where
+    two : location_in (piece ∷ next ∷ []) a ≡ Some next.location
+    two = after piece (next ∷ []) a (omega (arith, order.2, from)) ∙ held next [] a from before
+
+    by : (b c : Bool) → is_same piece.location next.location ≡ c → location_in (cond (b && c) (grown piece next ∷ []) (piece ∷ next ∷ [])) a ≡ Some next.location
+    by true true f = held (grown piece next) [] a (omega (arith, order.1, order.2, from)) before ∙ ap Some (same_location piece.location next.location f)
+    by true false f = two
+    by false c f = two
+in_more low (piece ∷ other ∷ pieces) next a order from before =
+    after piece (with_piece (other ∷ pieces) next) a (omega (arith, order.2, from)) ∙ in_more piece.end (other ∷ pieces) next a order.4 from before
+
+pub one_more : (location : ℕ → Result (Option Location) UnitFault) (low : ℕ) (pieces : List Piece) (next : Piece) → ArePieces location low next.begin pieces → low ≤ next.begin → next.begin < next.end → HaveLocation location next.begin next.end (Some next.location) → ArePieces location low next.end (with_piece pieces next)
+one_more location low pieces next are from rises have = record {
+  order = order_more low pieces next are.order from rises;
+  each = λ a above below. by a above below (decide a next.begin);
+}
+  where
+    by : (a : ℕ) → low ≤ a → a < next.end → (a < next.begin) ⊎ (next.begin ≤ a) → location a ≡ Ok (location_in (with_piece pieces next) a)
+    by a above below (inl less) = are.each a above less ∙ ap Ok (sym (before_more low pieces next a are.order rises less))
+    by a above below (inr more) = have a more below ∙ ap Ok (sym (in_more low pieces next a are.order more below))
+
+-- behind all pieces lies none
+after_all : (low high : ℕ) (pieces : List Piece) (a : ℕ) → AreInOrder low high pieces → high ≤ a → location_in pieces a ≡ None
+after_all low high [] a order past = refl
+after_all low high (piece ∷ pieces) a order past =
+    after piece pieces a (omega (arith, order.2, past)) ∙ after_all piece.end high pieces a order.4 past
+
+in_order_to : (low high later : ℕ) (pieces : List Piece) → high ≤ later → AreInOrder low high pieces → AreInOrder low later pieces
+in_order_to low high later [] e order = tt
+in_order_to low high later (piece ∷ pieces) e order = (order.0, order.1, omega (arith, e, order.2), order.3, in_order_to piece.end high later pieces e order.4)
+
+pub none_more : (location : ℕ → Result (Option Location) UnitFault) (low high later : ℕ) (pieces : List Piece) → ArePieces location low high pieces → high ≤ later → HaveLocation location high later None → ArePieces location low later pieces
+none_more location low high later pieces are order have = record {
+  order = in_order_to low high later pieces order are.order;
+  each = λ a above below. by a above below (decide a high);
+}
+  where
+    by : (a : ℕ) → low ≤ a → a < later → (a < high) ⊎ (high ≤ a) → location a ≡ Ok (location_in pieces a)
+    by a above below (inl less) = are.each a above less
+    by a above below (inr more) = have a more below ∙ ap Ok (sym (after_all low high pieces a are.order more))

@@ -1,0 +1,206 @@
+-- The pieces of a span by line tables.
+use Rattle.std.proofs.Common.{◌≡◌, ◌≤◌, ◌<◌, ℕ, List, [], ◌∷◌, ◌++◌, map, Option, Some, None, Bool, true, false, Result, Ok, Err, length, ◌-◌, ◌+◌, refl, sym, subst, ap, ◌∙◌, arith}
+use Rattle.std.specs.Prelude.{IfSome, IfOk, slice_get, ◌↔◌, option_map, ◌&&◌, ◌==◌, if◌then◌else◌}
+use Rattle.dw_model.specs.Answer as model
+use Rattle.dw_model.specs.Answer.{Lines, Code, line_fault, unit_of, lines, row_at, row_location}
+use Rattle.dw_model.specs.Pieces.{UnitFault, ArePieces, IsFirstFault, HaveLocation, joins, with_piece, unit_place, place, pieces_from, as_answer, pieces_in}
+use Rattle.std.proofs.lemmas.List.{map-append}
+use Rattle.dw_line.specs.declared.rows.Row.{Row}
+use Rattle.dw_line.specs.declared.walk.Stretch.{Stretch}
+use Rattle.dw_symbols.specs.declared.answer.Piece.{Piece}
+use Rattle.dw_symbols.specs.Answer.{piece_shown}
+use Rattle.dw_line.specs.Search.{told_at}
+use Rattle.dw_line.specs.Walked.{IsStretch}
+use Rattle.dw_symbols.specs.Pieces.{row_place, AddsStretch, AddsRows}
+use Rattle.dw_model.specs.Results.{◌>>=◌, with_code}
+use Rattle.dw_model.specs.Faults.{Bad}
+use Rattle.dw_model.specs.Matrix.{Row as ModelRow, row_of}
+use Rattle.dw_model.specs.Section.{Sections}
+use Rattle.dw_model.specs.Unit.{DwarfUnit, units}
+use Rattle.dw_line.specs.Search.{row_told}
+use Rattle.dw_symbols.specs.declared.answer.UnitFault.{UnitFault as CodeFault}
+use Rattle.dw_symbols.specs.declared.span.Span.{Span}
+use Rattle.dw_symbols.specs.Answer.{code_shown}
+use Rattle.dw_symbols.specs.Decoded.{HasLines, Holds}
+use Rattle.dw_symbols.specs.declared.decoded.Decoded.{Decoded}
+use Rattle.dw_symbols.specs.Span.{IsUnitOf, AddsUnit, AddsSpan}
+use Rattle.dw_symbols.proofs.CoverLemmas.{some-at, known}
+
+-- ---- one piece more
+
+pub grows : (xs : List model.Piece) (piece next : model.Piece) → joins piece next ≡ true → with_piece (xs ++ piece ∷ []) next ≡ xs ++ record { begin = piece.begin; end = next.end; location = piece.location } ∷ []
+unfolding with_piece
+grows [] piece next e = rw e refl
+grows (x ∷ []) piece next e = ap (λ (rest : List model.Piece). x ∷ rest) (grows [] piece next e)
+grows (x ∷ y ∷ xs) piece next e = ap (λ (rest : List model.Piece). x ∷ rest) (grows (y ∷ xs) piece next e)
+
+pub follows : (xs : List model.Piece) (piece next : model.Piece) → joins piece next ≡ false → with_piece (xs ++ piece ∷ []) next ≡ (xs ++ piece ∷ []) ++ next ∷ []
+unfolding with_piece
+follows [] piece next e = rw e refl
+follows (x ∷ []) piece next e = ap (λ (rest : List model.Piece). x ∷ rest) (follows [] piece next e)
+follows (x ∷ y ∷ xs) piece next e = ap (λ (rest : List model.Piece). x ∷ rest) (follows (y ∷ xs) piece next e)
+
+-- the same of lists of pieces as they are kept
+pub first_of : (old popped new : List Piece) (next : Piece) → popped ≡ [] → old ≡ popped → new ≡ popped ++ next ∷ [] → map piece_shown new ≡ with_piece (map piece_shown old) (piece_shown next)
+unfolding with_piece
+first_of old popped new next none same push =
+    let empty : old ≡ [] = same ∙ none in
+    rw (push, none, empty) refl
+
+pub grows_shown : (old popped new : List Piece) (last next : Piece) → joins (piece_shown last) (piece_shown next) ≡ true → old ≡ popped ++ last ∷ [] → new ≡ popped ++ record { begin = last.begin; end = next.end; location = last.location } ∷ []
+    → map piece_shown new ≡ with_piece (map piece_shown old) (piece_shown next)
+grows_shown old popped new last next e pop push =
+    ap (map piece_shown) push ∙ map-append piece_shown popped (record { begin = last.begin; end = next.end; location = last.location } ∷ [])
+    ∙ sym (grows (map piece_shown popped) (piece_shown last) (piece_shown next) e)
+    ∙ ap (λ (old : List model.Piece). with_piece old (piece_shown next)) (sym (ap (map piece_shown) pop ∙ map-append piece_shown popped (last ∷ [])))
+
+pub follows_shown : (old popped back new : List Piece) (last next : Piece) → joins (piece_shown last) (piece_shown next) ≡ false → old ≡ popped ++ last ∷ [] → back ≡ popped ++ last ∷ [] → new ≡ back ++ next ∷ []
+    → map piece_shown new ≡ with_piece (map piece_shown old) (piece_shown next)
+follows_shown old popped back new last next e pop push pushed =
+    let shown : map piece_shown old ≡ map piece_shown popped ++ piece_shown last ∷ [] = ap (map piece_shown) pop ∙ map-append piece_shown popped (last ∷ []) in
+    ap (map piece_shown) pushed ∙ map-append piece_shown back (next ∷ [])
+    ∙ ap (λ (front : List model.Piece). front ++ piece_shown next ∷ []) (ap (map piece_shown) (push ∙ sym pop) ∙ shown)
+    ∙ sym (follows (map piece_shown popped) (piece_shown last) (piece_shown next) e)
+    ∙ ap (λ (old : List model.Piece). with_piece old (piece_shown next)) (sym shown)
+
+-- ---- the rows of a span
+
+pub adds_none : (table : Lines) (stretch : Stretch) (old : List model.Piece) → stretch.row ≡ None
+    → ((location : ℕ → Result (Option model.Location) UnitFault) (low high later : ℕ) (pieces : List model.Piece) → ArePieces location low high pieces → high ≤ later → HaveLocation location high later None → ArePieces location low later pieces)
+    → AddsStretch table stretch old old
+adds_none table stretch old none law = λ rises location low order are have.
+    law location low stretch.begin stretch.end old are (omega (arith, rises))
+    (λ a above below. have a above below ∙ ap (λ row. Ok (option_map (row_place table) row)) none)
+
+pub adds_one : (table : Lines) (stretch : Stretch) (row : Row) (old : List model.Piece) (next : model.Piece) → stretch.row ≡ Some row → next ≡ record { begin = stretch.begin; end = stretch.end; location = row_place table row }
+    → ((location : ℕ → Result (Option model.Location) UnitFault) (low : ℕ) (pieces : List model.Piece) (next : model.Piece) → ArePieces location low next.begin pieces → low ≤ next.begin → next.begin < next.end → HaveLocation location next.begin next.end (Some next.location) → ArePieces location low next.end (with_piece pieces next))
+    → AddsStretch table stretch old (with_piece old next)
+adds_one table stretch row old next is same law = λ rises location low order are have.
+    let piece : model.Piece = record { begin = stretch.begin; end = stretch.end; location = row_place table row } in
+    subst (λ (next : model.Piece). ArePieces location low stretch.end (with_piece old next)) (sym same)
+    (law location low old piece are order rises (λ a above below. have a above below ∙ ap (λ row. Ok (option_map (row_place table) row)) is))
+
+-- they are the pieces of the addresses before one of the span, if each has the location of its row
+abbrev pub AddedTo : Lines → (low high at : ℕ) → (old now : List model.Piece) → Type 0
+AddedTo table low high at old now =
+    (location : ℕ → Result (Option model.Location) UnitFault) (from : ℕ) → from ≤ low → ArePieces location from low old
+    → ((a : ℕ) → low ≤ a → a < high → location a ≡ Ok (option_map (row_place table) (told_at table.rows a))) → ArePieces location from at now
+
+pub stretch_added : (table : Lines) (low high at : ℕ) (stretch : Stretch) (old now new : List model.Piece) → low ≤ at → IsStretch table.rows at high stretch → AddedTo table low high at old now → AddsStretch table stretch now new
+    → AddedTo table low high stretch.end old new
+stretch_added table low high at stretch old now new order is added adds = λ location from before are have.
+    let rises : stretch.begin < stretch.end = omega (arith, is.begins, is.rises) in
+    let here : ArePieces location from stretch.begin now = subst (λ (n : ℕ). ArePieces location from n now) (sym is.begins) (added location from before are have) in
+    adds rises location from (omega (arith, before, order, is.begins)) here
+    (λ a above below. have a (omega (arith, order, above, is.begins)) (omega (arith, below, is.within)) ∙ ap (λ row. Ok (option_map (row_place table) row)) (is.row a (omega (arith, above, is.begins)) below))
+
+pub all_added : (table : Lines) (low high at : ℕ) (old now : List model.Piece) → at ≤ high → high ≤ at → AddedTo table low high at old now → AddsRows table low high old now
+all_added table low high at old now within ended added = λ location from before are have.
+    let same : at ≡ high = omega (arith, within, ended) in
+    subst (λ (n : ℕ). ArePieces location from n now) same (added location from before are have)
+
+-- ---- the addresses of a unit
+
+abbrev pub NoneMore : Type 0
+NoneMore = (location : ℕ → Result (Option model.Location) UnitFault) (low high later : ℕ) (pieces : List model.Piece) → ArePieces location low high pieces → high ≤ later → HaveLocation location high later None → ArePieces location low later pieces
+
+abbrev rows_place : Sections → DwarfUnit → ℕ → Result (Option Lines) Bad → Result (Option model.Location) UnitFault
+rows_place s unit a read =
+    with_code (λ _. (unit.offset, line_fault)) read >>= λ table. Ok (option_map (λ row. row_location table (Some row)) (row_at table a))
+
+place_ok : (s : Sections) (unit : DwarfUnit) (table : Option Lines) (a : ℕ) → Ok table ≡ with_code (λ _. line_fault) (lines s unit) → unit_place s unit a ≡ Ok (option_map (λ row. row_location table (Some row)) (row_at table a))
+place_ok s unit table a h = by (lines s unit) refl h
+  where
+    by : (read : Result (Option Lines) Bad) → lines s unit ≡ read → Ok table ≡ with_code (λ _. line_fault) read → rows_place s unit a (lines s unit) ≡ Ok (option_map (λ row. row_location table (Some row)) (row_at table a))
+    by (Ok other) e h =
+        let same : other ≡ table = cc in
+        ap (rows_place s unit a) (e ∙ ap Ok same)
+    by (Err bad) e h = absurd cc
+
+place_fault : (s : Sections) (unit : DwarfUnit) (code : CodeFault) (a : ℕ) → Err (code_shown code) ≡ with_code (λ _. line_fault) (lines s unit) → unit_place s unit a ≡ Err (unit.offset, code_shown code)
+place_fault s unit code a h = by (lines s unit) refl h
+  where
+    by : (read : Result (Option Lines) Bad) → lines s unit ≡ read → Err (code_shown code) ≡ with_code (λ _. line_fault) read → rows_place s unit a (lines s unit) ≡ Err (unit.offset, code_shown code)
+    by (Ok table) e h = absurd cc
+    by (Err bad) e h =
+        let same : line_fault ≡ code_shown code = cc in
+        ap (rows_place s unit a) e ∙ ap (λ (code : Code). Err (unit.offset, code)) same
+
+same_place : (table : Lines) (found : Option ModelRow) → option_map (row_place table) (option_map row_told found) ≡ option_map (λ row. row_location (Some table) (Some row)) found
+same_place table None = refl
+same_place table (Some row) = refl
+
+pub unit_adds : (s : Sections) (unit : DwarfUnit) (span : Span) (table : Lines) (old new : List model.Piece) → HasLines s unit (Some (Ok (Some table))) → AddsRows table span.low span.high old new → AddsUnit s unit span None old new
+unit_adds s unit span table old new has adds = λ from order same are.
+    adds (place s) from order are
+    (λ a above below. same a above below ∙ place_ok s unit (Some table) a has ∙ ap Ok (sym (same_place table (row_of table.rows a))))
+
+pub unit_adds_none : (s : Sections) (unit : DwarfUnit) (span : Span) (old : List model.Piece) → span.low ≤ span.high → HasLines s unit (Some (Ok None)) → NoneMore → AddsUnit s unit span None old old
+unit_adds_none s unit span old rises has law = λ from order same are.
+    law (place s) from span.low span.high old are rises (λ a above below. same a above below ∙ place_ok s unit None a has)
+
+pub unit_fault : (s : Sections) (unit : DwarfUnit) (span : Span) (code : CodeFault) (old new : List model.Piece) → HasLines s unit (Some (Err code)) → AddsUnit s unit span (Some code) old new
+unit_fault s unit span code old new has = λ a. place_fault s unit code a has
+
+-- by what is kept of the unit
+pub unit_known : {E : Type 0} (s : Sections) (found : Option DwarfUnit) (decoded : Decoded) (read : Result (Option Lines) CodeFault) (span : Span) (result : Result (Option CodeFault) E) (old new : List model.Piece) → IfSome found (λ unit. Holds s unit decoded) → decoded.lines ≡ Some read
+    → IfOk result (λ fault. (s : Sections) (unit : DwarfUnit) → HasLines s unit (Some read) → AddsUnit s unit span fault old new) → IfOk result (λ fault. IfSome found (λ unit. AddsUnit s unit span fault old new))
+unit_known s found decoded read span (Err e) old new holds same adds = tt
+unit_known s None decoded read span (Ok fault) old new holds same adds = tt
+unit_known s (Some unit) decoded read span (Ok fault) old new holds same adds = adds s unit (subst (HasLines s unit) same holds.lines)
+
+-- ---- the addresses of a span
+
+place_none : (s : Sections) (a : ℕ) → None ≡ unit_of s a → place s a ≡ Ok None
+unfolding place
+place_none s a none = rw (sym none) refl
+
+place_some : (s : Sections) (unit : DwarfUnit) (a : ℕ) → Some unit ≡ unit_of s a → place s a ≡ unit_place s unit a
+unfolding place
+place_some s unit a some = rw (sym some) refl
+
+pub span_none : (s : Sections) (span : Span) (old : List model.Piece) → span.low ≤ span.high → IsUnitOf s None span.low span.high → NoneMore → AddsSpan s span None old old
+span_none s span old rises none law = λ from order are.
+    law (place s) from span.low span.high old are rises (λ a above below. place_none s a (none a above below))
+
+pub span_adds : (s : Sections) (i : ℕ) (span : Span) (old new : List model.Piece) → i < length (units s.info) → IsUnitOf s (Some i) span.low span.high → IfSome (slice_get (units s.info) i) (λ unit. AddsUnit s unit span None old new) → AddsSpan s span None old new
+span_adds s i span old new within is adds = λ from order are.
+    let unit = some-at (units s.info) i within in
+    known (λ unit. AddsUnit s unit span None old new) (slice_get (units s.info) i) unit.0 unit.1 adds from order
+    (λ a above below. place_some s unit.0 a (sym unit.1 ∙ is a above below)) are
+
+pub span_fault : (s : Sections) (i : ℕ) (span : Span) (code : CodeFault) (offset : ℕ) (old new : List model.Piece) → i < length (units s.info) → IsUnitOf s (Some i) span.low span.high → IfSome (slice_get (units s.info) i) (λ unit. AddsUnit s unit span (Some code) old new) → IfSome (slice_get (units s.info) i) (λ unit. offset ≡ unit.offset)
+    → AddsSpan s span (Some (offset, code)) old new
+span_fault s i span code offset old new within is adds told = λ a above below.
+    let unit = some-at (units s.info) i within in
+    let here = known (λ unit. AddsUnit s unit span (Some code) old new) (slice_get (units s.info) i) unit.0 unit.1 adds in
+    let same = known (λ (unit : DwarfUnit). offset ≡ unit.offset) (slice_get (units s.info) i) unit.0 unit.1 told in
+    place_some s unit.0 a (sym unit.1 ∙ is a above below) ∙ here a ∙ ap (λ (n : ℕ). Err (n, code_shown code)) (sym same)
+
+-- ---- the whole
+
+pub all_pieces : (s : Sections) (low high at : ℕ) (found : List model.Piece) → low ≤ high → at ≤ high → high ≤ at → ArePieces (place s) low at found
+    → ((location : ℕ → Result (Option model.Location) UnitFault) (low count : ℕ) (found : List model.Piece) → (pieces_from location low count ≡ Ok found) ↔ ArePieces location low (low + count) found)
+    → model.located found ≡ pieces_in s low high
+all_pieces s low high at found order within ended are law =
+    let end : at ≡ low + (high - low) = omega (arith, order, within, ended) in
+    ap as_answer (sym ((law (place s) low (high - low) found).1 (subst (λ (n : ℕ). ArePieces (place s) low n found) end are)))
+
+pub first_fault : (s : Sections) (low high at : ℕ) (found : List model.Piece) (fault : UnitFault) → low ≤ at → at < high → ArePieces (place s) low at found → place s at ≡ Err fault
+    → ((location : ℕ → Result (Option model.Location) UnitFault) (low count : ℕ) (found : UnitFault) → (pieces_from location low count ≡ Err found) ↔ IsFirstFault location low (low + count) found)
+    → model.fault fault.0 fault.1 ≡ pieces_in s low high
+first_fault s low high at found fault from before are is law =
+    let first : IsFirstFault (place s) low (low + (high - low)) fault = record {
+      address = at;
+      from = from;
+      before = omega (arith, from, before);
+      is = is;
+      first = λ a above below. rw (are.each a above below) refl;
+    } in
+    ap as_answer (sym ((law (place s) low (high - low) fault).1 first))
+
+pub no_span : (s : Sections) (low high : ℕ) → high ≤ low → model.located [] ≡ pieces_in s low high
+unfolding pieces_from
+no_span s low high order =
+    let none : high - low ≡ 0 = omega (arith, order) in
+    rw none refl

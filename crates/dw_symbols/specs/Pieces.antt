@@ -1,0 +1,27 @@
+-- Pieces that are found in order of address.
+use Rattle.std.specs.Prelude.{◌≡◌, ◌≤◌, ◌<◌, ℕ, List, Option, Some, option_map, Result, Ok}
+use Rattle.dw_model.specs.Answer as model
+use Rattle.dw_model.specs.Answer.{Lines, location_at}
+use Rattle.dw_model.specs.Path.{path}
+use Rattle.dw_model.specs.Pieces.{UnitFault, ArePieces}
+use Rattle.dw_line.specs.declared.rows.Row.{Row}
+use Rattle.dw_line.specs.declared.walk.Stretch.{Stretch}
+use Rattle.dw_line.specs.Search.{told_at}
+
+-- the location of a row, as it is told
+abbrev pub row_place : Lines → Row → model.Location
+row_place table row = location_at (path table.header table.comp_dir row.file) (Some row.line) (Some row.column)
+
+-- If they were the pieces of the addresses before another one, they are those of the addresses before it, whatever was found from there on.
+abbrev pub Adds : (ℕ → Option model.Location) → (begin end : ℕ) → (old new : List model.Piece) → Type 0
+Adds here begin end old new =
+    (location : ℕ → Result (Option model.Location) UnitFault) (low : ℕ) → low ≤ begin → ArePieces location low begin old
+    → ((a : ℕ) → begin ≤ a → a < end → location a ≡ Ok (here a)) → ArePieces location low end new
+
+-- the addresses of a stretch are added, with the location of its row
+abbrev pub AddsStretch : Lines → Stretch → (old new : List model.Piece) → Type 0
+AddsStretch table stretch old new = stretch.begin < stretch.end → Adds (λ _. option_map (row_place table) stretch.row) stretch.begin stretch.end old new
+
+-- the addresses of a span are added, each with the location of its row
+abbrev pub AddsRows : Lines → (low high : ℕ) → (old new : List model.Piece) → Type 0
+AddsRows table low high old new = Adds (λ a. option_map (row_place table) (told_at table.rows a)) low high old new

@@ -1,0 +1,41 @@
+-- The pieces of a span, as units add them.
+use Rattle.std.specs.Prelude.{◌≡◌, ◌≤◌, ◌<◌, ℕ, List, Option, Some, None, Err, option_and_then, slice_get}
+use Rattle.dw_model.specs.Answer.{Piece, unit_of}
+use Rattle.dw_model.specs.Section.{Sections}
+use Rattle.dw_model.specs.Unit.{DwarfUnit, units}
+use Rattle.dw_model.specs.Pieces.{ArePieces, unit_place, place}
+use Rattle.dw_model.specs.Pieces as model
+use Rattle.dw_symbols.specs.declared.answer.UnitFault.{UnitFault}
+use Rattle.dw_symbols.specs.declared.span.Span.{Span}
+use Rattle.dw_symbols.specs.Answer.{code_shown}
+
+-- the unit at a place answers each address from one on and before another; or no unit does
+abbrev pub IsUnitOf : Sections → Option ℕ → (low high : ℕ) → Type 0
+IsUnitOf sections unit low high =
+    (a : ℕ) → low ≤ a → a < high → option_and_then (slice_get (units sections.info)) unit ≡ unit_of sections a
+
+-- no unit answers any of these addresses
+abbrev pub AreUncovered : Sections → (low high : ℕ) → Type 0
+AreUncovered sections low high = (a : ℕ) → low ≤ a → a < high → unit_of sections a ≡ None
+
+-- the unit at a place answers the first address that is covered, of those from one on and before another; or none is covered
+abbrev pub IsFirstUnit : Sections → (low high : ℕ) → Option ℕ → Type 0
+IsFirstUnit sections low high None = AreUncovered sections low high
+IsFirstUnit sections low high (Some unit) =
+    (a : ℕ) × (low ≤ a) × (a < high) × AreUncovered sections low a × (slice_get (units sections.info) unit ≡ unit_of sections a)
+
+abbrev pub fault_shown : ℕ × UnitFault → model.UnitFault
+fault_shown fault = (fault.0, code_shown fault.1)
+
+-- The pieces of the addresses of a span are added to those before it, where the unit answers them all; or each has the fault.
+abbrev pub AddsUnit : Sections → DwarfUnit → Span → Option UnitFault → (old new : List Piece) → Type 0
+AddsUnit sections unit span None old new =
+    (from : ℕ) → from ≤ span.low → ((a : ℕ) → span.low ≤ a → a < span.high → place sections a ≡ unit_place sections unit a)
+    → ArePieces (place sections) from span.low old → ArePieces (place sections) from span.high new
+AddsUnit sections unit span (Some code) old new = (a : ℕ) → unit_place sections unit a ≡ Err (fault_shown (unit.offset, code))
+
+-- the same of whatever unit answers them, or none
+abbrev pub AddsSpan : Sections → Span → Option (ℕ × UnitFault) → (old new : List Piece) → Type 0
+AddsSpan sections span None old new =
+    (from : ℕ) → from ≤ span.low → ArePieces (place sections) from span.low old → ArePieces (place sections) from span.high new
+AddsSpan sections span (Some fault) old new = (a : ℕ) → span.low ≤ a → a < span.high → place sections a ≡ Err (fault_shown fault)

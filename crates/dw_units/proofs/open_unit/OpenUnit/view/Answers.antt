@@ -1,0 +1,9 @@
+use Rattle.std.proofs.Common.{sym, ap}
+use Rattle.dw_units.specs.OpenUnit.{sections_of, unit_of}
+use Rattle.dw_units.specs.View.{found_in}
+use Rattle.dw_units.proofs.PlaceLemmas.{outside-all}
+use Rattle.dw_units.proofs.open_unit.OpenUnit.view.Goals as goal
+
+pub returns-in_err-abbrevs : goal.returns-in_err-abbrevs
+returns-in_err-abbrevs c =
+    rw (c.from_residual.ensures) (sym (ap found_in (outside-all (sections_of c.args.self) (unit_of c.args.self) c.args.offset c.in_err-abbrevs.ensures.1)))

@@ -1,0 +1,153 @@
+//! Entries whose values are read when they are asked for, by sections 7.5.2 to 7.5.6 of DWARF 5.
+
+ghost use Rattle.std.specs.Prelude.{◌≡◌, ◌==◌, true, None, Ok, List, find, map, option_map};
+ghost use Rattle.dw_model.specs.Abbrev.{abbreviations};
+ghost use Rattle.dw_model.specs.Answers.{ReadsOn};
+ghost use Rattle.dw_model.specs.Entry.{Attribute, attributes_at, entry_at};
+ghost use Rattle.dw_model.specs.Entry as model;
+ghost use Rattle.dw_model.specs.Reading.{Place};
+ghost use Rattle.dw_model.specs.Root.{entry};
+ghost use Rattle.dw_bytes.specs.Width.{size_of};
+ghost use Rattle.dw_forms.specs.Declaration.{spec_shown};
+ghost use Rattle.dw_forms.specs.Fault.{form_fault};
+ghost use Rattle.dw_forms.specs.Value.{value_shown};
+ghost use Rattle.dw_units.specs.Header.{header_shown};
+ghost use Rattle.dw_units.specs.Sections.{sections_shown};
+ghost use Rattle.dw_units.specs.View.{found_in};
+
+use crate::class::counts;
+use crate::entries::pass_values;
+use crate::entry::cursor_at;
+use crate::header::Header;
+use crate::sections::Sections;
+use dw_bytes::{Cursor, Width};
+use dw_forms::{Abbrevs, Decl, FormFault, Spec, Value, read_value};
+use std::marker::Model;
+
+/// An entry that can be read, of which each value is read when it is asked for: so it takes no memory.
+/// Contracts see the entry.
+#[derive(Drop)]
+pub struct EntryView<'b, 'a> {
+    declaration: &'b Decl,
+    /// How many bytes the offsets of its unit have.
+    width: Width,
+    /// Its offset, which counts from the first byte of .debug_info.
+    offset: u64,
+    /// Where its values begin.
+    values: Cursor<'a>,
+}
+
+impl<'b, 'a> Model for EntryView<'b, 'a> {
+    ghost use Rattle.dw_model.specs.Entry as model;
+    ghost use Rattle.dw_units.specs.ViewInside.{entry_in, IsReadable};
+
+    ghost Value = { model.Entry };
+
+    ghost view = { entry_in };
+
+    ghost invariant = { IsReadable };
+}
+
+/// The first value of a name, among those that specifications ask for, where all of them can be read.
+fn first_value<'a>(
+    values: &mut Cursor<'a>,
+    specs: &[Spec],
+    width: Width,
+    name: u64,
+) -> Option<Value<'a>>
+    ensures { (found : List Attribute × Place) → attributes_at (size_of width) (map spec_shown specs.now) values.old ≡ Ok found → option_map value_shown result ≡ option_map (λ first. first.value) (find (λ first. first.name == name) found.0) }
+{
+    for spec in specs {
+        let Ok(value) = read_value(values, spec.form, spec.implicit, width) else {
+            return None;
+        };
+        if spec.name == name {
+            return Some(value);
+        }
+    }
+    None
+}
+
+impl<'b, 'a> EntryView<'b, 'a> {
+    /// A DW_TAG code.
+    pub fn tag(&self) -> u64
+        ensures { result ≡ self.now.tag }
+    {
+        self.declaration.tag
+    }
+
+    /// No attribute of this name was declared, as far as its declaration tells that at once.
+    fn lacks(&self, name: u64) -> bool
+        ensures { result ≡ true → find (λ first. first.name == name) self.now.attributes ≡ None }
+    {
+        match self.declaration.firsts().place(name) {
+            Some(place) => place >= self.declaration.specs.len(),
+            None => false,
+        }
+    }
+
+    /// The value of the first attribute of a name, where it is of a kind that counts for the name;
+    /// else the attribute is absent.
+    #[tactic(auto, unfolding(dw_model::specs::Entry::attribute))]
+    pub fn attr(&self, name: u64) -> Option<Value<'a>>
+        ensures { option_map value_shown result ≡ model.attribute name self.now }
+    {
+        if self.lacks(name) {
+            return None;
+        }
+        let specs = self.declaration.specs.as_slice();
+        let value = first_value(&mut self.values.fork(), specs, self.width, name)?;
+        if !counts(name, &value) {
+            return None;
+        }
+        Some(value)
+    }
+}
+
+/// The entry at the cursor, which goes just past it; `None` for a null entry, which ends a list of
+/// children. After a refusal the cursor may stand anywhere.
+#[tactic(auto, unfolding(dw_model::specs::Entry::entry_at))]
+fn view_at<'b, 'a>(
+    cursor: &mut Cursor<'a>,
+    abbrevs: &'b Abbrevs,
+    width: Width,
+) -> Result<Option<EntryView<'b, 'a>>, FormFault>
+    ensures { ReadsOn (λ found. found) form_fault result (entry_at (size_of width) abbrevs.now cursor.old) cursor.new }
+{
+    let offset = cursor.at() as u64;
+    let code = cursor.uleb()?;
+    if code == 0 {
+        return Ok(None);
+    }
+    let declaration = abbrevs.get(code).ok_or(FormFault::Code)?;
+    let values = cursor.fork();
+    pass_values(cursor, declaration, width)?;
+    Ok(Some(EntryView {
+        declaration,
+        width,
+        offset,
+        values,
+    }))
+}
+
+/// The entry at an offset of .debug_info that lies between a unit's first entry and its end. `None` for a
+/// null entry, and where none can be read. Nothing past the unit's end is read.
+#[tactic(auto, unfolding(dw_model::specs::Root::entry))]
+pub(crate) fn view_in<'b, 'a>(
+    sections: &Sections<'a>,
+    unit: &Header,
+    abbrevs: &'b Abbrevs,
+    offset: u64,
+) -> Option<EntryView<'b, 'a>>
+    requires { abbreviations sections.now.abbrevs.now unit.now.debug_abbrev_offset ≡ Ok abbrevs.now }
+    ensures { result ≡ found_in (entry (sections_shown sections.now) (header_shown unit.now) offset) }
+{
+    if offset < unit.first_entry || offset >= unit.end {
+        return None;
+    }
+    let mut cursor = cursor_at(sections, unit, offset)?;
+    match view_at(&mut cursor, abbrevs, unit.width) {
+        Ok(found) => found,
+        Err(_) => None,
+    }
+}

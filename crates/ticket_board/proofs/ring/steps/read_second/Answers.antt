@@ -1,0 +1,13 @@
+use Rattle.ticket_board.specs.Ring.Rule.{hand_of, first_read_of}
+use Rattle.ticket_board.proofs.RingWorkerRule.{second-allowed}
+use Rattle.ticket_board.proofs.ring.steps.read_second.Goals as goal
+
+pub load-requires : goal.load-requires
+load-requires g c = (
+  c.requires.table,
+  c.requires.within,
+  second-allowed g.S.Solver.shown g.S.Solver.meaning c.args.shelf.now.key.shape c.args.shelf.now.key.key.now c.args.shelf.now.table_id.slots
+      c.args.seat.now.id c.args.seat.now.me c.requires.worker c.args.word
+      (hand_of c.args.seat.now.me.0.role).0 (hand_of c.args.seat.now.me.0.role).1 (first_read_of c.args.seat.now.me.0.role)
+      c.requires.held c.requires.read c.requires.place,
+)

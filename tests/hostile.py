@@ -1,0 +1,207 @@
+"""Makes files of about so many bytes that are meant to ruin their reader: few bytes of the file that many others name.
+
+    hostile.py KIND BYTES FILE     writes the file, and prints the addresses to ask, one a line
+    hostile.py                     prints the kinds, each with how its time may grow
+"""
+import os
+import sys
+
+sys.path[:0] = [os.path.dirname(__file__), os.path.join(os.path.dirname(__file__), 'fuzz')]
+
+from assemble import Section, elf_file, number, uleb
+from samples import file_of, line_table, unit
+
+LINEAR, SQUARE = 'linear', 'square'
+
+COMPILE_UNIT, INLINED, SUBPROGRAM = 0x11, 0x1d, 0x2e
+NAME, STMT_LIST, LOW_PC, HIGH_PC, ORIGIN, RANGES, ADDR_BASE = 0x03, 0x10, 0x11, 0x12, 0x31, 0x55, 0x73
+ADDR, DATA1, DATA4, STRP, REF4, SEC_OFFSET, FLAG_PRESENT, ADDRX, IMPLICIT_CONST = 0x01, 0x0b, 0x06, 0x0e, 0x13, 0x17, 0x19, 0x1b, 0x21
+COVERING = [(LOW_PC, ADDR), (HIGH_PC, DATA4)]
+BEGIN, LENGTH = 0x1000, 0x10000000
+
+
+def declaration(code, tag, children, pairs):
+    text = uleb(code) + uleb(tag) + bytes([children])
+    for name, form, *constant in pairs:
+        text += uleb(name) + uleb(form) + bytes(constant)
+    return text + bytes(2)
+
+
+def covered(begin=BEGIN, length=LENGTH):
+    return number(begin, 8) + number(length, 4)
+
+
+def one_unit(declarations, entries, **more):
+    """A unit that covers the addresses, with these entries below its first one, which has code 1."""
+    first = declaration(1, COMPILE_UNIT, 1, COVERING)
+    return file_of(unit(b'\x01' + covered() + entries), first + declarations + b'\0', **more)
+
+
+def long_list(count):
+    """A range list of so many ranges, which aren't in order of address, from the base of the unit on."""
+    return b''.join(b'\x04' + uleb(16 * (i * 7919 % count), 4) + uleb(16 * (i * 7919 % count) + 8, 4) for i in range(count)) + b'\0'
+
+
+def tables_in_one_another(size):
+    """Units whose tables of abbreviations begin one declaration after another."""
+    count = size // 18
+    units = b''.join(unit(b'\x01', abbrev=5 * i) for i in range(count))
+    last = declaration(2, COMPILE_UNIT, 0, COVERING)
+    return file_of(units + unit(b'\x02' + covered()), declaration(1, COMPILE_UNIT, 0, []) * count + last + b'\0')
+
+
+def functions_of_one_list(size):
+    count = size // 14
+    function = declaration(2, SUBPROGRAM, 0, [(RANGES, SEC_OFFSET)])
+    return one_unit(function, b'\x02\0\0\0\0' * count, rnglists=long_list(count))
+
+
+def inlined_of_one_list(size):
+    count = size // 14
+    functions = declaration(2, SUBPROGRAM, 1, COVERING) + declaration(3, INLINED, 0, [(RANGES, SEC_OFFSET)])
+    return one_unit(functions, b'\x02' + covered() + b'\x03\0\0\0\0' * count, rnglists=long_list(count))
+
+
+def functions_of_tails(size):
+    """Functions whose lists are the tails of one list, the shortest first."""
+    count = size // 14
+    function = declaration(2, SUBPROGRAM, 0, [(RANGES, SEC_OFFSET)])
+    entries = b''.join(b'\x02' + number(9 * (count - 1 - i), 4) for i in range(count))
+    return one_unit(function, entries, rnglists=long_list(count))
+
+
+def units_of_one_list(size):
+    count = size // 26
+    first = declaration(1, COMPILE_UNIT, 0, [(RANGES, SEC_OFFSET)])
+    return file_of(unit(b'\x01\0\0\0\0') * count, first + b'\0', rnglists=long_list(count))
+
+
+def units_with_bases_of_one_list(size):
+    """The same, but each unit has a base of its own, so the list has other ranges in each."""
+    count = size // 34
+    first = declaration(1, COMPILE_UNIT, 0, [(RANGES, SEC_OFFSET), (LOW_PC, ADDR)])
+    units = b''.join(unit(b'\x01\0\0\0\0' + number(16 * i * count, 8)) for i in range(count))
+    return file_of(units, first + b'\0', rnglists=long_list(count))
+
+
+def program(count):
+    """A line program of so many rows in one sequence."""
+    rows = bytes([13 + 5 + 14 + 1]) * count  # address 1 more, line 1 more
+    return b'\0\x09\x02' + number(BEGIN, 8) + rows + b'\0\x01\x01'
+
+
+def units_of_one_line_table(size):
+    count = size // 60
+    first = declaration(1, COMPILE_UNIT, 0, [*COVERING, (STMT_LIST, SEC_OFFSET)])
+    units = b''.join(unit(b'\x01' + covered(BEGIN + 16 * i, 16) + bytes(4)) for i in range(count))
+    return file_of(units, first + b'\0', line_table(program(size - len(units))))
+
+
+def names_without_end(size):
+    """Section headers whose names have no end."""
+    count = size // 96
+    names = b'.' * (size - 64 * count)
+    # the count of headers and the index of names stand in the first header, since they may pass 16 bits
+    headers = bytes(32) + number(count + 2, 8) + number(count + 1, 4) + bytes(20)
+    headers += b''.join(number(i, 4) + number(1, 4) + bytes(56) for i in range(count))
+    headers += number(0, 4) + number(3, 4) + bytes(16) + number(64, 8) + number(len(names), 8) + bytes(24)
+    front = elf_file([])
+    return front[:40] + number(64 + len(names), 8) + front[48:60] + number(0, 2) + number(0xffff, 2) + names + headers
+
+
+def functions_of_empty_values(size):
+    """Functions whose declaration has a long list of values that take no bytes."""
+    count = size // 3
+    pairs = [(0x2000, FLAG_PRESENT)] * (count // 2)
+    function = declaration(2, SUBPROGRAM, 0, [*pairs, (LOW_PC, ADDRX), (HIGH_PC, IMPLICIT_CONST, 1)])
+    return one_unit(function, b'\x02\0' * (count // 2))
+
+
+def units_of_empty_values(size):
+    """Units whose first entries have a long list of values that take no bytes."""
+    first = declaration(1, COMPILE_UNIT, 0, [(0x2000, FLAG_PRESENT)] * (size // 8))
+    last = declaration(2, COMPILE_UNIT, 0, COVERING)
+    return file_of(unit(b'\x01') * (size // 26) + unit(b'\x02' + covered()), first + last + b'\0')
+
+
+def references_of_empty_values(size):
+    """Functions whose names lie behind 16 references, each in an entry with many values that take no bytes."""
+    pairs = [(0x2000, FLAG_PRESENT)] * (size // 8)
+    declarations = (declaration(2, SUBPROGRAM, 0, [(ORIGIN, REF4), *COVERING])
+                    + declaration(3, SUBPROGRAM, 0, [*pairs, (ORIGIN, REF4)]))
+    count = size // 34
+    at = 12 + 13 + 17 * count
+    chain = b''.join(b'\x03' + number(at + 5 * (i + 1), 4) for i in range(16))
+    functions = b''.join(b'\x02' + number(at, 4) + covered(BEGIN + i, 1) for i in range(count))
+    return one_unit(declarations, functions + chain)
+
+
+def skipped_units(size):
+    first = declaration(1, COMPILE_UNIT, 0, COVERING)
+    return file_of((number(2, 4) + number(4, 2)) * (size // 6) + unit(b'\x01' + covered()), first + b'\0')
+
+
+def small_units(size):
+    """Units of 13 bytes that have no ranges."""
+    first = declaration(1, COMPILE_UNIT, 0, []) + declaration(2, COMPILE_UNIT, 0, COVERING)
+    return file_of(unit(b'\x01') * (size // 13) + unit(b'\x02' + covered()), first + b'\0')
+
+
+def small_declarations(size):
+    declarations = b''.join(declaration(i + 2, COMPILE_UNIT, 0, []) for i in range(size // 7))
+    return one_unit(declarations, b'')
+
+
+def small_functions(size):
+    """Functions of three bytes, each with another range."""
+    addresses = size // (8 + 3 * 255)
+    first = declaration(1, COMPILE_UNIT, 1, [*COVERING, (ADDR_BASE, SEC_OFFSET)])
+    function = declaration(2, SUBPROGRAM, 0, [(LOW_PC, ADDRX), (HIGH_PC, DATA1)])
+    entries = b''.join(b'\x02' + uleb(i) + bytes([length]) for i in range(addresses) for length in range(1, 256))
+    addr = b''.join(number(BEGIN + 256 * i, 8) for i in range(addresses))
+    return file_of(unit(b'\x01' + covered() + bytes(4) + entries), first + function + b'\0', addr=addr)
+
+
+def small_sequences(size):
+    """Sequences of a line table that take few bytes."""
+    first = declaration(1, COMPILE_UNIT, 0, [*COVERING, (STMT_LIST, SEC_OFFSET)])
+    sequences = b''.join(b'\x02' + uleb(BEGIN + i) + b'\x01\x21\0\x01\x01' for i in range(size // 9))
+    return file_of(unit(b'\x01' + covered() + bytes(4)), first + b'\0', line_table(sequences))
+
+
+def small_files(size):
+    """A line table whose lists have entries that take no bytes."""
+    first = declaration(1, COMPILE_UNIT, 0, [*COVERING, (STMT_LIST, SEC_OFFSET)])
+    fields = bytes.fromhex('010101fb0e0d000101010100000001000001')
+    lists = b'\x01\x01\x19' + uleb(size // 2, 4) + b'\x01\x01\x19' + uleb(size // 2 - 16, 4) + bytes(size)
+    return file_of(unit(b'\x01' + covered() + bytes(4)), first + b'\0', line_table(program(1), fields + lists))
+
+
+def no_rows(size):
+    """A line program that does nothing between two rows."""
+    first = declaration(1, COMPILE_UNIT, 0, [*COVERING, (STMT_LIST, SEC_OFFSET)])
+    text = b'\0\x09\x02' + number(BEGIN, 8) + b'\x01' + b'\x06' * size + b'\x02\x20\0\x01\x01'
+    return file_of(unit(b'\x01' + covered() + bytes(4)), first + b'\0', line_table(text))
+
+
+KINDS = {
+    'tables_in_one_another': LINEAR, 'functions_of_one_list': LINEAR, 'inlined_of_one_list': LINEAR,
+    'functions_of_tails': SQUARE, 'units_of_one_list': LINEAR, 'units_with_bases_of_one_list': SQUARE,
+    'units_of_one_line_table': LINEAR, 'names_without_end': LINEAR, 'functions_of_empty_values': LINEAR,
+    'units_of_empty_values': LINEAR, 'references_of_empty_values': LINEAR, 'skipped_units': LINEAR,
+    'small_units': LINEAR, 'small_declarations': LINEAR, 'small_functions': LINEAR, 'small_sequences': LINEAR,
+    'small_files': LINEAR, 'no_rows': LINEAR,
+}
+
+if __name__ == '__main__':
+    if len(sys.argv) == 1:
+        for kind, growth in KINDS.items():
+            print(kind, growth)
+        sys.exit()
+    kind, size, path = sys.argv[1], int(sys.argv[2]), sys.argv[3]
+    with open(path, 'wb') as out:
+        out.write(globals()[kind](size))
+    if kind == 'units_of_one_line_table':
+        print(*(f'{BEGIN + 16 * i:x}' for i in range(size // 60)), sep='\n')
+    else:
+        print(f'{BEGIN + 5:x}')
