@@ -211,7 +211,7 @@ END_C
 need_large() {
     program=$work/large
     if [ -e "$1" ]; then program=$(realpath "$1"); return; fi
-    if [ "$1" = many ]; then python3 "$here/tests/many_units.py" 530; else write_large "$1"; fi
+    if [ "$1" = many ]; then python3 "$here/bench/many_units.py" 530; else write_large "$1"; fi
     build_units large
 }
 

@@ -12,6 +12,8 @@ mod damaged;
 #[cfg(test)]
 mod formats;
 #[cfg(test)]
+mod library;
+#[cfg(test)]
 mod pools;
 #[cfg(test)]
 mod spans;

@@ -1,4 +1,4 @@
-//! How the times of building an index and of finding in it grow. tests/owners.sh shows what these
+//! How the times of building an index and of finding in it grow. bench/owners.sh shows what these
 //! tests print.
 
 use crate::owners::drawn;

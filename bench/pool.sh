@@ -5,7 +5,7 @@
 # addresses (10,000, 100,000 and a million without). What is timed is answering alone, with the threads and the contexts
 # that are made for it; beside it stands the processors' time. The least of three times counts. Run it after `rt run` in
 # crates/a2l has built the crates. It prints a table, and tests that no run fails.
-. "$(dirname "$0")/programs.sh"
+. "$(dirname "$0")/../tests/programs.sh"
 large=${1:-60}
 [ $# -gt 0 ] && shift
 [ $# -gt 0 ] || set -- 10000 100000 1000000

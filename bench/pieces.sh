@@ -5,7 +5,7 @@
 # time counts, without that of a run that only opens the file, and memory with that. Spans are asked by a context that keeps
 # all units, so nothing is read twice. Run it after `rt run` in crates/a2l has built the crates. It prints a table, and
 # tests that as many addresses are in the pieces of all ranges of the three units as in those of the span.
-. "$(dirname "$0")/programs.sh"
+. "$(dirname "$0")/../tests/programs.sh"
 need_a2l
 large=${1:-60}
 times=${2:-10}

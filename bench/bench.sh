@@ -8,7 +8,7 @@
 # crate is built from Debian's packages (librust-addr2line-dev), and what is missing is said. Run it after `rt run` in
 # crates/a2l has built a2l. It prints a table, and tests only that a2l's answers are the same at any order and number
 # of workers.
-. "$(dirname "$0")/programs.sh"
+. "$(dirname "$0")/../tests/programs.sh"
 need_a2l
 large=${1:-60}
 times=${2:-3}

@@ -5,7 +5,7 @@
 # once, in a process of its own, as a user's does, and is run as often as the second word says (15 without); the least
 # time counts, without that of a run which opens the file alone. gimli is built from Debian's packages (librust-gimli-dev,
 # librust-object-dev). Run it after `rt run` in crates/a2l has built the crates. It prints a table.
-. "$(dirname "$0")/programs.sh"
+. "$(dirname "$0")/../tests/programs.sh"
 large=${1:-60}
 times=${2:-15}
 need_large "$large"

@@ -7,7 +7,7 @@
 # and makes the index of the sequences, gimli keeps nothing of a row. gimli is built from Debian's packages
 # (librust-gimli-dev). Run it after `rt run` in crates/a2l has built the crates. It prints a table, and tests that as many
 # checkpoints are kept as follow from gimli's rows.
-. "$(dirname "$0")/programs.sh"
+. "$(dirname "$0")/../tests/programs.sh"
 large=${1:-60}
 times=${2:-15}
 [ -x /usr/bin/time ] || { echo "no /usr/bin/time here, which measures memory"; exit 1; }

@@ -2,7 +2,7 @@
 # How long `a2l --units` takes on a large program, beside reading the file and beside readelf. It builds the
 # program of as many C++ units as its word says (60 without), which takes some minutes. Run it after `rt run`
 # in crates/a2l has built a2l. It prints times and ratios of one run, and tests nothing.
-. "$(dirname "$0")/programs.sh"
+. "$(dirname "$0")/../tests/programs.sh"
 need_a2l
 write_large "${1:-60}"
 build_units large

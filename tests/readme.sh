@@ -1,0 +1,45 @@
+#!/usr/bin/env bash
+# The README says what is: each command that it shows with a `$` writes what stands below it, the usage line is the
+# program's, the lines of the library's example stand in the test that runs them, each file that it names is there, and
+# it has at most 8 KB. Run it after `rt run` in crates/a2l has built the program. It needs python3.
+set -euo pipefail
+cd "$(dirname "$0")/.."
+[ -x crates/a2l/out/a2l ] || { echo "build the program first: cd crates/a2l && rt run"; exit 1; }
+python3 - << 'END'
+import os
+import re
+import subprocess
+import sys
+
+text = open('README.md', encoding='utf-8').read()
+wrong = []
+blocks = [re.sub('^    ', '', block, flags=re.M) for block in re.findall(r'(?:^    .*\n(?:\n(?=    ))?)+', text, re.M)]
+shown = 0
+for block in blocks:
+    first, _, rest = block.partition('\n')
+    if first.startswith('$ '):
+        shown += 1
+        words = first[2:].split()
+        if not os.path.exists(words[0]):
+            wrong.append(f'{words[0]} is not built')
+            continue
+        written = subprocess.run(words, stdin=subprocess.DEVNULL, capture_output=True, check=False).stdout.decode()
+        if written != rest:
+            wrong.append(f'{first}\nwrites\n{written}')
+    elif first.startswith('usage: '):
+        shown += 1
+        usage = subprocess.run(['crates/a2l/out/a2l'], capture_output=True, check=False).stdout.decode()
+        if usage != block:
+            wrong.append(f'the usage line is {usage}')
+    elif first.startswith('fn '):
+        shown += 1
+        if block not in open('crates/answer_tests/src/library.rt', encoding='utf-8').read():
+            wrong.append('the example of the library is not that of crates/answer_tests/src/library.rt')
+for path in re.findall(r'\b(?:docs|tests|bench|examples|include|samples)/[\w./]+\w', text):
+    if not os.path.exists(path):
+        wrong.append(f'{path} is not there')
+if len(text.encode()) > 8192:
+    wrong.append('it has more than 8 KB')
+print('\n'.join(wrong + [f'{shown} blocks of the README are right']))
+sys.exit(1 if wrong or not shown else 0)
+END
