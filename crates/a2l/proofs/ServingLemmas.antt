@@ -5,7 +5,7 @@ use Rattle.std.specs.Io.KnownBytes.{append_known}
 use Rattle.clap.specs.Words.{Row, Text, first_of}
 use Rattle.dw_model.specs.Refusal.{refusal, listing_refusal}
 use Rattle.dw_model.specs.Output.{Options, listing}
-use Rattle.a2l_lines.specs.declared.symbolizing.Status.{Status}
+use Rattle.a2l_lines.specs.declared.symbolizer.Status.{Status}
 use Rattle.a2l_lines.specs.Symbolize.{Symbolizes}
 use Rattle.a2l.specs.CommandLine.{is_set, options_in, words_in}
 use Rattle.a2l.specs.Serving.{ServesFound, number_of}

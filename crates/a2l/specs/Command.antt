@@ -8,11 +8,12 @@ use Rattle.a2l.specs.declared.command.ParseFault.TheVariants.{Refused}
 abbrev pub IsCount : ℕ → Type 0
 IsCount n = (1 ≤ n) × (n ≤ 64)
 
--- the text writes a number of threads in decimal digits, before which a plus may stand
+-- the text writes a number of threads in decimal digits, before which a plus may be
 abbrev pub WritesCount : List ℕ → Type 0
 WritesCount text = IsNumeral 10 (without_leading_plus text) × IsCount (digits_value 10 (without_leading_plus text))
 
--- How many threads an option asks for: the number that its text writes, or the default where the option isn't there; any other text is refused.
+-- How many threads an option asks for: the number that its text writes, or the default where the
+-- option isn't there; any other text is refused.
 abbrev pub AsksFor : Option (List ℕ) → ℕ → Result ℕ ParseFault → Type 0
 AsksFor None default found = found ≡ Ok default
 AsksFor (Some text) default found =

@@ -8,7 +8,7 @@ use Rattle.clap.specs.Simple.{new_shape}
 use Rattle.clap.specs.declared.builder.action.ArgAction.TheVariants.{Append, Set, SetTrue}
 use Rattle.dw_model.specs.Output.{Options}
 
--- a word with a value behind it
+-- a word with a value after it
 abbrev pub option : Text → Rule
 option id = record (new_rule id) { action = Some Set }
 

@@ -55,12 +55,14 @@ status_of faults.Read = 3
 status_of faults.Write = 3
 status_of faults.Memory = 3
 
--- A fault was told on a stream, as far as that took the line: all of it where the count of the stream's failures didn't rise.
+-- A fault was told on a stream, as far as that took the line: all of it where the count of the
+-- stream's failures didn't rise.
 pub record Tells (fault : Fault) (old new : Option (List ℕ)) (failures_before failures_after : ℕ) : Type 0 where
   pub beginning : WritesBeginning old new (line_of fault)
   pub whole : failures_after ≡ failures_before → new ≡ append_known old (line_of fault)
 
--- a fault is reported by its line and status, or want of memory by its own, where the line couldn't be made
+-- a fault is reported by its line and status, or want of memory by its own, where the line couldn't
+-- be made
 abbrev pub Reports : Fault → ℕ → Option (List ℕ) → Option (List ℕ) → ℕ → ℕ → Type 0
 Reports fault status old new before after =
     (told : Fault) × ((told ≡ fault) ⊎ (told ≡ faults.Memory)) × (status ≡ status_of told) × Tells told old new before after
@@ -69,7 +71,8 @@ Reports fault status old new before after =
 abbrev pub EndsBadly : ℕ → Option (List ℕ) → Option (List ℕ) → ℕ → ℕ → Type 0
 EndsBadly status old new before after = (told : Fault) × (status ≡ status_of told) × Tells told old new before after
 
--- why a listing ends early: the file is refused for just this reason, the writer failed, or memory did
+-- why a listing ends early: the file is refused for just this reason, the writer failed, or memory
+-- did
 abbrev pub ListFails : Fault → Option Refusal → ℕ → ℕ → Type 0
 ListFails faults.CommandLine refusal before after = ⊥
 ListFails faults.File refusal before after = ⊥
@@ -78,7 +81,8 @@ ListFails faults.Read refusal before after = ⊥
 ListFails faults.Write refusal before after = before < after
 ListFails faults.Memory refusal before after = Unit {0}
 
--- why answering ends early: the file is refused for just this reason, the reader or the writer failed, or memory did
+-- why answering ends early: the file is refused for just this reason, the reader or the writer
+-- failed, or memory did
 abbrev pub SymbolizeFails : Fault → Option Refusal → (reads_before reads_after writes_before writes_after : ℕ) → Type 0
 SymbolizeFails faults.CommandLine refusal reads_before reads_after writes_before writes_after = ⊥
 SymbolizeFails faults.File refusal reads_before reads_after writes_before writes_after = ⊥

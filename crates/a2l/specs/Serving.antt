@@ -4,8 +4,8 @@ use Rattle.clap.specs.Words.{Row, Text, first_of}
 use Rattle.dw_model.specs.Refusal.{refusal}
 use Rattle.dw_model.specs.Output.{Options}
 use Rattle.a2l_lines.specs.Symbolize.{Symbolizes}
-use Rattle.a2l_lines.specs.declared.symbolizing.Status.{Status}
-use Rattle.a2l_lines.specs.declared.symbolizing.Status.TheVariants.{Clean, Faults}
+use Rattle.a2l_lines.specs.declared.symbolizer.Status.{Status}
+use Rattle.a2l_lines.specs.declared.symbolizer.Status.TheVariants.{Clean, Faults}
 use Rattle.a2l.specs.CommandLine.{found_in, is_set, options_in, words_in}
 use Rattle.a2l.specs.Listing.{ListsAt}
 
@@ -19,7 +19,8 @@ abbrev pub SymbolizesAt : (List ℕ → Option (List ℕ)) → (path : List ℕ)
 SymbolizesAt known path options words left old new ended =
     IfSome (known path) (λ file. (refusal file ≡ None) × Symbolizes options file words left old new ended)
 
--- The units of the file that was named were listed where that was asked for, and else it was asked, and what it means was written, as was asked for.
+-- The units of the file that was named were listed where that was asked for, and else it was asked,
+-- and what it means was written, as was asked for.
 abbrev pub ServesFound : (List ℕ → Option (List ℕ)) → List Row → (left old new : Option (List ℕ)) → ℕ → Type 0
 ServesFound known rows left old new status =
     (path : List ℕ) × (first_of (codes "file") rows ≡ Some path)

@@ -14,16 +14,16 @@ use std::thread::Threads;
 use ticket_board::Gate;
 use ticket_core::Query;
 
-/// A gate that stands open.
+/// A gate that is open.
 struct Open;
 
 impl Gate for Open {
     fn enter(&self, _sender: usize, _number: u64, _query: Query) {}
 }
 
-/// Answers the addresses and spans that are asked for of a file. After an error a beginning of the text was
-/// written, after a read that failed or a refused file nothing; the reader is read only where there
-/// are no words.
+/// Answers the addresses and spans that are asked for of a file. After an error a beginning of the
+/// text was written, after a read that failed or a refused file nothing; the reader is read only
+/// where there are no words.
 pub fn symbolize_file<T: Threads + Wait + Sync, R: Source, W: Sink>(
     rt: &T,
     alloc: Global,

@@ -79,7 +79,7 @@ fn flag(alloc: Global, id: &'static str) -> Arg<'static>
     Arg::new(alloc, id).action(ArgAction::SetTrue)
 }
 
-/// A word with a value behind it.
+/// A word with a value after it.
 fn option(alloc: Global, id: &'static str) -> Arg<'static>
     ensures rule { rule_of result ≡ line.option id.entry.now }
     ensures global { result.global ≡ false }

@@ -4,7 +4,7 @@ ghost use Rattle.std.specs.Prelude.{◌≡◌, ◌≢◌, ◌<◌, ◌≤◌, []
 ghost use Rattle.std.specs.Io.KnownBytes.{append_known};
 ghost use Rattle.a2l.specs.Fault.{usage_line, EndsBadly};
 ghost use Rattle.a2l.specs.Serving.{Serves, number_of};
-ghost use Rattle.a2l_lines.specs.declared.symbolizing.Status.TheVariants.{Clean};
+ghost use Rattle.a2l_lines.specs.declared.symbolizer.Status.TheVariants.{Clean};
 
 use crate::answering::symbolize_file;
 use crate::command::{USAGE, parse};
@@ -18,8 +18,9 @@ use std::sync::Wait;
 use std::thread::Threads;
 
 /// Runs the program on the words of a command line, which are without its own name, and returns its
-/// status: 0 where all is well, 1 where an input is a bad address or its unit can't be read, 2 where the
-/// command line or the file is refused, and 3 where the file, the input or the output failed, or memory did.
+/// status: 0 where all is well, 1 where an input is a bad address or its unit can't be read, 2
+/// where the command line or the file is refused, and 3 where the file, the input or the output
+/// failed, or memory did.
 pub fn run<T: Threads + Wait + Sync, S: AsStr, L: Load, R: Source, W: Sink, E: Sink>(
     rt: &T,
     alloc: Global,

@@ -40,7 +40,7 @@ Writes-block old told new text block rest so_far e = record {
   written = e ∙ ap (λ (known : Option (List ℕ)). append_known known block) so_far.written ∙ append_known-append old so_far.front block;
 }
 
--- a piece was put behind what stood in the block
+-- a piece was put after what stood in the block
 pub Writes-put : (old told new : Option (List ℕ)) (text block new_block piece rest : List ℕ) → Writes old told text (block ++ (piece ++ rest)) → Writes told new (block ++ piece) new_block
     → Writes old new text (new_block ++ rest)
 Writes-put old told new text block new_block piece rest so_far put = record {
@@ -66,7 +66,7 @@ Writes-begins old told new text next rest so_far begun = (
   },
 )
 
--- what stands in the block is behind what was written
+-- what is in the block is after what was written
 pub Writes-blocked : (told : Option (List ℕ)) (text block : List ℕ) → block ≡ text → Writes told told text block
 Writes-blocked told text block is = rw is (Writes-start told text)
 

@@ -1,7 +1,7 @@
 -- What reads and writes do.
 use Rattle.std.specs.Prelude.{◌≡◌, ◌++◌, ◌&&◌, not, ℕ, List, [], take, Option, Result, Ok, Err, ◌==◌, if◌then◌else◌}
 use Rattle.std.specs.Io.KnownBytes.{append_known}
-use Rattle.a2l_lines.specs.declared.ends.Failed.{Failed}
+use Rattle.a2l_lines.specs.declared.streams.Failed.{Failed}
 
 -- what a write took of a piece
 abbrev pub taken : Result ℕ Failed → List ℕ → List ℕ
@@ -12,12 +12,14 @@ taken (Err e) piece = []
 abbrev pub given : ℕ → List ℕ → List ℕ
 given n buffer = take n buffer
 
--- how many failures a call on a piece of this length is: an error is one, and so is a write that takes nothing of something
+-- how many failures a call on a piece of this length is: an error is one, and so is a write that
+-- takes nothing of something
 abbrev pub failures_of : Result ℕ Failed → ℕ → ℕ
 failures_of (Ok n) len = if n == 0 && not (len == 0) then 1 else 0
 failures_of (Err e) len = 1
 
--- The writer held old and holds new: behind what it held stands the text up to `rest`, if what it holds is known.
+-- The writer held old and holds new: after what it held is the text up to `rest`, if what it holds
+-- is known.
 pub record Writes (old new : Option (List ℕ)) (text rest : List ℕ) : Type 0 where
   pub front : List ℕ
   pub parts : text ≡ front ++ rest

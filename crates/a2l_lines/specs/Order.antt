@@ -8,7 +8,8 @@ use Rattle.dw_symbols.specs.declared.answer.Answer.TheVariants.{NotCovered}
 use Rattle.ticket_core.specs.declared.query.Query.{Query}
 use Rattle.a2l_lines.specs.Queries.{query_at}
 
--- The indexes of queries in an order, each after its turn: as many, each is one of theirs, and each of theirs is there.
+-- The indexes of queries in an order, each after its turn: as many, each is one of theirs, and each
+-- of theirs is there.
 pub record IsOrder (queries : List Query) (order : List ((ℕ × ℕ) × ℕ)) : Type 0 where
   pub len : length order ≡ length queries
   pub within : All (λ pair. pair.1 < length queries) order
@@ -18,7 +19,7 @@ pub record IsOrder (queries : List Query) (order : List ((ℕ × ℕ) × ℕ)) :
 abbrev pub asked_in : List Query → List ((ℕ × ℕ) × ℕ) → List Query
 asked_in queries order = map (λ pair. query_at queries pair.1) order
 
--- at this place stands the answer of the query there
+-- at this place is the answer of the query there
 abbrev pub IsAnswered : (Query → model.Answer) → List Query → List Answer → ℕ → Type 0
 IsAnswered means queries answers place = answer_shown (get_or answers place NotCovered) ≡ means (query_at queries place)
 
@@ -26,7 +27,8 @@ IsAnswered means queries answers place = answer_shown (get_or answers place NotC
 abbrev pub AreAnswers : (Query → model.Answer) → List Query → List Answer → Type 0
 AreAnswers means queries answers = map answer_shown answers ≡ map means queries
 
--- they are the answers to the queries in their own order, if those that were found are in the order of asking
+-- they are the answers to the queries in their own order, if those that were found are in the order
+-- of asking
 abbrev pub AreInPlace : List Query → List ((ℕ × ℕ) × ℕ) → (found answers : List Answer) → Type 0
 AreInPlace queries order found answers =
     (means : Query → model.Answer) → AreAnswers means (asked_in queries order) found → AreAnswers means queries answers

@@ -8,7 +8,8 @@ use Rattle.ticket_core.specs.Query.{first_word, second_word}
 abbrev pub query_at : List Query → ℕ → Query
 query_at queries i = slice_index_or queries i (Address 0)
 
--- It comes before another: it begins at a lower address, or at the same one and ends at a lower one. An address comes before the spans that begin with it.
+-- It comes before another: it begins at a lower address, or at the same one and ends at a lower
+-- one. An address comes before the spans that begin with it.
 abbrev pub IsBefore : Query → Query → Type 0
 IsBefore query other =
     (first_word query < first_word other)

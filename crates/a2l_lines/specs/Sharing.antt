@@ -5,16 +5,18 @@ use Rattle.ticket_core.specs.declared.query.Query.{Query}
 use Rattle.ticket_core.specs.declared.query.QueryKind.TheVariants.{Address}
 use Rattle.ticket_core.specs.Query.{first_word, second_word}
 use Rattle.a2l_lines.specs.declared.input.Input.{Input}
-use Rattle.a2l_lines.specs.declared.sharing.Sharing.{Sharing}
+use Rattle.a2l_lines.specs.declared.shares.Sharing.{Sharing}
 use Rattle.a2l_lines.specs.Input.{input_shown}
 use Rattle.a2l_lines.specs.Queries.{query_at, IsUpTo, AreRising}
 
--- what an input with this pick asks for: none is a bad address, k + 1 the query at k among those asked
+-- what an input with this pick asks for: none is a bad address, k + 1 the query at k among those
+-- asked
 abbrev pub picked : List Query → ℕ → Option Query
 picked asked zero = None
 picked asked (suc k) = Some (query_at asked k)
 
--- The queries among some inputs, each once and in order, and the way back, which is a pick for each input.
+-- The queries among some inputs, each once and in order, and the way back, which is a pick for each
+-- input.
 pub record Shares (inputs : List (Option Query)) (asked : List Query) (picks : List ℕ) : Type 0 where
   pub rising : AreRising asked
   pub needed : All (λ query. Contains inputs (Some query)) asked
@@ -39,7 +41,7 @@ pub record ArePairs (inputs : List (Option Query)) (pairs : List Pair) : Type 0 
   pub right : All (λ pair. get_or inputs pair.1 None ≡ Some pair.0) pairs
   pub all : (j : ℕ) (query : Query) → get_or inputs j None ≡ Some query → Contains pairs (query, j)
 
--- none comes after the one behind it
+-- none comes after the one after it
 abbrev pub AreInOrder : List Pair → Type 0
 AreInOrder pairs = (k : ℕ) → k + 1 < length pairs → IsUpTo (pair_at pairs k).0 (pair_at pairs (k + 1)).0
 

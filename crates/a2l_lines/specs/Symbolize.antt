@@ -9,8 +9,8 @@ use Rattle.a2l_lines.specs.Input.{IsInput, word_shown, asked_by}
 use Rattle.a2l_lines.specs.Text.{options_shown}
 use Rattle.a2l_lines.specs.declared.input.Input.{Input}
 use Rattle.a2l_lines.specs.declared.options.Options.{Options}
-use Rattle.a2l_lines.specs.declared.symbolizing.Status.{Status}
-use Rattle.a2l_lines.specs.declared.symbolizing.Status.TheVariants.{Clean, Faults}
+use Rattle.a2l_lines.specs.declared.symbolizer.Status.{Status}
+use Rattle.a2l_lines.specs.declared.symbolizer.Status.TheVariants.{Clean, Faults}
 
 -- what is asked for by words, or where there are none by the bytes that were still to come
 pub record Asks (words : List (List ℕ)) (left : Option (List ℕ)) (found : List (Option Query)) : Type 0 where

@@ -28,7 +28,8 @@ is_bad (Some query) = false
 abbrev pub some_fault : List (Option Query) → List model_answer.Answer → Bool
 some_fault inputs answers = list_any is_bad inputs || list_any model.is_fault answers
 
--- what stands behind a path: `:LINE`, `:?` where the line isn't known, or `:0` where the path isn't either
+-- what is after a path: `:LINE`, `:?` where the line isn't known, or `:0` where the path isn't
+-- either
 abbrev pub line_text : Option (List ℕ) → Option ℕ → List ℕ
 line_text path (Some line) = codes ":" ++ decimal line
 line_text (Some path) None = codes ":?"
@@ -44,7 +45,7 @@ path_text path = unwrap_or path (codes "??")
 
 -- ---- what is written of what is known
 
--- what stands behind the path, to the end of the line
+-- what is after the path, to the end of the line
 abbrev pub line_end : Location → List ℕ
 line_end location = line_text (location_shown location).path (location_shown location).line ++ model.newline
 

@@ -5,11 +5,11 @@ ghost use Rattle.std.specs.List.{All};
 ghost use Rattle.a2l_lines.specs.Ends.{WritesAll, WritesBeginning, Puts, PutsBeginning};
 ghost use Rattle.a2l_lines.specs.Pieces.{WritesPicked, PicksBeginning};
 
-use crate::ends::{Failed, Sink};
+use crate::output::write_all;
 use crate::pieces::Pieces;
-use crate::writing::write_all;
+use crate::streams::{Failed, Sink};
 
-/// Writes what stands in a block, and empties it. After a failure a beginning of it was written.
+/// Writes what is in a block, and empties it. After a failure a beginning of it was written.
 fn flush<W: Sink>(writer: &mut W, block: &mut Vec<u8>) -> Result<(), Failed>
     ensures written { OnOk result (WritesAll (W.told writer.old) (W.told writer.new) block.old.items) }
     ensures emptied { OnOk result (block.new.items ≡ []) }
@@ -37,7 +37,7 @@ fn add(block: &mut Vec<u8>, piece: &[u8]) -> bool
     }
 }
 
-/// Puts a piece behind what stands in a block. Where there is no room for it, the block is written
+/// Puts a piece after what is in a block. Where there is no room for it, the block is written
 /// first, and a piece that is longer than a block at once.
 fn put<W: Sink>(writer: &mut W, block: &mut Vec<u8>, piece: &[u8]) -> Result<(), Failed>
     ensures put { OnOk result (Puts (W.told writer.old) (W.told writer.new) block.old.items piece.now block.new.items) }

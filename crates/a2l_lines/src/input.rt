@@ -52,7 +52,7 @@ fn number(digits: &[u8]) -> Option<u64>
 }
 
 /// The address that a text writes in 1 to 16 hexadecimal digits of either case, before which `0x` or
-/// `0X` may stand; none for any other text.
+/// `0X` may be; none for any other text.
 fn address_in(text: &[u8]) -> Option<u64>
     ensures { result ≡ address_in text.now }
 {
@@ -63,23 +63,23 @@ fn address_in(text: &[u8]) -> Option<u64>
     number(digits)
 }
 
-/// Where the first `-` of a text stands.
+/// Where the first `-` of a text is.
 fn dash_in(text: &[u8]) -> Option<usize>
     ensures { result ≡ dash_in text.now }
 {
     text.iter().position(|byte| *byte == b'-')
 }
 
-/// The span from an address on and below another one, where both are there and the first is below the
-/// second.
+/// The span from an address on and below another one, where both are there and the first is below
+/// the second.
 fn span_between(low: Option<u64>, high: Option<u64>) -> Option<Query>
     ensures { option_map query_shown result ≡ span_between low high }
 {
     Query::range(low?, high?)
 }
 
-/// The query that a text writes: an address, or a span, which is an address, `-` and an address above
-/// it; none for any other text.
+/// The query that a text writes: an address, or a span, which is an address, `-` and an address
+/// above it; none for any other text.
 fn query_in(text: &[u8]) -> Option<Query>
     ensures { option_map query_shown result ≡ query_in text.now }
 {
@@ -144,7 +144,7 @@ fn split_line(bytes: &[u8]) -> (&[u8], &[u8])
     (strip_carriage_return(line), rest.split_at(1).1)
 }
 
-/// What the lines of a text ask for. Nothing behind the last newline is no line.
+/// What the lines of a text ask for. Nothing after the last newline is no line.
 pub fn inputs_of_lines(alloc: Global, bytes: &[u8]) -> Result<Vec<Input>, AllocError>
     ensures { IfOk result (λ inputs. map asked_by inputs.items ≡ map query_in (lines bytes.now)) }
 {

@@ -1,32 +1,35 @@
-//! What the program reads and writes: the addresses and spans that are asked for, the lines of their answers,
-//! and the lines of `--units`.
+//! What the program reads and writes: the addresses and spans that are asked for, the lines of
+//! their answers, and the lines of `--units`.
 #![tactic(auto)]
 
 mod blocks;
 mod count;
-mod ends;
 mod fault;
 mod input;
+mod input_bytes;
 mod listing;
 mod options;
 mod order;
+mod output;
 mod owners;
 mod pieces;
 mod pool;
-mod reading;
-mod sharing;
+mod shares;
+mod streams;
 mod survey;
-mod symbolizing;
+mod symbolizer;
 mod text;
 mod turns;
-mod writing;
 
 pub use count::Count;
-pub use ends::{Failed, Sink, Source};
 pub use fault::RunFault;
+pub use input::Input;
 pub use listing::list_units;
 pub use options::Options;
 pub use order::{in_order, order_of};
+pub use output::write_all;
+pub use pieces::BAD_ADDRESS;
 pub use pool::run_pool;
-pub use symbolizing::{Status, symbolize};
-pub use writing::write_all;
+pub use streams::{Failed, Sink, Source};
+pub use symbolizer::{Status, symbolize};
+pub use text::push_query;

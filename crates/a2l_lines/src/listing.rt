@@ -5,9 +5,9 @@ ghost use Rattle.dw_model.specs.Output.{unit_line};
 ghost use Rattle.dw_units.specs.Unit.{unit_shown};
 ghost use Rattle.a2l_lines.specs.Listing.{Lists, ListsBeginning, lines_in};
 
-use crate::ends::{Failed, Sink};
 use crate::fault::RunFault;
-use crate::writing::write_all;
+use crate::output::write_all;
+use crate::streams::{Failed, Sink};
 use dw_units::{Unit, Units};
 use std::alloc::{AllocError, Global};
 

@@ -10,9 +10,9 @@ use std::alloc::{AllocError, Global};
 use std::mem;
 use ticket_core::Query;
 
-/// The order in which queries are best asked by a pool: the index of each, after its turn. Those of a
-/// unit are asked together, of 16 units at a time, the largest first; of these 16 the first query of each
-/// comes first, and the others are evenly mixed.
+/// The order in which queries are best asked by a pool: the index of each, after its turn. Those of
+/// a unit are asked together, of 16 units at a time, the largest first; of these 16 the first query
+/// of each comes first, and the others are evenly mixed.
 pub fn order_of(
     alloc: Global,
     image: &Image<'_>,

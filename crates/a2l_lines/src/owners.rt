@@ -1,4 +1,5 @@
-//! Which worker each query is meant for, so that each unit is read by one worker. No promise rests on it.
+//! Which worker each query is meant for, so that each unit is read by one worker. No promise rests
+//! on it.
 
 use crate::survey::{Load, survey_of};
 use crate::turns::WAVE;

@@ -11,7 +11,7 @@ use std::marker::Model;
 use ticket_core::Query;
 
 /// The line of a bad address.
-const BAD_ADDRESS: &[u8] = b"!bad address\n";
+pub const BAD_ADDRESS: &[u8] = b"!bad address\n";
 
 /// Pieces of text. Contracts see them as a list.
 #[derive(Drop)]
@@ -45,8 +45,8 @@ impl Pieces {
     }
 }
 
-/// The lines of a bad address, then those of each query that is asked, by its answer. Each answer is
-/// let go as soon as its lines are made.
+/// The lines of a bad address, then those of each query that is asked, by its answer. Each answer
+/// is let go as soon as its lines are made.
 pub fn pieces_of(
     alloc: Global,
     options: &Options<'_>,

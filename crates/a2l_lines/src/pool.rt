@@ -36,13 +36,13 @@ impl<'b, 'a> Maker<Context<'b, 'a>> for Contexts<'b, 'a> {
     }
 }
 
-/// What each of some queries means: the answer at `i` is that of `queries[i]`. There is a thread for
-/// each sender and each worker of the shape, query `i` is asked by sender `i % senders`, and each worker
-/// has a context of its own. The gate is entered for each query that a worker took. Where the queries stand in
-/// the order of `order_of`, each unit is read by one worker.
+/// What each of some queries means: the answer at `i` is that of `queries[i]`. There is a thread
+/// for each sender and each worker of the shape, query `i` is asked by sender `i % senders`, and
+/// each worker has a context of its own. The gate is entered for each query that a worker took.
+/// Where the queries are in the order of `order_of`, each unit is read by one worker.
 ///
-/// The error is `BadShape` exactly where the shape is past its limits, or some sender would have more
-/// than `most` queries; else `Memory` where a growth or a thread was refused.
+/// The error is `BadShape` exactly where the shape is past its limits, or some sender would have
+/// more than `most` queries; else `Memory` where an allocation or a thread was refused.
 pub fn run_pool<'a, R: Threads + Wait + Sync, G: Gate + Sync>(
     rt: &R,
     alloc: Global,
@@ -71,8 +71,8 @@ pub fn run_pool<'a, R: Threads + Wait + Sync, G: Gate + Sync>(
     Ok(answers)
 }
 
-/// What each of some queries means, in their order. They are asked in the order of `order_of`, so that
-/// what one unit answers is asked at one time, and the workers share the units.
+/// What each of some queries means, in their order. They are asked in the order of `order_of`, so
+/// that what one unit answers is asked at one time, and the workers share the units.
 pub fn answers_of<'a, R: Threads + Wait + Sync, G: Gate + Sync>(
     rt: &R,
     alloc: Global,

@@ -16,7 +16,8 @@ pub struct Load {
 /// The units of some queries.
 #[derive(Drop)]
 pub struct Survey {
-    /// For each query the place of its unit among the units of the file; `usize::MAX` where it has none.
+    /// For each query the place of its unit among the units of the file; `usize::MAX` where it has
+    /// none.
     pub units: Vec<usize>,
     /// For each unit of the file what is asked of it.
     pub loads: Vec<Load>,
@@ -30,8 +31,8 @@ fn count(loads: &mut [Load], unit: UnitPlace) {
     }
 }
 
-/// The unit with which a query goes: the one that answers its address, or the first covered address of its
-/// span.
+/// The unit with which a query goes: the one that answers its address, or the first covered address
+/// of its span.
 fn unit_of(image: &Image<'_>, query: Query) -> Option<UnitPlace> {
     match query.kind() {
         QueryKind::Address(a) => image.unit_place(a),

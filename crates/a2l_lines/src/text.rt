@@ -22,7 +22,7 @@ fn push_number(text: &mut Vec<u8>, number: u64) -> Result<(), AllocError>
     text.extend_from_slice(digits.format(number).as_bytes())
 }
 
-/// Adds the line of a location as it stands behind the path, and the end of the text's line.
+/// Adds the line of a location as it is after the path, and the end of the text's line.
 fn push_line(text: &mut Vec<u8>, location: &Location) -> Result<(), AllocError>
     ensures { OnOk result (text.new.items ≡ text.old.items ++ line_end location.now) }
 {
@@ -47,8 +47,8 @@ fn push_path(text: &mut Vec<u8>, path: &Option<Vec<u8>>) -> Result<(), AllocErro
     }
 }
 
-/// Adds where an address comes from, and the end of the text's line: `PATH:LINE`, with `??` for a path
-/// and `?` for a line that isn't known, and `??:0` where neither is.
+/// Adds where an address comes from, and the end of the text's line: `PATH:LINE`, with `??` for a
+/// path and `?` for a line that isn't known, and `??:0` where neither is.
 fn push_location(text: &mut Vec<u8>, location: &Location) -> Result<(), AllocError>
     ensures { OnOk result (text.new.items ≡ text.old.items ++ location_line location.now) }
 {

@@ -43,8 +43,8 @@ fn ranks_of(alloc: Global, loads: &[Load]) -> Result<Vec<usize>, AllocError> {
     Ok(ranks)
 }
 
-/// The turn of a unit's query after so many others of it: the first comes with the first of the other
-/// units of its wave, the others are spread evenly over the rest of the wave.
+/// The turn of a unit's query after so many others of it: the first comes with the first of the
+/// other units of its wave, the others are spread evenly over the rest of the wave.
 fn turn(rank: usize, seen: u64, count: u64) -> Turn {
     let wave = u32::try_from(rank / WAVE).unwrap_or(u32::MAX);
     if seen == 0 {

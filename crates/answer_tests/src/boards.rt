@@ -1,5 +1,5 @@
-//! A board of one cell over the sample, whose worker answers by a context: what its calls return, and that a query whose
-//! answer was refused memory is answered by a later turn.
+//! A board of one cell over the sample, whose worker answers by a context: what its calls return,
+//! and that a query whose answer was refused memory is answered by a later turn.
 
 ghost use Rattle.std.specs.Prelude.{◌≡◌};
 ghost use Rattle.ticket_board.specs.Seats.{IsClientOf, IsWorkerOf};
@@ -72,7 +72,8 @@ fn expect_end<'a, S: Solver>(rt: &impl Abort, board: &Board<'a, S>, client: &mut
     );
 }
 
-/// The answers to 0x401000 and 0x401004; what each other call of the board returns on the way is asserted.
+/// The answers to 0x401000 and 0x401004; what each other call of the board returns on the way is
+/// asserted.
 fn answers_of<S: Solver>(
     rt: &impl Abort,
     alloc: Global,
@@ -111,7 +112,8 @@ fn one_cell(rt: HostRuntime) -> Result<(), Fail> {
     Ok(())
 }
 
-/// Answers number 0, which is asked. A turn that is refused memory gives it back, and the next one answers it.
+/// Answers number 0, which is asked. A turn that is refused memory gives it back, and the next one
+/// answers it.
 fn answer_at_last<'a, S: Solver>(
     rt: &impl Abort,
     board: &Board<'a, S>,
@@ -162,8 +164,8 @@ fn answered_once<S: Solver>(
     Ok(Some(answer))
 }
 
-/// Where an allocation is refused, a board isn't opened, or a turn is out of memory; the same call, with memory, opens
-/// it, and the next turn answers the number.
+/// Where an allocation is refused, a board isn't opened, or a turn is out of memory; the same call,
+/// with memory, opens it, and the next turn answers the number.
 #[test]
 fn each_allocation_refused(rt: HostRuntime) -> Result<(), Fail> {
     let Ok(file) = sample(rt.alloc()) else {

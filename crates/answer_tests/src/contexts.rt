@@ -1,5 +1,5 @@
-//! Frames of addresses, worked out by hand, and what no clause says: that calls succeed, and that contexts go to
-//! threads.
+//! Frames of addresses, worked out by hand, and what no clause says: that calls succeed, and that
+//! contexts go to threads.
 
 use crate::spans::{PIECES, expect_pieces};
 use dw_elf::OpenFault;
@@ -138,15 +138,16 @@ pub const FAULTS: [UnitFault; 4] = [
     UnitFault::Line,
 ];
 
-/// Where the first unit of the sample has the first entry below its own, where the code of `main` stands, and where
-/// the form of its DW_AT_low_pc stands among the declarations.
+/// Where the first unit of the sample has the first entry below its own, where the code of `main`
+/// is, and where the form of its DW_AT_low_pc is among the declarations.
 const FIRST_CHILD: usize = 29;
 
 const MAIN: usize = 0x23;
 
 const LOW_PC_FORM: usize = 17;
 
-/// The sample's units, the first of them with blocks in one another, of which the last stands below 513 entries.
+/// The sample's units, the first of them with blocks in one another, of which the last is below 513
+/// entries.
 fn deep(alloc: Global) -> Result<Vec<u8>, AllocError> {
     let (front, rest) = INFO.split_at(FIRST_CHILD);
     let mut info = Vec::from_slice(alloc, &[0x58, 2])?;
@@ -158,7 +159,7 @@ fn deep(alloc: Global) -> Result<Vec<u8>, AllocError> {
     Ok(info)
 }
 
-/// Units behind one of version 4 that takes 0x1af bytes.
+/// Units after one of version 4 that takes 0x1af bytes.
 fn behind(alloc: Global, units: &[u8]) -> Result<Vec<u8>, AllocError> {
     let mut info = Vec::from_slice(alloc, &[0xab, 1, 0, 0, 4, 0])?;
     for _ in 6..0x1af {
@@ -168,7 +169,7 @@ fn behind(alloc: Global, units: &[u8]) -> Result<Vec<u8>, AllocError> {
     Ok(info)
 }
 
-/// A file whose unit over 0x401000 stands at 0x1af and can't be read, for this reason.
+/// A file whose unit over 0x401000 is at 0x1af and can't be read, for this reason.
 pub fn unreadable(alloc: Global, fault: UnitFault) -> Result<Vec<u8>, Fail> {
     let units = match fault {
         // no declaration has this code
@@ -255,8 +256,8 @@ pub fn context_at_last<'b, 'a>(
     Ok(context)
 }
 
-/// Where an allocation is refused, opening and asking are out of memory and nothing else; the same call, with
-/// memory, is right.
+/// Where an allocation is refused, opening and asking are out of memory and nothing else; the same
+/// call, with memory, is right.
 #[test]
 fn each_allocation_refused(rt: HostRuntime) -> Result<(), Fail> {
     let Ok(file) = sample(rt.alloc()) else {

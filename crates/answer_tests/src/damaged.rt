@@ -1,4 +1,5 @@
-//! Files that are cut or have another byte, and what no clause says of them: that no call is out of memory.
+//! Files that are cut or have another byte, and what no clause says of them: that no call is out of
+//! memory.
 
 use dw_elf::OpenFault;
 use dw_symbols::{Context, Image};
@@ -11,8 +12,8 @@ use test_inputs::files::{poked, sample};
 /// Bytes of a file header.
 const HEADER_SIZE: usize = 64;
 
-/// The sample's section header table stands behind its header, and the section with the names is its last: it isn't
-/// whole in a file that is cut.
+/// The sample's section header table is after its header, and the section with the names is its
+/// last: it isn't whole in a file that is cut.
 #[test]
 fn cut_at_each_length(rt: HostRuntime) -> Result<(), Fail> {
     let file = sample(rt.alloc())?;

@@ -152,7 +152,7 @@ fn values_of_offsets(rt: HostRuntime) {
 }
 
 /// One declaration: a text by an offset, an index of a text, and a reference by an offset; and one
-/// with a text that stands in the entry.
+/// with a text that is in the entry.
 const SIZED: &[u8] = &[
     1, 0x34, 0, 3, 0x0e, 3, 0x25, 0x31, 0x10, 0, 0, 2, 0x34, 0, 3, 8, 0x31, 0x10, 0, 0, 0,
 ];
@@ -169,7 +169,7 @@ fn sizes_by_width(rt: HostRuntime) -> Result<(), Fail> {
     Ok(())
 }
 
-/// Texts by index: behind the base 1, an entry of 7 and one of 0 in the 64-bit format.
+/// Texts by index: after the base 1, an entry of 7 and one of 0 in the 64-bit format.
 const TABLES: Tables<'static> = Tables {
     str: b"narrow\0wide\0",
     line_str: &[],
@@ -357,7 +357,7 @@ fn unreadable_lengths(rt: HostRuntime) -> Result<(), Fail> {
 }
 
 /// A unit of the 64-bit format and one of the 32-bit format over one table of declarations. In each
-/// stand a first entry, whose range list has the index 1, a variable, and three functions: one
+/// are a first entry, whose range list has the index 1, a variable, and three functions: one
 /// whose name has the index 1, one that is an instance of the other unit's first function, and one
 /// that completes its own unit's first function.
 const BOTH: &[u8] = &[
@@ -390,7 +390,7 @@ const STR_OFFSETS: &[u8] = &[
     0, 0, 0, 0, 0, 0, 0, 0, 7, 0, 0, 0, 0, 0, 0, 0, 7, 0, 0, 0, 0, 0, 0, 0,
 ];
 
-/// The list of index 1 stands behind both offsets: 0x1000 to 0x1030 for the wide unit, 0x2000 to
+/// The list of index 1 is after both offsets: 0x1000 to 0x1030 for the wide unit, 0x2000 to
 /// 0x2030 for the narrow one, whose offsets begin at 0x1b.
 const RNGLISTS: &[u8] = &[
     0, 0, 0, 0, 0, 0, 0, 0, 0x10, 0, 0, 0, 0, 0, 0, 0, 7, 0, 0x10, 0, 0, 0, 0, 0, 0, 0x30, 0, 0, 0,

@@ -1,6 +1,6 @@
-//! Tests of the crates that answer addresses of a file, by contexts, boards and pools, up to the lines of answers,
-//! through their public calls alone. They stand here so that those crates are proved once, and not once more with
-//! their tests.
+//! Tests of the crates that answer addresses of a file, by contexts, boards and pools, up to the
+//! lines of answers, through their public calls alone. They are here so that those crates are
+//! proved once, and not once more with their tests.
 #![tactic(auto)]
 
 #[cfg(test)]

@@ -67,7 +67,7 @@ impl<'a> Compared<'a> {
     }
 }
 
-/// A gate that stands open.
+/// A gate that is open.
 #[derive(Drop)]
 pub struct Open;
 
@@ -130,8 +130,8 @@ fn options<'a>(alloc: Global, asked: &Asked<'a>) -> Result<Options<'a>, AllocErr
     })
 }
 
-/// Answers the addresses that are asked for in a file, and says how that ended; where the lines aren't those, it says
-/// nothing.
+/// Answers the addresses that are asked for in a file, and says how that ended; where the lines
+/// aren't those, it says nothing.
 pub fn status_of<T: Threads + Wait + Sync, G: Gate + Sync>(
     rt: &T,
     alloc: Global,
@@ -292,7 +292,8 @@ fn answer<T: Threads + Wait + Sync>(
     symbolize(rt, alloc, &mut Nothing, lines, image, options, &Open)
 }
 
-/// Answers what is asked for, once more where an allocation or a thread was refused, and writes all lines.
+/// Answers what is asked for, once more where an allocation or a thread was refused, and writes all
+/// lines.
 fn is_answered_at_last<T: Threads + Wait + Sync>(
     rt: &T,
     alloc: Global,
@@ -321,8 +322,8 @@ fn is_listed_at_last(alloc: Global, units: &Units<'_>, text: &str) -> Result<boo
     Ok(lines.is_whole())
 }
 
-/// Where an allocation or a thread is refused, answering and listing are out of memory, and nothing is written; the
-/// same call, with memory, writes all lines.
+/// Where an allocation or a thread is refused, answering and listing are out of memory, and nothing
+/// is written; the same call, with memory, writes all lines.
 #[test]
 fn each_allocation_refused(rt: HostRuntime) -> Result<(), Fail> {
     let alloc = rt.alloc();

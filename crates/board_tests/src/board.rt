@@ -92,7 +92,7 @@ const A_SPAN_BETWEEN: &[Call] = &[
     Call::Next(Next::Ended),
 ];
 
-/// The words of a span leave nothing behind in their cell.
+/// The words of a span leave nothing back in their cell.
 #[test]
 fn a_span_in_one_cell(rt: HostRuntime) -> Result<(), Fail> {
     let mut desk = BoardDesk::new(rt.alloc(), ONE_CELL, &KEY, 0)?;
@@ -147,7 +147,8 @@ const WHOLE_WINDOW: &[Call] = &[
     Call::Next(Next::Pending),
 ];
 
-/// A whole window is asked and answered before the first answer is received: the board has room for it.
+/// A whole window is asked and answered before the first answer is received: the board has room for
+/// it.
 #[test]
 fn whole_window(rt: HostRuntime) -> Result<(), Fail> {
     let mut desk = BoardDesk::new(rt.alloc(), FOUR_CELLS, &KEY, 0)?;
@@ -155,8 +156,8 @@ fn whole_window(rt: HostRuntime) -> Result<(), Fail> {
     Ok(())
 }
 
-/// The state words of the only cell of a window of 1 while a number is asked, at the gate of a worker, answered, and
-/// received: eight times the number, and its phase.
+/// The state words of the only cell of a window of 1 while a number is asked, at the gate of a
+/// worker, answered, and received: eight times the number, and its phase.
 const WORDS: [[u64; 4]; 2] = [[1, 2, 3, 8], [9, 10, 11, 16]];
 
 /// The state word of the first cell, and the sender and number that wait there.
@@ -200,7 +201,8 @@ const FOUR_ASKED: &[Call] = &[
     Call::Ask(Address(3), Ok(3)),
 ];
 
-/// A turn begins at the cell that it is told, and goes round from there; past the last cell it begins at the first.
+/// A turn begins at the cell that it is told, and goes round from there; past the last cell it
+/// begins at the first.
 #[test]
 fn turns_begin_where_told(rt: HostRuntime) -> Result<(), Fail> {
     let mut desk = BoardDesk::new(rt.alloc(), FOUR_CELLS, &KEY, 0)?;
@@ -221,7 +223,7 @@ const REFUSED_ONCE: &[Call] = &[
     Call::Next(Next::Answer(0, Span(0x401000, 0x401004))),
 ];
 
-/// A query whose solver is refused memory stands asked again.
+/// A query whose solver is refused memory is asked again.
 #[test]
 fn refuses_once(rt: HostRuntime) -> Result<(), Fail> {
     let mut desk = BoardDesk::new(rt.alloc(), ONE_CELL, &KEY, 1)?;
@@ -235,8 +237,8 @@ const BY_THE_SECOND: &[Call] = &[
     Call::Next(Next::Answer(0, Address(5))),
 ];
 
-/// Where an allocation is refused in `open`, the same call with memory succeeds. No other call takes
-/// memory. So this test passes under `rt try --test --fail-alloc N` for each N.
+/// Where an allocation is refused in `open`, the same call with memory succeeds. No other call
+/// takes memory. So this test passes under `rt try --test --fail-alloc N` for each N.
 #[test]
 fn each_allocation_refused(rt: HostRuntime) -> Result<(), Fail> {
     let shape = Shape {

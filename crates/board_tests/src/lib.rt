@@ -1,5 +1,5 @@
-//! Tests of the crates `ticket_core` and `ticket_board`, through their public calls alone. They stand here so
-//! that those crates are proved once, and not once more with their tests.
+//! Tests of the crates `ticket_core` and `ticket_board`, through their public calls alone. They are
+//! here so that those crates are proved once, and not once more with their tests.
 #![tactic(auto)]
 
 #[cfg(test)]

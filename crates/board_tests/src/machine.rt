@@ -124,9 +124,9 @@ fn ask_at_last(rt: &impl Abort, desk: &mut CoreDesk, a: usize) {
     }
 }
 
-/// One sender asks and receives two hundred queries. Where an allocation is refused, nothing changes,
-/// and the same call with memory succeeds. So this test passes under `rt try --test --fail-alloc N`
-/// for each N.
+/// One sender asks and receives two hundred queries. Where an allocation is refused, nothing
+/// changes, and the same call with memory succeeds. So this test passes under `rt try --test
+/// --fail-alloc N` for each N.
 #[test]
 fn each_allocation_refused(rt: HostRuntime) -> Result<(), Fail> {
     let shape = Shape {

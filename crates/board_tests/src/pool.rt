@@ -42,7 +42,7 @@ fn same_for_all_pools(rt: HostRuntime) -> Result<(), Fail> {
     Ok(())
 }
 
-/// Each span stands after the address at which it begins, and is answered as the span.
+/// Each span is after the address at which it begins, and is answered as the span.
 #[test]
 fn spans_among_addresses(rt: HostRuntime) -> Result<(), Fail> {
     let queries = addresses_and_spans(&rt, rt.alloc(), 100)?;
@@ -129,8 +129,8 @@ fn same_for_all_owners(rt: HostRuntime) -> Result<(), Fail> {
     Ok(())
 }
 
-/// Both queries are meant for the first worker, which waits at the gate until the other entered too: the second takes it
-/// after a while.
+/// Both queries are meant for the first worker, which waits at the gate until the other entered
+/// too: the second takes it after a while.
 #[test]
 fn another_workers_query(rt: HostRuntime) -> Result<(), Fail> {
     let span = query_of(&rt, QueryKind::Span(0x401000, 0x401004));

@@ -95,7 +95,8 @@ fn play_all(rt: &impl Abort, alloc: Global, queries: u64) -> Result<(), Fail>
     Ok(())
 }
 
-// The time of a run grows with its queries: this one takes half the time of the next (`bench/core.sh`).
+// The time of a run grows with its queries: this one takes half the time of the next
+// (`bench/core.sh`).
 #[test]
 fn fifty_thousand_queries(rt: HostRuntime) -> Result<(), Fail> {
     play_all(&rt, rt.alloc(), 50_000)

@@ -10,7 +10,8 @@ use ticket_core::{NoMemory, Query, QueryKind, Solver};
 /// The key of the tests.
 pub const KEY: [u8; 3] = [7, 8, 9];
 
-/// Answers each query with what it asks about, whatever the key. Its first calls are refused memory.
+/// Answers each query with what it asks about, whatever the key. Its first calls are refused
+/// memory.
 #[derive(Drop)]
 pub struct Echo {
     key: &'static [u8],

@@ -18,7 +18,7 @@ use std::marker::Model;
 /// A place in a piece of bytes. Contracts see it as a `Place`: how many bytes it has passed, and
 /// which are left.
 ///
-/// Each call reads what stands at the place and goes just past it. A call that answers `None`
+/// Each call reads what is at the place and goes just past it. A call that answers `None`
 /// leaves the place as it was. None of them takes memory.
 #[derive(Drop)]
 pub struct Cursor<'a> {
@@ -206,7 +206,8 @@ impl<'a> Cursor<'a> {
     }
 }
 
-/// The place of the first zero byte. It isn't inlined, so that the reads of other values stay small.
+/// The place of the first zero byte. It isn't inlined, so that the reads of other values stay
+/// small.
 #[tactic(auto, using(crate::proofs::ZeroLemmas::first_zero))]
 #[inline(never)]
 fn zero_position(bytes: &[u8]) -> Option<usize>

@@ -57,7 +57,7 @@ by-front b bytes (c ∷ other) false e later =
     ∙ ap (λ same. nat_eq b c && same) (later c other refl)
     ∙ sym (ap (λ found. option_eq bytes_eq found (Some (c ∷ other))) (joined b bytes e) ∙ with-front b c (first_text bytes) other)
 
--- Whether a text stands in front is seen in as many bytes as it and a zero byte take.
+-- Whether a text is in front is seen in as many bytes as it and a zero byte take.
 text_in_front : (bytes text : List ℕ) → option_eq bytes_eq (first_text (take (suc (length text)) bytes)) (Some text) ≡ option_eq bytes_eq (first_text bytes) (Some text)
 text_in_front [] text = refl
 text_in_front (b ∷ bytes) text = by-front b bytes text (b == 0) refl (λ c other e. text_in_front bytes other)

@@ -3,7 +3,7 @@ use Rattle.std.specs.Prelude.{ℕ, List, codes}
 use Rattle.dw_elf.specs.declared.name.Name.{Name}
 use Rattle.dw_elf.specs.declared.name.Name.TheVariants.{DebugInfo, DebugAbbrev, DebugLine, DebugLineStr, DebugStr, DebugStrOffsets, DebugAddr, DebugRnglists}
 
--- the name as it stands in a file
+-- the name as it is in a file
 abbrev pub text_of : Name → List ℕ
 text_of DebugInfo = codes ".debug_info"
 text_of DebugAbbrev = codes ".debug_abbrev"

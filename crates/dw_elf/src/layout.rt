@@ -104,7 +104,8 @@ pub fn file_header<'a>(file: &'a [u8]) -> Option<FileHeader<'a>>
 /// The section header at the cursor.
 #[tactic(auto, unfolding(dw_model::specs::Elf::section_header_at))]
 pub fn section_header(cursor: &mut Cursor<'_>) -> Option<SectionHeader>
-    ensures found { IfSome result (λ header. model.section_header_at cursor.old ≡ Some (section_header_of header, cursor.new)) }
+    ensures found { IfSome result (λ header. model.section_header_at cursor.old
+        ≡ Some (section_header_of header, cursor.new)) }
     ensures none { IfNone result (model.section_header_at cursor.old ≡ None) }
 {
     let sh_name = cursor.u32()?;
@@ -208,8 +209,8 @@ fn front(bytes: &[u8], len: usize) -> &[u8]
     bytes.split_at(len + 1).0
 }
 
-/// Whether some bytes begin with this text and a zero byte. It looks at no byte after those that the text
-/// and its zero byte would take.
+/// Whether some bytes begin with this text and a zero byte. It looks at no byte after those that
+/// the text and its zero byte would take.
 fn begins_with(bytes: &[u8], text: &[u8]) -> bool
     ensures { result ≡ option_eq bytes_eq (first_text bytes.now) (Some text.now) }
 {

@@ -31,7 +31,7 @@ impl Name {
         Name::DebugRnglists,
     ];
 
-    /// The section's name as it stands in a file.
+    /// The section's name as it is in a file.
     pub fn text(self) -> &'static str
         ensures { result.now ≡ text_of self }
     {

@@ -1,4 +1,4 @@
--- How many names stand before the first one that is equal.
+-- How many names are before the first one that is equal.
 use Rattle.std.proofs.Common.{◌≡◌, Bool, true, false, ℕ, zero, suc, ◌+◌, ◌≤◌, ◌<◌, cond, List, [], ◌∷◌, length, map, drop, get_or, Option, Some, None, refl, sym, ap, subst, ◌∙◌, arith}
 use Rattle.std.specs.Prelude.{IfSome, nat_eq, nat_lt, option_and_then}
 use Rattle.std.specs.Map.{lookup}

@@ -4,3 +4,4 @@ pub mod SizeLemmas
 pub mod TextLemmas
 pub mod FirstsLemmas
 pub mod PassLemmas
+pub mod RangedLemmas

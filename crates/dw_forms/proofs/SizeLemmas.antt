@@ -1,4 +1,4 @@
--- Values of fixed sizes, one behind the other.
+-- Values of fixed sizes, one after the other.
 use Rattle.std.proofs.Common.{◌≡◌, ◌∙◌, ℕ, ℤ, ◌+◌, ◌-◌, ◌^◌, ◌<◌, ◌≤◌, Bool, true, false, List, [], ◌∷◌, length, drop, Option, Some, None, Result, Ok, Err, refl, sym, ap, subst, arith}
 use Rattle.std.specs.Prelude.{ok_or, nat_eq, nat_le, nat_lt, option_map, option_and_then, IfSome}
 use Rattle.std.proofs.lemmas.Option.{same_Some}
@@ -49,7 +49,7 @@ on m n p true true e f =
     let rest : length (drop m p.left) ≡ length p.left - m = length-drop m p.left in
     rw (enough m p e) (enough n (past m p) f ∙ ap (λ (q : Place). Ok (tt, q)) (past-past m n p) ∙ sym (enough (m + n) p (le-leb (m + n) (length p.left) (omega (arith, within, more, rest)))))
 
--- ---- values, one behind the other
+-- ---- values, one after the other
 
 same-behind : (read : Behind) (f g : Unit {0} × Place → Behind) → ((q : Unit {0} × Place) → f q ≡ g q) → (read >>= f) ≡ (read >>= g)
 same-behind (Ok q) f g h = h q
@@ -157,7 +157,7 @@ module _ (w : ℕ) where
 
   -- ---- one after the other
 
-  -- what was counted, with the sizes of those behind, is all
+  -- what was counted, with the sizes of those after, is all
   abbrev pub Counts : ℕ → List Specification → Option ℕ → Type 0
   Counts size others all = all ≡ option_map (λ n. size + n) (values_size w others)
 

@@ -6,7 +6,8 @@ use Rattle.dw_forms.specs.declared.declaration.Decl.{Decl}
 abbrev pub code_at : List Decl → ℕ → Option ℕ
 code_at declarations k = option_map (λ declaration. declaration.code) (slice_get declarations k)
 
--- Of the places from one on and below another, the first whose declaration has the code, or there is none.
+-- Of the places from one on and below another, the first whose declaration has the code, or there
+-- is none.
 abbrev pub IsFirst : (from end : ℕ) → List Decl → (code : ℕ) → Option ℕ → Type 0
 IsFirst from end declarations code None = (j : ℕ) → from ≤ j → j < end → code_at declarations j ≢ Some code
 IsFirst from end declarations code (Some k) =

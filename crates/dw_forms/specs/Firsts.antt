@@ -1,15 +1,15 @@
--- Where the first attribute of a name stands among those of an entry.
+-- Where the first attribute of a name is among those of an entry.
 use Rattle.std.specs.Prelude.{◌≡◌, ℕ, suc, cond, List, [], ◌∷◌, Option, Some, None, map, option_and_then, nat_eq, nat_lt, ◌==◌}
 use Rattle.std.specs.Map.{lookup}
 use Rattle.dw_model.specs.declared.dwarf.TheConstants.{DW_AT_abstract_origin, DW_AT_call_column, DW_AT_call_file, DW_AT_call_line, DW_AT_high_pc, DW_AT_linkage_name, DW_AT_low_pc, DW_AT_name, DW_AT_ranges, DW_AT_specification}
 use Rattle.dw_forms.specs.declared.firsts.Firsts.{Firsts}
 
--- how many names stand before the first that is this one, or in all
+-- how many names are before the first that is this one, or in all
 unfoldable pub before : ℕ → List ℕ → ℕ
 before name [] = 0
 before name (x ∷ names) = cond (x == name) 0 (suc (before name names))
 
--- what is known of some names: how many stand before the first one
+-- what is known of some names: how many are before the first one
 abbrev pub Known : Type 0
 Known = List (ℕ × Option ℕ)
 

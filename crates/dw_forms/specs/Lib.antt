@@ -3,6 +3,7 @@ pub mod AbbrevsInside
 pub mod Declaration
 pub mod Fault
 pub mod Firsts
+pub mod Ranged
 pub mod Size
 pub mod Spec
 pub mod Spelling

@@ -1,6 +1,7 @@
 //! A table of abbreviation declarations, by section 7.5.3 of DWARF 5.
 
-ghost use Rattle.std.specs.Prelude.{◌≡◌, ◌≤◌, ◌<◌, ◌+◌, ◌&&◌, ℕ, IfOk, IfErr, Err, MatchOption, Some, map, length, nat_le, nat_lt, option_map};
+ghost use Rattle.std.specs.Prelude.{◌≡◌, ◌≤◌, ◌<◌, ◌+◌, ◌&&◌, ℕ, IfOk, IfErr, Err, MatchOption, Some, map, length};
+ghost use Rattle.std.specs.Prelude.{nat_le, nat_lt, option_map};
 ghost use Rattle.std.specs.Ordering.{nat_cmp};
 ghost use Rattle.std.specs.BTreeMap as tree;
 ghost use Rattle.dw_model.specs.Reading.{items};
@@ -20,7 +21,8 @@ use std::marker::Model;
 
 /// The declarations of a table.
 fn declarations_of(alloc: Global, cursor: &mut Cursor<'_>) -> Result<Vec<Decl>, FormFault>
-    ensures { ReadsUnlessMemory (λ declarations. map declaration_shown declarations.items) form_fault result (items (λ p. p.left) next_declaration cursor.old) cursor.new }
+    ensures { ReadsUnlessMemory (λ declarations. map declaration_shown declarations.items) form_fault result
+        (items (λ p. p.left) next_declaration cursor.old) cursor.new }
 {
     let mut declarations = Vec::new(alloc);
     loop {
@@ -33,7 +35,8 @@ fn declarations_of(alloc: Global, cursor: &mut Cursor<'_>) -> Result<Vec<Decl>, 
 
 /// Why a table isn't read: its first fault, or `Memory` where it has none.
 fn fault_in_table(cursor: &mut Cursor<'_>) -> FormFault
-    ensures fault { MatchOption (form_fault result) (Unit {0}) (λ told. items (λ p. p.left) next_declaration cursor.old ≡ Err told) }
+    ensures fault { MatchOption (form_fault result) (Unit {0})
+        (λ told. items (λ p. p.left) next_declaration cursor.old ≡ Err told) }
     ensures memory { HidesNoFault result (items (λ p. p.left) next_declaration cursor.old) }
 {
     match pass_table(cursor) {
@@ -61,7 +64,8 @@ fn first_places(
     declarations: &[Decl],
     from: usize,
 ) -> Result<BTreeMap<u64, usize>, AllocError>
-    ensures { IfOk result (λ places. (code : ℕ) → IsFirst from (length declarations.now) declarations.now code (tree.get nat_cmp places code)) }
+    ensures { IfOk result (λ places. (code : ℕ)
+        → IsFirst from (length declarations.now) declarations.now code (tree.get nat_cmp places code)) }
 {
     let mut places = BTreeMap::new(alloc);
     for i in from..declarations.len() {
@@ -87,7 +91,7 @@ pub struct Abbrevs {
     /// How many of the first have the codes 1, 2 and so on: those are found by their code alone, as
     /// all are in the tables of real compilers.
     in_order: usize,
-    /// The place of the first declaration of each code, of those behind these.
+    /// The place of the first declaration of each code, of those after these.
     others: BTreeMap<u64, usize>,
 }
 
@@ -105,7 +109,7 @@ impl Model for Abbrevs {
 
 impl Abbrevs {
     /// Reads the table at an offset of .debug_abbrev. An offset past the section's end is `End`.
-    /// `Memory` comes only where a growth was refused, and the table can be read.
+    /// `Memory` comes only where an allocation was refused, and the table can be read.
     #[tactic(auto, unfolding(dw_model::specs::Abbrev::abbreviations))]
     pub fn read(alloc: Global, section: &[u8], offset: u64) -> Result<Self, FormFault>
         ensures read { GivesUnlessMemory (λ abbrevs. abbrevs) form_fault result (abbreviations section.now offset) }

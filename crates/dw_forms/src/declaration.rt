@@ -5,6 +5,7 @@ ghost use Rattle.dw_model.specs.declared.dwarf.TheConstants.{OFFSET_SIZE_32, OFF
 ghost use Rattle.dw_forms.specs.Spec.{spec_shown};
 ghost use Rattle.dw_forms.specs.Size.{size_in};
 ghost use Rattle.dw_forms.specs.Firsts.{known_of, AreAllFirsts};
+ghost use Rattle.dw_forms.specs.Ranged.{may_have_ranges};
 
 mod reading;
 
@@ -12,14 +13,14 @@ use crate::firsts::Firsts;
 pub(crate) use reading::{next_decl, next_spec};
 use smallvec::SmallVec;
 
-/// An attribute's name and form, and its number where that stands in the declaration.
+/// An attribute's name and form, and its number where that is in the declaration.
 #[derive(Clone, Copy, Debug, Default, PartialEq, Eq)]
 pub struct Spec {
     /// A DW_AT code.
     pub name: u64,
     /// A DW_FORM code.
     pub form: u64,
-    /// The number behind DW_FORM_implicit_const.
+    /// The number after DW_FORM_implicit_const.
     pub implicit: Option<i64>,
 }
 
@@ -39,7 +40,10 @@ pub struct Decl {
     /// The same in the 64-bit format.
     size_64: Option<usize>,
     ghost size_64_is: { size_64 ≡ size_in OFFSET_SIZE_64 (map spec_shown specs.items) },
-    /// Where the first attribute of each name that tells of a function stands.
+    /// Its entries may have ranges.
+    ranged: bool,
+    ghost ranged_is: { ranged ≡ may_have_ranges (map spec_shown specs.items) },
+    /// Where the first attribute of each name that tells of a function is.
     firsts: Firsts,
     ghost firsts_are: { AreAllFirsts (known_of firsts) (map (λ spec. spec.name) specs.items) },
 }

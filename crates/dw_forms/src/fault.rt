@@ -16,7 +16,7 @@ pub enum FormFault {
     /// A LEB128 number doesn't fit 64 bits.
     #[error("a number doesn't fit 64 bits")]
     Wide,
-    /// A growth of memory was refused.
+    /// An allocation was refused.
     #[error("out of memory")]
     Memory,
     /// An abbreviation has no declaration.

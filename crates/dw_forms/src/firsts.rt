@@ -1,4 +1,4 @@
-//! Where the first attribute of a name stands among those of an entry.
+//! Where the first attribute of a name is among those of an entry.
 
 ghost use Rattle.std.specs.Prelude.{◌≡◌, ℕ, List, map};
 ghost use Rattle.dw_forms.specs.Firsts.{before, in_byte, known_of, place_in, AreAllFirsts, AreFirsts};
@@ -9,7 +9,7 @@ use dw_model::dwarf::{
     DW_AT_linkage_name, DW_AT_low_pc, DW_AT_name, DW_AT_ranges, DW_AT_specification,
 };
 
-/// For each name that tells of a function, how many attributes of an entry stand before the first one
+/// For each name that tells of a function, how many attributes of an entry are before the first one
 /// of it, or in all where there is none. `None` says nothing.
 #[derive(Clone, Copy, Debug, PartialEq, Eq)]
 pub struct Firsts {
@@ -25,7 +25,7 @@ pub struct Firsts {
     pub specification: Option<u8>,
 }
 
-/// How many attributes stand before the first one of a name, where a byte holds that.
+/// How many attributes are before the first one of a name, where a byte holds that.
 fn count_before(specs: &[Spec], name: u64) -> Option<u8>
     ensures { result ≡ in_byte (before name (map (λ spec. spec.name) specs.now)) }
 {
@@ -76,7 +76,7 @@ impl Firsts {
         }
     }
 
-    /// How many attributes stand before the first one of a name, where that is known.
+    /// How many attributes are before the first one of a name, where that is known.
     #[inline(always)]
     pub fn place(&self, name: u64) -> Option<usize>
         ensures { result ≡ place_in (known_of self.now) name }

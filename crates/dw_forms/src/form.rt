@@ -61,9 +61,9 @@ pub(crate) enum Spelling {
     Counted(Size),
     /// A length in LEB128, and as many bytes.
     UlebCounted,
-    /// A text with a zero byte behind it.
+    /// A text with a zero byte after it.
     Text,
-    /// By nothing: its number stands in the declaration.
+    /// By nothing: its number is in the declaration.
     Implicit,
     /// By nothing: it is a flag that is set by being there.
     Present,

@@ -7,6 +7,7 @@ mod fault;
 mod firsts;
 mod form;
 mod passing;
+mod ranged;
 mod size;
 mod tables;
 mod text;

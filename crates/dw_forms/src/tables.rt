@@ -39,11 +39,12 @@ pub struct Bases {
 }
 
 impl<'a> Tables<'a> {
-    /// The text to which a value leads, without its zero byte: itself, or what stands at its offset
-    /// or at its index behind the unit's base. `None` where the base is missing, the place isn't in
+    /// The text to which a value leads, without its zero byte: itself, or what is at its offset
+    /// or at its index after the unit's base. `None` where the base is missing, the place isn't in
     /// its section, no zero byte follows, or the value is no text.
     pub fn text(&self, value: &Value<'a>, bases: &Bases) -> Option<&'a [u8]>
-        ensures { option_map (λ text. text.now) result ≡ model.text (tables_shown self.now) (bases_shown bases.now) (value_shown value.now) }
+        ensures { option_map (λ text. text.now) result
+            ≡ model.text (tables_shown self.now) (bases_shown bases.now) (value_shown value.now) }
     {
         let text = self.find_text(value, bases)?;
         Some(text.bytes())
@@ -52,7 +53,8 @@ impl<'a> Tables<'a> {
     /// The same, but its end is looked for only when its bytes are asked for.
     #[tactic(auto, unfolding(dw_model::specs::Text::text))]
     pub fn find_text(&self, value: &Value<'a>, bases: &Bases) -> Option<Text<'a>>
-        ensures { option_map text_shown result ≡ model.text (tables_shown self.now) (bases_shown bases.now) (value_shown value.now) }
+        ensures { option_map text_shown result
+            ≡ model.text (tables_shown self.now) (bases_shown bases.now) (value_shown value.now) }
     {
         match *value {
             Value::Inline(text) => Some(Text::Whole(text)),
@@ -68,7 +70,7 @@ impl<'a> Tables<'a> {
         }
     }
 
-    /// The address to which a value leads: itself, or what stands at its index behind the unit's
+    /// The address to which a value leads: itself, or what is at its index after the unit's
     /// base. `None` where the base is missing, the place isn't in .debug_addr, or the value is no
     /// address.
     #[tactic(auto, unfolding(dw_model::specs::Text::address))]
@@ -97,8 +99,8 @@ fn behind(section: &[u8], offset: u64) -> &[u8]
     section.split_at(offset as usize).1
 }
 
-/// The bytes of a section from an entry on, of those that begin at a base and have a size; none past
-/// its end.
+/// The bytes of a section from an entry on, of those that begin at a base and have a size; none
+/// past its end.
 fn entry(section: &[u8], base: u64, index: u64, size: u64) -> &[u8]
     ensures { result.now ≡ drop (base + size * index) section.now }
 {

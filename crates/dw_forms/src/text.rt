@@ -6,8 +6,8 @@ ghost use Rattle.dw_forms.specs.Text.{text_shown};
 
 use dw_bytes::Cursor;
 
-/// A text, without the zero byte behind it. Most names of a program are never asked for, so the end of
-/// one needn't have been looked for.
+/// A text, without the zero byte after it. Most names of a program are never asked for, so the end
+/// of one needn't have been looked for.
 #[derive(Clone, Copy, Debug)]
 pub enum Text<'a> {
     /// These bytes.
@@ -17,8 +17,8 @@ pub enum Text<'a> {
 }
 
 impl<'a> Text<'a> {
-    /// The text with which these bytes begin, up to the first zero byte. `None` where none of them is
-    /// zero. The first isn't looked for where the last one is, as in the sections of real files.
+    /// The text with which these bytes begin, up to the first zero byte. `None` where none of them
+    /// is zero. The first isn't looked for where the last one is, as in the sections of real files.
     pub fn first(bytes: &'a [u8]) -> Option<Self>
         ensures { option_map text_shown result ≡ option_map (λ found. found.0) (text_at (start bytes.now)) }
     {

@@ -29,7 +29,7 @@ pub enum Value<'a> {
     Bytes(&'a [u8]),
     /// Whether a flag is set.
     Flag(bool),
-    /// A text that stands in the entry itself, without its zero byte.
+    /// A text that is in the entry itself, without its zero byte.
     Inline(&'a [u8]),
     /// An offset of .debug_str.
     Str(u64),
@@ -92,7 +92,7 @@ fn number(cursor: &mut Cursor<'_>, size: Size) -> Option<u64>
     })
 }
 
-/// A value in its spelling, where offsets have a width. After a refusal the cursor may stand
+/// A value in its spelling, where offsets have a width. After a refusal the cursor may be
 /// anywhere.
 #[tactic(auto, unfolding(dw_model::specs::Form::spelled_at))]
 #[inline(always)]
@@ -102,7 +102,8 @@ fn spelled<'a>(
     implicit: Option<i64>,
     width: Width,
 ) -> Result<Value<'a>, FormFault>
-    ensures { ReadsOn value_shown form_fault result (spelled_at (size_of width) (spelling_shown spelling) implicit cursor.old) cursor.new }
+    ensures { ReadsOn value_shown form_fault result
+        (spelled_at (size_of width) (spelling_shown spelling) implicit cursor.old) cursor.new }
 {
     match spelling {
         Spelling::Fixed(size, class) => {
@@ -152,7 +153,7 @@ fn spelled<'a>(
 }
 
 /// The value of a form (section 7.5.6), where offsets have a width; `implicit` is the number that
-/// stands in the declaration, where one does. `Form` where the form, through any number of
+/// is in the declaration, where one does. `Form` where the form, through any number of
 /// DW_FORM_indirect, is unknown or has its number in no declaration; `Wide` where a LEB128 number
 /// doesn't fit 64 bits; else `End` where the bytes end too early. A refusal leaves the cursor where
 /// it was.
@@ -164,7 +165,8 @@ pub fn read_value<'a>(
     implicit: Option<i64>,
     width: Width,
 ) -> Result<Value<'a>, FormFault>
-    ensures { ReadsOrTells value_shown form_fault result (value_at (size_of width) form implicit cursor.old) cursor.old cursor.new }
+    ensures { ReadsOrTells value_shown form_fault result
+        (value_at (size_of width) form implicit cursor.old) cursor.old cursor.new }
 {
     let mut ahead = cursor.fork();
     let value = value_ahead(&mut ahead, form, implicit, width)?;
@@ -172,7 +174,7 @@ pub fn read_value<'a>(
     Ok(value)
 }
 
-/// The same, but after a refusal the cursor may stand anywhere.
+/// The same, but after a refusal the cursor may be anywhere.
 #[inline(always)]
 fn value_ahead<'a>(
     cursor: &mut Cursor<'a>,

@@ -115,7 +115,7 @@ module _ (kept holds : Entry → Bool) (idle : IsIdle kept holds) where
         let x = stays most p (none-inwards k p h none) in
         (x.0, x.1 ∙ ap (λ (rest : List Node). Ok (rest, x.0)) (sym (ap (climb steps) none ∙ stopped steps)))
 
-    -- with as many steps as there are functions behind a number, all of them are found
+    -- with as many steps as there are functions after a number, all of them are found
     climbs : (most steps k : ℕ) (p : Placed) → slice_get (placed kept before) k ≡ Some p → length (placed kept before) ≤ k + 1 + most → length (placed kept before) ≤ k + 1 + steps → Climbs most steps p.0 (inner k)
     climbs zero steps k p h enough more = by_next (inner k) refl
       where

@@ -30,7 +30,7 @@ same_or_apart m k = elim (cases_order m k) [
   ]
 ]
 
--- one more function, which stands behind what was found
+-- one more function, which is after what was found
 names-kept : (all : List Placed) (x : Placed) (number : Option ℕ) (found : Option Node) → ((node : Node) → found ≡ Some node → node.entry.offset < offset_of x) → Names all number found → Names (all ++ x ∷ []) number found
 names-kept all x None found behind h = λ node is k p e same. elim (get-pushed all x k p e) [
   | inl old ↦ h node is k p old same
@@ -38,7 +38,7 @@ names-kept all x None found behind h = λ node is k p e same. elim (get-pushed a
 ]
 names-kept all x (Some k) found behind h = (h.0, get-kept all x k h.0 h.1, h.2)
 
--- what is found under no number isn't where a function stands that is kept
+-- what is found under no number isn't where a function is that is kept
 none-at : (all : List Placed) (found : Option Node) (k : ℕ) (p : Placed) → Names all None found → slice_get all k ≡ Some p → is_at found (offset_of p) ≡ false
 none-at all None k p h e = refl
 none-at all (Some node) k p h e = ne_eqb node.entry.offset (offset_of p) (λ same. h node refl k p e (sym same))

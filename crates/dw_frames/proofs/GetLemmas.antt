@@ -35,7 +35,7 @@ get-unmapped f [] k y e = absurd cc
 get-unmapped f (x ∷ xs) zero y e = (x, refl, same_Some (f x) y e)
 get-unmapped f (x ∷ xs) (suc k) y e = get-unmapped f xs k y e
 
--- numbers that rise stand once each
+-- numbers that rise are once each
 pub rises-once : (xs : List ℕ) (i j x : ℕ) → Rises xs → slice_get xs i ≡ Some x → slice_get xs j ≡ Some x → i ≡ j
 rises-once xs i j x rises e f = elim (cases_order i j) [
   | inl same ↦ same
@@ -45,7 +45,7 @@ rises-once xs i j x rises e f = elim (cases_order i j) [
   ]
 ]
 
--- the greater of two numbers stands behind the other
+-- the greater of two numbers is after the other
 pub rises-order : (xs : List ℕ) (i j x y : ℕ) → Rises xs → slice_get xs i ≡ Some x → slice_get xs j ≡ Some y → x < y → i < j
 rises-order xs i j x y rises e f h = elim (cases_order i j) [
   | inl same ↦ absurd (let one : x ≡ y = same_Some x y (sym e ∙ ap (slice_get xs) same ∙ f) in omega (arith, one, h))

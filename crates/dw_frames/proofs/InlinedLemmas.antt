@@ -57,7 +57,7 @@ none-inlined k (x ∷ ranges) e = by_rest (λ e. none-inlined k ranges e) (last_
     by_rest rest None true same e = absurd cc
     by_rest rest None false same e = rest same
 
--- the last range in a function stands there, behind all others in it
+-- the last range in a function is there, after all others in it
 pub record IsLast (k place : ℕ) (ranges : List InlinedRange) : Type 0 where
   pub range : InlinedRange
   pub there : slice_get ranges place ≡ Some range
@@ -109,7 +109,8 @@ get-of-take (suc n) k [] x e = absurd cc
 get-of-take (suc n) zero (y ∷ xs) x e = (e, omega arith)
 get-of-take (suc n) (suc k) (y ∷ xs) x e = let rest = get-of-take n k xs x e in (rest.0, (let below = rest.1 in omega (arith, below)))
 
--- where the ranges in a function are gone through from the last: the next place, how many ranges stand before those that were passed, and those that were passed
+-- where the ranges in a function are gone through from the last: the next place, how many ranges
+-- are before those that were passed, and those that were passed
 pub record Back (k : ℕ) (ranges : List InlinedRange) (next : Option ℕ) (passed : List (Range × ℕ)) : Type 0 where
   pub size : ℕ
   pub next_is : next ≡ last_of k (take size ranges)

@@ -1,4 +1,4 @@
--- Entries stand one behind the other: the place behind one is further on.
+-- Entries are one after the other: the place after one is further on.
 use Rattle.std.proofs.Common.{◌≡◌, Bool, inl, inr, ℕ, ◌+◌, ◌-◌, ◌<◌, List, [], ◌∷◌, length, length-drop, drop, Option, Some, None, Result, Ok, refl, sym, ap, ◌∙◌, arith, cond}
 use Rattle.std.specs.Prelude.{ok_or, ◌==◌}
 use Rattle.std.proofs.lemmas.List.{drop-drop}
@@ -50,7 +50,7 @@ pub record Moves (p : Place) (x : Option Entry × Place) : Type 0 where
   pub on : On p x.1
   pub offset : (entry : Entry) → x.0 ≡ Some entry → entry.offset ≡ p.at
 
--- the same behind an entry's code
+-- the same after an entry's code
 abbrev Behind : ℕ → Place → Option Entry × Place → Type 0
 Behind at q x = On q x.1 × ((entry : Entry) → x.0 ≡ Some entry → entry.offset ≡ at)
 

@@ -1,4 +1,4 @@
--- Each node of a unit's tree is the entry that stands at its offset.
+-- Each node of a unit's tree is the entry that is at its offset.
 use Rattle.std.proofs.Common.{◌≡◌, ◌∙◌, ℕ, zero, suc, ◌+◌, ◌-◌, ◌<◌, ◌≤◌, Bool, true, false, cond, List, [], ◌∷◌, length, map, length-drop, take, drop, Option, Some, None, Result, Ok, Err, refl, sym, ap, subst, arith}
 use Rattle.std.specs.Prelude.{All, IsSome, find, filter_map, option_map, option_and_then, ◌&&◌, ◌||◌, ◌==◌}
 use Rattle.std.specs.List.{AllByRecursion}
@@ -35,7 +35,7 @@ take-short (suc n) [] = omega arith
 take-short (suc n) (x ∷ xs) = let rest = take-short n xs in omega (arith, rest)
 
 module _ (s : Sections) (unit : DwarfUnit) where
-  -- the entry of a node stands at its offset
+  -- the entry of a node is at its offset
   abbrev pub Stands : Node → Type 0
   Stands node = (q : Place) × (root.entry s unit node.entry.offset ≡ Ok (Some node.entry, q))
 
@@ -140,7 +140,7 @@ found-has P test (y ∷ xs) x all e = by_test (found-has P test xs x all.1) (tes
 heads : {X : Type 0} (x y : X) (xs ys : List X) → ◌≡◌ {A = List X} (x ∷ xs) (y ∷ ys) → (x ≡ y) × (xs ≡ ys)
 heads x y xs ys e = (cc, cc)
 
--- the function of an id among the nodes stands at its offset
+-- the function of an id among the nodes is at its offset
 pub function-stands : (of : UnitIn) (id : EntryId) (node : Node) → tree of.sections of.unit ≡ Ok (nodes_of of.sections of.unit) → function_at of id ≡ Some node → function_of of id ≡ Some node.entry
 function-stands of id node read e = by_unit (id.unit == of.index) e
   where

@@ -1,6 +1,7 @@
 -- The tree of a unit: its first entry, and those below it.
 use Rattle.std.proofs.Common.{◌≡◌, ℕ, Bool, true, false, cond, List, [], ◌∷◌, ◌++◌, length, reverse, Option, Some, None, Result, Ok, Err, refl, sym, ap, ◌∙◌}
 use Rattle.std.specs.Prelude.{MatchOption, option_map}
+use Rattle.dw_model.specs.Answers.{Tells}
 use Rattle.dw_model.specs.Faults.{Fault, TreeFault, entry_fault}
 use Rattle.dw_model.specs.Results.{◌>>=◌}
 use Rattle.dw_model.specs.Reading.{Place}
@@ -15,18 +16,17 @@ use Rattle.dw_model.proofs.AdvanceLemmas.{nodes_advance}
 use Rattle.dw_index.specs.Owners.{least_owner}
 use Rattle.dw_units.specs.Entries.{Walk, IsNext}
 use Rattle.dw_units.specs.declared.entries.Next.{Next}
-use Rattle.dw_units.specs.declared.entries.Next.TheVariants.{Null, Function, Passed}
-use Rattle.dw_units.specs.declared.entry.Entry.{Entry as CodeEntry}
-use Rattle.dw_units.specs.Entry.{entry_shown}
+use Rattle.dw_units.specs.declared.entries.Next.TheVariants.{Null, Function, Unranged, Passed}
 use Rattle.dw_frames.specs.Drafts.{Drafts, no_drafts, behind}
 use Rattle.dw_frames.specs.Placed.{placed, first, Follows}
 use Rattle.dw_frames.specs.Reader.{can_be_used, nodes_on}
 use Rattle.dw_frames.proofs.WalkLemmas.{next, state, behind-depth, next-ended, follows-entry}
 
-pub found-some : (next : Next) (kept : CodeEntry) (found : Option Entry) → IsNext next kept found → (next ≡ Null → ⊥) → (entry : Entry) × (found ≡ Some entry)
-found-some Null kept found is other = absurd (other refl)
-found-some Function kept found is other = (entry_shown kept, is.0)
-found-some (Passed children) kept found is other = (is.0, is.1)
+pub found-some : (ranged : Bool) (next : Next) (found : Option Entry) → IsNext ranged next found → (next ≡ Null → ⊥) → (entry : Entry) × (found ≡ Some entry)
+found-some ranged Null found is other = absurd (other refl)
+found-some ranged (Function entry) found is other = (entry, is.0)
+found-some ranged (Unranged children) found is other = (is.0, is.1)
+found-some ranged (Passed children) found is other = (is.0, is.1)
 
 -- before any entry
 follows-none : (s : Sections) (unit : DwarfUnit) (bound : ℕ) → Follows s unit [] no_drafts bound
@@ -80,8 +80,8 @@ module _ (s : Sections) (unit : DwarfUnit) (walk : Walk) (size : walk.offset_siz
 
   -- ---- as the code reads it
 
-  pub root-unread : (told : Option Fault) → MatchOption told (Unit {0}) (λ told. entry_at walk.offset_size walk.declarations walk.place ≡ Err told) → MatchOption (option_map (λ _. entry_fault) told) (Unit {0}) (λ told. tree s unit ≡ Err told)
-  root-unread None e = tt
+  pub root-unread : (told : Option Fault) → Tells told (entry_at walk.offset_size walk.declarations walk.place) → MatchOption (option_map (λ _. entry_fault) told) (Unit {0}) (λ told. tree s unit ≡ Err told)
+  root-unread None e = absurd e
   root-unread (Some fault) e = tree-is ∙ unread fault e
 
   pub root-null : (found : Option Entry) (q : Place) → entry_at walk.offset_size walk.declarations walk.place ≡ Ok (found, q) → found ≡ None → tree s unit ≡ Err entry_fault

@@ -3,6 +3,7 @@ use Rattle.std.proofs.Common.{◌≡◌, ℕ, ◌+◌, ◌-◌, ◌<◌, ◌≤�
 use Rattle.std.specs.Prelude.{MatchOption, option_map, filter_map, ◌||◌, ◌==◌}
 use Rattle.std.proofs.lemmas.List.{append-nil, append_assoc}
 use Rattle.std.proofs.lemmas.List.Elements.{filter_map-append}
+use Rattle.dw_model.specs.Answers.{Tells}
 use Rattle.dw_model.specs.Faults.{Fault, TreeFault, entry_fault}
 use Rattle.dw_model.specs.Reading.{Place, items}
 use Rattle.dw_model.specs.Abbrev.{Declaration}
@@ -35,7 +36,7 @@ without-last-length (x ∷ []) = omega arith
 without-last-length (x ∷ y ∷ xs) = let rest = without-last-length (y ∷ xs) in omega (arith, rest)
 
 module _ (s : Sections) (unit : DwarfUnit) where
-  -- ---- the depth behind an entry
+  -- ---- the depth after an entry
 
   children-depth : (children : Bool) (lists : List (Option ℕ)) (number : Option ℕ) → length (cond children (lists ++ number ∷ []) lists) ≡ cond children (length lists + 1) (length lists)
   children-depth true lists number = length-append lists (number ∷ [])
@@ -53,7 +54,7 @@ module _ (s : Sections) (unit : DwarfUnit) where
       by_kind true = function-depth entry drafts (is_idle s unit entry) refl
       by_kind false = children-depth entry.children drafts.lists (innermost drafts)
 
-  -- ---- what is kept behind an entry
+  -- ---- what is kept after an entry
 
   -- the nodes with that of an entry, where it is none that is null
   abbrev pub after_entry : ℕ → Option Entry → List Node → List Node
@@ -161,8 +162,8 @@ module _ (s : Sections) (unit : DwarfUnit) where
       rw fault refl
 
   pub stops-unread : (before : List Node) (start : Walk) (depth : ℕ) (drafts : Drafts) (walk : Walk) (told : Option Fault) → (length drafts.lists == 0 || length walk.place.left == 0) ≡ false
-      → MatchOption told (Unit {0}) (λ told. entry_at walk.offset_size walk.declarations walk.place ≡ Err told) → SoFar before start depth drafts walk → MatchOption (option_map (λ _. entry_fault) told) (Unit {0}) (λ told. nodes_on s unit start depth ≡ Err told)
-  stops-unread before start depth drafts walk None more e h = tt
+      → Tells told (entry_at walk.offset_size walk.declarations walk.place) → SoFar before start depth drafts walk → MatchOption (option_map (λ _. entry_fault) told) (Unit {0}) (λ told. nodes_on s unit start depth ≡ Err told)
+  stops-unread before start depth drafts walk None more e h = absurd e
   stops-unread before start depth drafts walk (Some fault) more e h =
       stops before start depth drafts walk entry_fault (next-unread start.offset_size start.declarations walk.place (length drafts.lists) fault more (same-entry start walk h.same h.size ∙ e)) h
 

@@ -8,7 +8,9 @@ use Rattle.dw_model.specs.Ranges.{Range}
 use Rattle.dw_model.specs.Tree.{is_function, is_subprogram, entry_ranges_in}
 use Rattle.dw_frames.specs.Inlined.{InlinedRange, all_in_some}
 
--- The offsets of the functions that have ranges, in order; the ranges of all subprograms; those of all inlined functions, each in the function in which it lies; and the lists of children that are open, the outermost first, each with the number of the function in which its entries lie.
+-- The offsets of the functions that have ranges, in order; the ranges of all subprograms; those of
+-- all inlined functions, each in the function in which it lies; and the lists of children that are
+-- open, the outermost first, each with the number of the function in which its entries lie.
 pub record Drafts : Type 0 where
   pub functions : List ℕ
   pub outermost : List (Range × ℕ)
@@ -25,7 +27,8 @@ innermost drafts = option_and_then (λ number. number) (slice_get drafts.lists (
 abbrev pub owned : List Range → ℕ → List (Range × ℕ)
 owned ranges number = map (λ range. (range, number)) ranges
 
--- The ranges of a subprogram are kept among those of all, and those of an inlined function in the function in which it lies.
+-- The ranges of a subprogram are kept among those of all, and those of an inlined function in the
+-- function in which it lies.
 abbrev pub with_ranges : Bool → List (Range × ℕ) → Drafts → Drafts
 with_ranges subprogram pairs drafts = record {
   functions = drafts.functions;
@@ -72,14 +75,15 @@ is_idle sections unit entry = length (known_ranges sections unit entry) == 0
 abbrev pub is_kept : Sections → DwarfUnit → Entry → Bool
 is_kept sections unit entry = is_function entry && not (is_idle sections unit entry)
 
--- The drafts behind a function: one without ranges isn't kept, and what lies in it lies in no function that is.
+-- The drafts after a function: one without ranges isn't kept, and what lies in it lies in no
+-- function that is.
 abbrev pub behind_function : Sections → DwarfUnit → Entry → Drafts → Drafts
 behind_function sections unit entry drafts =
     cond (is_idle sections unit entry) (with_list entry.children None drafts)
     (with_list entry.children (Some (length drafts.functions))
     (with_function entry.offset (with_ranges (is_subprogram entry) (owned (known_ranges sections unit entry) (length drafts.functions)) drafts)))
 
--- the drafts behind an entry, or behind a null entry, which ends a list of children
+-- the drafts after an entry, or after a null entry, which ends a list of children
 abbrev pub behind : Sections → DwarfUnit → Option Entry → Drafts → Drafts
 behind sections unit None drafts = without_list drafts
 behind sections unit (Some entry) drafts =

@@ -2,7 +2,8 @@
 use Rattle.std.specs.Prelude.{ℕ, List, map, filter, Option, Some, None, [], ◌==◌}
 use Rattle.dw_model.specs.Ranges.{Range}
 
--- a range with the number of its function, and the number of the function in which that was inlined directly
+-- a range with the number of its function, and the number of the function in which that was inlined
+-- directly
 pub record InlinedRange : Type 0 where
   pub outer : ℕ
   pub pair : Range × ℕ

@@ -25,7 +25,7 @@ noted number lasts = get_or lasts number None
 abbrev pub AreLinked : List Link → Type 0
 AreLinked links = (place : ℕ) (link : Link) → slice_get links place ≡ Some link → link.before ≡ last_of link.outer (take place (map link_shown links))
 
--- What is noted of each function is where its last range stands.
+-- What is noted of each function is where its last range is.
 abbrev pub AreLasts : List (Option ℕ) → List InlinedRange → Type 0
 AreLasts lasts ranges = (number : ℕ) → noted number lasts ≡ last_of number ranges
 

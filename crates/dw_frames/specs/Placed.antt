@@ -22,7 +22,7 @@ placed kept (node ∷ before) =
 abbrev pub offset_of : Placed → ℕ
 offset_of p = p.0.entry.offset
 
--- the last function that stands less deep than a bound, and less deep than all behind it
+-- the last function that is less deep than a bound, and less deep than all after it
 unfoldable pub near : ℕ → List Node → Option Node
 near d [] = None
 near d (node ∷ before) =
@@ -41,17 +41,19 @@ is_outermost holds p = is_subprogram p.0.entry && holds p.0.entry
 abbrev pub lies_in : (Entry → Bool) → ℕ → Placed → Bool
 lies_in holds offset p = is_inlined p.0.entry && holds p.0.entry && is_at p.1 offset
 
--- The number is that of the function that was found; where there is none, no function was found that is kept.
+-- The number is that of the function that was found; where there is none, no function was found
+-- that is kept.
 abbrev pub Names : List Placed → Option ℕ → Option Node → Type 0
 Names all None found = (node : Node) → found ≡ Some node → (k : ℕ) (p : Placed) → slice_get all k ≡ Some p → offset_of p ≡ node.entry.offset → ⊥
 Names all (Some k) found = (p : Placed) × (slice_get all k ≡ Some p) × (found ≡ Some p.0)
 
--- each node stands before the one that was read after it, and all before a bound
+-- each node is before the one that was read after it, and all before a bound
 abbrev pub Falls : ℕ → List Node → Type 0
 Falls bound [] = Unit {0}
 Falls bound (node ∷ before) = (node.entry.offset < bound) × Falls node.entry.offset before
 
--- The functions among the nodes so far that have ranges are kept, with all that was inlined in them, and each open list names the function in which its entries lie. Offsets are below a bound.
+-- The functions among the nodes so far that have ranges are kept, with all that was inlined in
+-- them, and each open list names the function in which its entries lie. Offsets are below a bound.
 pub record Follows (s : Sections) (unit : DwarfUnit) (before : List Node) (drafts : Drafts) (bound : ℕ) : Type 0 where
   pub functions : drafts.functions ≡ map offset_of (placed (is_kept s unit) before)
   pub falls : Falls bound before

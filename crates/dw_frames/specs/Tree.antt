@@ -48,7 +48,7 @@ abbrev pub function_at : UnitIn → EntryId → Option Node
 function_at of id =
     if id.unit == of.index then find (λ node. is_function node.entry && node.entry.offset == id.offset) (nodes_of of.sections of.unit) else None
 
--- the function that stands at the offset of an id in a unit, also where it is none of its nodes
+-- the function that is at the offset of an id in a unit, also where it is none of its nodes
 abbrev pub function_of : UnitIn → EntryId → Option Entry
 function_of of id =
     if id.unit == of.index then option_and_then (λ entry. cond (is_function entry) (Some entry) None) (found_in (root.entry of.sections of.unit id.offset)) else None

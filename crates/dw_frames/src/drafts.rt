@@ -20,7 +20,8 @@ fn push_ranges(
     ranges: &[Range],
     number: usize,
 ) -> Result<(), AllocError>
-    ensures { OnOk result (map pair_shown pairs.new.items ≡ map pair_shown pairs.old.items ++ owned (map range_shown ranges.now) number) }
+    ensures { OnOk result (map pair_shown pairs.new.items
+        ≡ map pair_shown pairs.old.items ++ owned (map range_shown ranges.now) number) }
 {
     for range in ranges {
         pairs.push((*range, number))?;
@@ -37,8 +38,8 @@ pub(crate) struct Drafts {
     outermost: Vec<(Range, usize)>,
     /// The ranges of all functions that are inlined in others.
     inlined: Links,
-    /// The lists of children that are open, the outermost first: each has the number of the function in
-    /// which its entries lie.
+    /// The lists of children that are open, the outermost first: each has the number of the
+    /// function in which its entries lie.
     lists: Vec<Option<usize>>,
 }
 
@@ -67,7 +68,7 @@ impl Drafts {
         }
     }
 
-    /// Below how many entries the next one stands.
+    /// Below how many entries the next one is.
     pub(crate) fn depth(&self) -> usize
         ensures { result ≡ length self.now.lists }
     {
@@ -113,7 +114,8 @@ impl Drafts {
 
     /// Keeps the ranges of a function that is inlined in another one that is kept.
     fn push_inlined(&mut self, ranges: &[Range], number: usize) -> Result<(), AllocError>
-        ensures { OnOk result (self.new ≡ model.with_ranges false (owned (map range_shown ranges.now) number) self.old) }
+        ensures { OnOk result (self.new ≡ model.with_ranges false
+            (owned (map range_shown ranges.now) number) self.old) }
     {
         let Some(outer) = self.innermost() else {
             return Ok(());
@@ -128,7 +130,8 @@ impl Drafts {
         ranges: &[Range],
         number: usize,
     ) -> Result<(), AllocError>
-        ensures { OnOk result (self.new ≡ model.with_ranges is_subprogram (owned (map range_shown ranges.now) number) self.old) }
+        ensures { OnOk result (self.new ≡ model.with_ranges is_subprogram
+            (owned (map range_shown ranges.now) number) self.old) }
     {
         if !is_subprogram {
             return self.push_inlined(ranges, number);
@@ -150,7 +153,8 @@ impl Drafts {
     pub(crate) fn chains(self, alloc: Global, unit: usize) -> Result<Chains, AllocError>
         ensures unit { IfOk result (λ chains. chains.unit ≡ unit) }
         ensures functions { IfOk result (λ chains. chains.functions.items ≡ self.functions) }
-        ensures outermost { IfOk result (λ chains. (a : ℕ) → owner_at chains.outermost a ≡ least_owner self.outermost a) }
+        ensures outermost { IfOk result (λ chains. (a : ℕ)
+            → owner_at chains.outermost a ≡ least_owner self.outermost a) }
         ensures inlined { IfOk result (λ chains. chains.inlined ≡ self.inlined) }
     {
         let Drafts {

@@ -11,13 +11,13 @@ pub enum TreeFault {
     /// An entry can't be read.
     #[error("an entry can't be read")]
     Entry,
-    /// An entry stands below more than 512 others.
+    /// An entry is below more than 512 others.
     #[error("an entry stands too deep")]
     Depth,
     /// The ranges of a function can't be read.
     #[error("the ranges of a function can't be read")]
     Ranges,
-    /// A growth of memory was refused.
+    /// An allocation was refused.
     #[error("out of memory")]
     Memory,
 }

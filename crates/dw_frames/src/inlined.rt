@@ -13,7 +13,8 @@ use std::marker::Model;
 /// In a function with more ranges than these, the one that holds an address is found by an index.
 const FEW: usize = 8;
 
-/// The ranges of all inlined functions of a unit, each in the function in which it was inlined directly.
+/// The ranges of all inlined functions of a unit, each in the function in which it was inlined
+/// directly.
 #[derive(Drop)]
 pub(crate) struct Inlined {
     links: Links,
@@ -56,7 +57,8 @@ impl Inlined {
         Ok(Inlined { links, indexes })
     }
 
-    /// The least number of a function that was inlined directly in another one and holds an address.
+    /// The least number of a function that was inlined directly in another one and holds an
+    /// address.
     pub(crate) fn find(&self, outer: usize, a: u64) -> Option<usize>
         ensures { result ≡ least_owner (inlined_in outer self.now) a }
     {

@@ -1,5 +1,5 @@
-//! The functions of a unit: those at an address, inlined ones in those that they were inlined in, their
-//! names and where they were called.
+//! The functions of a unit: those at an address, inlined ones in those that they were inlined in,
+//! their names and where they were called.
 #![tactic(auto)]
 
 mod chains;

@@ -23,8 +23,8 @@ pub(crate) struct Link {
     before: Option<usize>,
 }
 
-/// The ranges of all inlined functions of a unit. They take one list, however many functions there are,
-/// and each range leads to the one before it in the same function.
+/// The ranges of all inlined functions of a unit. They take one list, however many functions there
+/// are, and each range leads to the one before it in the same function.
 #[derive(Drop)]
 pub(crate) struct Links {
     links: Vec<Link>,
@@ -55,8 +55,8 @@ fn reach(lasts: &mut Vec<Option<usize>>, outer: usize) -> Result<(), AllocError>
     Ok(())
 }
 
-/// The lesser of a number that was found, where there is one, and that of a range's function, where the
-/// range holds an address.
+/// The lesser of a number that was found, where there is one, and that of a range's function, where
+/// the range holds an address.
 fn least_of(link: &Link, a: u64, found: Option<usize>) -> Option<usize>
     ensures { result ≡ least (owner_in a (pair_shown (link.now.range, link.now.number))) found }
 {
@@ -143,7 +143,8 @@ impl Links {
         Ok(())
     }
 
-    /// The least number of a function that was inlined directly in another one and holds an address.
+    /// The least number of a function that was inlined directly in another one and holds an
+    /// address.
     pub(crate) fn find(&self, outer: usize, a: u64) -> Option<usize>
         ensures { result ≡ least_owner (inlined_in outer self.now) a }
     {

@@ -13,7 +13,7 @@ use dw_units::{EntryView, OpenUnit, Units};
 /// How many references are followed to a name.
 const REFERENCES: usize = 16;
 
-/// An entry with the unit in which it stands.
+/// An entry with the unit in which it is.
 #[derive(Drop)]
 pub(crate) struct UnitEntry<'b, 'a> {
     pub(crate) unit: OpenUnit<'b, 'a>,
@@ -22,7 +22,8 @@ pub(crate) struct UnitEntry<'b, 'a> {
 
 /// The text of an attribute of an entry.
 fn attribute_text<'a>(here: &UnitEntry<'_, 'a>, name: u64) -> Option<&'a [u8]>
-    ensures { option_map (λ text. text.now) result ≡ names.attribute_text (sections_of here.now.unit) (unit_entry here.now) name }
+    ensures { option_map (λ text. text.now) result
+        ≡ names.attribute_text (sections_of here.now.unit) (unit_entry here.now) name }
 {
     let value = here.entry.attr(name)?;
     here.unit.text(&value)
@@ -70,8 +71,8 @@ fn target(here: OpenUnit<'_, '_>, value: &Value<'_>) -> Option<u64>
     }
 }
 
-/// The entry that stands at an offset of .debug_info, in whichever unit. `None` for a null entry, an entry
-/// that can't be read, a header or a skipped unit.
+/// The entry that is at an offset of .debug_info, in whichever unit. `None` for a null entry, an
+/// entry that can't be read, a header or a skipped unit.
 #[tactic(auto, unfolding(dw_model::specs::Name::entry_of))]
 fn entry_of<'b, 'a>(units: &'b Units<'a>, offset: u64) -> Option<UnitEntry<'b, 'a>>
     ensures entry { option_map unit_entry result ≡ names.entry_of units.now offset }
@@ -93,10 +94,11 @@ fn referred<'b, 'a>(here: &UnitEntry<'b, 'a>) -> Option<UnitEntry<'b, 'a>>
     entry_of(here.unit.units(), offset)
 }
 
-/// The name of an entry: the first that it has itself, or that an entry has to which at most so many
-/// references lead.
+/// The name of an entry: the first that it has itself, or that an entry has to which at most so
+/// many references lead.
 fn name_within<'a>(here: &UnitEntry<'_, 'a>, more: usize) -> Option<&'a [u8]>
-    ensures { option_map (λ text. text.now) result ≡ names.name_within (sections_of here.now.unit) more (unit_entry here.now) }
+    ensures { option_map (λ text. text.now) result
+        ≡ names.name_within (sections_of here.now.unit) more (unit_entry here.now) }
 {
     let own = own_name(here);
     if let Some(name) = own {

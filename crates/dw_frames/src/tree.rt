@@ -1,6 +1,7 @@
 //! The functions of a unit, by sections 2.3, 3.3 and 7.5 of DWARF 5.
 
-ghost use Rattle.std.specs.Prelude.{◌≡◌, ◌<◌, All, IfOk, IfErr, IfSome, IsSome, Some, Err, false, length, map, option_map, option_and_then, slice_get, MatchOption};
+ghost use Rattle.std.specs.Prelude.{◌≡◌, ◌<◌, All, IfOk, IfErr, IfSome, IsSome, Some, Err, false, length, map};
+ghost use Rattle.std.specs.Prelude.{option_map, option_and_then, slice_get, MatchOption};
 ghost use Rattle.std.specs.Option.{option_map_or};
 ghost use Rattle.dw_model.specs.Unit as cut;
 ghost use Rattle.dw_model.specs.Unit.{DwarfUnit, is_skipped};
@@ -44,18 +45,21 @@ impl<'b, 'a> Model for Tree<'b, 'a> {
 }
 
 impl<'b, 'a> Tree<'b, 'a> {
-    /// Reads the entries of the unit at a place, which isn't skipped, in order from its first one to the
-    /// end of the list below it.
+    /// Reads the entries of the unit at a place, which isn't skipped, in order from its first one
+    /// to the end of the list below it.
     ///
-    /// The error is the first in that order: `Entry` where an entry can't be read, `Depth` where one
-    /// stands below more than 512 others, `Ranges` where the ranges of a subprogram or an inlined
+    /// The error is the first in that order: `Entry` where an entry can't be read, `Depth` where
+    /// one is below more than 512 others, `Ranges` where the ranges of a subprogram or an inlined
     /// subroutine can't be read; or `Memory`.
     pub fn read(alloc: Global, units: &'b Units<'a>, i: usize) -> Result<Self, TreeFault>
         requires within { i < length (cut.units units.now.info) }
         requires kept { IfSome (slice_get (cut.units units.now.info) i) (λ unit. is_skipped unit.kind ≡ false) }
-        ensures unit { IfOk result (λ tree. tree ≡ record { index = i; sections = units.now; unit = unit_at units.now i }) }
-        ensures tree { IfOk result (λ tree. model.tree tree.sections tree.unit ≡ Ok (nodes_of tree.sections tree.unit)) }
-        ensures fault { IfErr result (λ fault. MatchOption (tree_fault fault) (Unit {0}) (λ told. model.tree units.now (unit_at units.now i) ≡ Err told)) }
+        ensures unit { IfOk result (λ tree. tree
+            ≡ record { index = i; sections = units.now; unit = unit_at units.now i }) }
+        ensures tree { IfOk result (λ tree. model.tree tree.sections tree.unit
+            ≡ Ok (nodes_of tree.sections tree.unit)) }
+        ensures fault { IfErr result (λ fault. MatchOption (tree_fault fault) (Unit {0})
+            (λ told. model.tree units.now (unit_at units.now i) ≡ Err told)) }
     {
         let unit = units.at(i);
         let drafts = read_all(alloc, unit)?;
@@ -63,13 +67,14 @@ impl<'b, 'a> Tree<'b, 'a> {
         Ok(Tree { unit, chains })
     }
 
-    /// The functions at an address, innermost first: the outermost is the first subprogram with a range
-    /// that holds it, and each next one inwards the first that was inlined directly in the one before and
-    /// has a range that holds it. Empty where no subprogram holds the address. The error comes only
-    /// where a growth was refused.
+    /// The functions at an address, innermost first: the outermost is the first subprogram with a
+    /// range that holds it, and each next one inwards the first that was inlined directly in the
+    /// one before and has a range that holds it. Empty where no subprogram holds the address. The
+    /// error comes only where an allocation was refused.
     pub fn chain(&self, alloc: Global, a: u64) -> Result<Vec<EntryId>, AllocError>
         ensures functions { IfOk result (λ ids. map (function_at self.now) ids.items ≡ map Some (chain_in self.now a)) }
-        ensures told { IfOk result (λ ids. map (told_at self.now) ids.items ≡ map (λ node. told_of self.now.sections self.now.unit node.entry) (chain_in self.now a)) }
+        ensures told { IfOk result (λ ids. map (told_at self.now) ids.items
+            ≡ map (λ node. told_of self.now.sections self.now.unit node.entry) (chain_in self.now a)) }
         ensures named { IfOk result (λ ids. All (λ id. IsSome (function_at self.now id)) ids.items) }
     {
         let mut ids = self.chains.at(alloc, a)?;
@@ -80,7 +85,8 @@ impl<'b, 'a> Tree<'b, 'a> {
     /// The function of an id.
     fn function(&self, id: EntryId) -> Option<UnitEntry<'b, 'a>>
         ensures function { option_map (λ found. found.entry) result ≡ function_of self.now id }
-        ensures stands { (node : Node) → function_at self.now id ≡ Some node → function_of self.now id ≡ Some node.entry }
+        ensures stands { (node : Node) → function_at self.now id ≡ Some node
+            → function_of self.now id ≡ Some node.entry }
         ensures unit { IfSome result (λ found. unit_of found.unit ≡ self.now.unit) }
         ensures sections { IfSome result (λ found. sections_of found.unit ≡ self.now.sections) }
     {
@@ -96,13 +102,15 @@ impl<'b, 'a> Tree<'b, 'a> {
         None
     }
 
-    /// The name of a function: the text of DW_AT_linkage_name, else of DW_AT_name, of its entry, or of
-    /// the first entry that has one among those to which at most 16 references lead
-    /// (DW_AT_abstract_origin, or else DW_AT_specification). `None` where none of them has one, and where
-    /// no function of the unit stands at the offset.
+    /// The name of a function: the text of DW_AT_linkage_name, else of DW_AT_name, of its entry, or
+    /// of the first entry that has one among those to which at most 16 references lead
+    /// (DW_AT_abstract_origin, or else DW_AT_specification). `None` where none of them has one, and
+    /// where no function of the unit is at the offset.
     pub fn name(&self, id: EntryId) -> Option<&'a [u8]>
         ensures name { option_map (λ text. text.now) result ≡ (told_at self.now id).name }
-        ensures function { (node : Node) → function_at self.now id ≡ Some node → option_map (λ text. text.now) result ≡ name self.now.sections (record { unit = self.now.unit; entry = node.entry }) }
+        ensures function { (node : Node) → function_at self.now id ≡ Some node
+            → option_map (λ text. text.now) result
+            ≡ name self.now.sections (record { unit = self.now.unit; entry = node.entry }) }
     {
         let function = self.function(id)?;
         name_of(&function)
@@ -122,7 +130,8 @@ impl<'b, 'a> Tree<'b, 'a> {
     /// What is told of a function: what `name` and `call` tell of it, by one search.
     pub fn describe(&self, id: EntryId) -> Described<'a>
         ensures told { described_shown result ≡ told_at self.now id }
-        ensures function { (node : Node) → function_at self.now id ≡ Some node → described_shown result ≡ told_of self.now.sections self.now.unit node.entry }
+        ensures function { (node : Node) → function_at self.now id ≡ Some node
+            → described_shown result ≡ told_of self.now.sections self.now.unit node.entry }
     {
         let Some(function) = self.function(id) else {
             return Described {
@@ -136,9 +145,11 @@ impl<'b, 'a> Tree<'b, 'a> {
         }
     }
 
-    /// The functions at an address, innermost first, as `chain` finds them, with what is told of each.
+    /// The functions at an address, innermost first, as `chain` finds them, with what is told of
+    /// each.
     pub fn functions(&self, alloc: Global, a: u64) -> Result<Vec<Described<'a>>, AllocError>
-        ensures { IfOk result (λ found. map described_shown found.items ≡ map (λ node. told_of self.now.sections self.now.unit node.entry) (chain_in self.now a)) }
+        ensures { IfOk result (λ found. map described_shown found.items
+            ≡ map (λ node. told_of self.now.sections self.now.unit node.entry) (chain_in self.now a)) }
     {
         let ids = self.chain(alloc, a)?;
         let mut found = Vec::with_capacity(alloc, ids.len())?;

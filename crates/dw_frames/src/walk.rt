@@ -10,21 +10,22 @@ ghost use Rattle.dw_frames.specs.Reader.{nodes_on, FollowsOn, FollowsAll};
 use crate::drafts::Drafts;
 use crate::fault::TreeFault;
 use crate::reader::Reader;
-use dw_units::{Entries, Entry, Next, OpenUnit};
+use dw_units::{Entries, Next, OpenUnit};
 use std::alloc::Global;
 
-/// Reads entries, each in place of the one before, until the list below the unit's first one has ended, or the unit has.
-fn read_below<'a>(
-    reader: &mut Reader<'_, 'a>,
-    entries: &mut Entries<'_, 'a>,
-    entry: &mut Entry<'a>,
+/// Reads entries until the list below the unit's first one has ended, or the unit has.
+fn read_below<'b, 'a>(
+    reader: &mut Reader<'b, 'a>,
+    entries: &mut Entries<'b, 'a>,
     drafts: &mut Drafts,
 ) -> Result<(), TreeFault>
-    ensures { (before : List Node) → Follows reader.old.of.sections reader.old.of.unit before drafts.old entries.old.place.at → FollowsOn reader.old.of.sections reader.old.of.unit before (nodes_on reader.old.of.sections reader.old.of.unit entries.old (length drafts.old.lists)) result drafts.new }
+    ensures { (before : List Node) → Follows reader.old.of.sections reader.old.of.unit before drafts.old
+        entries.old.place.at → FollowsOn reader.old.of.sections reader.old.of.unit before
+        (nodes_on reader.old.of.sections reader.old.of.unit entries.old (length drafts.old.lists)) result drafts.new }
 {
     while drafts.depth() > 0 && !entries.is_done() {
-        let next = entries.next_function(entry)?;
-        reader.keep(next, entry, drafts)?;
+        let next = entries.next_function()?;
+        reader.keep(next, drafts)?;
     }
     Ok(())
 }
@@ -42,12 +43,11 @@ pub(crate) fn read_all<'a>(alloc: Global, unit: OpenUnit<'_, 'a>) -> Result<Draf
         ranges: Vec::new(alloc),
     };
     let mut drafts = Drafts::new(alloc);
-    let mut entry = Entry::unread(alloc);
-    let first = entries.next_function(&mut entry)?;
+    let first = entries.next_function()?;
     if let Next::Null = first {
         return Err(TreeFault::Entry);
     }
-    reader.keep(first, &entry, &mut drafts)?;
-    read_below(&mut reader, &mut entries, &mut entry, &mut drafts)?;
+    reader.keep(first, &mut drafts)?;
+    read_below(&mut reader, &mut entries, &mut drafts)?;
     Ok(drafts)
 }

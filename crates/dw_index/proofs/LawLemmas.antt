@@ -137,7 +137,7 @@ of_list (range ∷ ranges) place a = rw (of_list ranges place a) (by_test (holds
     by_test true = least-same (covers a ranges) place
     by_test false = refl
 
--- owners behind a first one are above it
+-- owners after a first one are above it
 above : (lists : List (List Range)) (a place : ℕ) (n : ℕ) → position_from (covers a) place lists ≡ Some n → place ≤ n
 above [] a place n e = absurd cc
 above (ranges ∷ lists) a place n e = above_test (covers a ranges) (λ f. above lists a (place + 1) n f) e

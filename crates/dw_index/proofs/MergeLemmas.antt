@@ -9,7 +9,7 @@ use Rattle.dw_index.specs.Owners.{least}
 use Rattle.dw_index.specs.Segments.{owner_from, owner_at, AreSegments, Below, border, past_owner, past_rest, IsMerged}
 use Rattle.dw_index.proofs.SegmentLemmas.{behind_border, below_all, below_more, below_push, owner-push, push}
 
--- ---- one side, behind a border that is at most its first one
+-- ---- one side, after a border that is at most its first one
 
 -- no segment begins below
 abbrev IsFrom : ℕ → List Segment → Type 0
@@ -85,7 +85,8 @@ low_border bound at left right (segment ∷ segments) (other ∷ others) s t e =
 
 -- ---- the merge so far
 
--- The addresses below the bound have their owners, and those from it on have the one that both sides have so far.
+-- The addresses below the bound have their owners, and those from it on have the one that both
+-- sides have so far.
 pub record Merging (whole : ℕ → Option ℕ) (left right : Option ℕ) (first second merged : List Segment) (room : ℕ) : Type 0 where
   pub bound : ℕ
   pub before : (a : ℕ) → a < bound → owner_at merged a ≡ whole a

@@ -1,4 +1,4 @@
--- Segments of ranges that stand in order of address, one range after the other.
+-- Segments of ranges that are in order of address, one range after the other.
 use Rattle.std.proofs.Common.{◌≡◌, ◌≢◌, inl, inr, ◌≤◌, ◌<◌, ℕ, ◌+◌, List, [], ◌∷◌, ◌++◌, Option, Some, None, refl, sym, ap, ◌∙◌, arith, length-append}
 use Rattle.std.proofs.lemmas.Bool.{cases_lt, le-leb, lt-leb}
 use Rattle.dw_model.specs.Ranges as model
@@ -21,7 +21,7 @@ run_of_none = record {
   size = omega arith;
 }
 
--- ---- the gap behind the last range
+-- ---- the gap after the last range
 
 abbrev gap : ℕ → Segment
 gap end = record { begin = end; owner = None }

@@ -26,7 +26,7 @@ rises bound before (segment ∷ segments) (suc i) zero s order h = absurd (omega
 rises bound before (segment ∷ segments) (suc i) (suc k) s order h =
     rises (segment.begin + 1) segment.owner segments i k s.2 (omega arith) (omega arith)
 
--- ---- the owner behind and before a border
+-- ---- the owner after and before a border
 
 pub behind_border : (segment : Segment) (segments : List Segment) (before : Option ℕ) (a : ℕ) → segment.begin ≤ a → owner_from before (segment ∷ segments) a ≡ owner_from segment.owner segments a
 behind_border segment segments before a h = rw (le-leb segment.begin a h) refl
@@ -34,7 +34,7 @@ behind_border segment segments before a h = rw (le-leb segment.begin a h) refl
 pub before_border : (segment : Segment) (segments : List Segment) (before : Option ℕ) (a : ℕ) → a < segment.begin → owner_from before (segment ∷ segments) a ≡ owner_from before segments a
 before_border segment segments before a h = rw (lt-leb segment.begin a h) refl
 
--- below all segments stands the owner before them
+-- below all segments is the owner before them
 pub below_all : (bound : ℕ) (last : Option ℕ) (segments : List Segment) (before : Option ℕ) (a : ℕ) → AreSegments bound last segments → a < bound → owner_from before segments a ≡ before
 below_all bound last [] before a s h = refl
 below_all bound last (segment ∷ segments) before a s h =
@@ -77,7 +77,7 @@ push bound before (segment ∷ segments) last s b h other =
 
 -- ---- halving
 
--- what stands in the place of a segment behind the last one
+-- what is in the place of a segment after the last one
 abbrev pub no_segment : Segment
 no_segment = record { begin = 0; owner = None }
 

@@ -16,7 +16,7 @@ use std::alloc::{AllocError, Global};
 use std::marker::{Brand, Model};
 use std::sync::ledger::{Blank, Ledger};
 
-/// The segments of one range: its own, and the gap behind it.
+/// The segments of one range: its own, and the gap after it.
 fn lone(alloc: Global, range: Range, owner: usize) -> Result<Vec<Segment>, AllocError>
     ensures { IfOk result (λ segments. AreIndexOf (pair_shown (range, owner) ∷ []) segments.items) }
 {
@@ -36,9 +36,9 @@ fn lone(alloc: Global, range: Range, owner: usize) -> Result<Vec<Segment>, Alloc
     Ok(segments)
 }
 
-/// The segments of all ranges: one after the other where they stand in order of address, none over
-/// another, as those inlined in one function often do; else those of each half, merged. So it takes n log n steps for n
-/// ranges, however they overlap.
+/// The segments of all ranges: one after the other where they are in order of address, none over
+/// another, as those inlined in one function often do; else those of each half, merged. So it takes
+/// n log n steps for n ranges, however they overlap.
 fn gather(alloc: Global, pairs: &[(Range, usize)]) -> Result<Vec<Segment>, AllocError>
     ensures { IfOk result (λ segments. AreIndexOf (map pair_shown pairs.now) segments.items) }
 {
@@ -80,7 +80,7 @@ impl Model for Index {
 impl Index {
     /// The index of ranges, each with its owner, in any order; a range whose begin isn't below its
     /// end holds no address. It has at most twice as many segments as there are ranges. The error
-    /// comes only where a growth was refused.
+    /// comes only where an allocation was refused.
     pub fn build(alloc: Global, pairs: &[(Range, usize)]) -> Result<Self, AllocError>
         ensures owners { IfOk result (λ index. (a : ℕ) → owner_at index a ≡ least_owner (map pair_shown pairs.now) a) }
         ensures size { IfOk result (λ index. length index ≤ 2 * length pairs.now) }
@@ -107,9 +107,9 @@ impl Index {
         self.find_counted(a, &mut steps)
     }
 
-    /// The least owner of the ranges that hold an address, as `find` finds it. A step is a probe, one comparison
-    /// of the address with the begin of a segment: there are at most as many as the number of segments has binary
-    /// digits.
+    /// The least owner of the ranges that hold an address, as `find` finds it. A step is a probe,
+    /// one comparison of the address with the begin of a segment: there are at most as many as the
+    /// number of segments has binary digits.
     pub fn find_counted<L: Ledger>(&self, a: u64, steps: &mut Steps<L>) -> Option<usize>
         ensures owner { result ≡ owner_at self.now a }
         ensures counted { (digits : ℕ) → length self.now < 2 ^ digits → steps.new ≤ steps.old + digits }
@@ -117,8 +117,9 @@ impl Index {
         owner_of(&self.segments, a, steps)
     }
 
-    /// The least address above one at which `find` answers something else than there; 2^64 - 1 where there is none.
-    /// So `find` answers the same from the address on up to, and without, the one that is returned.
+    /// The least address above one at which `find` answers something else than there; 2^64 - 1
+    /// where there is none. So `find` answers the same from the address on up to, and without, the
+    /// one that is returned.
     pub fn steady(&self, a: u64) -> u64
         requires { a < last_address }
         ensures { IsSteady (owner_at self.now) a result }

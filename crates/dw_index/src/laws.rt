@@ -11,7 +11,9 @@ ghost use Rattle.dw_index.specs.Owners.{least_owner, IsLeastOwner, numbered};
 /// - `first`: where the owners are the places of lists of ranges, it is the place of the first list
 ///   with a range that holds the address.
 pub fn law_of_least_owner()
-    ensures found { (pairs : List (Range × ℕ)) (a owner : ℕ) → (least_owner pairs a ≡ Some owner) ↔ IsLeastOwner pairs a owner }
-    ensures none { (pairs : List (Range × ℕ)) (a : ℕ) → (least_owner pairs a ≡ None) ↔ All (λ pair. holds a pair.0 ≡ false) pairs }
+    ensures found { (pairs : List (Range × ℕ)) (a owner : ℕ) → (least_owner pairs a ≡ Some owner)
+        ↔ IsLeastOwner pairs a owner }
+    ensures none { (pairs : List (Range × ℕ)) (a : ℕ) → (least_owner pairs a ≡ None)
+        ↔ All (λ pair. holds a pair.0 ≡ false) pairs }
     ensures first { (lists : List (List Range)) (a : ℕ) → least_owner (numbered 0 lists) a ≡ position (covers a) lists }
 {}

@@ -43,7 +43,7 @@ fn next_border(left: Side<'_>, right: Side<'_>) -> Option<u64>
     }
 }
 
-/// A side behind a border, which is at most its next one.
+/// A side after a border, which is at most its next one.
 fn past(side: Side<'_>, at: u64) -> Side<'_>
     ensures owner { result.owner ≡ past_owner at side.entry.owner side.entry.rest.now }
     ensures rest { result.rest.now ≡ past_rest at side.entry.rest.now }

@@ -1,4 +1,4 @@
-//! The segments of ranges that stand in order of address, none over another: one after the other.
+//! The segments of ranges that are in order of address, none over another: one after the other.
 
 ghost use Rattle.std.specs.Prelude.{◌≡◌, ◌≤◌, ◌<◌, ◌++◌, List, [], ◌∷◌, ℕ, OnOk, IfOk, IfSome, map, None};
 ghost use Rattle.dw_model.specs.Ranges as model;
@@ -10,20 +10,22 @@ use crate::range::Range;
 use crate::segment::Segment;
 use std::alloc::{AllocError, Global};
 
-/// The segments of some ranges in order of address, but for the gap behind the last one.
+/// The segments of some ranges in order of address, but for the gap after the last one.
 #[derive(Drop)]
 struct Run {
     segments: Vec<Segment>,
     /// Where the last range ends.
     end: u64,
-    /// The owner of the last range, while the gap behind it is missing.
+    /// The owner of the last range, while the gap after it is missing.
     owner: Option<usize>,
 }
 
-/// Adds the gap behind the last range.
+/// Adds the gap after the last range.
 fn close(run: &mut Run) -> Result<(), AllocError>
     ensures owner { OnOk result (run.new.owner ≡ None) }
-    ensures closed { OnOk result ((pairs : List (model.Range × ℕ)) → IsRun pairs run.old.segments.items run.old.end run.old.owner → IsClosed pairs run.new.segments.items run.old.end) }
+    ensures closed { OnOk result ((pairs : List (model.Range × ℕ))
+        → IsRun pairs run.old.segments.items run.old.end run.old.owner
+        → IsClosed pairs run.new.segments.items run.old.end) }
 {
     let Some(_) = run.owner else {
         return Ok(());
@@ -36,10 +38,12 @@ fn close(run: &mut Run) -> Result<(), AllocError>
     Ok(())
 }
 
-/// Goes on to where the next range begins, with a gap where that lies behind the last one's end.
+/// Goes on to where the next range begins, with a gap where that lies after the last one's end.
 fn reach(run: &mut Run, at: u64) -> Result<(), AllocError>
     ensures end { OnOk result (run.old.end ≤ at → run.new.end ≡ at) }
-    ensures reached { OnOk result ((pairs : List (model.Range × ℕ)) → IsRun pairs run.old.segments.items run.old.end run.old.owner → run.old.end ≤ at → IsRun pairs run.new.segments.items at run.new.owner) }
+    ensures reached { OnOk result ((pairs : List (model.Range × ℕ))
+        → IsRun pairs run.old.segments.items run.old.end run.old.owner → run.old.end ≤ at
+        → IsRun pairs run.new.segments.items at run.new.owner) }
 {
     if run.end >= at {
         return Ok(());
@@ -52,7 +56,10 @@ fn reach(run: &mut Run, at: u64) -> Result<(), AllocError>
 /// Adds a range that begins where the run ends. Two of one owner that touch make one segment.
 fn extend(run: &mut Run, range: Range, owner: usize) -> Result<(), AllocError>
     ensures end { OnOk result (run.new.end ≡ range.end) }
-    ensures extended { OnOk result ((pairs : List (model.Range × ℕ)) → IsRun pairs run.old.segments.items run.old.end run.old.owner → run.old.end ≡ range.begin → range.begin < range.end → IsRun (pairs ++ pair_shown (range, owner) ∷ []) run.new.segments.items run.new.end run.new.owner) }
+    ensures extended { OnOk result ((pairs : List (model.Range × ℕ))
+        → IsRun pairs run.old.segments.items run.old.end run.old.owner → run.old.end ≡ range.begin
+        → range.begin < range.end → IsRun
+        (pairs ++ pair_shown (range, owner) ∷ []) run.new.segments.items run.new.end run.new.owner) }
 {
     if run.owner == Some(owner) {
         run.end = range.end;
@@ -67,7 +74,7 @@ fn extend(run: &mut Run, range: Range, owner: usize) -> Result<(), AllocError>
     Ok(())
 }
 
-/// Whether ranges stand in order of address, none is empty and none begins below the end of the one
+/// Whether ranges are in order of address, none is empty and none begins below the end of the one
 /// before it.
 fn is_in_order(pairs: &[(Range, usize)]) -> bool {
     let mut end = 0;
@@ -80,7 +87,7 @@ fn is_in_order(pairs: &[(Range, usize)]) -> bool {
     true
 }
 
-/// The segments of ranges that stand in order of address, none empty and none over another; else
+/// The segments of ranges that are in order of address, none empty and none over another; else
 /// `None`. The order is looked at before memory is taken, and again range by range, where the
 /// segments rest on it.
 pub(crate) fn run_of(

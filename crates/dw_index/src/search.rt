@@ -18,8 +18,8 @@ fn begins_by<L: Ledger>(segment: Segment, a: u64, steps: &mut Steps<L>) -> bool
     segment.begin <= a
 }
 
-/// How many segments don't begin above an address. A step is a probe: there are at most as many as the
-/// number of segments has binary digits.
+/// How many segments don't begin above an address. A step is a probe: there are at most as many as
+/// the number of segments has binary digits.
 fn count_passed<L: Ledger>(segments: &[Segment], a: u64, steps: &mut Steps<L>) -> usize
     requires { AreSegments 0 None segments.now }
     ensures within { result ≤ length segments.now }
@@ -40,8 +40,8 @@ fn count_passed<L: Ledger>(segments: &[Segment], a: u64, steps: &mut Steps<L>) -
     low
 }
 
-/// The owner of an address. A step is a probe: there are at most as many as the number of segments has
-/// binary digits.
+/// The owner of an address. A step is a probe: there are at most as many as the number of segments
+/// has binary digits.
 pub(crate) fn owner_of<L: Ledger>(
     segments: &[Segment],
     a: u64,
@@ -58,8 +58,8 @@ pub(crate) fn owner_of<L: Ledger>(
     segments[passed - 1].owner
 }
 
-/// The least address above one that has another owner; the last address of all where there is none. A step is a
-/// probe, as for `owner_of`.
+/// The least address above one that has another owner; the last address of all where there is none.
+/// A step is a probe, as for `owner_of`.
 pub(crate) fn next_border<L: Ledger>(segments: &[Segment], a: u64, steps: &mut Steps<L>) -> u64
     requires segments { AreSegments 0 None segments.now }
     requires above { a < last_address }

@@ -1,4 +1,4 @@
--- A table that would begin behind its section.
+-- A table that would begin after its section.
 use Rattle.std.proofs.Common.{◌≡◌, ℕ, ◌<◌, List, length, Err, refl, arith}
 use Rattle.std.proofs.lemmas.List.{drop_all}
 use Rattle.dw_model.specs.InitialLength.{initial_length}

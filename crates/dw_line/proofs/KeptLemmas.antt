@@ -1,4 +1,4 @@
--- What is kept of sequences stays where it lies when checkpoints come or go behind it.
+-- What is kept of sequences stays where it lies when checkpoints come or go after it.
 use Rattle.std.proofs.Common.{◌≡◌, ℕ, suc, ◌+◌, ◌*◌, ◌<◌, ◌≤◌, true, false, List, [], ◌∷◌, ◌++◌, length, take, drop, refl, sym, subst, ap, ◌∙◌, arith}
 use Rattle.std.proofs.lemmas.List.{take-append-le, take-append-drop, length-take, length-take-le, drop-drop}
 use Rattle.dw_model.specs.LineHeader.{LineHeader}

@@ -25,7 +25,8 @@ pub record Whole (header : LineHeader) (r : Recorder) (rows : List Row) : Type 0
   pub run : rows_on header (beginning header) ≡ Ok all
   pub records : Records header r all rows
 
--- A fault on the way from here is the program's, and where the rows from here on can be read, so can all.
+-- A fault on the way from here is the program's, and where the rows from here on can be read, so
+-- can all.
 pub record Recording (header : LineHeader) (r : Recorder) (state : State) : Type 0 where
   pub bad : rows_on header state ≡ Err bad → rows_on header (beginning header) ≡ Err bad
   pub good : (rows : List Row) → rows_on header state ≡ Ok rows → Whole header r rows
@@ -38,7 +39,7 @@ begins header = record {
   place = passes_none (start header.program);
 }
 
--- a place is given by how many bytes stand in front of it
+-- a place is given by how many bytes are in front of it
 pub place_is : (program : List ℕ) (p : Place) → Passes (start program) p → (record { at = p.at; left = drop p.at program } ≡ p) × (p.at ≤ length program)
 place_is program p s =
     let at : p.at ≡ length s.0 = omega (arith, s.1.1) in

@@ -20,7 +20,8 @@ use Rattle.dw_line.specs.Sequences.{used_sequences, most_checkpoints, up_to_end,
 use Rattle.dw_line.specs.Recorder.{Recorder, none_pending, empty, pushed_by, pushed, used_from, closed_from, closed, finished}
 use Rattle.dw_line.proofs.KeptLemmas.{behind, cut, each_kept, each_pushed, checkpoint_pushed}
 
--- Of all rows those in front of `rows` were appended. `ended` are the sequences that have ended, and `pending` the rows behind them.
+-- Of all rows those in front of `rows` were appended. `ended` are the sequences that have ended,
+-- and `pending` the rows after them.
 pub record Records (header : LineHeader) (r : Recorder) (all rows : List Row) : Type 0 where
   pub ended : List (List Row)
   pub pending : List Row
@@ -56,7 +57,7 @@ begins header all = record {
   few = omega arith;
 }
 
--- ---- rows one behind the other
+-- ---- rows one after the other
 
 falls_push : (rows : List Row) (r : Row) → never_falls (rows ++ r ∷ []) ≡ never_falls rows && nat_le (last_address rows) r.address
 falls_push [] r = sym (le-leb 0 r.address (omega arith))
@@ -141,7 +142,7 @@ some_room n e =
     let other = eqb-false n 0 e in
     grind (arith, other)
 
--- the place is so many bytes behind the program's beginning
+-- the place is so many bytes after the program's beginning
 pub push : (header : LineHeader) (checkpoints : List Checkpoint) (kept : List Sequence) (first last : ℕ) (rises : Bool) (room : ℕ) (registers : Registers) (place : ℕ) (all rows : List Row)
     → Records header (recorder checkpoints kept first last rises room) all (row (registers_shown registers) false ∷ rows)
     → rows_on header (state_of header (record { registers = registers; place = place })) ≡ Ok rows → place ≤ length header.program

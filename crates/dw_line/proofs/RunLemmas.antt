@@ -26,7 +26,7 @@ use Rattle.dw_line.proofs.ProgramLemmas.{place_is}
 abbrev pub place_of : LineHeader → Checkpoint → Place
 place_of header checkpoint = record { at = checkpoint.place; left = drop checkpoint.place header.program }
 
--- the machine stands where a program can be run on
+-- the machine is where a program can be run on
 pub record Stands (header : LineHeader) (here : Checkpoint) (cursor : Place) : Type 0 where
   pub is : cursor ≡ place_of header here
   pub within : here.place ≤ length header.program
@@ -43,7 +43,7 @@ stands_on header here next old new stands spans =
 
 -- ---- rows so far
 
--- the rows from a row on, behind `i` that were run
+-- the rows from a row on, after `i` that were run
 pub record Later (header : LineHeader) (first here : Checkpoint) (a i : ℕ) (rows : List Row) : Type 0 where
   pub others : List Row
   pub appends : rows_on header (state_of header here) ≡ Ok others
@@ -86,7 +86,7 @@ first-up r rows = by r.ends
     by true = refl
     by false = refl
 
--- the rows behind those that were run
+-- the rows after those that were run
 behind : (i : ℕ) (r : Row) (own all : List Row) → r ∷ own ≡ drop i all → own ≡ drop (i + 1) all
 behind i r own all e = ap (drop 1) e ∙ drop-drop 1 i all
 
@@ -169,7 +169,7 @@ stops_end header first here next old new next_checkpoint a i h is given below la
     let t = of_next header first here next new a i rows (next_of header here old new next runs.stands is) later in
     (sym (ap (option_map row_told) (reached header first here next new a i rows false true h (le-ltb a next.registers.address below) last later t)), tt)
 
--- there is no row behind it
+-- there is no row after it
 none_of : (most a : ℕ) (r : Row) → row_before_address most a r [] ≡ None
 unfolding row_before_address
 none_of zero a r = refl
@@ -178,7 +178,7 @@ none_of (suc most) a r = refl
 same_rows : (a b : Result (List Row) Bad) (xs ys : List Row) → a ≡ Ok xs → a ≡ Ok ys → xs ≡ ys
 same_rows a b xs ys e f = cc
 
--- the rows from where the machine stands
+-- the rows from where the machine is
 rows_here : (header : LineHeader) (here : Checkpoint) (old : Place) (read : Result (List Row) Bad) → Stands header here old → rows_on header (record { registers = registers_shown here.registers; place = old }) ≡ read → rows_on header (state_of header here) ≡ read
 rows_here header here old read stands e = ap (λ (p : Place). rows_on header (record { registers = registers_shown here.registers; place = p })) (sym stands.is) ∙ e
 

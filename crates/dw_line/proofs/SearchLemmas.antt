@@ -256,7 +256,8 @@ stops_soon header checkpoints rows a place number c has below_end is below near 
         let stops = last_stops a s own (omega (arith, same, below_end)) in
         record { place = stops.place; row = stops.row; rest = stops.rest; soon = omega (arith, stops.soon, ap length rest, length-drop place rows, has.enough, last, near); there = stops.there; above = stops.above }
 
--- the row of the address stands at a row that isn't above it, or behind it and before the next checkpoint
+-- the row of the address is at a row that isn't above it, or after it and before the next
+-- checkpoint
 row_is : (header : LineHeader) (checkpoints : List Checkpoint) (rows : List Row) (a place number : ℕ) (c : Checkpoint) → HasCheckpoints header checkpoints rows → a < last_address rows → (is : IsCheckpoint header c (drop place rows)) → c.registers.address ≤ a → 64 * number ≤ place + 64 → Before checkpoints number a
     → row_in a rows ≡ row_before_address 64 a (checkpoint_row c) is.others
 row_is header checkpoints rows a place number c has below_end is below near before =
@@ -265,7 +266,7 @@ row_is header checkpoints rows a place number c has below_end is below near befo
     row_later place a rows (checkpoint_row c) (up_to_end is.others) never is.rest below
     ∙ run_is 64 a (checkpoint_row c) is.others below stops
 
--- a row behind one of the rows is one of them
+-- a row after one of the rows is one of them
 later_reached : (header : LineHeader) (rows : List Row) (place number : ℕ) (r : Row) (own : List Row) (found : Option Reached) → r ∷ own ≡ drop place rows → 64 * number ≤ place + 64 → IfSome found (IsPassed header (r ∷ own) number) → IfSome found (IsReached header rows)
 later_reached header rows place number r own None h near passed = tt
 later_reached header rows place number r own (Some reached) h near is =

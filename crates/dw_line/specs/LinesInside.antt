@@ -15,8 +15,8 @@ lines_in lines = record {
   comp_dir = option_map (λ directory. directory.now) lines.comp_dir;
 }
 
--- What is kept is of the used sequences of the header's program, the index finds the first of them that holds an address,
--- and the row that was found last is one of theirs.
+-- What is kept is of the used sequences of the header's program, the index finds the first of them
+-- that holds an address, and the row that was found last is one of theirs.
 pub record AreRead (lines : Inside) : Type 0 where
   pub kept : AreKept (header_shown lines.header) lines.checkpoints.items lines.sequences.items (used_sequences (matrix_of (header_shown lines.header)))
   pub found : (a : ℕ) → owner_at lines.index a ≡ number_among (used_sequences (matrix_of (header_shown lines.header))) a

@@ -35,7 +35,7 @@ rows_on header state =
 abbrev pub row_before : Row → Result (List Row) Bad → Result (List Row) Bad
 row_before row others = others >>= λ rows. Ok (row ∷ rows)
 
--- the registers behind a row: behind one that ends its sequence they begin anew
+-- the registers after a row: after one that ends its sequence they begin anew
 abbrev pub registers_behind : Registers → Bool → Registers
 registers_behind registers ends = if ends then initial else registers
 

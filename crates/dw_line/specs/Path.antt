@@ -3,7 +3,7 @@ use Rattle.std.specs.Prelude.{ℕ, List, Option, None, unwrap_or, option_map, na
 use Rattle.dw_model.specs.LineHeader.{LineHeader}
 use Rattle.dw_model.specs.Path.{joined, directory_path}
 
--- a part, where there is one, put behind a path
+-- a part, where there is one, put after a path
 abbrev pub joined_some : List ℕ → Option (List ℕ) → List ℕ
 joined_some path part = unwrap_or (option_map (joined path) part) path
 

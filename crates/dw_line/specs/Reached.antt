@@ -14,7 +14,8 @@ use Rattle.dw_line.specs.Sequences.{up_to_end, checkpoint_row, state_of, used_se
 abbrev pub told_of : Reached → RowTold
 told_of reached = row_told (checkpoint_row reached.row)
 
--- It is one of these rows, from which those after it are run again, and the address of the next one is known.
+-- It is one of these rows, from which those after it are run again, and the address of the next one
+-- is known.
 pub record IsRow (header : LineHeader) (rows : List Row) (passed : ℕ) (reached : Reached) : Type 0 where
   pub is : IsCheckpoint header reached.row (drop passed rows)
   pub next : reached.next ≡ first_address (drop (passed + 1) rows)
@@ -35,7 +36,8 @@ pub record IsPassed (header : LineHeader) (rows : List Row) (next_checkpoint : �
 abbrev pub HoldsAddress : ℕ → Reached → Type 0
 HoldsAddress a reached = (reached.row.registers.address ≤ a) × (a < reached.next)
 
--- What is found from a row on is the row of the address at or behind it, where the rows from there on can be read.
+-- What is found from a row on is the row of the address at or after it, where the rows from there
+-- on can be read.
 abbrev pub FindsFrom : LineHeader → Checkpoint → ℕ → ℕ → Option Reached → Type 0
 FindsFrom header row next_checkpoint a found =
     row.place ≤ length header.program → (rows : List Row) → rows_on header (state_of header row) ≡ Ok rows
@@ -76,12 +78,14 @@ last_in number (Some last) = if last.number == number then Some last.reached els
 abbrev pub IsLast : LineHeader → List (List Row) → Option Last → Type 0
 IsLast header used last = IfSome last (λ last. IfSome (slice_get used last.number) (λ rows. IsReached header rows last.reached))
 
--- What is found is the row of the address in a matrix, and is a row of the used sequence whose number it tells.
+-- What is found is the row of the address in a matrix, and is a row of the used sequence whose
+-- number it tells.
 abbrev pub FindsRow : LineHeader → List Row → ℕ → Option Last → Type 0
 FindsRow header rows a found =
     (option_map (λ last. told_of last.reached) found ≡ option_map row_told (row_of rows a)) × IsLast header (used_sequences rows) found
 
--- Each address of the sequence with a number that lies at an address or after it, and before the next row, has the row that was found.
+-- Each address of the sequence with a number that lies at an address or after it, and before the
+-- next row, has the row that was found.
 pub record Stays (rows : List Row) (number a : ℕ) (found : Last) : Type 0 where
   pub above : a < found.reached.next
   pub same : (c : ℕ) → a ≤ c → c < found.reached.next → number_among (used_sequences rows) c ≡ Some number → told_at rows c ≡ Some (told_of found.reached)

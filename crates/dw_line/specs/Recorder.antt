@@ -7,7 +7,8 @@ use Rattle.dw_line.specs.declared.checkpoints.Pending.{Pending}
 use Rattle.dw_line.specs.declared.checkpoints.Checkpoints.{Checkpoints}
 use Rattle.dw_line.specs.declared.machine.Appended.{Appended}
 
--- the checkpoints and the used sequences so far, and what is known of the rows since the last end row
+-- the checkpoints and the used sequences so far, and what is known of the rows since the last end
+-- row
 pub record Recorder : Type 0 where
   pub checkpoints : List Checkpoint
   pub sequences : List Sequence
@@ -16,7 +17,7 @@ pub record Recorder : Type 0 where
 abbrev pub recorder_shown : Checkpoints → Recorder
 recorder_shown kept = record { checkpoints = kept.checkpoints.items; sequences = kept.sequences.items; pending = kept.pending }
 
--- no row stands behind so many checkpoints
+-- no row is after so many checkpoints
 abbrev pub none_pending : ℕ → Pending
 none_pending first_checkpoint = record { first_checkpoint = first_checkpoint; last_address = 0; rises = true; room = 0 }
 
@@ -66,7 +67,7 @@ closed_from (Some begin) end r = record {
 abbrev pub closed : ℕ → Recorder → Recorder
 closed end r = closed_from (used_from end r) end r
 
--- one more row, behind which so many bytes of the program are passed
+-- one more row, after which so many bytes of the program are passed
 abbrev pub recorded : Appended → ℕ → Recorder → Recorder
 recorded appended place r =
     if appended.ends then closed appended.registers.address r else pushed appended.registers place r

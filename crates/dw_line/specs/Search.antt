@@ -7,7 +7,8 @@ use Rattle.dw_line.specs.declared.rows.Row.{Row as RowTold}
 abbrev pub row_told : Row → RowTold
 row_told row = record { file = row.file; line = row.line; column = row.column }
 
--- The last row in front of the first one above an address, of a row and at most `most` behind it in its sequence.
+-- The last row in front of the first one above an address, of a row and at most `most` after it in
+-- its sequence.
 unfoldable pub row_before_address : ℕ → ℕ → Row → List Row → Option Row
 row_before_address zero a row rows = None
 row_before_address (suc most) a row [] = None

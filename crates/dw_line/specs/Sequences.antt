@@ -24,7 +24,8 @@ holds_address a rows = nat_le (first_address rows) a && nat_lt a (last_address r
 abbrev pub number_among : List (List Row) → ℕ → Option ℕ
 number_among used a = position_from (holds_address a) 0 used
 
--- the sequence of this number is the first that holds each address from one on and below another; or none does
+-- the sequence of this number is the first that holds each address from one on and below another;
+-- or none does
 abbrev pub IsOwner : List Row → Option ℕ → (begin end : ℕ) → Type 0
 IsOwner rows number begin end = (a : ℕ) → begin ≤ a → a < end → number_among (used_sequences rows) a ≡ number
 
@@ -35,7 +36,7 @@ up_to_end (row ∷ rows) = if row.ends then row ∷ [] else row ∷ up_to_end ro
 
 -- ---- checkpoints
 
--- the machine behind a checkpoint's row
+-- the machine after a checkpoint's row
 abbrev pub state_of : LineHeader → Checkpoint → State
 state_of header checkpoint = record {
   registers = registers_shown checkpoint.registers;
@@ -45,7 +46,8 @@ state_of header checkpoint = record {
 abbrev pub checkpoint_row : Checkpoint → Row
 checkpoint_row checkpoint = row (registers_shown checkpoint.registers) false
 
--- The checkpoint's row and those that the machine appends behind it, up to the end of its sequence, are these.
+-- The checkpoint's row and those that the machine appends after it, up to the end of its sequence,
+-- are these.
 pub record IsCheckpoint (header : LineHeader) (checkpoint : Checkpoint) (rows : List Row) : Type 0 where
   pub others : List Row
   pub appends : rows_on header (state_of header checkpoint) ≡ Ok others

@@ -7,7 +7,8 @@ use Rattle.dw_line.specs.Walked.{Walked}
 abbrev pub walk_shown : Inside → Walked
 walk_shown walk = record { table = walk.lines.now; at = walk.at; high = walk.high }
 
--- The sequence of the addresses from the next one on is known up to an end, and the row that was found last is one of the table's.
+-- The sequence of the addresses from the next one on is known up to an end, and the row that was
+-- found last is one of the table's.
 pub record IsWalk (walk : Inside) : Type 0 where
   pub owner : IsOwner walk.lines.now.rows walk.owner.number walk.at walk.owner.until
   pub last : IsLast walk.lines.now.header (used_sequences walk.lines.now.rows) walk.last

@@ -14,7 +14,8 @@ pub record Walked : Type 0 where
 abbrev pub walked_to : ℕ → Walked → Walked
 walked_to at walk = record { table = walk.table; at = at; high = walk.high }
 
--- The stretch begins at an address and ends in the span, and each of its addresses has its row, or none.
+-- The stretch begins at an address and ends in the span, and each of its addresses has its row, or
+-- none.
 pub record IsStretch (rows : List Row) (at high : ℕ) (stretch : Stretch) : Type 0 where
   pub begins : stretch.begin ≡ at
   pub rises : at < stretch.end

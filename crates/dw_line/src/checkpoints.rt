@@ -1,4 +1,5 @@
-//! The checkpoints of the used sequences of a line program: rows from which later ones are run again.
+//! The checkpoints of the used sequences of a line program: rows from which later ones are run
+//! again.
 
 ghost use Rattle.std.specs.Prelude.{◌≡◌, OnOk};
 ghost use Rattle.dw_line.specs.Recorder.{recorder_shown, empty, none_pending, row_pending, used_from};
@@ -11,8 +12,8 @@ use std::alloc::{AllocError, Global};
 /// How many rows lie from one checkpoint of a sequence to the next.
 pub(crate) const ROWS_APART: usize = 64;
 
-/// A row from which later ones are run again: its registers, and how many bytes of the program the machine
-/// has passed behind it.
+/// A row from which later ones are run again: its registers, and how many bytes of the program the
+/// machine has passed after it.
 #[derive(Clone, Copy, Debug, Default)]
 pub(crate) struct Checkpoint {
     pub(crate) registers: Registers,
@@ -50,7 +51,7 @@ pub(crate) struct Checkpoints {
 }
 
 impl Pending {
-    /// No row is pending behind so many checkpoints.
+    /// No row is pending after so many checkpoints.
     fn none(first_checkpoint: usize) -> Self
         ensures { result ≡ none_pending first_checkpoint }
     {
@@ -93,7 +94,7 @@ impl Checkpoints {
         }
     }
 
-    /// One more row is pending, behind which so many bytes of the program are passed.
+    /// One more row is pending, after which so many bytes of the program are passed.
     #[inline(always)]
     fn push(&mut self, registers: Registers, place: usize) -> Result<(), AllocError>
         ensures { OnOk result (recorder_shown self.new ≡ pushed registers place (recorder_shown self.old)) }
@@ -105,8 +106,8 @@ impl Checkpoints {
         Ok(())
     }
 
-    /// The address at which the pending rows begin, where they are a used sequence with an end row at
-    /// an address.
+    /// The address at which the pending rows begin, where they are a used sequence with an end row
+    /// at an address.
     fn used_from(&self, end: u64) -> Option<u64>
         ensures { result ≡ used_from end (recorder_shown self.now) }
     {
@@ -140,7 +141,7 @@ impl Checkpoints {
         Ok(())
     }
 
-    /// The machine has appended a row, behind which so many bytes of the program are passed.
+    /// The machine has appended a row, after which so many bytes of the program are passed.
     #[inline(always)]
     pub(crate) fn record(&mut self, appended: Appended, place: usize) -> Result<(), AllocError>
         ensures { OnOk result (recorder_shown self.new ≡ recorded appended place (recorder_shown self.old)) }

@@ -18,7 +18,7 @@ use dw_model::dwarf::{DW_LNCT_directory_index, DW_LNCT_path};
 use smallvec::SmallVec;
 use std::alloc::Global;
 
-/// What stands in each entry of a list: a content type, a DW_LNCT code, in a form, a DW_FORM code.
+/// What is in each entry of a list: a content type, a DW_LNCT code, in a form, a DW_FORM code.
 #[derive(Clone, Copy, Debug, Default, PartialEq, Eq)]
 pub(crate) struct Format {
     pub(crate) content: u64,
@@ -32,8 +32,8 @@ pub(crate) struct Contents<'a> {
     pub(crate) directory: Option<Value<'a>>,
 }
 
-/// A directory or a file. Its path is a value, whose text is looked up when it is asked for, so that
-/// reading a list takes no more time than the list is long.
+/// A directory or a file. Its path is a value, whose text is looked up when it is asked for, so
+/// that reading a list takes no more time than the list is long.
 #[derive(Clone, Copy, Debug, Default)]
 pub(crate) struct LineEntry<'a> {
     pub(crate) path: Option<Value<'a>>,
@@ -47,7 +47,8 @@ fn formats_of(
     cursor: &mut Cursor<'_>,
     count: u8,
 ) -> Result<SmallVec<Format, 8>, LineFault>
-    ensures { ReadsUnlessMemory (λ formats. map format_shown formats.items) line_fault result (formats_at count cursor.old) cursor.new }
+    ensures { ReadsUnlessMemory (λ formats. map format_shown formats.items) line_fault result
+        (formats_at count cursor.old) cursor.new }
 {
     let mut formats = SmallVec::new(alloc);
     for _ in 0..count {
@@ -61,7 +62,8 @@ fn formats_of(
 impl<'a> Contents<'a> {
     /// With one more value of the entry.
     fn with(self, content: u64, value: Value<'a>) -> Self
-        ensures { contents_shown result ≡ used_of (contents_shown self.entry) ((content, value_shown value.entry) ∷ []) }
+        ensures { contents_shown result ≡ used_of (contents_shown self.entry)
+            ((content, value_shown value.entry) ∷ []) }
     {
         match content {
             DW_LNCT_path => Contents {
@@ -83,7 +85,9 @@ fn contents_of<'a>(
     formats: &[Format],
     width: Width,
 ) -> Result<Contents<'a>, LineFault>
-    ensures { ReadsOn contents_shown line_fault result (used_at (record { path = None; directory = None }) (contents_at (size_of width) (map format_shown formats.now) cursor.old)) cursor.new }
+    ensures { ReadsOn contents_shown line_fault result
+        (used_at (record { path = None; directory = None })
+        (contents_at (size_of width) (map format_shown formats.now) cursor.old)) cursor.new }
 {
     let mut contents = Contents {
         path: None,
@@ -114,7 +118,9 @@ fn entries_of<'a>(
     count: u64,
     width: Width,
 ) -> Result<Vec<LineEntry<'a>>, LineFault>
-    ensures { (tables : model.Tables) (bases : model.Bases) → ReadsUnlessMemory (λ entries. map (entry_shown tables bases) entries.items) line_fault result (entries_at tables bases (size_of width) (map format_shown formats.now) count cursor.old) cursor.new }
+    ensures { (tables : model.Tables) (bases : model.Bases)
+        → ReadsUnlessMemory (λ entries. map (entry_shown tables bases) entries.items) line_fault result
+        (entries_at tables bases (size_of width) (map format_shown formats.now) count cursor.old) cursor.new }
 {
     let mut entries = Vec::new(alloc);
     for _ in 0..count {
@@ -136,7 +142,9 @@ pub(crate) fn entry_list_of<'a>(
     cursor: &mut Cursor<'a>,
     width: Width,
 ) -> Result<Vec<LineEntry<'a>>, LineFault>
-    ensures { (tables : model.Tables) (bases : model.Bases) → ReadsUnlessMemory (λ entries. map (entry_shown tables bases) entries.items) line_fault result (entry_list tables bases (size_of width) cursor.old) cursor.new }
+    ensures { (tables : model.Tables) (bases : model.Bases)
+        → ReadsUnlessMemory (λ entries. map (entry_shown tables bases) entries.items) line_fault result
+        (entry_list tables bases (size_of width) cursor.old) cursor.new }
 {
     let format_count = cursor.u8().ok_or(LineFault::Bad)?;
     let formats = formats_of(alloc, cursor, format_count)?;

@@ -11,7 +11,7 @@ pub enum LineFault {
     /// Its header or its program can't be read.
     #[error("the line table is bad")]
     Bad,
-    /// A growth of memory was refused.
+    /// An allocation was refused.
     #[error("out of memory")]
     Memory,
 }

@@ -5,12 +5,12 @@ ghost use Rattle.std.specs.Prelude.{◌<◌};
 use crate::entries::LineEntry;
 use dw_forms::{Bases, Tables};
 
-mod reading;
+mod parser;
 
-pub(crate) use reading::header_at;
+pub(crate) use parser::header_at;
 
 /// The fields of a header that are used, the sections to which its paths lead, and the program
-/// behind it.
+/// after it.
 #[derive(Drop)]
 pub(crate) struct Header<'a> {
     pub(crate) tables: Tables<'a>,

@@ -2,7 +2,8 @@
 
 ghost use Rattle.std.specs.Prelude.{◌≡◌, ◌-◌, option_map, nat_eq, slice_index};
 ghost use Rattle.std.specs.Map.{lookup};
-ghost use Rattle.dw_model.specs.Instruction.{standard_opcodes, unknown_at, extended, extended_at, standard_at, opcode_at};
+ghost use Rattle.dw_model.specs.Instruction.{standard_opcodes, unknown_at, extended, extended_at, standard_at};
+ghost use Rattle.dw_model.specs.Instruction.{opcode_at};
 ghost use Rattle.dw_model.specs.Instruction as model;
 ghost use Rattle.dw_model.specs.Answers.{Gives, ReadsOn};
 ghost use Rattle.dw_line.specs.Fault.{line_fault};
@@ -83,15 +84,17 @@ fn extended_opcode(cursor: &mut Cursor<'_>) -> Result<Instruction, LineFault>
     extended_of(bytes)
 }
 
-/// The same of an opcode. They are read by a cursor of its own, so that the machine's, of which no address is
-/// taken, is kept in registers.
+/// The same of an opcode. They are read by a cursor of its own, so that the machine's, of which no
+/// address is taken, is kept in registers.
 #[inline(always)]
 fn unknown_behind(
     cursor: &mut Cursor<'_>,
     header: &Header<'_>,
     opcode: u8,
 ) -> Result<Instruction, LineFault>
-    ensures { ReadsOn instruction_shown line_fault result (unknown_at (slice_index (header_shown header.now).standard_opcode_lengths (opcode - 1)) cursor.old) cursor.new }
+    ensures { ReadsOn instruction_shown line_fault result
+        (unknown_at (slice_index (header_shown header.now).standard_opcode_lengths (opcode - 1)) cursor.old)
+        cursor.new }
 {
     let count = operand_count(header.standard_opcode_lengths, opcode);
     let mut operands = cursor.fork();
@@ -100,7 +103,7 @@ fn unknown_behind(
     Ok(instruction)
 }
 
-/// The rest of an instruction behind a standard opcode (section 6.2.5.2). One that the standard
+/// The rest of an instruction after a standard opcode (section 6.2.5.2). One that the standard
 /// doesn't name has as many operands as the header says.
 #[inline(always)]
 fn standard_opcode(
@@ -108,7 +111,8 @@ fn standard_opcode(
     header: &Header<'_>,
     opcode: u8,
 ) -> Result<Instruction, LineFault>
-    ensures { ReadsOn instruction_shown line_fault result (standard_at (header_shown header.now) opcode (lookup (nat_eq opcode) standard_opcodes) cursor.old) cursor.new }
+    ensures { ReadsOn instruction_shown line_fault result
+        (standard_at (header_shown header.now) opcode (lookup (nat_eq opcode) standard_opcodes) cursor.old) cursor.new }
 {
     match opcode {
         DW_LNS_copy => Ok(Instruction::AppendRow),
@@ -144,7 +148,7 @@ fn operand_count(lengths: &[u8], opcode: u8) -> u8
     }
 }
 
-/// The rest of an instruction behind its opcode.
+/// The rest of an instruction after its opcode.
 #[tactic(auto, unfolding(dw_model::specs::Instruction::opcode_at))]
 #[inline(always)]
 fn opcode_of(
@@ -152,7 +156,8 @@ fn opcode_of(
     header: &Header<'_>,
     opcode: u8,
 ) -> Result<Instruction, LineFault>
-    ensures { ReadsOn instruction_shown line_fault result (opcode_at (header_shown header.now) opcode cursor.old) cursor.new }
+    ensures { ReadsOn instruction_shown line_fault result
+        (opcode_at (header_shown header.now) opcode cursor.old) cursor.new }
 {
     if opcode >= header.opcode_base {
         return Ok(Instruction::Special(opcode - header.opcode_base));
@@ -170,7 +175,8 @@ pub(crate) fn next_instruction(
     cursor: &mut Cursor<'_>,
     header: &Header<'_>,
 ) -> Result<Option<Instruction>, LineFault>
-    ensures { ReadsOn (option_map instruction_shown) line_fault result (model.next_instruction (header_shown header.now) cursor.old) cursor.new }
+    ensures { ReadsOn (option_map instruction_shown) line_fault result
+        (model.next_instruction (header_shown header.now) cursor.old) cursor.new }
 {
     if cursor.left() == 0 {
         return Ok(None);

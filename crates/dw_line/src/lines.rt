@@ -69,12 +69,13 @@ fn room_for(top: &[u8], directory: Option<&[u8]>, name: &[u8]) -> usize {
 
 impl<'a> Lines<'a> {
     /// Reads the table at an offset of .debug_line, of a unit with these bases that was compiled in
-    /// a directory, in time linear in the table's length but for the index of its sequences (section 6.2).
+    /// a directory, in time linear in the table's length but for the index of its sequences
+    /// (section 6.2).
     ///
     /// `Bad` where its header or its program can't be read: the table, the header or a list runs
     /// past its end, the version isn't 5, addresses aren't of 8 bytes, an instruction has more than
     /// one operation, line_range or opcode_base is 0, a form is unknown, an extended opcode has the
-    /// wrong length, or a number doesn't fit 64 bits. `Memory` comes only where a growth was refused.
+    /// wrong length, or a number doesn't fit 64 bits. `Memory` comes only where an allocation was refused.
     pub fn read(
         alloc: Global,
         line_section: &'a [u8],
@@ -83,7 +84,9 @@ impl<'a> Lines<'a> {
         comp_dir: Option<&'a [u8]>,
         offset: u64,
     ) -> Result<Self, LineFault>
-        ensures { GivesUnlessMemory (λ lines. lines) line_fault result (lines_of (tables_shown tables.now) (bases_shown bases.now) line_section.now (option_map (λ directory. directory.now) comp_dir.entry) offset) }
+        ensures { GivesUnlessMemory (λ lines. lines) line_fault result
+            (lines_of (tables_shown tables.now) (bases_shown bases.now) line_section.now
+            (option_map (λ directory. directory.now) comp_dir.entry) offset) }
     {
         let header = header_at(alloc, line_section, tables, bases, offset)?;
         let recorded = run_program(alloc, &header)?;
@@ -104,9 +107,9 @@ impl<'a> Lines<'a> {
     }
 
     /// The row of an address: in the first used sequence, in program order, from whose first
-    /// address on and below whose end it lies, the last row whose address isn't above it. It is found by
-    /// halves among the sequences and among the checkpoints of one, from which rows are run again. Takes no
-    /// memory.
+    /// address on and below whose end it lies, the last row whose address isn't above it. It is
+    /// found by halves among the sequences and among the checkpoints of one, from which rows are
+    /// run again. Takes no memory.
     pub fn row(&self, address: u64) -> Option<Row>
         ensures { result ≡ option_map row_told (row_of self.now.rows address) }
     {
@@ -124,7 +127,8 @@ impl<'a> Lines<'a> {
         self.row_counted(address, &mut steps)
     }
 
-    /// The row of an address, as `row` finds it. A step is a row that is run again: there are at most 64.
+    /// The row of an address, as `row` finds it. A step is a row that is run again: there are at
+    /// most 64.
     pub fn row_counted<L: Ledger>(&self, address: u64, steps: &mut Steps<L>) -> Option<Row>
         ensures row { result ≡ option_map row_told (row_of self.now.rows address) }
         ensures counted { steps.new ≤ steps.old + 64 }
@@ -133,9 +137,9 @@ impl<'a> Lines<'a> {
             .map(|last| last.reached.told())
     }
 
-    /// The row of an address, as `row` finds it. It takes less time where addresses are asked for in order: from
-    /// the row that was found last rows are run on, if the address lies in the same sequence, at that row or
-    /// after it, and before the next checkpoint. Takes no memory.
+    /// The row of an address, as `row` finds it. It takes less time where addresses are asked for
+    /// in order: from the row that was found last rows are run on, if the address lies in the same
+    /// sequence, at that row or after it, and before the next checkpoint. Takes no memory.
     pub fn row_in_order(&mut self, address: u64) -> Option<Row>
         ensures row { result ≡ option_map row_told (row_of self.old.rows address) }
         ensures table { self.new ≡ self.old }
@@ -155,7 +159,8 @@ impl<'a> Lines<'a> {
         self.row_in_order_counted(address, &mut steps)
     }
 
-    /// The row of an address, as `row_in_order` finds it. A step is a row that is run again: there are at most 64.
+    /// The row of an address, as `row_in_order` finds it. A step is a row that is run again: there
+    /// are at most 64.
     pub fn row_in_order_counted<L: Ledger>(
         &mut self,
         address: u64,
@@ -187,8 +192,8 @@ impl<'a> Lines<'a> {
         Some(self.row_of_sequence(number, last, address, steps))
     }
 
-    /// The row of an address in the used sequence of a number, which is the first that holds the address, from the
-    /// row that was found last if that serves.
+    /// The row of an address in the used sequence of a number, which is the first that holds the
+    /// address, from the row that was found last if that serves.
     pub(crate) fn row_of_sequence<L: Ledger>(
         &self,
         number: usize,
@@ -254,8 +259,8 @@ impl<'a> Lines<'a> {
         }
     }
 
-    /// How many checkpoints are kept: at most one for 64 rows of used sequences, and one for each of these
-    /// sequences. Nothing else is kept of their rows.
+    /// How many checkpoints are kept: at most one for 64 rows of used sequences, and one for each
+    /// of these sequences. Nothing else is kept of their rows.
     pub fn kept(&self) -> usize
         ensures { result ≤ most_checkpoints (used_sequences self.now.rows) }
     {
@@ -264,10 +269,11 @@ impl<'a> Lines<'a> {
 
     /// The path of a file, numbered from 0 on: from directory 0, else from the directory in which
     /// the unit was compiled, by the file's directory to its name (section 6.2.4). `None` where the
-    /// file isn't there or its name can't be read; an error where a growth was refused.
+    /// file isn't there or its name can't be read; an error where an allocation was refused.
     #[tactic(auto, unfolding(dw_model::specs::Path::path))]
     pub fn path(&self, alloc: Global, n: u64) -> Result<Option<Vec<u8>>, AllocError>
-        ensures { IfOk result (λ found. option_map (λ path. path.items) found ≡ path self.now.header self.now.comp_dir n) }
+        ensures { IfOk result (λ found. option_map (λ path. path.items) found
+            ≡ path self.now.header self.now.comp_dir n) }
     {
         let Some(file) = self.header.files.get(n as usize) else {
             return Ok(None);

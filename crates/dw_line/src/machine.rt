@@ -21,7 +21,7 @@ pub(crate) struct Appended {
 }
 
 impl Appended {
-    /// The registers behind the row: behind one that ends its sequence they begin anew.
+    /// The registers after the row: after one that ends its sequence they begin anew.
     #[inline(always)]
     pub(crate) fn registers_behind(self) -> Registers
         ensures { registers_shown result ≡ registers_behind (registers_shown self.registers) self.ends }

@@ -42,7 +42,8 @@ pub(crate) fn value<'a>(
     form: u64,
     width: Width,
 ) -> Result<Value<'a>, LineFault>
-    ensures { ReadsOn value_shown line_fault result (or_fault bad (value_at (size_of width) form None cursor.old)) cursor.new }
+    ensures { ReadsOn value_shown line_fault result
+        (or_fault bad (value_at (size_of width) form None cursor.old)) cursor.new }
 {
     match read_value(cursor, form, None, width) {
         Ok(value) => Ok(value),

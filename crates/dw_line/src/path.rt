@@ -21,8 +21,8 @@ fn is_closed(path: &[u8]) -> bool
     !path.is_empty() && path[path.len() - 1] == b'/'
 }
 
-/// Puts a part behind a path: it replaces the path where it begins with a slash, else one slash
-/// stands between, unless there is nothing before it or a slash already.
+/// Puts a part after a path: it replaces the path where it begins with a slash, else one slash
+/// is between, unless there is nothing before it or a slash already.
 #[tactic(auto, unfolding(dw_model::specs::Path::joined))]
 pub(crate) fn join(path: &mut Vec<u8>, part: &[u8]) -> Result<(), AllocError>
     ensures { OnOk result (path.new.items ≡ joined path.old.items part.now) }
@@ -51,7 +51,9 @@ pub(crate) fn join_some(path: &mut Vec<u8>, part: Option<&[u8]>) -> Result<(), A
 impl<'a> Header<'a> {
     /// The text to which an entry's path leads.
     pub(crate) fn text_of(&self, entry: &LineEntry<'a>) -> Option<&'a [u8]>
-        ensures { option_map (λ text. text.now) result ≡ option_and_then (text (tables_shown self.now.tables) (bases_shown self.now.bases)) (option_map value_shown entry.now.path) }
+        ensures { option_map (λ text. text.now) result
+            ≡ option_and_then (text (tables_shown self.now.tables) (bases_shown self.now.bases))
+            (option_map value_shown entry.now.path) }
     {
         let value = entry.path?;
         self.tables.text(&value, &self.bases)
@@ -68,7 +70,8 @@ impl<'a> Header<'a> {
     /// Where relative paths begin: at directory 0, else at the directory in which the unit was
     /// compiled, else nowhere.
     pub(crate) fn top(&self, comp_dir: Option<&'a [u8]>) -> &'a [u8]
-        ensures { result.now ≡ unwrap_or (option_or (model.directory_path (header_shown self.now) 0) (option_map (λ text. text.now) comp_dir.entry)) [] }
+        ensures { result.now ≡ unwrap_or (option_or (model.directory_path (header_shown self.now) 0)
+            (option_map (λ text. text.now) comp_dir.entry)) [] }
     {
         if let Some(directory) = self.directory_path(0) {
             return directory;

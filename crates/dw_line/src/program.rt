@@ -12,7 +12,8 @@ use crate::registers::Registers;
 use dw_bytes::Cursor;
 use std::alloc::Global;
 
-/// Runs a header's program to its end. Nothing is kept of its rows but the checkpoints of used sequences.
+/// Runs a header's program to its end. Nothing is kept of its rows but the checkpoints of used
+/// sequences.
 pub(crate) fn run_program(alloc: Global, header: &Header<'_>) -> Result<Checkpoints, LineFault>
     ensures { RecordsProgram (header_shown header.now) result }
 {

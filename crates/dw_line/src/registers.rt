@@ -80,7 +80,8 @@ impl Registers {
     /// The registers when the instruction is done.
     #[inline(always)]
     pub(crate) fn step(self, header: &Header<'_>, instruction: Instruction) -> Self
-        ensures { registers_shown result ≡ model.step (header_shown header.now) (instruction_shown instruction) (registers_shown self) }
+        ensures { registers_shown result ≡ model.step (header_shown header.now) (instruction_shown instruction)
+            (registers_shown self) }
     {
         let Registers {
             address,

@@ -1,5 +1,5 @@
-//! The row of an address in a used sequence, from whose checkpoints rows are run again, or from the row that
-//! answered last.
+//! The row of an address in a used sequence, from whose checkpoints rows are run again, or from the
+//! row that answered last.
 
 ghost use Rattle.std.specs.Prelude.{◌≡◌, ◌≤◌, ◌<◌, ◌+◌, Some, IfSome, length, drop, nat_le, option_map};
 ghost use Rattle.dw_line.specs.Header.{header_shown};
@@ -22,7 +22,8 @@ pub(crate) struct Reached {
     pub(crate) row: Checkpoint,
     /// The address of the row after it.
     pub(crate) next: u64,
-    /// The number of the next checkpoint after that from which it was found, among those of its sequence.
+    /// The number of the next checkpoint after that from which it was found, among those of its
+    /// sequence.
     pub(crate) next_checkpoint: usize,
 }
 
@@ -40,7 +41,8 @@ impl Reached {
         Row { file, line, column }
     }
 
-    /// The address lies at the row or after it, and before the next checkpoint of its sequence, if there is one.
+    /// The address lies at the row or after it, and before the next checkpoint of its sequence, if
+    /// there is one.
     fn reaches(self, checkpoints: &[Checkpoint], address: u64) -> bool
         ensures { result ≡ reaches self checkpoints.now address }
     {
@@ -95,9 +97,9 @@ fn cursor_at<'a>(program: &'a [u8], place: usize) -> Option<Cursor<'a>>
     Some(cursor)
 }
 
-/// The row of an address at or after that of a row: the last one in front of the first above the address. At
-/// most as many rows are run again as lie from one checkpoint to the next. The number is that of the checkpoint
-/// after the row.
+/// The row of an address at or after that of a row: the last one in front of the first above the
+/// address. At most as many rows are run again as lie from one checkpoint to the next. The number
+/// is that of the checkpoint after the row.
 fn row_from<L: Ledger>(
     header: &Header<'_>,
     row: Checkpoint,
@@ -138,8 +140,8 @@ fn row_from<L: Ledger>(
     None
 }
 
-/// The row of an address below the end of a used sequence with these checkpoints, which are searched by
-/// halves.
+/// The row of an address below the end of a used sequence with these checkpoints, which are
+/// searched by halves.
 pub(crate) fn row_in_sequence<L: Ledger>(
     header: &Header<'_>,
     checkpoints: &[Checkpoint],
@@ -160,8 +162,9 @@ pub(crate) fn row_in_sequence<L: Ledger>(
     row_from(header, checkpoints[next - 1], next, address, steps)
 }
 
-/// The same as `row_in_sequence`, where a row of the sequence may have been found before: if the address lies at
-/// that row or after it, and before the next checkpoint, rows are run on from there.
+/// The same as `row_in_sequence`, where a row of the sequence may have been found before: if the
+/// address lies at that row or after it, and before the next checkpoint, rows are run on from
+/// there.
 pub(crate) fn row_onward<L: Ledger>(
     header: &Header<'_>,
     checkpoints: &[Checkpoint],

@@ -22,9 +22,9 @@ pub struct Stretch {
     pub row: Option<Row>,
 }
 
-/// Goes through a span of addresses of a line table, from one stretch to the next. Rows are run on from the row before;
-/// only where another sequence begins they are run anew from one of its checkpoints. Contracts see the table, the
-/// address that comes next, and the end of the span.
+/// Goes through a span of addresses of a line table, from one stretch to the next. Rows are run on
+/// from the row before; only where another sequence begins they are run anew from one of its
+/// checkpoints. Contracts see the table, the address that comes next, and the end of the span.
 #[derive(Drop)]
 pub struct Walk<'b, 'a> {
     lines: &'b Lines<'a>,
@@ -69,8 +69,8 @@ fn owner_from(lines: &Lines<'_>, owner: Owner, at: u64) -> Owner
     lines.owner_from(at)
 }
 
-/// The stretch from an address on and below an end at most, where one sequence or none holds all of these; and the row
-/// that was found last.
+/// The stretch from an address on and below an end at most, where one sequence or none holds all of
+/// these; and the row that was found last.
 fn stretch_from<L: Ledger>(
     lines: &Lines<'_>,
     number: Option<usize>,

@@ -62,7 +62,7 @@ onward_at p s t e h = subst (Onward p) e h
 abbrev Pair : Type 0
 Pair = Option Specification × Place
 
--- the rest of a specification, behind its name and its form
+-- the rest of a specification, after its name and its form
 specification_rest : (a b : ℕ) (q : Place) (t : Place) (o : Option Specification) (ended constant : Bool) (make : ℤ → Option Specification) (plain : Option Specification) → cond {A = Result Pair Fault} ended (Ok (None, q)) (cond {A = Result Pair Fault} constant (sleb_at q >>= λ z. Ok (make z.0, z.1)) (Ok (plain, q))) ≡ Ok (o, t) → Onward q t
 specification_rest a b q t o true constant make plain e = onward_at q q t (ends_at None o q t e) (omega arith)
 specification_rest a b q t o false true make plain e =

@@ -28,7 +28,7 @@ use Rattle.dw_model.proofs.AdvanceLemmas.{either, entry-onward, number-onward, r
 use Rattle.dw_model.proofs.ItemsLemmas.{read_by}
 use Rattle.std.specs.Map.{lookup}
 
--- what is left behind an offset is there only where the offset lies in the section
+-- what is left after an offset is there only where the offset lies in the section
 left_behind : (section : List ℕ) (offset n : ℕ) → 0 < n → n ≤ length (drop offset section) → offset + n ≤ length section
 left_behind section offset n some h = omega (arith, some, h, length-drop offset section)
 
@@ -174,7 +174,7 @@ unit_of-within extent size bytes unit ends e =
           typed-within extent size v.0.0 t.0 unit base (omega (arith, ends, passed, number-conserves 1 v.0.1 (unit_header extent.offset) t.0 t.1)) t.2)
     ]
 
--- the unit of a piece, and those behind it
+-- the unit of a piece, and those after it
 piece_within : (test : Test) (at : ℕ) (width : Width) (content : List ℕ) (unit : Option DwarfUnit) (others : List DwarfUnit) (size : ℕ) → IsUnitOf test at width content unit → at + length_size width + length content ≤ size → AllByRecursion (StandsIn size) others → AllByRecursion (StandsIn size) (cons_option unit others)
 piece_within test at width [] unit others size u within h = rw (u) h
 piece_within test at width (c ∷ content) unit others size u within h =

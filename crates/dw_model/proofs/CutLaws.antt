@@ -22,7 +22,7 @@ use Rattle.dw_model.proofs.UnitLemmas.{next-some, next-end, pieces_advance, cut-
 abbrev Piece : Type 0
 Piece = Option DwarfUnit × Place
 
--- what stands behind the length of a piece
+-- what is after the length of a piece
 unit-ok : (test : Test) (p q : Place) (offset : ℕ) (width : Width) (content : List ℕ) (found : Option DwarfUnit) → p.at ≡ offset + length_size width → Between p content q → IsUnitOf test offset width content found → unit_behind test offset (of_length (length content) width) p ≡ Ok (found, q)
 unfolding unit_behind
 unit-ok test p q offset width [] found at b h = rw (bytes_at-ok 0 p q [] refl b, h) refl
@@ -41,7 +41,7 @@ piece-ok test p q piece content found b h u =
     let at : m.at ≡ p.at + length_size content.width = ap (λ (n : ℕ). p.at + n) (initial-long content.width (length content.bytes) h.0 h.2) in
     rw (initial-ok content.width (length content.bytes) p m h.0 parts.0 h.2) (unit-ok test m q p.at content.width content.bytes found at parts.1 u)
 
--- what the unit behind a length is
+-- what the unit after a length is
 record Behind (test : Test) (offset n : ℕ) (width : Width) (p : Place) (x : Piece) : Type 0 where
   content : List ℕ
   counted : length content ≡ n
@@ -170,7 +170,7 @@ contents_same first second e f =
     let made : ◌≡◌ {A = Content} (record { width = first.width; bytes = first.bytes }) (record { width = second.width; bytes = second.bytes }) = cc in
     made
 
--- the initial length of a piece is read so, whatever stands behind it
+-- the initial length of a piece is read so, whatever is after it
 piece-reads : (content : Content) (piece rest : List ℕ) (h : IsPiece content piece) → initial_length (start (piece ++ rest)) ≡ Some (of_length (length content.bytes) content.width, record { at = length h.0; left = content.bytes ++ rest })
 piece-reads content piece rest h =
     let left : piece ++ rest ≡ h.0 ++ (content.bytes ++ rest) = ap (λ (s : List ℕ). s ++ rest) h.1 ∙ append_assoc h.0 content.bytes rest in

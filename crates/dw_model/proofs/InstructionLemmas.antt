@@ -18,7 +18,7 @@ use Rattle.dw_model.proofs.NumberLemmas.{number_at-ok, number_at-spans, bytes_at
 use Rattle.dw_model.proofs.LebReading.{uleb-ok, uleb-spans, sleb-ok, sleb-spans}
 use Rattle.dw_model.proofs.SpellingLemmas.{between, parted, joined}
 
--- the value behind a fault that was told otherwise
+-- the value after a fault that was told otherwise
 pub or_fault-ok : {A E F : Type 0} (f : F) (r : Result A E) (x : A) → or_fault f r ≡ Ok x → r ≡ Ok x
 or_fault-ok f (Ok y) x e = let same : y ≡ x = cc in ap Ok same
 or_fault-ok f (Err d) x e = absurd cc
@@ -93,7 +93,7 @@ extended-spans p q i e =
     let fits : length c.0.0 < 2 ^ 64 = rw (s.0) l.2.1 in
     (l.0 ++ c.0.0, joined p b.0.1 q l.0 c.0.0 l.1 second, (l.0, c.0.0, refl, number, fits, d.0))
 
--- ---- what stands behind an opcode
+-- ---- what is after an opcode
 
 named : (opcode : ℕ) (operands : Operands) → lookup (nat_eq opcode) standard_opcodes ≡ Some operands → (opcode == DW_LNS_extended) ≡ false
 named opcode operands e =

@@ -57,7 +57,7 @@ unended : (n : ℕ) (p : Place) (found : Bool) (f : Fault) → ◌>>=◌ {B = Li
 unended n p true f h = absurd cc
 unended n p false f h = cc
 
--- the place behind a front of the bytes that are left
+-- the place after a front of the bytes that are left
 abbrev pub behind : Place → (front rest : List ℕ) → Place
 behind p front rest = record { at = p.at + length front; left = rest }
 

@@ -1,4 +1,4 @@
--- Fixed numbers, bytes and texts stand in a piece of the bytes.
+-- Fixed numbers, bytes and texts are in a piece of the bytes.
 use Rattle.std.proofs.Common.{◌≡◌, ℕ, zero, suc, ◌+◌, ◌≤◌, true, List, ◌++◌, length, take, drop, Some, refl, sym, ap, ◌∙◌, arith, length-append}
 use Rattle.std.specs.Prelude.{nat_le, slice_index}
 use Rattle.std.proofs.lemmas.Bool.{leb-true, le-leb}

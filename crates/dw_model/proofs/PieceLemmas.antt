@@ -403,7 +403,7 @@ one_more location low pieces next are from rises have = record {
     by a above below (inl less) = are.each a above less ∙ ap Ok (sym (before_more low pieces next a are.order rises less))
     by a above below (inr more) = have a more below ∙ ap Ok (sym (in_more low pieces next a are.order more below))
 
--- behind all pieces lies none
+-- after all pieces lies none
 after_all : (low high : ℕ) (pieces : List Piece) (a : ℕ) → AreInOrder low high pieces → high ≤ a → location_in pieces a ≡ None
 after_all low high [] a order past = refl
 after_all low high (piece ∷ pieces) a order past =

@@ -47,7 +47,7 @@ fault_of make (Err g) f e = cc
 place_of : (a b : ℕ) (s t : List ℕ) → a ≡ b → s ≡ t → ◌≡◌ {A = Place} (record { at = a; left = s }) (record { at = b; left = t })
 place_of a b s t e f = cc
 
--- the place behind a piece
+-- the place after a piece
 pub past-between : (p q : Place) (piece : List ℕ) (n : ℕ) → length piece ≡ n → Between p piece q → past n p ≡ q
 past-between p q piece n e b =
     let left : drop n p.left ≡ q.left = rw (b.0) (drop_at piece q.left n e) in
@@ -68,7 +68,7 @@ some_is x y p q e f = cc
 pub between-length : (p q : Place) (piece : List ℕ) → Between p piece q → length p.left ≡ length piece + length q.left
 between-length p q piece b = rw (b.0) (length-append piece q.left)
 
--- nothing stands between a place and itself
+-- nothing is between a place and itself
 pub between-none : (p q : Place) → p ≡ q → Between p [] q
 between-none p q e = (ap (λ (place : Place). place.left) e, omega (arith, ap (λ (place : Place). place.at) e))
 
@@ -78,7 +78,7 @@ empty-between p q piece b e =
     let none : length piece ≡ 0 = ap (λ (s : List ℕ). length s) e in
     place_of p.at q.at p.left q.left (omega (arith, b.1, none)) left
 
--- the place behind a front
+-- the place after a front
 abbrev pub behind_front : (front rest : List ℕ) → Place
 behind_front front rest = record { at = length front; left = rest }
 

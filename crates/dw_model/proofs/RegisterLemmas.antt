@@ -74,7 +74,7 @@ step-after : (header : LineHeader) (i : Instruction) (done : List Instruction) �
 step-after header i done =
     registers_of (next_address header i (address_after header done)) (address_after header (i ∷ done)) (next_file i (file_after done)) (file_after (i ∷ done)) (next_line header i (line_after header done)) (line_after header (i ∷ done)) (next_column i (column_after done)) (column_after (i ∷ done)) (address-step header i done) (file-step i done) (line-step header i done) (column-step i done)
 
--- what stands at the beginning of the next instruction
+-- what is at the beginning of the next instruction
 begins : (header : LineHeader) (ends : Bool) (r : Registers) (done : List Instruction) → r ≡ after header done → cond ends initial r ≡ after header (cond ends [] done)
 begins header true r done e = refl
 begins header false r done e = e

@@ -1,4 +1,5 @@
--- Sample files, built as a linker lays them out, for the rows that the definitions are held against.
+-- Sample files, built as a linker lays them out, for the rows that the definitions are held
+-- against.
 use Rattle.std.specs.Prelude.{ℕ, zero, suc, ◌+◌, ◌*◌, ◌-◌, List, [], ◌∷◌, ◌++◌, length, take, drop, replicate, Option, Some, None, codes, nat_lt, ◌==◌, if◌then◌else◌, flat_map}
 use Rattle.byteorder.specs.Endian.{little_bytes}
 
@@ -6,7 +7,7 @@ use Rattle.byteorder.specs.Endian.{little_bytes}
 digit : ℕ → ℕ
 digit c = if nat_lt c 58 then c - 48 else c - 87
 
--- the bytes that pairs of hexadecimal digits spell, whatever blanks stand between them
+-- the bytes that pairs of hexadecimal digits spell, whatever blanks are between them
 from_hex : Option ℕ → List ℕ → List ℕ
 from_hex high [] = []
 from_hex None (c ∷ text) = if c == 32 then from_hex None text else from_hex (Some c) text
@@ -43,7 +44,8 @@ ehdr shoff shentsize shnum shstrndx =
     ++ replicate 16 0 ++ little_bytes 8 shoff ++ replicate 4 0 ++ little_bytes 2 64 ++ replicate 4 0
     ++ little_bytes 2 shentsize ++ little_bytes 2 shnum ++ little_bytes 2 shstrndx
 
--- A file of these sections: the header, the sections' bytes, their names, and the section header table, without gaps.
+-- A file of these sections: the header, the sections' bytes, their names, and the section header
+-- table, without gaps.
 unfoldable pub elf : List Part → List ℕ
 unfolding headers hex
 elf parts =
@@ -73,7 +75,8 @@ line_table program =
     ++ hex (codes "01 01 08 01 2f 77 00 02 01 08 02 0b 02 7a 2e 63 00 00 61 2e 63 00 00")
     ++ program
 
--- Three functions, two of them inlined, with the abbreviations and entries of a compile unit and a partial unit.
+-- Three functions, two of them inlined, with the abbreviations and entries of a compile unit and a
+-- partial unit.
 unfoldable pub inlined_abbrev : List ℕ
 unfolding hex
 inlined_abbrev =
@@ -131,7 +134,8 @@ unfoldable pub with_info : List ℕ → List ℕ
 unfolding three_sections inlined_abbrev inlined_line
 with_info info = three_sections info inlined_abbrev inlined_line
 
--- a compile unit over [0x500000, 0x500004) without a line table, with the abbreviations of the sample
+-- a compile unit over [0x500000, 0x500004) without a line table, with the abbreviations of the
+-- sample
 unfoldable pub bare_unit : List ℕ
 unfolding hex
 bare_unit = hex (codes "1a 00 00 00 05 00 01 08 00 00 00 00 01 00 00 00 00 00 00 50 00 00 00 00 00 04 00 00 00 00")
@@ -175,7 +179,8 @@ overlapping info = overlapping_by (hex (codes "00 09 02 00 20 00 00 00 00 00 00 
 
 -- ---- deep trees, and names far away
 
--- a unit of this length, whose first entry is followed by n lexical blocks, each in the one before it
+-- a unit of this length, whose first entry is followed by n lexical blocks, each in the one before
+-- it
 unfoldable pub deep : (length n : ℕ) → List ℕ
 unfolding hex with_info
 deep length n =
@@ -187,7 +192,7 @@ references : ℕ → ℕ → List ℕ
 references zero at = []
 references (suc n) at = (3 ∷ little_bytes 4 at) ++ references n (at + 5)
 
--- A function over [0x1000, 0x1010) whose only name stands n references away, n at least 1.
+-- A function over [0x1000, 0x1010) whose only name is n references away, n at least 1.
 unfoldable pub far_name : ℕ → List ℕ
 unfolding hex references three_sections
 far_name n =

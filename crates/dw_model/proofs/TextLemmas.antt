@@ -1,4 +1,4 @@
--- A text stands before the first zero byte.
+-- A text is before the first zero byte.
 use Rattle.std.proofs.Common.{◌≡◌, ◌≢◌, ℕ, suc, ◌+◌, ◌<◌, Bool, true, false, cond, List, [], ◌∷◌, ◌++◌, length, take, Option, Some, None, refl, sym, ap, arith, length-append}
 use Rattle.std.specs.Prelude.{not, nat_lt, ◌==◌, option_and_then}
 use Rattle.std.specs.List.{position_or_len, AllByRecursion}
@@ -10,7 +10,7 @@ use Rattle.dw_model.proofs.ReadingLemmas.{past-between, between-past, some_is}
 abbrev is_zero : ℕ → Bool
 is_zero b = b == 0
 
--- the bytes of a text and the zero byte behind it
+-- the bytes of a text and the zero byte after it
 abbrev pub IsText : List ℕ → List ℕ → Type 0
 IsText content piece = (piece ≡ content ++ 0 ∷ []) × AllByRecursion (λ b. b ≢ 0) content
 
@@ -18,7 +18,7 @@ text_length : (content rest : List ℕ) → AllByRecursion (λ b. b ≢ 0) conte
 text_length [] rest h = refl
 text_length (b ∷ content) rest h = rw (ne_eqb b 0 h.0) (omega (arith, text_length content rest h.1))
 
--- what stands before the first zero byte, where there is one
+-- what is before the first zero byte, where there is one
 record Found (bytes : List ℕ) (n : ℕ) : Type 0 where
   content : AllByRecursion (λ b. b ≢ 0) (take n bytes)
   piece : take (suc n) bytes ≡ take n bytes ++ 0 ∷ []

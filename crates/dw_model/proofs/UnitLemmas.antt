@@ -105,7 +105,7 @@ pub cut-end : (test : Test) (p : Place) → (length p.left == 0) ≡ true → cu
 unfolding cut_from next_piece
 cut-end test p ended = rw (items-turn (next_piece test) (λ q. q.left) (pieces_advance test) p, ended) refl
 
--- ---- the test of a unit comes behind its header
+-- ---- the test of a unit comes after its header
 
 -- the piece, where its unit passes the test
 abbrev pub tested : Test → Piece → Result Piece Refusal

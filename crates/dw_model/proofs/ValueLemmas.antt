@@ -51,7 +51,7 @@ unfolding next_form
 direct-behind p =
     rw (items-turn next_form (λ s. s.1.left) forms_advance (DW_FORM_indirect, p)) (behind-same (uleb_at p))
 
--- ---- the value of a form that isn't DW_FORM_indirect, and of one behind it
+-- ---- the value of a form that isn't DW_FORM_indirect, and of one after it
 
 pub value-here : (size form : ℕ) (constant : Option ℤ) (p : Place) → (form == DW_FORM_indirect) ≡ false → value_at size form constant p ≡ (ok_or (lookup (nat_eq form) forms) unknown_form >>= λ s. spelled_at size s constant p)
 unfolding value_at
@@ -148,7 +148,7 @@ pub data WhyNot (form : ℕ) (constant : Option ℤ) (left : List ℕ) (f : Faul
 abbrev FaultBelow : ℕ → ℕ → Type 0
 FaultBelow size n = (form : ℕ) (constant : Option ℤ) (p : Place) (f : Fault) → length p.left < n → value_at size form constant p ≡ Err f → WhyNot form constant p.left f
 
--- the same of the form behind DW_FORM_indirect
+-- the same of the form after DW_FORM_indirect
 why_behind : (constant : Option ℤ) (p q : Place) (form : ℕ) (f : Fault) (number : List ℕ) → p.left ≡ number ++ q.left → IsUleb number form → form < 2 ^ 64 → WhyNot form None q.left f → WhyNot DW_FORM_indirect constant p.left f
 why_behind constant p q form f number e h fits (short g) = short g
 why_behind constant p q form f number e h fits (unknown g u) = unknown g (subst (IsUnknown DW_FORM_indirect constant) (sym e) (unknown_behind number q.left form h fits u))

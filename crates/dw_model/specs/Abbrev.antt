@@ -6,7 +6,7 @@ use Rattle.dw_model.specs.Reading.{Place, number_at, items}
 use Rattle.dw_model.specs.Leb.{uleb_at, sleb_at}
 use Rattle.dw_model.specs.Faults.{Fault, ends_early}
 
--- an attribute's name and form, and its value where that stands in the declaration
+-- an attribute's name and form, and its value where that is in the declaration
 pub record Specification : Type 0 where
   pub name : ℕ
   pub form : ℕ
@@ -18,7 +18,7 @@ pub record Declaration : Type 0 where
   pub children : Bool
   pub specifications : List Specification
 
--- a pair of name and form, with a number behind DW_FORM_implicit_const; the pair 0, 0 ends the list
+-- a pair of name and form, with a number after DW_FORM_implicit_const; the pair 0, 0 ends the list
 unfoldable pub next_specification : Place → Result (Option Specification × Place) Fault
 next_specification p = do
   name ← uleb_at p
@@ -29,7 +29,8 @@ next_specification p = do
         Ok (Some (record { name = name.0; form = form.0; constant = Some constant.0 }), constant.1))
       else Ok (Some (record { name = name.0; form = form.0; constant = None }), form.1))
 
--- Code, tag, a byte that says whether there are children (any but 0 does, own), and the list of pairs.
+-- Code, tag, a byte that says whether there are children (any but 0 does, own), and the list of
+-- pairs.
 unfoldable pub declaration_behind : ℕ → Place → Result (Declaration × Place) Fault
 declaration_behind code p = do
   tag ← uleb_at p

@@ -40,7 +40,8 @@ pub record Piece : Type 0 where
   pub end : ℕ
   pub location : Location
 
--- Of an address: no unit covers it; or its unit, by offset, has a fault; or the frames at it, innermost first. Of a span of addresses: such a fault, or the pieces of it that have locations.
+-- Of an address: no unit covers it; or its unit, by offset, has a fault; or the frames at it,
+-- innermost first. Of a span of addresses: such a fault, or the pieces of it that have locations.
 pub data Answer : Type 0 where
   not_covered : Answer
   fault : (unit : ℕ) → Code → Answer
@@ -102,7 +103,8 @@ call_location table entry =
 
 -- ---- frames
 
--- the frames of functions, innermost first; each but the first stands where the one inside it was called
+-- the frames of functions, innermost first; each but the first is where the one inside it was
+-- called
 unfoldable pub frames_from : (Entry → Option (List ℕ)) → Option Lines → Location → List Node → List Frame
 frames_from name table location [] = []
 frames_from name table location (node ∷ outer) =

@@ -2,7 +2,8 @@
 use Rattle.std.specs.Prelude.{◌≡◌, Option, Some, None, Result, Ok, Err, MatchOption}
 use Rattle.dw_model.specs.Reading.{Place}
 
--- A call that reads at a place: it found what the definition finds there, and stands just past it; or it found nothing, and stands where it stood.
+-- A call that reads at a place: it found what the definition finds there, and is just past it; or
+-- it found nothing, and is where it was.
 abbrev pub Reads : {X Y : Type 0} → (X → Y) → Option X → Option (Y × Place) → Place → Place → Type 0
 Reads view None found old new = (found ≡ None) × (new ≡ old)
 Reads view (Some x) found old new = found ≡ Some (view x, new)
@@ -12,17 +13,18 @@ abbrev pub Tells : {Y F : Type 0} → Option F → Result Y F → Type 0
 Tells None given = ⊥
 Tells (Some fault) given = given ≡ Err fault
 
--- A call that takes no memory answers what the definition gives: its value, seen by `view`, or its fault, which `told` finds in the error.
+-- A call that takes no memory answers what the definition gives: its value, seen by `view`, or its
+-- fault, which `told` finds in the error.
 abbrev pub Gives : {X Y E F : Type 0} → (X → Y) → (E → Option F) → Result X E → Result Y F → Type 0
 Gives view told (Ok x) given = given ≡ Ok (view x)
 Gives view told (Err e) given = Tells (told e) given
 
--- The same of a call that reads at a place, and may stand anywhere after a fault.
+-- The same of a call that reads at a place, and may be anywhere after a fault.
 abbrev pub ReadsOn : {X Y E F : Type 0} → (X → Y) → (E → Option F) → Result X E → Result (Y × Place) F → Place → Type 0
 ReadsOn view told (Ok x) given new = given ≡ Ok (view x, new)
 ReadsOn view told (Err e) given new = Tells (told e) given
 
--- The same of a call that stands after a fault where it stood.
+-- The same of a call that stays where it was after a fault.
 abbrev pub ReadsOrTells : {X Y E F : Type 0} → (X → Y) → (E → Option F) → Result X E → Result (Y × Place) F → Place → Place → Type 0
 ReadsOrTells view told (Ok x) given old new = given ≡ Ok (view x, new)
 ReadsOrTells view told (Err e) given old new = Tells (told e) given × (new ≡ old)
@@ -32,7 +34,7 @@ abbrev pub GivesUnlessMemory : {X Y E F : Type 0} → (X → Y) → (E → Optio
 GivesUnlessMemory view told (Ok x) given = given ≡ Ok (view x)
 GivesUnlessMemory view told (Err e) given = MatchOption (told e) (Unit {0}) (λ fault. given ≡ Err fault)
 
--- The same of a call that reads at a place, and may stand anywhere after a fault.
+-- The same of a call that reads at a place, and may be anywhere after a fault.
 abbrev pub ReadsUnlessMemory : {X Y E F : Type 0} → (X → Y) → (E → Option F) → Result X E → Result (Y × Place) F → Place → Type 0
 ReadsUnlessMemory view told (Ok x) given new = given ≡ Ok (view x, new)
 ReadsUnlessMemory view told (Err e) given new = MatchOption (told e) (Unit {0}) (λ fault. given ≡ Err fault)

@@ -1,11 +1,13 @@
--- The layout of an ELF64 file: its header, the section header table, and the names of sections (ELF-64 Object File Format, version 1.5).
+-- The layout of an ELF64 file: its header, the section header table, and the names of sections
+-- (ELF-64 Object File Format, version 1.5).
 use Rattle.std.specs.Prelude.{ℕ, zero, suc, ◌+◌, ◌*◌, ◌||◌, Bool, List, [], ◌∷◌, length, take, drop, Option, Some, None, option_map, find, nat_le, ◌==◌, if◌then◌else◌, bytes_eq}
 use Rattle.std.specs.Option.{option_eq, option_map_or}
 use Rattle.dw_model.specs.declared.elf.TheConstants.{SHDR_SIZE, SHN_UNDEF, SHN_XINDEX, SHT_NOBITS}
 use Rattle.dw_model.specs.Options.{◌>>=◌, only_if}
 use Rattle.dw_model.specs.Reading.{Place, start, number_at, bytes_at, text_at}
 
--- the fields of the file header that are used (section 3, Elf64_Ehdr); the first three stand in e_ident
+-- the fields of the file header that are used (section 3, Elf64_Ehdr); the first three are in
+-- e_ident
 pub record FileHeader : Type 0 where
   pub magic : List ℕ
   pub class : ℕ
@@ -107,7 +109,8 @@ pub record Table : Type 0 where
 abbrev pub no_sections : Table
 no_sections = record { headers = []; names = [] }
 
--- the names, from the section of this index; at SHN_UNDEF there is no such section and no name (section 5)
+-- the names, from the section of this index; at SHN_UNDEF there is no such section and no name
+-- (section 5)
 unfoldable pub names_at : List ℕ → List ℕ → ℕ → Option (List ℕ)
 names_at file table index =
     if index == SHN_UNDEF then Some [] else (do
@@ -115,7 +118,8 @@ names_at file table index =
       header ← section_header_at (start bytes)
       contents file header.0)
 
--- The table that the file header names. Header 0 has the count where e_shnum is 0, and the index of the names where e_shstrndx is SHN_XINDEX.
+-- The table that the file header names. Header 0 has the count where e_shnum is 0, and the index of
+-- the names where e_shstrndx is SHN_XINDEX.
 unfoldable pub table_at : List ℕ → FileHeader → Option Table
 table_at file header = do
   _ ← only_if (header.e_shentsize == SHDR_SIZE)
@@ -127,7 +131,8 @@ table_at file header = do
     names ← names_at file table (if header.e_shstrndx == SHN_XINDEX then first.0.sh_link else header.e_shstrndx)
     Some (record { headers = section_headers count (start table); names = names }))
 
--- the name of a section: the text that begins at sh_name in the names, where there is one (section 5)
+-- the name of a section: the text that begins at sh_name in the names, where there is one (section
+-- 5)
 unfoldable pub name_of : List ℕ → SectionHeader → Option (List ℕ)
 name_of names header = option_map (λ text. text.0) (text_at (start (drop header.sh_name names)))
 

@@ -16,7 +16,8 @@ pub record Attribute : Type 0 where
   pub name : ℕ
   pub value : Value
 
--- An entry: its offset in .debug_info, its tag, whether a list of children follows it, and its attributes in order.
+-- An entry: its offset in .debug_info, its tag, whether a list of children follows it, and its
+-- attributes in order.
 pub record Entry : Type 0 where
   pub offset : ℕ
   pub tag : ℕ
@@ -31,7 +32,8 @@ attributes_at size (specification ∷ specifications) p = do
   others ← attributes_at size specifications value.1
   Ok (record { name = specification.name; value = value.0 } ∷ others.0, others.1)
 
--- The entry at a place, and the place just past it. The code 0 is a null entry, which ends a list of children.
+-- The entry at a place, and the place just past it. The code 0 is a null entry, which ends a list
+-- of children.
 unfoldable pub entry_at : ℕ → List Declaration → Place → Result (Option Entry × Place) Fault
 entry_at size declarations p = do
   code ← uleb_at p
@@ -98,7 +100,8 @@ classes =
     ∷ (constants.DW_AT_rnglists_base, is_section_offset)
     ∷ []
 
--- The first attribute of a name, where its value is of a class that counts; else the attribute is absent, whatever stands behind it.
+-- The first attribute of a name, where its value is of a class that counts; else the attribute is
+-- absent, whatever is after it.
 unfoldable pub attribute : ℕ → Entry → Option Value
 attribute name entry =
     options.◌>>=◌ (find (λ found. found.name == name) entry.attributes) λ found.

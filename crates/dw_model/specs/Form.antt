@@ -9,7 +9,8 @@ use Rattle.dw_model.specs.Reading.{Place, made, number_at, bytes_at, text_at, it
 use Rattle.dw_model.specs.Leb.{IsUleb, IsSleb, fits_i64, BeginsTooWide, BeginsTooWideSigned, uleb_at, sleb_at}
 use Rattle.dw_model.specs.Faults.{Fault, ends_early, unknown_form}
 
--- A value, of the kind that its form gives it here. Offsets and indexes are numbers of their sections; what they lead to is looked up later.
+-- A value, of the kind that its form gives it here. Offsets and indexes are numbers of their
+-- sections; what they lead to is looked up later.
 pub data Value : Type 0 where
   address : ℕ → Value
   unsigned : ℕ → Value
@@ -27,7 +28,9 @@ pub data Value : Type 0 where
   range_index : ℕ → Value
   unused : ℕ → Value
 
--- How a value is spelled: as a number of so many bytes, of the size of an offset, or in LEB128; as so many bytes, as a length and as many bytes, or as a text; or by nothing, where it stands in the declaration or is a flag that is set by being there.
+-- How a value is spelled: as a number of so many bytes, of the size of an offset, or in LEB128; as
+-- so many bytes, as a length and as many bytes, or as a text; or by nothing, where it is in the
+-- declaration or is a flag that is set by being there.
 pub data Spelling : Type 0 where
   fixed : (size : ℕ) → (ℕ → Value) → Spelling
   offset : (ℕ → Value) → Spelling
@@ -43,7 +46,8 @@ pub data Spelling : Type 0 where
 abbrev is_set : ℕ → Value
 is_set n = flag (not (n == 0))
 
--- the forms by their codes, in the order of table 7.6, and behind them two of the GNU tools; DW_FORM_indirect is none of them, since it only names another
+-- the forms by their codes, in the order of table 7.6, and after them two of the GNU tools;
+-- DW_FORM_indirect is none of them, since it only names another
 abbrev pub forms : List (ℕ × Spelling)
 forms =
     (constants.DW_FORM_addr, fixed 8 address)
@@ -92,7 +96,8 @@ forms =
     ∷ (constants.DW_FORM_GNU_strp_alt, offset unused)
     ∷ []
 
--- A value in its spelling. `size` is that of an offset; `constant` is the number that stands in the declaration, where one does.
+-- A value in its spelling. `size` is that of an offset; `constant` is the number that is in the
+-- declaration, where one does.
 unfoldable pub spelled_at : (size : ℕ) → Spelling → (constant : Option ℤ) → Place → Result (Value × Place) Fault
 spelled_at size (fixed n make) constant p = made make (ok_or (number_at n p) ends_early)
 spelled_at size (offset make) constant p = made make (ok_or (number_at size p) ends_early)
@@ -110,7 +115,7 @@ spelled_at size implicit None p = Err unknown_form
 spelled_at size implicit (Some z) p = Ok (signed z, p)
 spelled_at size present constant p = Ok (flag true, p)
 
--- behind DW_FORM_indirect stands a form, which may be DW_FORM_indirect again
+-- after DW_FORM_indirect is a form, which may be DW_FORM_indirect again
 unfoldable pub next_form : ℕ × Place → Result (Option (Unit {0}) × (ℕ × Place)) Fault
 next_form s = if s.0 == constants.DW_FORM_indirect then (uleb_at s.1 >>= λ form. Ok (Some tt, form)) else Ok (None, s)
 
@@ -118,7 +123,8 @@ next_form s = if s.0 == constants.DW_FORM_indirect then (uleb_at s.1 >>= λ form
 abbrev pub direct_form : ℕ → Place → Result (ℕ × Place) Fault
 direct_form form p = items (λ s. s.1.left) next_form (form, p) >>= λ found. Ok found.1
 
--- The value of a form (section 7.5.6). A constant of the declaration isn't reached through DW_FORM_indirect.
+-- The value of a form (section 7.5.6). A constant of the declaration isn't reached through
+-- DW_FORM_indirect.
 unfoldable pub value_at : (size : ℕ) → (form : ℕ) → (constant : Option ℤ) → Place → Result (Value × Place) Fault
 value_at size form constant p = do
   direct ← direct_form form p
@@ -150,7 +156,8 @@ pub data Spells (size : ℕ) : (form : ℕ) → (constant : Option ℤ) → List
 
 -- ---- why a value isn't read
 
--- The form is unknown, or its number doesn't stand in the declaration, or so it is of the form that DW_FORM_indirect names.
+-- The form is unknown, or its number isn't in the declaration, or so it is of the form that
+-- DW_FORM_indirect names.
 pub data IsUnknown : (form : ℕ) → (constant : Option ℤ) → List ℕ → Type 0 where
   missing : {form : ℕ} {constant : Option ℤ} {left : List ℕ}
       → form ≢ constants.DW_FORM_indirect → lookup (nat_eq form) forms ≡ None → IsUnknown form constant left
@@ -165,7 +172,7 @@ BeginsWide sleb left = BeginsTooWideSigned left
 BeginsWide uleb_counted left = BeginsTooWide left
 BeginsWide _ left = ⊥
 
--- A LEB128 number doesn't fit: that of the value, or that of a form behind DW_FORM_indirect.
+-- A LEB128 number doesn't fit: that of the value, or that of a form after DW_FORM_indirect.
 pub data IsWide : (form : ℕ) → List ℕ → Type 0 where
   in_value : {form : ℕ} {left : List ℕ} (spelling : Spelling)
       → lookup (nat_eq form) forms ≡ Some spelling → BeginsWide spelling left → IsWide form left

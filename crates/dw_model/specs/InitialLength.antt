@@ -18,7 +18,8 @@ abbrev pub length_size : Width → ℕ
 length_size four = LENGTH_SIZE_32
 length_size eight = LENGTH_SIZE_64
 
--- What an initial length says: a length and the width of the offsets behind it, or nothing, since the value is reserved.
+-- What an initial length says: a length and the width of the offsets after it, or nothing, since
+-- the value is reserved.
 pub data InitialLength : Type 0 where
   of_length : (length : ℕ) → Width → InitialLength
   reserved : InitialLength
@@ -27,7 +28,7 @@ pub data InitialLength : Type 0 where
 abbrev pub short_length : ℕ → InitialLength
 short_length n = if nat_le DW_LENGTH_RESERVED n then reserved else of_length n four
 
--- the length behind the escape
+-- the length after the escape
 abbrev pub long_length : Place → Option (InitialLength × Place)
 long_length p = do
   n ← number_at 8 p

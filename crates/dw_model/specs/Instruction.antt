@@ -9,7 +9,8 @@ use Rattle.dw_model.specs.Leb.{IsUleb, IsSleb, fits_i64, uleb_at, sleb_at}
 use Rattle.dw_model.specs.LineHeader.{LineHeader}
 use Rattle.dw_model.specs.Faults.{Bad, bad}
 
--- An instruction, as far as it bears on the registers that are kept: address, file, line and column. `special n` is the special opcode n above the opcode base.
+-- An instruction, as far as it bears on the registers that are kept: address, file, line and
+-- column. `special n` is the special opcode n above the opcode base.
 pub data Instruction : Type 0 where
   special : (n : ℕ) → Instruction
   copy : Instruction
@@ -33,7 +34,8 @@ pub data Operands : Type 0 where
 abbrev ignored : ℕ → Instruction
 ignored n = no_effect
 
--- The standard opcodes that the standard names (section 6.2.5.2). Their operands are these, whatever the header's lengths say (own).
+-- The standard opcodes that the standard names (section 6.2.5.2). Their operands are these,
+-- whatever the header's lengths say (own).
 abbrev pub standard_opcodes : List (ℕ × Operands)
 standard_opcodes =
     (constants.DW_LNS_copy, none copy)
@@ -79,12 +81,12 @@ extended_at p = do
   instruction ← extended bytes.0
   Ok (instruction, bytes.1)
 
--- the rest of an instruction behind a standard opcode, with its operands where the standard names it
+-- the rest of an instruction after a standard opcode, with its operands where the standard names it
 abbrev pub standard_at : LineHeader → ℕ → Option Operands → Place → Result (Instruction × Place) Bad
 standard_at header opcode None p = unknown_at (slice_index header.standard_opcode_lengths (opcode - 1)) p
 standard_at header opcode (Some operands) p = operands_at operands p
 
--- the rest of an instruction behind its opcode
+-- the rest of an instruction after its opcode
 unfoldable pub opcode_at : LineHeader → ℕ → Place → Result (Instruction × Place) Bad
 opcode_at header opcode p =
     if nat_le header.opcode_base opcode then Ok (special (opcode - header.opcode_base), p) else (
@@ -122,7 +124,7 @@ abbrev pub IsExtended : List ℕ → Instruction → Type 0
 IsExtended bytes i =
     (len content : List ℕ) × (bytes ≡ len ++ content) × IsUleb len (length content) × (length content < 2 ^ 64) × (extended content ≡ Ok i)
 
--- The bytes are what stands behind the opcode, and with it they make the instruction.
+-- The bytes are what is after the opcode, and with it they make the instruction.
 pub data IsBehind (header : LineHeader) (opcode : ℕ) (bytes : List ℕ) (i : Instruction) : Type 0 where
   is_special : header.opcode_base ≤ opcode → bytes ≡ [] → i ≡ special (opcode - header.opcode_base) → IsBehind header opcode bytes i
   is_extended : opcode < header.opcode_base → opcode ≡ constants.DW_LNS_extended → IsExtended bytes i → IsBehind header opcode bytes i

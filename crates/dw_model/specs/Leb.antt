@@ -25,7 +25,8 @@ IsLeb [] = ⊥
 IsLeb (b ∷ []) = b < 128
 IsLeb (b ∷ c ∷ bytes) = (128 ≤ b) × IsLeb (c ∷ bytes)
 
--- the bytes are a spelling of the number; a number may have longer spellings, which are padded (own)
+-- the bytes are a spelling of the number; a number may have longer spellings, which are padded
+-- (own)
 abbrev pub IsUleb : List ℕ → ℕ → Type 0
 IsUleb bytes n = IsLeb bytes × (n ≡ groups bytes)
 

@@ -18,7 +18,7 @@ pub record LineEntry : Type 0 where
   pub path : Option (List ℕ)
   pub directory : ℕ
 
--- the fields of a header that are used, and the program behind it
+-- the fields of a header that are used, and the program after it
 pub record LineHeader : Type 0 where
   pub minimum_instruction_length : ℕ
   pub line_base : ℤ
@@ -31,7 +31,7 @@ pub record LineHeader : Type 0 where
 
 -- ---- lists of directories and files (section 6.2.4.1)
 
--- what stands in each entry of a list: content types with their forms
+-- what is in each entry of a list: content types with their forms
 abbrev pub Format : Type 0
 Format = ℕ × ℕ
 
@@ -55,7 +55,8 @@ abbrev pub as_directory : Value → ℕ
 as_directory (values.unsigned n) = n
 as_directory _ = 0
 
--- the first path and the first directory index of an entry; without an index that is an unsigned number, it is 0 (own)
+-- the first path and the first directory index of an entry; without an index that is an unsigned
+-- number, it is 0 (own)
 abbrev pub line_entry : Tables → Bases → List (ℕ × Value) → LineEntry
 line_entry tables bases contents = record {
   path = option_and_then (text tables bases) (lookup (nat_eq DW_LNCT_path) contents);
@@ -69,7 +70,8 @@ entries_at tables bases size formats (suc count) p = do
   others ← entries_at tables bases size formats count contents.1
   Ok (line_entry tables bases contents.0 ∷ others.0, others.1)
 
--- a list: how many formats, these, how many entries, and those; a number of entries above that of the bytes left is bad (own)
+-- a list: how many formats, these, how many entries, and those; a number of entries above that of
+-- the bytes left is bad (own)
 unfoldable pub entry_list : Tables → Bases → ℕ → Place → Result (List LineEntry × Place) Bad
 entry_list tables bases size p = do
   format_count ← ok_or (number_at 1 p) bad
@@ -80,7 +82,7 @@ entry_list tables bases size p = do
 
 -- ---- the header
 
--- the fields behind header_length; `program` is what stands behind the header
+-- the fields after header_length; `program` is what is after the header
 unfoldable pub fields_at : Tables → Bases → ℕ → List ℕ → Place → Result LineHeader Bad
 fields_at tables bases size program p = do
   minimum_instruction_length ← ok_or (number_at 1 p) bad
@@ -105,7 +107,7 @@ fields_at tables bases size program p = do
     program = program;
   })
 
--- the table whose bytes behind its length are these
+-- the table whose bytes after its length are these
 unfoldable pub table_behind : Tables → Bases → ℕ → Place → Result LineHeader Bad
 table_behind tables bases size p = do
   version ← ok_or (number_at 2 p) bad
@@ -117,7 +119,7 @@ table_behind tables bases size p = do
   _ ← refuse_if (not (address_size.0 == ADDRESS_SIZE)) bad
   fields_at tables bases size header.1.left (start header.0)
 
--- a length and the size of the offsets behind it
+-- a length and the size of the offsets after it
 abbrev pub length_of : InitialLength → Result (ℕ × ℕ) Bad
 length_of (of_length n width) = Ok (n, offset_size width)
 length_of reserved = Err bad

@@ -4,7 +4,8 @@ use Rattle.dw_model.specs.Options.{◌>>=◌}
 use Rattle.dw_model.specs.LineHeader.{LineHeader}
 use Rattle.dw_model.specs.Instruction.{Instruction, special, copy, advance_pc, advance_line, set_file, set_column, const_add_pc, fixed_advance_pc, end_sequence, set_address}
 
--- a row of the matrix: an address and where in the source it comes from, or the address that ends a sequence
+-- a row of the matrix: an address and where in the source it comes from, or the address that ends a
+-- sequence
 pub record Row : Type 0 where
   pub address : ℕ
   pub file : ℕ
@@ -14,7 +15,8 @@ pub record Row : Type 0 where
 
 -- ---- what each instruction does to the address and the line (section 6.2.5)
 
--- the address advance of a special opcode: its operation advance times the minimum instruction length (section 6.2.5.1)
+-- the address advance of a special opcode: its operation advance times the minimum instruction
+-- length (section 6.2.5.1)
 abbrev pub special_advance : LineHeader → ℕ → ℕ
 special_advance header n = header.minimum_instruction_length * (n / header.line_range)
 
@@ -84,7 +86,8 @@ row_after header done ends = record {
 
 -- ---- the matrix and its sequences
 
--- a row for each instruction that appends one; `done` are those since the last end_sequence, the newest first
+-- a row for each instruction that appends one; `done` are those since the last end_sequence, the
+-- newest first
 unfoldable pub rows_from : LineHeader → List Instruction → List Instruction → List Row
 rows_from header done [] = []
 rows_from header done (instruction ∷ instructions) =
@@ -94,7 +97,8 @@ rows_from header done (instruction ∷ instructions) =
 abbrev pub matrix : LineHeader → List Instruction → List Row
 matrix header instructions = rows_from header [] instructions
 
--- the rows up to and with each end row; rows after the last are in no sequence (own). `done` are the rows since the last end row, the newest first
+-- the rows up to and with each end row; rows after the last are in no sequence (own). `done` are
+-- the rows since the last end row, the newest first
 unfoldable pub sequences_from : List Row → List Row → List (List Row)
 sequences_from done [] = []
 sequences_from done (row ∷ rows) =
@@ -122,14 +126,15 @@ last_address (row ∷ next ∷ rows) = last_address (next ∷ rows)
 abbrev pub is_used : List Row → Bool
 is_used rows = never_falls rows && nat_lt (first_address rows) (last_address rows)
 
--- the row at whose address or behind which the address lies, before the next row's
+-- the row at whose address or after which the address lies, before the next row's
 unfoldable pub row_in : ℕ → List Row → Option Row
 row_in a [] = None
 row_in a (row ∷ []) = None
 row_in a (row ∷ next ∷ rows) =
     if nat_le row.address a && nat_lt a next.address then Some row else row_in a (next ∷ rows)
 
--- The row of an address: in the first used sequence from whose first address on and below whose end it lies.
+-- The row of an address: in the first used sequence from whose first address on and below whose end
+-- it lies.
 unfoldable pub row_of : List Row → ℕ → Option Row
 row_of rows a = do
   found ← find (λ s. is_used s && nat_le (first_address s) a && nat_lt a (last_address s)) (sequences rows)

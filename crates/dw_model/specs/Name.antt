@@ -12,7 +12,7 @@ use Rattle.dw_model.specs.Section.{Sections}
 use Rattle.dw_model.specs.Unit.{DwarfUnit, units}
 use Rattle.dw_model.specs.Root.{entry, bases}
 
--- an entry with the unit in which it stands
+-- an entry with the unit in which it is
 pub record UnitEntry : Type 0 where
   pub unit : DwarfUnit
   pub entry : Entry
@@ -21,13 +21,15 @@ pub record UnitEntry : Type 0 where
 abbrev pub holding : List DwarfUnit → ℕ → Option DwarfUnit
 holding units offset = find (λ unit. nat_le unit.offset offset && nat_lt offset unit.end) units
 
--- the offset in .debug_info to which a reference leads: that of a unit counts from the unit's first byte
+-- the offset in .debug_info to which a reference leads: that of a unit counts from the unit's first
+-- byte
 abbrev pub target : DwarfUnit → Value → Option ℕ
 target unit (values.unit_ref n) = Some (unit.offset + n)
 target unit (values.section_ref n) = Some n
 target unit _ = None
 
--- the entry that stands at an offset of .debug_info, in whichever unit; none for a null entry, an entry that can't be read, a header or a skipped unit
+-- the entry that is at an offset of .debug_info, in whichever unit; none for a null entry, an entry
+-- that can't be read, a header or a skipped unit
 unfoldable pub entry_of : Sections → ℕ → Option UnitEntry
 entry_of sections offset = do
   unit ← holding (units sections.info) offset
@@ -35,7 +37,8 @@ entry_of sections offset = do
   here ← found.0
   Some (record { unit = unit; entry = here })
 
--- the reference by which an entry says what it is an instance of, or else which declaration it completes
+-- the reference by which an entry says what it is an instance of, or else which declaration it
+-- completes
 abbrev pub reference : Entry → Option Value
 reference here = option_or (attribute DW_AT_abstract_origin here) (attribute DW_AT_specification here)
 
@@ -59,6 +62,7 @@ name_within sections zero here = own_name sections here
 name_within sections (suc more) here =
     option_or (own_name sections here) (option_and_then (name_within sections more) (referred sections here))
 
--- The name of an entry: the first own name among itself and the entries to which at most 16 references lead (own).
+-- The name of an entry: the first own name among itself and the entries to which at most 16
+-- references lead (own).
 abbrev pub name : Sections → UnitEntry → Option (List ℕ)
 name sections here = name_within sections 16 here

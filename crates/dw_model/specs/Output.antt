@@ -42,7 +42,8 @@ listing file = unit_lines (units (section file (codes ".debug_info")))
 
 -- ---- inputs
 
--- the texts that are asked for: the words of the command line, or where there are none the lines of the input
+-- the texts that are asked for: the words of the command line, or where there are none the lines of
+-- the input
 abbrev pub inputs : List (List ℕ) → List ℕ → List (List ℕ)
 inputs [] bytes = lines bytes
 inputs (word ∷ words) bytes = word ∷ words
@@ -52,22 +53,24 @@ abbrev pub without_prefix : List ℕ → List ℕ
 without_prefix text =
     if slice_index text 0 == 48 && (slice_index text 1 == 120 || slice_index text 1 == 88) then drop 2 text else text
 
--- an address is 1 to 16 hexadecimal digits of either case, behind `0x`, `0X` or nothing
+-- an address is 1 to 16 hexadecimal digits of either case, after `0x`, `0X` or nothing
 abbrev pub address_in : List ℕ → Option ℕ
 address_in text =
     let digits = without_prefix text in
     if nat_lt 0 (length digits) && (nat_le (length digits) 16 && list_all is_ascii_hexdigit digits) then Some (digits_value 16 digits) else None
 
--- a span from an address on and before another, where both are there and the first is below the second
+-- a span from an address on and before another, where both are there and the first is below the
+-- second
 abbrev pub span_between : Option ℕ → Option ℕ → Option Query
 span_between (Some low) (Some high) = if nat_lt low high then Some (span low high) else None
 span_between _ _ = None
 
--- where the first `-` of a text stands
+-- where the first `-` of a text is
 abbrev pub dash_in : List ℕ → Option ℕ
 dash_in text = position (λ byte. byte == 45) text
 
--- What a text asks for: an address, or a span, which is an address, `-` and an address above it; anything else is a bad address (own).
+-- What a text asks for: an address, or a span, which is an address, `-` and an address above it;
+-- anything else is a bad address (own).
 abbrev pub query_in : List ℕ → Option Query
 query_in text =
     option_map_or (λ dash. span_between (address_in (take dash text)) (address_in (drop (dash + 1) text))) (dash_in text)

@@ -12,7 +12,8 @@ ends_in_slash [] = false
 ends_in_slash (b ∷ []) = b == slash
 ends_in_slash (b ∷ c ∷ bytes) = ends_in_slash (c ∷ bytes)
 
--- A part put behind a path: it replaces the path where it begins with a slash, else one slash stands between, unless there is nothing before it or a slash already (own).
+-- A part put after a path: it replaces the path where it begins with a slash, else one slash is
+-- between, unless there is nothing before it or a slash already (own).
 unfoldable pub joined : List ℕ → List ℕ → List ℕ
 joined path part =
     if slice_index part 0 == slash then part else (
@@ -24,7 +25,8 @@ directory_path header n = do
   directory ← slice_get header.directories n
   directory.path
 
--- The path of file n: from directory 0, else from the directory in which the unit was compiled, by the file's directory to its name. Directory 0 isn't put behind itself.
+-- The path of file n: from directory 0, else from the directory in which the unit was compiled, by
+-- the file's directory to its name. Directory 0 isn't put after itself.
 unfoldable pub path : LineHeader → Option (List ℕ) → ℕ → Option (List ℕ)
 path header comp_dir n = do
   file ← slice_get header.files n

@@ -11,7 +11,8 @@ use Rattle.dw_model.specs.Answer.{Location, Piece, Code, line_fault, Answer, fau
 abbrev pub UnitFault : Type 0
 UnitFault = ℕ × Code
 
--- The location of an address by its row: none where its unit has no row for it; the unit's fault where its line table is bad.
+-- The location of an address by its row: none where its unit has no row for it; the unit's fault
+-- where its line table is bad.
 abbrev pub unit_place : Sections → DwarfUnit → ℕ → Result (Option Location) UnitFault
 unit_place sections unit a =
     with_code (λ _. (unit.offset, line_fault)) (lines sections unit) >>= λ table.
@@ -37,7 +38,9 @@ is_same_path _ _ = false
 abbrev pub is_same : Location → Location → Bool
 is_same p q = is_same_path p.path q.path && (is_same_number p.line q.line && is_same_number p.column q.column)
 
--- An address before the pieces of those after it: the first of these begins one address earlier, where it begins just after the address and has its location; else the address is a piece of its own.
+-- An address before the pieces of those after it: the first of these begins one address earlier,
+-- where it begins just after the address and has its location; else the address is a piece of its
+-- own.
 abbrev pub with_address : ℕ → Option Location → List Piece → List Piece
 with_address a None pieces = pieces
 with_address a (Some location) [] = record { begin = a; end = a + 1; location = location } ∷ []
@@ -61,7 +64,8 @@ as_answer (Err found) = fault found.0 found.1
 abbrev pub pieces_in : Sections → ℕ → ℕ → Answer
 pieces_in sections low high = as_answer (pieces_from (place sections) low (high - low))
 
--- What the addresses from `low` on and before `high` mean: their pieces, or the fault of the first that has one.
+-- What the addresses from `low` on and before `high` mean: their pieces, or the fault of the first
+-- that has one.
 abbrev pub pieces : List ℕ → ℕ → ℕ → Answer
 pieces file low high = pieces_in (sections file) low high
 
@@ -72,7 +76,8 @@ abbrev pub IsApart : (end : ℕ) → Location → List Piece → Type 0
 IsApart end location [] = Unit {0}
 IsApart end location (next ∷ pieces) = end ≡ next.begin → location ≢ next.location
 
--- They lie in order from `low` on and before `high`, none is empty, and two that touch have different locations.
+-- They lie in order from `low` on and before `high`, none is empty, and two that touch have
+-- different locations.
 abbrev pub AreInOrder : (low high : ℕ) → List Piece → Type 0
 AreInOrder low high [] = Unit {0}
 AreInOrder low high (piece ∷ pieces) =
@@ -83,7 +88,8 @@ abbrev pub location_in : List Piece → ℕ → Option Location
 location_in [] a = None
 location_in (piece ∷ pieces) a = if nat_le piece.begin a && nat_lt a piece.end then Some piece.location else location_in pieces a
 
--- They are in order, and each address lies in one exactly where it has a location, which is that of the piece.
+-- They are in order, and each address lies in one exactly where it has a location, which is that of
+-- the piece.
 pub record ArePieces (location : ℕ → Result (Option Location) UnitFault) (low high : ℕ) (pieces : List Piece) : Type 0 where
   pub order : AreInOrder low high pieces
   pub each : (a : ℕ) → low ≤ a → a < high → location a ≡ Ok (location_in pieces a)

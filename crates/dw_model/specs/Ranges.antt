@@ -24,11 +24,13 @@ range begin end = record { begin = begin; end = end }
 abbrev pub holds : ℕ → Range → Bool
 holds a range = nat_le range.begin a && nat_lt a range.end
 
--- Only such ranges count (own): so the marks near 2 ^ 64 that a linker leaves for what it dropped make no range.
+-- Only such ranges count (own): so the marks near 2 ^ 64 that a linker leaves for what it dropped
+-- make no range.
 abbrev pub is_kept : Range → Bool
 is_kept range = nat_lt range.begin range.end && nat_le range.end (2 ^ 64 - 1)
 
--- An entry of a range list: it sets the base, or makes a range (table 7.30). Indexes are those of addresses.
+-- An entry of a range list: it sets the base, or makes a range (table 7.30). Indexes are those of
+-- addresses.
 pub data RangeEntry : Type 0 where
   base_addressx : (index : ℕ) → RangeEntry
   startx_endx : (start end : ℕ) → RangeEntry
@@ -93,7 +95,9 @@ address_at tables bases index = address_of tables bases (values.address_index in
 abbrev pub onto_ranges : ℕ → ℕ → Result (List Range) Bad → Result (List Range) Bad
 onto_ranges begin end others = others >>= λ ranges. Ok (range begin end ∷ ranges)
 
--- The range of each entry that makes one, in order. The base in force is that of the last entry that set it, else the first base, which is needed only where an offset_pair stands before any entry that sets it (own).
+-- The range of each entry that makes one, in order. The base in force is that of the last entry
+-- that set it, else the first base, which is needed only where an offset_pair is before any entry
+-- that sets it (own).
 unfoldable pub entry_ranges : Tables → Bases → Result ℕ Bad → List RangeEntry → Result (List Range) Bad
 entry_ranges tables bases base [] = Ok []
 entry_ranges tables bases base (base_addressx index ∷ entries) = do
@@ -113,7 +117,8 @@ entry_ranges tables bases base (offset_pair start end ∷ entries) = do
 entry_ranges tables bases base (start_end start end ∷ entries) = onto_ranges start end (entry_ranges tables bases base entries)
 entry_ranges tables bases base (start_length start length ∷ entries) = onto_ranges start (start + length) (entry_ranges tables bases base entries)
 
--- where the list begins that DW_AT_ranges names: at an offset, or at one that stands at an index behind the base
+-- where the list begins that DW_AT_ranges names: at an offset, or at one that is at an index after
+-- the base
 unfoldable pub list_offset : Tables → Bases → Value → Result ℕ Bad
 list_offset tables bases (values.section_offset offset) = Ok offset
 list_offset tables bases (values.range_index index) = do
@@ -129,7 +134,8 @@ list_ranges tables bases base value = do
   entries ← range_entries (record { at = offset; left = drop offset tables.rnglists })
   entry_ranges tables bases base entries
 
--- the end of a range by DW_AT_high_pc: an address, or how many there are; a negative number puts it below the begin
+-- the end of a range by DW_AT_high_pc: an address, or how many there are; a negative number puts it
+-- below the begin
 abbrev pub high_end : Tables → Bases → ℕ → Value → Result ℕ Bad
 high_end tables bases begin (values.unsigned n) = Ok (begin + n)
 high_end tables bases begin (values.signed (pos n)) = Ok (begin + n)
@@ -144,7 +150,8 @@ pc_ranges tables bases entry =
       end ← high_end tables bases begin high
       Ok (range begin end ∷ [])) (attribute constants.DW_AT_high_pc entry) (Ok [])) (attribute constants.DW_AT_low_pc entry) (Ok [])
 
--- the base of a unit's lists before any entry sets one: the address of its first entry, else 0 (own)
+-- the base of a unit's lists before any entry sets one: the address of its first entry, else 0
+-- (own)
 abbrev pub first_base : Tables → Bases → Option Entry → Result ℕ Bad
 first_base tables bases root =
     option_map_or (λ entry. option_map_or (address_of tables bases) (attribute constants.DW_AT_low_pc entry) (Ok 0)) root (Ok 0)

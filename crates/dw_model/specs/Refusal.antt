@@ -18,7 +18,8 @@ ranges_refusal sections =
     option_map (λ unit. root_ranges unit.offset)
     (find (λ unit. answers unit.kind && is_err (unit_ranges sections unit)) (units sections.info))
 
--- The first condition that a file fails, and none where it is accepted: those of an ELF file, then those of its units, and then that the ranges of each unit that answers can be read.
+-- The first condition that a file fails, and none where it is accepted: those of an ELF file, then
+-- those of its units, and then that the ranges of each unit that answers can be read.
 unfoldable pub refusal : List ℕ → Option Refusal
 refusal file =
     option_or (elf_refusal file) (option_or (unit_refusal (sections file)) (ranges_refusal (sections file)))

@@ -1,4 +1,6 @@
--- The registers of the line number machine, run one instruction after the other (DWARF 5, section 6.2.2). The matrix is defined by sums; a law says that these registers, whose numbers run modulo 2 ^ 64, give the same.
+-- The registers of the line number machine, run one instruction after the other (DWARF 5, section
+-- 6.2.2). The matrix is defined by sums; a law says that these registers, whose numbers run modulo
+-- 2 ^ 64, give the same.
 use Rattle.std.specs.Prelude.{ℕ, ◌+◌, ◌%◌, ◌^◌, Bool, List, [], ◌∷◌, if◌then◌else◌}
 use Rattle.dw_model.specs.LineHeader.{LineHeader}
 use Rattle.dw_model.specs.Instruction.{Instruction, set_address, set_file, set_column}

@@ -15,14 +15,16 @@ use Rattle.dw_model.specs.Faults.{Fault, Refusal}
 abbrev pub place_in : Sections → DwarfUnit → ℕ → Place
 place_in sections unit offset = record { at = offset; left = drop offset (take unit.end sections.info) }
 
--- The entry at an offset of .debug_info that lies between the unit's first entry and its end, and the place just past it.
+-- The entry at an offset of .debug_info that lies between the unit's first entry and its end, and
+-- the place just past it.
 unfoldable pub entry : Sections → DwarfUnit → ℕ → Result (Option Entry × Place) Fault
 entry sections unit offset =
     if nat_lt offset unit.first_entry || nat_le unit.end offset then Err faults.ends_early else (do
       declarations ← abbreviations sections.abbrevs unit.debug_abbrev_offset
       entry_at unit.offset_size declarations (place_in sections unit offset))
 
--- A unit's first entry, where it can be read; a null entry and the unit's end in its place aren't one.
+-- A unit's first entry, where it can be read; a null entry and the unit's end in its place aren't
+-- one.
 unfoldable pub root : Sections → DwarfUnit → Option Entry
 root sections unit = option_and_then (λ found. found.0) (result_ok (entry sections unit unit.first_entry))
 
@@ -41,6 +43,7 @@ answers skipped = false
 abbrev pub has_root : Sections → Test
 has_root sections unit = refuse_if (not (is_skipped unit.kind) && is_none (root sections unit)) (faults.root unit.offset)
 
--- the first condition that a unit fails, unit by unit: those on its header, and then that on its first entry
+-- the first condition that a unit fails, unit by unit: those on its header, and then that on its
+-- first entry
 abbrev pub unit_refusal : Sections → Option Refusal
 unit_refusal sections = result_err (cut_from (has_root sections) (start sections.info))

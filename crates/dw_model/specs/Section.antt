@@ -9,7 +9,8 @@ use Rattle.dw_model.specs.Faults.{Refusal, not_elf, not_elf64_little, relocatabl
 use Rattle.dw_model.specs.Elf.{Table, no_sections, file_header, table_at, takes_nothing, header_named, contents}
 use Rattle.dw_model.specs.Text.{Tables}
 
--- The table of a file of the kind that is read: an ELF64 file of little-endian numbers that is no relocatable object. Without e_shoff there are no sections (section 3).
+-- The table of a file of the kind that is read: an ELF64 file of little-endian numbers that is no
+-- relocatable object. Without e_shoff there are no sections (section 3).
 unfoldable pub table_of : List ℕ → Result Table Refusal
 table_of file = do
   header ← ok_or (file_header file) not_elf
@@ -61,13 +62,16 @@ lies_in file table name = option_map_or (λ header. is_some (contents file heade
 abbrev pub compressed_name : List ℕ → List ℕ
 compressed_name name = codes ".z" ++ drop 1 name
 
--- A section is compressed where its bytes are, by SHF_COMPRESSED, or where only its older compressed form is there.
+-- A section is compressed where its bytes are, by SHF_COMPRESSED, or where only its older
+-- compressed form is there.
 unfoldable pub is_compressed : Table → List ℕ → Bool
 is_compressed table name =
     option_map_or (λ header. not (bit_and header.sh_flags SHF_COMPRESSED == 0) && not (takes_nothing header)) (header_named name table)
     (is_some (header_named (compressed_name name) table))
 
--- The table of a file that is accepted, or the first condition that it fails: those on its header and its table, then that each used section lies in the file, and then that none of them is compressed.
+-- The table of a file that is accepted, or the first condition that it fails: those on its header
+-- and its table, then that each used section lies in the file, and then that none of them is
+-- compressed.
 unfoldable pub accepted_table : List ℕ → Result Table Refusal
 accepted_table file = do
   table ← table_of file

@@ -15,7 +15,8 @@ pub record Tables : Type 0 where
   pub addr : List ℕ
   pub rnglists : List ℕ
 
--- Where a unit's entries begin in the sections that it shares with other units, and the size of its offsets. The headers of these sections aren't read (own).
+-- Where a unit's entries begin in the sections that it shares with other units, and the size of its
+-- offsets. The headers of these sections aren't read (own).
 pub record Bases : Type 0 where
   pub str_offsets : Option ℕ
   pub addr : Option ℕ
@@ -43,7 +44,8 @@ number_in section offset n = option_map (λ found. found.0) (number_at n (start 
 abbrev pub text_in : List ℕ → ℕ → Option (List ℕ)
 text_in section offset = option_map (λ found. found.0) (text_at (start (drop offset section)))
 
--- The text to which a value leads: itself, the text at its offset, or by an index the text at the offset that stands there.
+-- The text to which a value leads: itself, the text at its offset, or by an index the text at the
+-- offset that is there.
 unfoldable pub text : Tables → Bases → Value → Option (List ℕ)
 text tables bases (values.inline bytes) = Some bytes
 text tables bases (values.str offset) = text_in tables.str offset
@@ -54,7 +56,7 @@ text tables bases (values.str_index i) = do
   text_in tables.str offset
 text tables bases _ = None
 
--- the address to which a value leads: itself, or by an index the one that stands there
+-- the address to which a value leads: itself, or by an index the one that is there
 unfoldable pub address : Tables → Bases → Value → Option ℕ
 address tables bases (values.address n) = Some n
 address tables bases (values.address_index i) = do

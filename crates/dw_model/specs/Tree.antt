@@ -1,4 +1,5 @@
--- The entries of a unit as a tree, and the functions at an address (DWARF 5, sections 2.3, 3.3 and 7.5).
+-- The entries of a unit as a tree, and the functions at an address (DWARF 5, sections 2.3, 3.3 and
+-- 7.5).
 use Rattle.std.specs.Prelude.{ℕ, ◌+◌, ◌-◌, Bool, false, ◌&&◌, ◌||◌, List, [], ◌∷◌, length, reverse, Option, Some, None, Result, Ok, Err, find, filter_map, option_map, is_err, nat_lt, ◌==◌, if◌then◌else◌}
 use Rattle.std.specs.List.{list_all}
 use Rattle.std.specs.Option.{option_map_or}
@@ -14,7 +15,7 @@ use Rattle.dw_model.specs.Root.{place_in, root, bases}
 use Rattle.dw_model.specs.Ranges.{Range, ranges_of, covers}
 use Rattle.dw_model.specs.Faults.{TreeFault, entry_fault, depth_fault, ranges_fault, Bad}
 
--- an entry in the tree, with how many entries it stands below; the unit's first entry has depth 0
+-- an entry in the tree, with how many entries it is below; the unit's first entry has depth 0
 pub record Node : Type 0 where
   pub depth : ℕ
   pub entry : Entry
@@ -31,7 +32,7 @@ is_function entry = is_subprogram entry || is_inlined entry
 
 -- ---- reading the tree
 
--- where reading stands, and how many lists of children are open there
+-- where reading is, and how many lists of children are open there
 pub record Reading : Type 0 where
   pub place : Place
   pub depth : ℕ
@@ -39,7 +40,7 @@ pub record Reading : Type 0 where
 abbrev pub most_depth : ℕ
 most_depth = 512
 
--- an entry that can be used: it doesn't stand too deep, and the ranges of a function can be read
+-- an entry that can be used: it isn't too deep, and the ranges of a function can be read
 abbrev pub checked : (Entry → Result (List Range) Bad) → ℕ → Entry → Result (Unit {0}) TreeFault
 checked ranges depth entry = do
   _ ← refuse_if (nat_lt most_depth depth) depth_fault
@@ -50,7 +51,8 @@ abbrev pub depth_behind : ℕ → Option Entry → ℕ
 depth_behind depth None = depth - 1
 depth_behind depth (Some entry) = if entry.children then depth + 1 else depth
 
--- An entry or a null entry. The unit's end ends all lists; when the list below the unit's first entry has ended, nothing more is read.
+-- An entry or a null entry. The unit's end ends all lists; when the list below the unit's first
+-- entry has ended, nothing more is read.
 unfoldable pub next_node : (ranges : Entry → Result (List Range) Bad) → (size : ℕ) → List Declaration → Reading → Result (Option (Option Node) × Reading) TreeFault
 next_node ranges size declarations s = if s.depth == 0 || length s.place.left == 0 then Ok (None, s) else (do
   found ← or_fault entry_fault (entry_at size declarations s.place)
@@ -85,11 +87,13 @@ tree sections unit = do
 
 -- ---- functions at an address
 
--- A node lies inside another one before it where all between them, up to and with itself, stand deeper.
+-- A node lies inside another one before it where all between them, up to and with itself, are
+-- deeper.
 abbrev pub is_inside : List Node → Node → Bool
 is_inside between outer = list_all (λ node. nat_lt outer.depth node.depth) between
 
--- the nearest function in which a node lies; `before` are the nodes before it, the nearest first, and `between` those since then
+-- the nearest function in which a node lies; `before` are the nodes before it, the nearest first,
+-- and `between` those since then
 unfoldable pub enclosing : List Node → List Node → Option Node
 enclosing between [] = None
 enclosing between (node ∷ before) =
@@ -113,7 +117,8 @@ inlined_in holds nodes outer =
 unfoldable pub next_inwards : (Entry → Bool) → List Node → Node → Result (Option Node × Node) (Unit {0})
 next_inwards holds nodes outer = Ok (option_map_or (λ node. (Some node, node)) (inlined_in holds nodes outer) (None, outer))
 
--- The functions at an address, innermost first: from the first subprogram that holds it (own), step by step inwards. There are no more steps than nodes, since each goes forward.
+-- The functions at an address, innermost first: from the first subprogram that holds it (own), step
+-- by step inwards. There are no more steps than nodes, since each goes forward.
 unfoldable pub chain_in : (Entry → Bool) → List Node → List Node
 chain_in holds nodes =
     option_map_or (λ outermost. reverse (outermost ∷ inner (items_up_to (next_inwards holds nodes) (length nodes) outermost)))

@@ -8,7 +8,8 @@ use Rattle.dw_model.specs.Reading.{Place, start, number_at, bytes_at, items}
 use Rattle.dw_model.specs.InitialLength.{Width, offset_size, length_size, InitialLength, of_length, reserved, initial_length, IsInitialLength}
 use Rattle.dw_model.specs.Faults.{Refusal, unit_header, address_size}
 
--- What is done with a unit: compile and skeleton units answer addresses, partial ones are only targets of references, and all others are skipped (own).
+-- What is done with a unit: compile and skeleton units answer addresses, partial ones are only
+-- targets of references, and all others are skipped (own).
 pub data Kind : Type 0 where
   compile partial skeleton skipped : Kind
 
@@ -24,7 +25,9 @@ is_skipped partial = false
 is_skipped skeleton = false
 is_skipped skipped = true
 
--- A unit: where it begins and ends, its version and kind, the size of its offsets, where its abbreviations stand in .debug_abbrev, and where its first entry does. Offsets count from the first byte of .debug_info. A skipped unit has no abbreviations, and no entry before its end.
+-- A unit: where it begins and ends, its version and kind, the size of its offsets, where its
+-- abbreviations are in .debug_abbrev, and where its first entry does. Offsets count from the first
+-- byte of .debug_info. A skipped unit has no abbreviations, and no entry before its end.
 pub record DwarfUnit : Type 0 where
   pub offset : ℕ
   pub end : ℕ
@@ -34,7 +37,7 @@ pub record DwarfUnit : Type 0 where
   pub debug_abbrev_offset : ℕ
   pub first_entry : ℕ
 
--- Where the bytes behind a unit's length stand: the unit's offset, theirs, and their end.
+-- Where the bytes after a unit's length are: the unit's offset, theirs, and their end.
 pub record Extent : Type 0 where
   pub offset : ℕ
   pub base : ℕ
@@ -51,7 +54,8 @@ dwo_id_size partial = 0
 dwo_id_size skeleton = DWO_ID_SIZE
 dwo_id_size skipped = 0
 
--- The header of a unit that isn't skipped, behind its type. An address of another size is told only where the whole header is there.
+-- The header of a unit that isn't skipped, after its type. An address of another size is told only
+-- where the whole header is there.
 unfoldable pub kept_unit : Extent → ℕ → Kind → Place → Result DwarfUnit Refusal
 kept_unit extent offset_size kind p = do
   size ← ok_or (number_at 1 p) (unit_header extent.offset)
@@ -68,7 +72,8 @@ kept_unit extent offset_size kind p = do
     first_entry = extent.base + dwo_id.1.at;
   })
 
--- The unit whose bytes behind its length are these. The version is needed in each unit, the type in those of version 5, and the other fields in those that aren't skipped.
+-- The unit whose bytes after its length are these. The version is needed in each unit, the type in
+-- those of version 5, and the other fields in those that aren't skipped.
 unfoldable pub unit_of : Extent → ℕ → List ℕ → Result DwarfUnit Refusal
 unit_of extent offset_size bytes = do
   version ← ok_or (number_at 2 (start bytes)) (unit_header extent.offset)
@@ -85,7 +90,7 @@ Test = DwarfUnit → Result (Unit {0}) Refusal
 abbrev pub untested : Test
 untested unit = Ok tt
 
--- the unit behind its initial length; length 0 is padding and no unit (own)
+-- the unit after its initial length; length 0 is padding and no unit (own)
 unfoldable pub unit_behind : Test → ℕ → InitialLength → Place → Result (Option DwarfUnit × Place) Refusal
 unit_behind test offset reserved p = Err (unit_header offset)
 unit_behind test offset (of_length n width) p = do
@@ -123,7 +128,7 @@ units info = result_unwrap_or (cut info) []
 
 -- ---- whole pieces
 
--- what stands behind the length of a piece, and the width that the length tells
+-- what is after the length of a piece, and the width that the length tells
 pub record Content : Type 0 where
   pub width : Width
   pub bytes : List ℕ
@@ -139,7 +144,7 @@ AreContents bytes [] = bytes ≡ []
 AreContents bytes (content ∷ others) =
     (piece rest : List ℕ) × (bytes ≡ piece ++ rest) × IsPiece content piece × AreContents rest others
 
--- where the bytes behind a unit's length stand
+-- where the bytes after a unit's length are
 abbrev pub extent_at : ℕ → Width → List ℕ → Extent
 extent_at offset width bytes = record { offset = offset; base = offset + length_size width; end = offset + length_size width + length bytes }
 
@@ -156,6 +161,7 @@ AreUnits test offset (content ∷ others) found =
     (unit : Option DwarfUnit) × (rest : List DwarfUnit) × (found ≡ cons_option unit rest) × IsUnitOf test offset content.width content.bytes unit
     × AreUnits test (offset + length_size content.width + length content.bytes) others rest
 
--- A unit that stands in a section of so many bytes: its first entry is behind its beginning, and no later than its end.
+-- A unit that is in a section of so many bytes: its first entry is after its beginning, and no
+-- later than its end.
 abbrev pub StandsIn : ℕ → DwarfUnit → Type 0
 StandsIn size unit = (unit.offset < unit.first_entry) × (unit.first_entry ≤ unit.end) × (unit.end ≤ size)

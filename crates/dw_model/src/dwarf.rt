@@ -56,7 +56,7 @@ pub const DW_TAG_skeleton_unit: u64 = 0x4a;
 
 // Attributes that are used (section 7.5.4, table 7.5).
 
-/// The name as it stands in the source.
+/// The name as it is in the source.
 pub const DW_AT_name: u64 = 0x03;
 
 /// The place of the unit's line table.
@@ -121,7 +121,7 @@ pub const DW_FORM_data4: u64 = 0x06;
 /// A constant of eight bytes.
 pub const DW_FORM_data8: u64 = 0x07;
 
-/// A text that stands here.
+/// A text that is here.
 pub const DW_FORM_string: u64 = 0x08;
 
 /// A block, its length in LEB128.
@@ -196,7 +196,7 @@ pub const DW_FORM_line_strp: u64 = 0x1f;
 /// The signature of a type unit.
 pub const DW_FORM_ref_sig8: u64 = 0x20;
 
-/// A constant that stands in the declaration.
+/// A constant that is in the declaration.
 pub const DW_FORM_implicit_const: u64 = 0x21;
 
 /// The index of a location list.

@@ -18,7 +18,7 @@ pub const SHDR_SIZE: u64 = 64;
 /// Index that stands for no section (section 4).
 pub const SHN_UNDEF: u32 = 0;
 
-/// `e_shstrndx` where the index is too large for it and stands in `sh_link` of header 0
+/// `e_shstrndx` where the index is too large for it and is in `sh_link` of header 0
 /// (System V ABI, chapter 4, special section indexes).
 pub const SHN_XINDEX: u16 = 0xffff;
 

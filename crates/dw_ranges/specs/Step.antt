@@ -15,7 +15,7 @@ kept found = if is_kept found then Some found else None
 abbrev pub all_kept : Result (List Range) Bad → Result (List Range) Bad
 all_kept ranges = ranges >>= λ found. Ok (filter is_kept found)
 
--- what stands behind an entry: the base in force, and the range that the entry makes, where that counts
+-- what is after an entry: the base in force, and the range that the entry makes, where that counts
 pub record Outcome : Type 0 where
   pub base : Result ℕ Bad
   pub range : Option Range

@@ -11,7 +11,7 @@ pub enum RangeFault {
     /// doesn't fit 64 bits, or no end within its section.
     #[error("the ranges can't be read")]
     Bad,
-    /// A growth of memory was refused.
+    /// An allocation was refused.
     #[error("out of memory")]
     Memory,
 }

@@ -1,4 +1,5 @@
-//! The ranges of addresses that entries have; with them the index of the least owner of an address, of `dw_index`.
+//! The ranges of addresses that entries have; with them the index of the least owner of an address,
+//! of `dw_index`.
 #![tactic(auto)]
 
 mod fault;

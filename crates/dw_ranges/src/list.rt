@@ -20,7 +20,7 @@ use dw_forms::{Bases, Tables, Value};
 use dw_index::Range;
 use std::alloc::AllocError;
 
-/// The offset of a width that stands at an index behind the unit's base in .debug_rnglists.
+/// The offset of a width that is at an index after the unit's base in .debug_rnglists.
 fn offset_at(section: &[u8], base: u64, index: u64, width: Width) -> Option<u64>
     ensures { result ≡ number_in section.now (base + size_of width * index) (size_of width) }
 {
@@ -51,7 +51,8 @@ fn list_place<'a>(
     bases: &Bases,
     value: &Value<'a>,
 ) -> Result<Cursor<'a>, RangeFault>
-    ensures { Gives (λ cursor. cursor) range_fault result (list_place (tables_shown tables.now) (bases_shown bases.now) (value_shown value.now)) }
+    ensures { Gives (λ cursor. cursor) range_fault result
+        (list_place (tables_shown tables.now) (bases_shown bases.now) (value_shown value.now)) }
 {
     match *value {
         Value::SectionOffset(offset) => place_at(tables.rnglists, offset),
@@ -79,8 +80,8 @@ fn push_some(ranges: &mut Vec<Range>, range: Option<Range>) -> Result<(), AllocE
     Ok(())
 }
 
-/// Reads those ranges that count of the list at the cursor, in place of those that were kept, where the
-/// base before any entry is this one.
+/// Reads those ranges that count of the list at the cursor, in place of those that were kept, where
+/// the base before any entry is this one.
 fn ranges_at(
     ranges: &mut Vec<Range>,
     tables: &Tables<'_>,
@@ -88,7 +89,8 @@ fn ranges_at(
     first: Option<u64>,
     cursor: &mut Cursor<'_>,
 ) -> Result<(), RangeFault>
-    ensures { GivesUnlessMemory (λ _. map range_shown ranges.new.items) range_fault result (ranges_from (tables_shown tables.now) (bases_shown bases.now) (base_shown first) cursor.old) }
+    ensures { GivesUnlessMemory (λ _. map range_shown ranges.new.items) range_fault result
+        (ranges_from (tables_shown tables.now) (bases_shown bases.now) (base_shown first) cursor.old) }
 {
     ranges.clear();
     let mut base = first;
@@ -102,7 +104,8 @@ fn ranges_at(
     }
 }
 
-/// Reads the ranges of the list that a value names, those that count, in place of those that were kept.
+/// Reads the ranges of the list that a value names, those that count, in place of those that were
+/// kept.
 pub(crate) fn list_ranges<'a>(
     ranges: &mut Vec<Range>,
     tables: &Tables<'a>,
@@ -110,7 +113,9 @@ pub(crate) fn list_ranges<'a>(
     first: Option<u64>,
     value: &Value<'a>,
 ) -> Result<(), RangeFault>
-    ensures { GivesUnlessMemory (λ _. map range_shown ranges.new.items) range_fault result (all_kept (list_ranges (tables_shown tables.now) (bases_shown bases.now) (base_shown first) (value_shown value.now))) }
+    ensures { GivesUnlessMemory (λ _. map range_shown ranges.new.items) range_fault result
+        (all_kept (list_ranges (tables_shown tables.now) (bases_shown bases.now) (base_shown first)
+        (value_shown value.now))) }
 {
     let mut cursor = list_place(tables, bases, value)?;
     ranges_at(ranges, tables, bases, first, &mut cursor)

@@ -13,8 +13,8 @@ use dw_model::dwarf::{
     DW_RLE_start_end, DW_RLE_start_length, DW_RLE_startx_endx, DW_RLE_startx_length,
 };
 
-/// An entry of a range list, which sets the base or makes a range (table 7.30). Indexes are those of
-/// addresses behind the unit's base in .debug_addr.
+/// An entry of a range list, which sets the base or makes a range (table 7.30). Indexes are those
+/// of addresses after the unit's base in .debug_addr.
 #[derive(Clone, Copy)]
 pub(crate) enum RangeEntry {
     /// The index of the base.

@@ -16,7 +16,7 @@ use crate::range_entry::RangeEntry;
 use dw_forms::{Bases, Tables, Value};
 use dw_index::Range;
 
-/// What stands behind an entry: the base in force, `None` where it can't be read, and the range that
+/// What is after an entry: the base in force, `None` where it can't be read, and the range that
 /// the entry makes, where that counts.
 #[derive(Clone, Copy)]
 pub(crate) struct Outcome {
@@ -57,7 +57,8 @@ pub(crate) fn address_of<'a>(
     bases: &Bases,
     value: &Value<'a>,
 ) -> Result<u64, RangeFault>
-    ensures { Gives (λ x. x) range_fault result (address_of (tables_shown tables.now) (bases_shown bases.now) (value_shown value.now)) }
+    ensures { Gives (λ x. x) range_fault result
+        (address_of (tables_shown tables.now) (bases_shown bases.now) (value_shown value.now)) }
 {
     tables.address(value, bases).ok_or(RangeFault::Bad)
 }
@@ -77,7 +78,8 @@ pub(crate) fn step(
     base: Option<u64>,
     entry: RangeEntry,
 ) -> Result<Outcome, RangeFault>
-    ensures { Gives outcome_shown range_fault result (model.step (tables_shown tables.now) (bases_shown bases.now) (base_shown base) (range_entry_shown entry)) }
+    ensures { Gives outcome_shown range_fault result
+        (model.step (tables_shown tables.now) (bases_shown bases.now) (base_shown base) (range_entry_shown entry)) }
 {
     let range = match entry {
         RangeEntry::BaseAddressx(index) => {

@@ -1,4 +1,5 @@
--- A step that the proofs of `src/refusals.rt` share: a struct without bytes is made. Assumes `Logic`.
+-- A step that the proofs of `src/refusals.rt` share: a struct without bytes is made. Assumes
+-- `Logic`.
 use Rattle.std.proofs.Common.{List, [], ◌∷◌, refl}
 use seplogic.Ra.Ura.{Ura}
 use mir.Val.{Val, vstruct, vnil}

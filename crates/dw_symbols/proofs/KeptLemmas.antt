@@ -7,7 +7,7 @@ use Rattle.lru.specs.LruCache.{LruCache, lru_cache, promoted, put_entries}
 use Rattle.lru.proofs.Splits.{Contains-head, Contains-tail, Contains-cons}
 use Rattle.lru.proofs.CallerLemmas.{Contains-lookup, Contains-promoted, Contains-put_entries}
 use Rattle.dw_model.specs.Section.{Sections}
-use Rattle.dw_symbols.specs.declared.decoded.Decoded.{Decoded}
+use Rattle.dw_symbols.specs.declared.unit_parts.Decoded.{Decoded}
 use Rattle.dw_symbols.specs.Kept.{IsOf, AreOf}
 
 -- each entry after a value was set was there, or is the one that was set

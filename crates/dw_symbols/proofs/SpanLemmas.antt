@@ -22,7 +22,7 @@ use Rattle.dw_symbols.specs.declared.answer.UnitFault.{UnitFault as CodeFault}
 use Rattle.dw_symbols.specs.declared.span.Span.{Span}
 use Rattle.dw_symbols.specs.Answer.{code_shown}
 use Rattle.dw_symbols.specs.Decoded.{HasLines, Holds}
-use Rattle.dw_symbols.specs.declared.decoded.Decoded.{Decoded}
+use Rattle.dw_symbols.specs.declared.unit_parts.Decoded.{Decoded}
 use Rattle.dw_symbols.specs.Span.{IsUnitOf, AddsUnit, AddsSpan}
 use Rattle.dw_symbols.proofs.CoverLemmas.{some-at, known}
 

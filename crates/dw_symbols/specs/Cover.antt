@@ -22,7 +22,8 @@ ranges_in sections unit = answering_ranges sections.tables (bases sections unit)
 abbrev pub checked_ranges : Sections → DwarfUnit → Result (List Range) Refusal
 checked_ranges sections unit = or_fault (root_ranges unit.offset) (ranges_in sections unit)
 
--- those of several units, whose places are counted from a first one; or the first unit whose ranges are bad
+-- those of several units, whose places are counted from a first one; or the first unit whose ranges
+-- are bad
 unfoldable pub pairs_from : Sections → ℕ → List DwarfUnit → Result (List (Range × ℕ)) Refusal
 pairs_from sections first [] = Ok []
 pairs_from sections first (unit ∷ units) = do

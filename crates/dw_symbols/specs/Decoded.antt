@@ -8,7 +8,7 @@ use Rattle.dw_model.specs.Tree.{tree as model_tree}
 use Rattle.dw_frames.specs.Tree.{nodes_of}
 use Rattle.dw_frames.specs.UnitIn.{UnitIn}
 use Rattle.dw_symbols.specs.declared.answer.UnitFault.{UnitFault}
-use Rattle.dw_symbols.specs.declared.decoded.Decoded.{Decoded}
+use Rattle.dw_symbols.specs.declared.unit_parts.Decoded.{Decoded}
 use Rattle.dw_symbols.specs.Answer.{code_shown}
 
 -- a line table, or why there is none

@@ -9,7 +9,8 @@ use Rattle.dw_symbols.specs.declared.image.Image.TheInside.{Inside}
 abbrev pub file_of : Inside → List ℕ
 file_of image = image.file.now
 
--- The units and the lines are those of the file, and the index has the place of the unit of each address.
+-- The units and the lines are those of the file, and the index has the place of the unit of each
+-- address.
 pub record IsOpen (image : Inside) : Type 0 where
   pub units : image.units ≡ sections image.file.now
   pub line : image.line.now ≡ (sections image.file.now).line

@@ -2,7 +2,7 @@
 use Rattle.std.specs.Prelude.{ℕ, List, IfSome, Contains, slice_get}
 use Rattle.dw_model.specs.Section.{Sections}
 use Rattle.dw_model.specs.Unit.{units}
-use Rattle.dw_symbols.specs.declared.decoded.Decoded.{Decoded}
+use Rattle.dw_symbols.specs.declared.unit_parts.Decoded.{Decoded}
 use Rattle.dw_symbols.specs.Decoded.{Holds}
 
 -- what is kept of the unit at a place is the unit's

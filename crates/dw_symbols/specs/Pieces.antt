@@ -12,7 +12,8 @@ use Rattle.dw_line.specs.Search.{told_at}
 abbrev pub row_place : Lines → Row → model.Location
 row_place table row = location_at (path table.header table.comp_dir row.file) (Some row.line) (Some row.column)
 
--- If they were the pieces of the addresses before another one, they are those of the addresses before it, whatever was found from there on.
+-- If they were the pieces of the addresses before another one, they are those of the addresses
+-- before it, whatever was found from there on.
 abbrev pub Adds : (ℕ → Option model.Location) → (begin end : ℕ) → (old new : List model.Piece) → Type 0
 Adds here begin end old new =
     (location : ℕ → Result (Option model.Location) UnitFault) (low : ℕ) → low ≤ begin → ArePieces location low begin old

@@ -18,7 +18,8 @@ IsUnitOf sections unit low high =
 abbrev pub AreUncovered : Sections → (low high : ℕ) → Type 0
 AreUncovered sections low high = (a : ℕ) → low ≤ a → a < high → unit_of sections a ≡ None
 
--- the unit at a place answers the first address that is covered, of those from one on and before another; or none is covered
+-- the unit at a place answers the first address that is covered, of those from one on and before
+-- another; or none is covered
 abbrev pub IsFirstUnit : Sections → (low high : ℕ) → Option ℕ → Type 0
 IsFirstUnit sections low high None = AreUncovered sections low high
 IsFirstUnit sections low high (Some unit) =
@@ -27,7 +28,8 @@ IsFirstUnit sections low high (Some unit) =
 abbrev pub fault_shown : ℕ × UnitFault → model.UnitFault
 fault_shown fault = (fault.0, code_shown fault.1)
 
--- The pieces of the addresses of a span are added to those before it, where the unit answers them all; or each has the fault.
+-- The pieces of the addresses of a span are added to those before it, where the unit answers them
+-- all; or each has the fault.
 abbrev pub AddsUnit : Sections → DwarfUnit → Span → Option UnitFault → (old new : List Piece) → Type 0
 AddsUnit sections unit span None old new =
     (from : ℕ) → from ≤ span.low → ((a : ℕ) → span.low ≤ a → a < span.high → place sections a ≡ unit_place sections unit a)

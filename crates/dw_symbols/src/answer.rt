@@ -19,8 +19,8 @@ pub struct Location {
 pub struct Frame<'a> {
     /// Its name, as a slice of the file.
     pub name: Option<&'a [u8]>,
-    /// Where the address comes from in it; in a function in which others are inlined, where the next
-    /// inner one was called.
+    /// Where the address comes from in it; in a function in which others are inlined, where the
+    /// next inner one was called.
     pub location: Location,
 }
 
@@ -29,7 +29,7 @@ pub struct Frame<'a> {
 pub enum UnitFault {
     /// An entry can't be read.
     Entry,
-    /// Entries stand too deep in one another.
+    /// Entries are too deep in one another.
     Depth,
     /// The ranges of a function can't be read.
     Ranges,
@@ -50,12 +50,13 @@ pub struct Piece {
 pub enum Answer<'a> {
     /// No unit covers the address.
     NotCovered,
-    /// The unit that covers the address can't be read; of a span, that of the first address for which this is so.
+    /// The unit that covers the address can't be read; of a span, that of the first address for
+    /// which this is so.
     Fault { unit: u64, code: UnitFault },
     /// The frames at the address, innermost first.
     Found { unit: u64, frames: Vec<Frame<'a>> },
-    /// The pieces of the span that have locations, in order of address. None is empty, no two overlap, and two that touch
-    /// have different locations.
+    /// The pieces of the span that have locations, in order of address. None is empty, no two
+    /// overlap, and two that touch have different locations.
     Pieces(Vec<Piece>),
 }
 

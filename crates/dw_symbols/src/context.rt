@@ -10,11 +10,11 @@ ghost use Rattle.dw_symbols.specs.Span.{IsUnitOf, AddsUnit, AddsSpan};
 ghost use Rattle.dw_symbols.specs.Told.{means};
 
 use crate::answer::{Answer, Piece, UnitFault};
-use crate::decoded::Decoded;
 use crate::image::Image;
-use crate::kept::{Kept, keep, kept_answer, kept_location, kept_pieces};
 use crate::refusals::Refusals;
 use crate::span::Span;
+use crate::unit_cache::{Kept, keep, kept_answer, kept_location, kept_pieces};
+use crate::unit_parts::Decoded;
 use dw_model::laws::{law_of_more_pieces, law_of_pieces};
 use lru::LruCache;
 use std::alloc::{AllocError, Global};
@@ -22,9 +22,9 @@ use std::marker::Model;
 use std::num::NonZeroUsize;
 use ticket_core::{Query, QueryKind};
 
-/// Answers the addresses of a file. Contracts see the file's bytes and how often `find_frames`, or an answer
-/// for a pool, was refused memory: what was asked before, what was dropped since and what memory refused changes no
-/// answer. Threads can each have one over the same image.
+/// Answers the addresses of a file. Contracts see the file's bytes and how often `find_frames`, or
+/// an answer for a pool, was refused memory: what was asked before, what was dropped since and what
+/// memory refused changes no answer. Threads can each have one over the same image.
 #[derive(Drop)]
 pub struct Context<'b, 'a> {
     image: &'b Image<'a>,
@@ -107,7 +107,8 @@ impl<'b, 'a> Context<'b, 'a> {
         Ok(answer)
     }
 
-    /// Adds the pieces of a span, of which the unit at a place answers all addresses; or returns why it can't.
+    /// Adds the pieces of a span, of which the unit at a place answers all addresses; or returns
+    /// why it can't.
     fn push_unit(
         &mut self,
         i: usize,
@@ -116,7 +117,9 @@ impl<'b, 'a> Context<'b, 'a> {
     ) -> Result<Option<UnitFault>, AllocError>
         requires unit { i < length (units (sections self.old.file).info) }
         requires order { span.low ≤ span.high }
-        ensures pieces { IfOk result (λ fault. IfSome (slice_get (units (sections self.old.file).info) i) (λ unit. AddsUnit (sections self.old.file) unit span fault (map piece_shown pieces.old.items) (map piece_shown pieces.new.items))) }
+        ensures pieces { IfOk result (λ fault. IfSome (slice_get (units (sections self.old.file).info) i)
+            (λ unit. AddsUnit (sections self.old.file) unit span fault (map piece_shown pieces.old.items)
+            (map piece_shown pieces.new.items))) }
         ensures state { self.new ≡ self.old }
     {
         if let Some(added) = kept_pieces(&mut self.units, self.alloc, self.image, i, span, pieces) {
@@ -128,8 +131,8 @@ impl<'b, 'a> Context<'b, 'a> {
         Ok(added)
     }
 
-    /// Adds the pieces of a span, of which one unit answers all addresses, or none does; or returns the unit and why it
-    /// can't answer them.
+    /// Adds the pieces of a span, of which one unit answers all addresses, or none does; or returns
+    /// the unit and why it can't answer them.
     fn push_pieces(
         &mut self,
         unit: Option<usize>,
@@ -139,7 +142,8 @@ impl<'b, 'a> Context<'b, 'a> {
         requires unit { IsUnitOf (sections self.old.file) unit span.low span.high }
         requires within { IfSome unit (λ i. i < length (units (sections self.old.file).info)) }
         requires order { span.low ≤ span.high }
-        ensures pieces { IfOk result (λ fault. AddsSpan (sections self.old.file) span fault (map piece_shown pieces.old.items) (map piece_shown pieces.new.items)) }
+        ensures pieces { IfOk result (λ fault. AddsSpan (sections self.old.file) span fault
+            (map piece_shown pieces.old.items) (map piece_shown pieces.new.items)) }
         ensures state { self.new ≡ self.old }
     {
         law_of_more_pieces();
@@ -152,9 +156,10 @@ impl<'b, 'a> Context<'b, 'a> {
         Ok(Some((offset_of(self.image, i), code)))
     }
 
-    /// All locations of the addresses from `low` on and below `high`, in pieces, by the rows of the units that answer
-    /// them; or the fault of the first address that has one. It goes from one change to the next, so its work is in
-    /// proportion to the rows and the units between these two.
+    /// All locations of the addresses from `low` on and below `high`, in pieces, by the rows of the
+    /// units that answer them; or the fault of the first address that has one. It goes from one
+    /// change to the next, so its work is in proportion to the rows and the units between these
+    /// two.
     pub fn find_location_range(&mut self, low: u64, high: u64) -> Result<Answer<'a>, AllocError>
         ensures answer { IfOk result (λ answer. answer_shown answer ≡ pieces self.old.file low high) }
         ensures state { self.new ≡ self.old }

@@ -18,7 +18,7 @@ use dw_line::Lines;
 use std::alloc::{AllocError, Global};
 use std::mem;
 
-/// The frames of functions, innermost first; each but the first stands where the one inside it was
+/// The frames of functions, innermost first; each but the first is where the one inside it was
 /// called. Without functions there is one frame without a name.
 pub(crate) fn frames_of<'a>(
     alloc: Global,
@@ -26,7 +26,10 @@ pub(crate) fn frames_of<'a>(
     functions: &[Described<'a>],
     location: Location,
 ) -> Result<Vec<Frame<'a>>, AllocError>
-    ensures { IfOk result (λ frames. (s : Sections) (unit : DwarfUnit) (nodes : List Node) → map described_shown functions.now ≡ map (λ node. told_of s unit node.entry) nodes → map frame_shown frames.items ≡ model.frames (λ entry. name s (record { unit = unit; entry = entry })) lines.now (location_shown location) nodes) }
+    ensures { IfOk result (λ frames. (s : Sections) (unit : DwarfUnit) (nodes : List Node)
+        → map described_shown functions.now ≡ map (λ node. told_of s unit node.entry) nodes
+        → map frame_shown frames.items ≡ model.frames
+        (λ entry. name s (record { unit = unit; entry = entry })) lines.now (location_shown location) nodes) }
 {
     if functions.len() == 0 {
         let frames = vec![in alloc;
@@ -50,7 +53,8 @@ pub(crate) fn frames_of<'a>(
     Ok(frames)
 }
 
-/// What an address means in a unit, by its functions and its line table, which says where the address comes from.
+/// What an address means in a unit, by its functions and its line table, which says where the
+/// address comes from.
 pub(crate) fn answer_of<'a>(
     alloc: Global,
     unit: u64,
@@ -59,7 +63,10 @@ pub(crate) fn answer_of<'a>(
     location: Location,
     a: u64,
 ) -> Result<Answer<'a>, AllocError>
-    ensures { IfOk result (λ answer. (s : Sections) (of : DwarfUnit) → IsTreeOf s of tree.now → answer_shown answer ≡ model.found unit (model.frames (λ entry. name s (record { unit = of; entry = entry })) lines.now (location_shown location) (chain s of (nodes_of s of) a))) }
+    ensures { IfOk result (λ answer. (s : Sections) (of : DwarfUnit) → IsTreeOf s of tree.now
+        → answer_shown answer ≡ model.found unit
+        (model.frames (λ entry. name s (record { unit = of; entry = entry })) lines.now (location_shown location)
+        (chain s of (nodes_of s of) a))) }
 {
     let functions = tree.functions(alloc, a)?;
     let frames = frames_of(alloc, lines, &functions, location)?;

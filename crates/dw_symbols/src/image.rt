@@ -1,6 +1,7 @@
 //! A file that is open: its units, and which of them answers an address.
 
-ghost use Rattle.std.specs.Prelude.{◌≡◌, ◌<◌, false, None, OnOk, IfOk, IfErr, IfSome, length, option_and_then, slice_get};
+ghost use Rattle.std.specs.Prelude.{◌≡◌, ◌<◌, false, None, OnOk, IfOk, IfErr, IfSome, length, option_and_then};
+ghost use Rattle.std.specs.Prelude.{slice_get};
 ghost use Rattle.dw_model.specs.Section.{sections, elf_refusal};
 ghost use Rattle.dw_model.specs.Unit.{is_skipped, units};
 ghost use Rattle.dw_model.specs.Answer.{unit_of};
@@ -9,7 +10,7 @@ ghost use Rattle.dw_symbols.specs.Span.{IsUnitOf};
 ghost use Rattle.dw_model.specs.Refusal.{refusal};
 ghost use Rattle.dw_elf.specs.OpenFault.{RefusesUnlessMemory, HidesNoRefusal};
 
-use crate::cover::unit_pairs;
+use crate::unit_ranges::unit_pairs;
 use dw_elf::{Elf, Name, OpenFault};
 use dw_ranges::{Index, law_of_least_owner};
 use dw_units::Units;
@@ -49,11 +50,11 @@ impl<'a> Model for Image<'a> {
 }
 
 impl<'a> Image<'a> {
-    /// Opens a file: tests its sections, cuts it into units, reads their first entries and the ranges
-    /// of these. Nothing of the file is copied.
+    /// Opens a file: tests its sections, cuts it into units, reads their first entries and the
+    /// ranges of these. Nothing of the file is copied.
     ///
-    /// The error is the first condition that fails, or `Memory` where a growth was refused; that is told only of
-    /// a file whose header, sections and their compression fail no condition.
+    /// The error is the first condition that fails, or `Memory` where an allocation was refused;
+    /// that is told only of a file whose header, sections and their compression fail no condition.
     #[tactic(auto, unfolding(dw_model::specs::Refusal::refusal))]
     pub fn open(alloc: Global, file: &'a [u8]) -> Result<Self, OpenFault>
         ensures file { IfOk result (λ image. image ≡ file.now) }
@@ -90,14 +91,17 @@ impl<'a> Image<'a> {
 
     /// The place of the unit that answers an address: of those that cover it, the first.
     pub(crate) fn unit_at(&self, a: u64) -> Option<usize>
-        ensures unit { option_and_then (slice_get (units (sections self.now).info)) result ≡ unit_of (sections self.now) a }
+        ensures unit { option_and_then (slice_get (units (sections self.now).info)) result
+            ≡ unit_of (sections self.now) a }
         ensures within { IfSome result (λ i. i < length (units (sections self.now).info)) }
-        ensures answers { IfSome result (λ i. IfSome (slice_get (units (sections self.now).info) i) (λ unit. is_skipped unit.kind ≡ false)) }
+        ensures answers { IfSome result (λ i. IfSome (slice_get (units (sections self.now).info) i)
+            (λ unit. is_skipped unit.kind ≡ false)) }
     {
         self.index.find(a)
     }
 
-    /// The unit that answers an address, as `unit_at` finds it, and up to where it answers all addresses, or none does.
+    /// The unit that answers an address, as `unit_at` finds it, and up to where it answers all
+    /// addresses, or none does.
     pub(crate) fn unit_from(&self, a: u64) -> Owner
         requires { a < last_address }
         ensures after { a < result.until }

@@ -3,17 +3,17 @@
 
 mod answer;
 mod context;
-mod cover;
-mod decoded;
 mod frames;
 mod image;
-mod kept;
 mod location;
 mod pieces;
 mod refusals;
 mod solver;
 mod span;
+mod unit_cache;
+mod unit_parts;
 mod unit_place;
+mod unit_ranges;
 
 pub use answer::{Answer, Frame, Location, Piece, UnitFault};
 pub use context::Context;

@@ -24,7 +24,8 @@ pub(crate) fn lines_of<'a>(
 ) -> Result<Option<Lines<'a>>, LineFault>
     requires unit { i < length (model_unit.units units.now.info) }
     requires line { line.now ≡ units.now.line }
-    ensures { IfSome (slice_get (model_unit.units units.now.info) i) (λ unit. GivesUnlessMemory (λ lines. lines) line_fault result (model.lines units.now unit)) }
+    ensures { IfSome (slice_get (model_unit.units units.now.info) i)
+        (λ unit. GivesUnlessMemory (λ lines. lines) line_fault result (model.lines units.now unit)) }
 {
     let unit = units.unit(i);
     let Some(root) = &unit.root else {
@@ -84,14 +85,15 @@ fn file_path(
     }
 }
 
-/// The location of an address, by its row. The table is the same afterwards; it finds the row sooner where
-/// addresses are asked for in order.
+/// The location of an address, by its row. The table is the same afterwards; it finds the row
+/// sooner where addresses are asked for in order.
 pub(crate) fn row_location(
     alloc: Global,
     lines: &mut Option<Lines<'_>>,
     a: u64,
 ) -> Result<Location, AllocError>
-    ensures location { IfOk result (λ location. location_shown location ≡ model.row_location lines.old (model.row_at lines.old a)) }
+    ensures location { IfOk result (λ location. location_shown location
+        ≡ model.row_location lines.old (model.row_at lines.old a)) }
     ensures table { lines.new ≡ lines.old }
 {
     let Some(table) = lines else {
@@ -112,7 +114,8 @@ pub(crate) fn call_location(
     line: Option<u64>,
     column: Option<u64>,
 ) -> Result<Location, AllocError>
-    ensures { IfOk result (λ location. location_shown location ≡ model.location_at (option_and_then (model.file_path lines.now) file) line column) }
+    ensures { IfOk result (λ location. location_shown location
+        ≡ model.location_at (option_and_then (model.file_path lines.now) file) line column) }
 {
     let path = match file {
         Some(n) => file_path(alloc, lines, n)?,

@@ -27,7 +27,8 @@ fn joins(piece: &Piece, next: &Piece) -> bool
 
 /// Adds a piece, which begins where the others end or after it.
 fn push_piece(pieces: &mut Vec<Piece>, next: Piece) -> Result<(), AllocError>
-    ensures { OnOk result (map piece_shown pieces.new.items ≡ with_piece (map piece_shown pieces.old.items) (piece_shown next)) }
+    ensures { OnOk result (map piece_shown pieces.new.items
+        ≡ with_piece (map piece_shown pieces.old.items) (piece_shown next)) }
 {
     let Some(last) = pieces.pop() else {
         pieces.push(next)?;
@@ -54,7 +55,8 @@ fn push_stretch(
     stretch: Stretch,
     pieces: &mut Vec<Piece>,
 ) -> Result<(), AllocError>
-    ensures { OnOk result (AddsStretch lines.now stretch (map piece_shown pieces.old.items) (map piece_shown pieces.new.items)) }
+    ensures { OnOk result (AddsStretch lines.now stretch (map piece_shown pieces.old.items)
+        (map piece_shown pieces.new.items)) }
 {
     law_of_more_pieces();
     let Some(row) = stretch.row else {
@@ -70,7 +72,8 @@ fn push_stretch(
     Ok(())
 }
 
-/// Adds the pieces of the addresses from `low` on and below `high`, by the line table of the unit that covers them.
+/// Adds the pieces of the addresses from `low` on and below `high`, by the line table of the unit
+/// that covers them.
 pub(crate) fn push_rows(
     alloc: Global,
     lines: &Lines<'_>,
@@ -79,7 +82,8 @@ pub(crate) fn push_rows(
     pieces: &mut Vec<Piece>,
 ) -> Result<(), AllocError>
     requires { low ≤ high }
-    ensures { OnOk result (AddsRows lines.now low high (map piece_shown pieces.old.items) (map piece_shown pieces.new.items)) }
+    ensures { OnOk result (AddsRows lines.now low high (map piece_shown pieces.old.items)
+        (map piece_shown pieces.new.items)) }
 {
     let mut walk = lines.walk(low, high);
     loop {

@@ -35,6 +35,8 @@ impl<'b, 'a> Solver for Context<'b, 'a> {
 /// - `one`: as a record, for one query;
 /// - `all`: for answers and queries in their order.
 pub fn law_of_shown()
-    ensures one { (file : List ℕ) (query : Asked) (answer : Answer) → told answer ≡ meaning file query → answer_shown answer ≡ means file query }
-    ensures all { (file : List ℕ) (queries : List Asked) (answers : List Answer) → map told answers ≡ map (meaning file) queries → map answer_shown answers ≡ map (means file) queries }
+    ensures one { (file : List ℕ) (query : Asked) (answer : Answer) → told answer ≡ meaning file query
+        → answer_shown answer ≡ means file query }
+    ensures all { (file : List ℕ) (queries : List Asked) (answers : List Answer)
+        → map told answers ≡ map (meaning file) queries → map answer_shown answers ≡ map (means file) queries }
 {}

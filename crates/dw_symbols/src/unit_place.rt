@@ -11,7 +11,7 @@ use crate::image::Image;
 /// A unit that answers an address.
 #[derive(Clone, Copy, Debug, PartialEq, Eq)]
 pub struct UnitPlace {
-    /// Its place among the units of the file, which stand in order of offset.
+    /// Its place among the units of the file, which are in order of offset.
     pub place: usize,
     /// How many bytes of .debug_info it has, its header among them.
     pub size: u64,
@@ -29,19 +29,22 @@ impl<'a> Image<'a> {
     fn place_of(&self, place: usize) -> UnitPlace
         requires { place < length (units (sections self.now).info) }
         ensures place { result.place ≡ place }
-        ensures size { IfSome (slice_get (units (sections self.now).info) place) (λ unit. result.size ≡ unit.end - unit.offset) }
+        ensures size { IfSome (slice_get (units (sections self.now).info) place)
+            (λ unit. result.size ≡ unit.end - unit.offset) }
     {
         let unit = self.units().unit(place);
         let size = unit.end.saturating_sub(unit.offset);
         UnitPlace { place, size }
     }
 
-    /// The unit that answers an address: of those that cover it, the first. `None` where no unit covers
-    /// it. Nothing of the unit is read.
+    /// The unit that answers an address: of those that cover it, the first. `None` where no unit
+    /// covers it. Nothing of the unit is read.
     pub fn unit_place(&self, a: u64) -> Option<UnitPlace>
-        ensures unit { option_and_then (slice_get (units (sections self.now).info)) (option_map (λ found. found.place) result) ≡ unit_of (sections self.now) a }
+        ensures unit { option_and_then (slice_get (units (sections self.now).info))
+            (option_map (λ found. found.place) result) ≡ unit_of (sections self.now) a }
         ensures within { IfSome result (λ found. found.place < length (units (sections self.now).info)) }
-        ensures size { IfSome result (λ found. IfSome (slice_get (units (sections self.now).info) found.place) (λ unit. found.size ≡ unit.end - unit.offset)) }
+        ensures size { IfSome result (λ found. IfSome (slice_get (units (sections self.now).info) found.place)
+            (λ unit. found.size ≡ unit.end - unit.offset)) }
     {
         let place = self.unit_at(a)?;
         Some(self.place_of(place))
@@ -52,7 +55,8 @@ impl<'a> Image<'a> {
     pub fn first_unit_place(&self, low: u64, high: u64) -> Option<UnitPlace>
         ensures unit { IsFirstUnit (sections self.now) low high (option_map (λ found. found.place) result) }
         ensures within { IfSome result (λ found. found.place < length (units (sections self.now).info)) }
-        ensures size { IfSome result (λ found. IfSome (slice_get (units (sections self.now).info) found.place) (λ unit. found.size ≡ unit.end - unit.offset)) }
+        ensures size { IfSome result (λ found. IfSome (slice_get (units (sections self.now).info) found.place)
+            (λ unit. found.size ≡ unit.end - unit.offset)) }
     {
         let mut at = low;
         while at < high {

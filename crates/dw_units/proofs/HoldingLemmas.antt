@@ -1,4 +1,5 @@
--- Units stand one behind the other, so that the one that holds an offset is the last that begins at or before it.
+-- Units are one after the other, so that the one that holds an offset is the last that begins at or
+-- before it.
 use Rattle.std.proofs.Common.{◌≡◌, ◌∙◌, ℕ, zero, suc, ◌+◌, ◌≤◌, ◌<◌, Bool, true, false, cond, List, [], ◌∷◌, length, map, get_or, Option, Some, None, Result, Ok, refl, sym, ap, subst, arith}
 use Rattle.std.specs.Prelude.{nat_le, nat_lt, option_map, slice_get, slice_index_or}
 use Rattle.std.specs.List.{AllWithin, cons_option}
@@ -18,7 +19,7 @@ use Rattle.dw_model.proofs.BoundLemmas.{unit_of-within}
 use Rattle.dw_units.specs.declared.unit.Unit.{Unit as CodeUnit}
 use Rattle.dw_units.specs.Unit.{unit_shown}
 
--- each unit begins at or behind the end of the one before it
+-- each unit begins at or after the end of the one before it
 abbrev pub Ascending : ℕ → List DwarfUnit → Type 0
 Ascending from [] = Unit {0}
 Ascending from (unit ∷ units) = (from ≤ unit.offset) × (unit.offset ≤ unit.end) × Ascending unit.end units
@@ -27,7 +28,7 @@ lower : (low high : ℕ) (units : List DwarfUnit) → low ≤ high → Ascending
 lower low high [] h a = tt
 lower low high (unit ∷ units) h a = (omega (arith, h, a.0), a.1, a.2)
 
--- the unit of a piece, and those behind it
+-- the unit of a piece, and those after it
 piece-ascends : (test : Test) (at : ℕ) (width : Width) (content : List ℕ) (unit : Option DwarfUnit) (others : List DwarfUnit) → IsUnitOf test at width content unit → Ascending (at + length_size width + length content) others → Ascending at (cons_option unit others)
 piece-ascends test at width [] unit others u a = rw (u) (lower at (at + length_size width + 0) others (omega arith) a)
 piece-ascends test at width (c ∷ content) unit others u a =

@@ -10,3 +10,4 @@ pub mod SharedLemmas
 pub mod PlaceLemmas
 pub mod SkipLemmas
 pub mod PlaceOfLemmas
+pub mod WalkedLemmas

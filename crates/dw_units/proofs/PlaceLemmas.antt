@@ -27,7 +27,7 @@ either-side : (first end offset : ℕ) → first ≡ end → (low : Bool) → na
 either-side first end offset e true f = refl
 either-side first end offset e false f = let past = ltb-false offset first f in le-leb end offset (omega (arith, e, past))
 
--- a unit whose first entry would stand at its end has none at all
+-- a unit whose first entry would are at its end has none at all
 pub outside-all : (s : Sections) (unit : DwarfUnit) (offset : ℕ) → unit.first_entry ≡ unit.end → entry s unit offset ≡ Err ends_early
 outside-all s unit offset e = outside s unit offset (either-side unit.first_entry unit.end offset e (nat_lt offset unit.first_entry) refl)
 
@@ -37,7 +37,7 @@ pub inside : (s : Sections) (unit : DwarfUnit) (offset : ℕ) (declarations : Li
 unfolding entry
 inside s unit offset declarations first within e = rw (le-ltb offset unit.first_entry first, lt-leb unit.end offset within, e) refl
 
--- an offset behind all bytes has no entry
+-- an offset after all bytes has no entry
 pub behind_all : (size : ℕ) (declarations : List Declaration) (bytes : List ℕ) (offset : ℕ) → length bytes ≤ offset → entry_at size declarations (record { at = offset; left = drop offset bytes }) ≡ Err ends_early
 unfolding entry_at uleb_at
 behind_all size declarations bytes offset past = rw (drop_all offset bytes past) refl
@@ -80,7 +80,7 @@ null-code s unit offset q e =
           null_is unit.offset_size d.0 (place_in s unit offset) q d.2
     ]
 
--- where there is an entry, its code stands there
+-- where there is an entry, its code is there
 pub entry-within : (s : Sections) (unit : DwarfUnit) (offset : ℕ) (x : Option Entry × Place) → entry s unit offset ≡ Ok x → offset < length (take unit.end s.info)
 unfolding entry entry_at
 entry-within s unit offset x e =
@@ -96,7 +96,7 @@ entry-within s unit offset x e =
 from_start : (n : ℕ) (bytes : List ℕ) → ◌≡◌ {A = Place} (past n (start bytes)) (record { at = n; left = drop n bytes })
 from_start n bytes = let e : 0 + n ≡ n = omega arith in rw e refl
 
--- the place behind as many bytes as the offset says
+-- the place after as many bytes as the offset says
 pub there : (s : Sections) (unit : DwarfUnit) (offset : ℕ) (p q : Place) (bytes piece : List ℕ) → p ≡ start bytes → bytes ≡ take unit.end s.info → bytes_at offset p ≡ Some (piece, q) → q ≡ place_in s unit offset
 there s unit offset p q bytes piece begins is e =
     let took = bytes_at-took offset p (piece, q) e in

@@ -1,4 +1,4 @@
--- The first attribute of a name stands behind those before it.
+-- The first attribute of a name is after those before it.
 use Rattle.std.proofs.Common.{Bor, get_or, length, ◌<◌, ◌≤◌, ◌≡◌, ℕ, suc, Bool, true, false, cond, List, [], ◌∷◌, map, Option, Some, None, Result, Ok, refl, sym, ap, ◌∙◌}
 use Rattle.std.specs.Prelude.{find, slice_get, ◌==◌, IfSome, MatchOption, option_map}
 use Rattle.std.proofs.lemmas.Option.{slice_get_past, slice_get_read}

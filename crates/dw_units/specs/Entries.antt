@@ -1,8 +1,12 @@
 -- What is told of the entries of a unit, one after the other.
-use Rattle.std.specs.Prelude.{◌≡◌, ℕ, true, false, List, Option, Some, None, Result, Ok, Err, MatchOption}
+use Rattle.std.specs.Prelude.{◌≡◌, ℕ, Bool, true, false, List, Option, Some, None, Result, Ok, Err, option_and_then}
+use Rattle.std.specs.Option.{option_map_or}
+use Rattle.std.specs.Result.{result_ok}
 use Rattle.dw_model.specs.Reading.{Place}
+use Rattle.dw_model.specs.Leb.{uleb_at}
+use Rattle.dw_model.specs.Answers.{Tells}
 use Rattle.dw_model.specs.Faults.{Fault}
-use Rattle.dw_model.specs.Abbrev.{Declaration, abbreviations}
+use Rattle.dw_model.specs.Abbrev.{Declaration, abbreviations, declared}
 use Rattle.dw_model.specs.Section.{Sections}
 use Rattle.dw_model.specs.Unit.{DwarfUnit, is_skipped}
 use Rattle.dw_model.specs.Root.{place_in}
@@ -10,10 +14,9 @@ use Rattle.dw_model.specs.Entry.{Entry}
 use Rattle.dw_model.specs.Tree.{is_function}
 use Rattle.dw_forms.specs.declared.fault.FormFault.{FormFault}
 use Rattle.dw_forms.specs.Fault.{form_fault}
+use Rattle.dw_forms.specs.Ranged.{may_have_ranges, names_ranges}
 use Rattle.dw_units.specs.declared.entries.Next.{Next}
-use Rattle.dw_units.specs.declared.entries.Next.TheVariants.{Null, Function, Passed}
-use Rattle.dw_units.specs.declared.entry.Entry.{Entry as CodeEntry}
-use Rattle.dw_units.specs.Entry.{entry_shown}
+use Rattle.dw_units.specs.declared.entries.Next.TheVariants.{Null, Function, Unranged, Passed}
 
 -- the declarations of a unit, how many bytes its offsets have, and the place of its next entry
 pub record Walk : Type 0 where
@@ -30,18 +33,24 @@ WalksFrom sections unit (Some walk) =
     × (is_skipped unit.kind ≡ false)
     × (walk.offset_size ≡ unit.offset_size)
 
--- it is a null entry, or a function, which is kept, or an entry that is none, of which only the children are told
-abbrev pub IsNext : Next → CodeEntry → Option Entry → Type 0
-IsNext Null kept found = found ≡ None
-IsNext Function kept found = (found ≡ Some (entry_shown kept)) × (is_function (entry_shown kept) ≡ true)
-IsNext (Passed children) kept found = (entry : Entry) × (found ≡ Some entry) × (is_function entry ≡ false) × (children ≡ entry.children)
+-- what the declaration tells of the entry at a place; nothing where none is declared
+abbrev pub declaration_at : List Declaration → Place → Option Declaration
+declaration_at declarations p = option_and_then (λ code. declared declarations code.0) (result_ok (uleb_at p))
 
--- a function ends where the walk goes on; what was kept stays where the entry is none
-abbrev pub IsBefore : Next → CodeEntry → CodeEntry → Place → Type 0
-IsBefore Function old kept new = kept.next ≡ new.at
-IsBefore _ old kept new = kept ≡ old
+-- the entry at a place may have ranges, as its declaration tells it
+abbrev pub ranged_at : List Declaration → Place → Bool
+ranged_at declarations p = option_map_or (λ declaration. may_have_ranges declaration.specifications) (declaration_at declarations p) false
 
--- The next entry is read as the definition has it; want of memory may be told in place of it.
-abbrev pub ReadsNext : Result Next FormFault → CodeEntry → Result (Option Entry × Place) Fault → Place → Type 0
-ReadsNext (Ok next) kept given new = (found : Option Entry) × (given ≡ Ok (found, new)) × IsNext next kept found
-ReadsNext (Err fault) kept given new = MatchOption (form_fault fault) (Unit {0}) (λ told. given ≡ Err told)
+-- It is a null entry; or a function that may have ranges, as `ranged` says; or a function that
+-- names none, or an entry that is no function, of which only the children are told.
+abbrev pub IsNext : (ranged : Bool) → Next → Option Entry → Type 0
+IsNext ranged Null found = found ≡ None
+IsNext ranged (Function entry) found = (found ≡ Some entry) × (is_function entry ≡ true) × (ranged ≡ true)
+IsNext ranged (Unranged children) found =
+    (entry : Entry) × (found ≡ Some entry) × (is_function entry ≡ true) × (ranged ≡ false) × (names_ranges entry ≡ false) × (children ≡ entry.children)
+IsNext ranged (Passed children) found = (entry : Entry) × (found ≡ Some entry) × (is_function entry ≡ false) × (children ≡ entry.children)
+
+-- The next entry is read as the definition has it, or its fault is told.
+abbrev pub ReadsNext : (ranged : Bool) → Result Next FormFault → Result (Option Entry × Place) Fault → Place → Type 0
+ReadsNext ranged (Ok next) given new = (found : Option Entry) × (given ≡ Ok (found, new)) × IsNext ranged next found
+ReadsNext ranged (Err fault) given new = Tells (form_fault fault) given

@@ -16,7 +16,8 @@ entry_shown entry = record {
   attributes = map attribute_shown entry.attrs;
 }
 
--- The entry is found as the definition has it, with the offset just past it; want of memory may be told in place of it.
+-- The entry is found as the definition has it, with the offset just past it; want of memory may be
+-- told in place of it.
 abbrev pub FindsEntry : Result (Option Entry) FormFault → Result (Option model.Entry × Place) Fault → Type 0
 FindsEntry (Ok found) given = (past : Place) × (given ≡ Ok (option_map entry_shown found, past)) × IfSome found (λ entry. entry.next ≡ past.at)
 FindsEntry (Err fault) given = MatchOption (form_fault fault) (Unit {0}) (λ told. given ≡ Err told)
@@ -35,7 +36,7 @@ shown_where found entry = cond found (Some (entry_shown entry)) None
 abbrev pub unread : model.Entry
 unread = record { offset = 0; tag = 0; children = false; attributes = [] }
 
--- the entry stands where the definition has it, and it isn't null; its end is the offset just past it
+-- the entry is where the definition has it, and it isn't null; its end is the offset just past it
 abbrev pub IsFound : Option Entry → Result (Option model.Entry × Place) Fault → Type 0
 IsFound found given =
     (entry : Entry) × (past : Place) × (found ≡ Some entry) × (given ≡ Ok (Some (entry_shown entry), past)) × (entry.next ≡ past.at)

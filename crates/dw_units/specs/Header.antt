@@ -24,7 +24,7 @@ header_shown header = record {
   first_entry = header.first_entry;
 }
 
--- the header of a skipped unit says that no entry stands before its end
+-- the header of a skipped unit says that no entry is before its end
 abbrev pub IsWhole : Header → Type 0
 IsWhole header = model.is_skipped (kind_shown header.kind) ≡ true → header.first_entry ≡ header.end
 

@@ -3,6 +3,7 @@ pub mod AttributesInside
 pub mod Entries
 pub mod Entry
 pub mod Header
+pub mod NamedRanges
 pub mod Null
 pub mod OpenUnit
 pub mod Sections

@@ -7,7 +7,7 @@ pub record Read : Type 0 where
   pub section : List ℕ
   pub tables : List (List Declaration)
 
--- the table at this place is the one that stands at the offset
+-- the table at this place is the one that is at the offset
 abbrev pub HasTable : Read → (offset place : ℕ) → Type 0
 HasTable read offset place =
     (table : List Declaration) × (slice_get read.tables place ≡ Some table) × (abbreviations read.section offset ≡ Ok table)

@@ -24,7 +24,8 @@ unit_shown unit = record {
   first_entry = unit.first_entry;
 }
 
--- a unit that isn't skipped has the table of its declarations at this place, and its first entry in the section
+-- a unit that isn't skipped has the table of its declarations at this place, and its first entry in
+-- the section
 abbrev pub HasEntries : Sections → Read → DwarfUnit → Option ℕ → Type 0
 HasEntries sections read unit None = (is_skipped unit.kind ≡ true) × (unit.first_entry ≡ unit.end)
 HasEntries sections read unit (Some place) =
@@ -35,14 +36,16 @@ abbrev pub HasFirst : Sections → Unit → Type 0
 HasFirst sections unit =
     is_skipped (kind_shown unit.kind) ≡ false → IsFound unit.root (model.entry sections (unit_shown unit) unit.first_entry)
 
--- The unit's first entry and its bases are those of the definitions, and its declarations were read where it has entries.
+-- The unit's first entry and its bases are those of the definitions, and its declarations were read
+-- where it has entries.
 pub record IsOpened (sections : Sections) (read : Read) (unit : Unit) : Type 0 where
   pub root : option_map entry_shown unit.root ≡ model.root sections (unit_shown unit)
   pub first : HasFirst sections unit
   pub bases : bases_shown unit.bases ≡ model.bases sections (unit_shown unit)
   pub table : HasEntries sections read (unit_shown unit) unit.table
 
--- Out of memory hides no table: it is told only of a unit that isn't skipped and whose declarations can be read.
+-- Out of memory hides no table: it is told only of a unit that isn't skipped and whose declarations
+-- can be read.
 abbrev pub HidesNoTable : OpenFault → Sections → DwarfUnit → Type 0
 HidesNoTable fault sections unit =
     MatchOption (refusal_of fault) ((is_skipped unit.kind ≡ false) × IsOk (abbreviations sections.abbrevs unit.debug_abbrev_offset)) (λ told. Prim.Unit {0})

@@ -4,7 +4,7 @@ use Rattle.dw_model.specs.Abbrev.{Declaration, abbreviations}
 use Rattle.dw_model.specs.Section.{Sections}
 use Rattle.dw_model.specs.Unit.{DwarfUnit, skipped, is_skipped, units}
 
--- what stands behind the last unit: a unit without bytes, which is skipped
+-- what is after the last unit: a unit without bytes, which is skipped
 abbrev pub absent : DwarfUnit
 absent = record { offset = 0; end = 0; version = 0; kind = skipped; offset_size = 0; debug_abbrev_offset = 0; first_entry = 0 }
 

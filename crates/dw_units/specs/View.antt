@@ -5,7 +5,7 @@ use Rattle.dw_model.specs.Reading.{Place}
 use Rattle.dw_model.specs.Faults.{Fault}
 use Rattle.dw_model.specs.Entry.{Attribute, Entry}
 
--- the entry that stands there; none for a null entry, and where none can be read
+-- the entry that is there; none for a null entry, and where none can be read
 abbrev pub found_in : Result (Option Entry × Place) Fault → Option Entry
 found_in given = option_and_then (λ (found : Option Entry × Place). found.0) (result_ok given)
 

@@ -24,7 +24,7 @@ pub struct Attribute<'a> {
 #[derive(Drop)]
 pub struct Attributes<'a> {
     list: Vec<Attribute<'a>>,
-    /// Where the first one of each name stands that tells of a function.
+    /// Where the first one of each name is that tells of a function.
     firsts: Firsts,
 }
 
@@ -54,9 +54,28 @@ pub(crate) fn pass_attributes(
     Ok(())
 }
 
-/// Why values can't be read where memory was refused: their first fault, or `Memory` where they have none.
+/// Passes over the values of an entry, in one step where its declaration tells how far.
+#[inline(always)]
+pub(crate) fn pass_values(
+    cursor: &mut Cursor<'_>,
+    declaration: &Decl,
+    width: Width,
+) -> Result<(), FormFault>
+    ensures { Passes result (attributes_at (size_of width) (map spec_shown declaration.now.specs.items) cursor.old)
+        cursor.new }
+{
+    let Some(size) = declaration.size(width) else {
+        return pass_attributes(cursor, declaration.specs.as_slice(), width);
+    };
+    let _values = cursor.take(size).ok_or(FormFault::End)?;
+    Ok(())
+}
+
+/// Why values can't be read where memory was refused: their first fault, or `Memory` where they
+/// have none.
 fn fault_in_values(cursor: &mut Cursor<'_>, specs: &[Spec], width: Width) -> FormFault
-    ensures fault { MatchOption (form_fault result) (Unit {0}) (λ told. attributes_at (size_of width) (map spec_shown specs.now) cursor.old ≡ Err told) }
+    ensures fault { MatchOption (form_fault result) (Unit {0})
+        (λ told. attributes_at (size_of width) (map spec_shown specs.now) cursor.old ≡ Err told) }
     ensures memory { HidesNoFault result (attributes_at (size_of width) (map spec_shown specs.now) cursor.old) }
 {
     match pass_attributes(cursor, specs, width) {
@@ -73,8 +92,10 @@ fn read_attributes<'a>(
     specs: &[Spec],
     width: Width,
 ) -> Result<(), FormFault>
-    ensures read { ReadsUnlessMemory (λ _. map attribute_shown attributes.new.items) form_fault result (attributes_at (size_of width) (map spec_shown specs.now) cursor.old) cursor.new }
-    ensures memory { IfErr result (λ fault. HidesNoFault fault (attributes_at (size_of width) (map spec_shown specs.now) cursor.old)) }
+    ensures read { ReadsUnlessMemory (λ _. map attribute_shown attributes.new.items) form_fault result
+        (attributes_at (size_of width) (map spec_shown specs.now) cursor.old) cursor.new }
+    ensures memory { IfErr result (λ fault. HidesNoFault fault
+        (attributes_at (size_of width) (map spec_shown specs.now) cursor.old)) }
 {
     attributes.clear();
     // A cursor of its own stays in registers.
@@ -140,16 +161,18 @@ impl<'a> Attributes<'a> {
         self.list.len()
     }
 
-    /// Reads the values that a declaration asks for, in place of those that were kept. After a refusal any
-    /// may be kept, and the cursor may stand anywhere.
+    /// Reads the values that a declaration asks for, in place of those that were kept. After a
+    /// refusal any may be kept, and the cursor may be anywhere.
     pub(crate) fn read(
         &mut self,
         cursor: &mut Cursor<'a>,
         declaration: &Decl,
         width: Width,
     ) -> Result<(), FormFault>
-        ensures read { ReadsUnlessMemory (λ _. map attribute_shown self.new) form_fault result (attributes_at (size_of width) (map spec_shown declaration.now.specs.items) cursor.old) cursor.new }
-        ensures memory { IfErr result (λ fault. HidesNoFault fault (attributes_at (size_of width) (map spec_shown declaration.now.specs.items) cursor.old)) }
+        ensures read { ReadsUnlessMemory (λ _. map attribute_shown self.new) form_fault result
+            (attributes_at (size_of width) (map spec_shown declaration.now.specs.items) cursor.old) cursor.new }
+        ensures memory { IfErr result (λ fault. HidesNoFault fault
+            (attributes_at (size_of width) (map spec_shown declaration.now.specs.items) cursor.old)) }
     {
         self.firsts = Firsts::unknown();
         read_attributes(&mut self.list, cursor, declaration.specs.as_slice(), width)?;

@@ -1,4 +1,5 @@
-//! Where a unit's entries begin in the sections that units share, by sections 7.26 to 7.28 of DWARF 5.
+//! Where a unit's entries begin in the sections that units share, by sections 7.26 to 7.28 of DWARF
+//! 5.
 
 ghost use Rattle.std.specs.Prelude.{◌≡◌, option_map};
 ghost use Rattle.dw_model.specs.Text as model;
@@ -21,7 +22,7 @@ fn base_in(root: &Option<Entry<'_>>, name: u64) -> Option<u64>
     }
 }
 
-/// The bases that the first entry of a unit of a width names, whichever attributes stand before
+/// The bases that the first entry of a unit of a width names, whichever attributes are before
 /// them.
 pub(crate) fn bases_of(root: &Option<Entry<'_>>, width: Width) -> Bases
     ensures { bases_shown result ≡ model.bases_in (size_of width) (option_map entry_shown root.now) }

@@ -35,8 +35,9 @@ pub struct Entry<'a> {
     pub attrs: Attributes<'a>,
 }
 
-/// Reads the entry at the cursor, which goes just past it, in place of the one that was kept; `false`
-/// for a null entry, which ends a list of children, and then what was kept stays. After a refusal the cursor may stand anywhere.
+/// Reads the entry at the cursor, which goes just past it, in place of the one that was kept;
+/// `false` for a null entry, which ends a list of children, and then what was kept stays. After a
+/// refusal the cursor may be anywhere.
 #[tactic(auto, unfolding(dw_model::specs::Entry::entry_at))]
 pub(crate) fn read_entry<'a>(
     kept: &mut Entry<'a>,
@@ -44,7 +45,8 @@ pub(crate) fn read_entry<'a>(
     abbrevs: &Abbrevs,
     width: Width,
 ) -> Result<bool, FormFault>
-    ensures entry { ReadsUnlessMemory (λ found. shown_where found kept.new) form_fault result (entry_at (size_of width) abbrevs.now cursor.old) cursor.new }
+    ensures entry { ReadsUnlessMemory (λ found. shown_where found kept.new) form_fault result
+        (entry_at (size_of width) abbrevs.now cursor.old) cursor.new }
     ensures next { IfOk result (λ found. found ≡ true → kept.new.next ≡ cursor.new.at) }
     ensures stays { IfOk result (λ found. found ≡ false → kept.new ≡ kept.old) }
     ensures memory { IfErr result (λ fault. HidesNoFault fault (entry_at (size_of width) abbrevs.now cursor.old)) }
@@ -64,8 +66,8 @@ pub(crate) fn read_entry<'a>(
 }
 
 impl<'a> Entry<'a> {
-    /// An entry that isn't read yet, in place of which others are read. The memory that its attributes
-    /// take serves them all.
+    /// An entry that isn't read yet, in place of which others are read. The memory that its
+    /// attributes take serves them all.
     pub fn unread(alloc: Global) -> Self
         ensures unread { entry_shown result ≡ unread }
         ensures next { result.next ≡ 0 }
@@ -101,21 +103,23 @@ fn up_to_end<'a>(info: &'a [u8], unit: &Header) -> &'a [u8]
     info.split_at(info.len().min(unit.end as usize)).0
 }
 
-/// The place at an offset of a unit; `None` where the offset lies behind all bytes.
+/// The place at an offset of a unit; `None` where the offset is past all bytes.
 pub(crate) fn cursor_at<'a>(
     sections: &Sections<'a>,
     unit: &Header,
     offset: u64,
 ) -> Option<Cursor<'a>>
-    ensures { MatchOption result (length (take unit.now.end sections.now.info.now) < offset) (λ cursor. cursor ≡ place_in (sections_shown sections.now) (header_shown unit.now) offset) }
+    ensures { MatchOption result (length (take unit.now.end sections.now.info.now) < offset)
+        (λ cursor. cursor ≡ place_in (sections_shown sections.now) (header_shown unit.now) offset) }
 {
     let mut cursor = Cursor::new(up_to_end(sections.info, unit));
     cursor.take(offset as usize)?;
     Some(cursor)
 }
 
-/// Reads the entry at an offset of .debug_info that lies between a unit's first entry and its end, in
-/// place of the one that was kept; `false` for a null entry. Nothing past the unit's end is read.
+/// Reads the entry at an offset of .debug_info that lies between a unit's first entry and its end,
+/// in place of the one that was kept; `false` for a null entry. Nothing past the unit's end is
+/// read.
 #[tactic(auto, unfolding(dw_model::specs::Root::entry))]
 pub(crate) fn read_in<'a>(
     kept: &mut Entry<'a>,
@@ -127,7 +131,8 @@ pub(crate) fn read_in<'a>(
     requires { abbreviations sections.now.abbrevs.now unit.now.debug_abbrev_offset ≡ Ok abbrevs.now }
     ensures entry { ReadsEntry result kept.new (entry (sections_shown sections.now) (header_shown unit.now) offset) }
     ensures stays { IfOk result (λ found. found ≡ false → kept.new ≡ kept.old) }
-    ensures memory { IfErr result (λ fault. HidesNoFault fault (entry (sections_shown sections.now) (header_shown unit.now) offset)) }
+    ensures memory { IfErr result (λ fault. HidesNoFault fault
+        (entry (sections_shown sections.now) (header_shown unit.now) offset)) }
 {
     if offset < unit.first_entry || offset >= unit.end {
         return Err(FormFault::End);
@@ -149,7 +154,8 @@ pub(crate) fn entry_in<'a>(
 ) -> Result<Option<Entry<'a>>, FormFault>
     requires { abbreviations sections.now.abbrevs.now unit.now.debug_abbrev_offset ≡ Ok abbrevs.now }
     ensures entry { FindsEntry result (entry (sections_shown sections.now) (header_shown unit.now) offset) }
-    ensures memory { IfErr result (λ fault. HidesNoFault fault (entry (sections_shown sections.now) (header_shown unit.now) offset)) }
+    ensures memory { IfErr result (λ fault. HidesNoFault fault
+        (entry (sections_shown sections.now) (header_shown unit.now) offset)) }
 {
     let mut found = Entry::unread(alloc);
     let is_some = read_in(&mut found, sections, unit, abbrevs, offset)?;

@@ -44,7 +44,7 @@ pub(crate) struct Header {
     pub first_entry: u64,
 }
 
-/// Where the bytes behind a unit's length stand.
+/// Where the bytes after a unit's length are.
 #[derive(Clone, Copy)]
 pub(crate) struct Extent {
     pub offset: u64,
@@ -123,7 +123,7 @@ fn skipped_unit(extent: Extent, width: Width, version: u16) -> Header
     }
 }
 
-/// The header of a unit that isn't skipped, behind its type.
+/// The header of a unit that isn't skipped, after its type.
 #[tactic(auto, unfolding(dw_model::specs::Unit::kept_unit))]
 fn kept_unit(
     extent: Extent,
@@ -132,7 +132,8 @@ fn kept_unit(
     cursor: &mut Cursor<'_>,
 ) -> Result<Header, OpenFault>
     requires { extent.base + (cursor.old.at + length cursor.old.left) < 2 ^ 64 }
-    ensures header { Gives header_shown refusal_of result (model.kept_unit (extent_shown extent) (size_of width) (kind_shown kind) cursor.old) }
+    ensures header { Gives header_shown refusal_of result
+        (model.kept_unit (extent_shown extent) (size_of width) (kind_shown kind) cursor.old) }
     ensures kind { IfOk result (λ header. header.kind ≡ kind) }
 {
     let fault = OpenFault::UnitHeader(extent.offset);
@@ -153,11 +154,12 @@ fn kept_unit(
     })
 }
 
-/// The unit whose bytes behind its length are these.
+/// The unit whose bytes after its length are these.
 #[tactic(auto, unfolding(dw_model::specs::Unit::unit_of))]
 fn unit_of(extent: Extent, width: Width, bytes: &[u8]) -> Result<Header, OpenFault>
     requires { extent.base + length bytes.now < 2 ^ 64 }
-    ensures header { Gives header_shown refusal_of result (model.unit_of (extent_shown extent) (size_of width) bytes.now) }
+    ensures header { Gives header_shown refusal_of result
+        (model.unit_of (extent_shown extent) (size_of width) bytes.now) }
     ensures whole { IfOk result IsWhole }
 {
     let fault = OpenFault::UnitHeader(extent.offset);
@@ -177,7 +179,8 @@ fn unit_of(extent: Extent, width: Width, bytes: &[u8]) -> Result<Header, OpenFau
 /// padding, which is none.
 #[tactic(auto, unfolding(dw_model::specs::Unit::piece_at, dw_model::specs::Unit::unit_behind))]
 pub(crate) fn piece(cursor: &mut Cursor<'_>) -> Result<Option<Header>, OpenFault>
-    ensures header { Gives (λ header. (option_map header_shown header, cursor.new)) refusal_of result (model.piece_at model.untested cursor.old) }
+    ensures header { Gives (λ header. (option_map header_shown header, cursor.new)) refusal_of result
+        (model.piece_at model.untested cursor.old) }
     ensures whole { IfOk result (λ found. IfSome found IsWhole) }
 {
     let offset = cursor.at() as u64;

@@ -12,8 +12,8 @@ use dw_bytes::Width;
 use dw_forms::{FormFault, Text, Value};
 use std::alloc::Global;
 
-/// A unit of an open file, from which its entries are read and what its values lead to. Contracts see
-/// the sections of the file (`sections_of`) and the unit (`unit_of`).
+/// A unit of an open file, from which its entries are read and what its values lead to. Contracts
+/// see the sections of the file (`sections_of`) and the unit (`unit_of`).
 #[derive(Clone, Copy)]
 pub struct OpenUnit<'b, 'a> {
     units: &'b Units<'a>,
@@ -64,7 +64,7 @@ impl<'b, 'a> OpenUnit<'b, 'a> {
     ghost use Rattle.dw_units.specs.Unit.{unit_shown, HasFirst};
     ghost use Rattle.dw_units.specs.View.{found_in};
 
-    /// Its index among the units of the file, which stand in order of offset.
+    /// Its index among the units of the file, which are in order of offset.
     #[inline(always)]
     pub fn index(self) -> usize
         ensures index { result ≡ self.entry.index }
@@ -85,7 +85,8 @@ impl<'b, 'a> OpenUnit<'b, 'a> {
     #[inline(always)]
     pub fn unit(self) -> &'b Unit<'a>
         ensures header { unit_shown result.now ≡ unit_of self.entry }
-        ensures root { option_map entry_shown result.now.root ≡ model.root (sections_of self.entry) (unit_of self.entry) }
+        ensures root { option_map entry_shown result.now.root
+            ≡ model.root (sections_of self.entry) (unit_of self.entry) }
         ensures first { HasFirst (sections_of self.entry) result.now }
         ensures bases { bases_shown result.now.bases ≡ model.bases (sections_of self.entry) (unit_of self.entry) }
     {
@@ -99,32 +100,39 @@ impl<'b, 'a> OpenUnit<'b, 'a> {
         self.unit().width
     }
 
-    /// The text to which a value leads, without its zero byte; its end is looked for only when its bytes
-    /// are asked for. `None` as `Tables::text`.
+    /// The text to which a value leads, without its zero byte; its end is looked for only when its
+    /// bytes are asked for. `None` as `Tables::text`.
     pub fn find_text(self, value: &Value<'a>) -> Option<Text<'a>>
-        ensures { option_map text_shown result ≡ texts.text (sections_of self.entry).tables (model.bases (sections_of self.entry) (unit_of self.entry)) (value_shown value.now) }
+        ensures { option_map text_shown result
+            ≡ texts.text (sections_of self.entry).tables
+            (model.bases (sections_of self.entry) (unit_of self.entry)) (value_shown value.now) }
     {
         self.units.tables().find_text(value, &self.unit().bases)
     }
 
     /// The same text.
     pub fn text(self, value: &Value<'a>) -> Option<&'a [u8]>
-        ensures { option_map (λ text. text.now) result ≡ texts.text (sections_of self.entry).tables (model.bases (sections_of self.entry) (unit_of self.entry)) (value_shown value.now) }
+        ensures { option_map (λ text. text.now) result
+            ≡ texts.text (sections_of self.entry).tables
+            (model.bases (sections_of self.entry) (unit_of self.entry)) (value_shown value.now) }
     {
         self.units.tables().text(value, &self.unit().bases)
     }
 
     /// The address to which a value leads. `None` as `Tables::address`.
     pub fn address(self, value: &Value<'a>) -> Option<u64>
-        ensures { result ≡ texts.address (sections_of self.entry).tables (model.bases (sections_of self.entry) (unit_of self.entry)) (value_shown value.now) }
+        ensures { result ≡ texts.address (sections_of self.entry).tables
+            (model.bases (sections_of self.entry) (unit_of self.entry)) (value_shown value.now) }
     {
         self.units.tables().address(value, &self.unit().bases)
     }
 
-    /// The entry at an offset of .debug_info; `None` for a null entry. The error is that of `Units::entry`.
+    /// The entry at an offset of .debug_info; `None` for a null entry. The error is that of
+    /// `Units::entry`.
     pub fn entry(self, alloc: Global, offset: u64) -> Result<Option<Entry<'a>>, FormFault>
         ensures entry { FindsEntry result (model.entry (sections_of self.entry) (unit_of self.entry) offset) }
-        ensures memory { IfErr result (λ fault. HidesNoFault fault (model.entry (sections_of self.entry) (unit_of self.entry) offset)) }
+        ensures memory { IfErr result (λ fault. HidesNoFault fault
+            (model.entry (sections_of self.entry) (unit_of self.entry) offset)) }
     {
         let Some(abbrevs) = self.units.abbrevs(self.index) else {
             return Err(FormFault::End);
@@ -133,13 +141,15 @@ impl<'b, 'a> OpenUnit<'b, 'a> {
         entry_in(alloc, self.units.sections(), &header, abbrevs, offset)
     }
 
-    /// Reads the entry at an offset of .debug_info in place of the one that was kept; `false` for a null
-    /// entry, and then what was kept stays. The error is that of `entry`; then any entry may be kept.
+    /// Reads the entry at an offset of .debug_info in place of the one that was kept; `false` for a
+    /// null entry, and then what was kept stays. The error is that of `entry`; then any entry may
+    /// be kept.
     #[inline(always)]
     pub fn read_entry(self, offset: u64, kept: &mut Entry<'a>) -> Result<bool, FormFault>
         ensures stays { IfOk result (λ found. found ≡ false → kept.new ≡ kept.old) }
         ensures entry { ReadsEntry result kept.new (model.entry (sections_of self.entry) (unit_of self.entry) offset) }
-        ensures memory { IfErr result (λ fault. HidesNoFault fault (model.entry (sections_of self.entry) (unit_of self.entry) offset)) }
+        ensures memory { IfErr result (λ fault. HidesNoFault fault
+            (model.entry (sections_of self.entry) (unit_of self.entry) offset)) }
     {
         let Some(abbrevs) = self.units.abbrevs(self.index) else {
             return Err(FormFault::End);
@@ -148,8 +158,8 @@ impl<'b, 'a> OpenUnit<'b, 'a> {
         read_in(kept, self.units.sections(), &header, abbrevs, offset)
     }
 
-    /// The entry at an offset of .debug_info, of which each value is read when it is asked for. `None` for a null
-    /// entry, and where none can be read.
+    /// The entry at an offset of .debug_info, of which each value is read when it is asked for.
+    /// `None` for a null entry, and where none can be read.
     pub fn view(self, offset: u64) -> Option<EntryView<'b, 'a>>
         ensures { result ≡ found_in (model.entry (sections_of self.entry) (unit_of self.entry) offset) }
     {
@@ -168,7 +178,8 @@ impl<'b, 'a> OpenUnit<'b, 'a> {
         Some(Entries::new(abbrevs, unit.width, cursor))
     }
 
-    /// The offset just past a null entry. Its code may be padded, so it may take more than one byte.
+    /// The offset just past a null entry. Its code may be padded, so it may take more than one
+    /// byte.
     pub fn past_null(self, offset: u64) -> u64
         requires { IsNull (model.entry (sections_of self) (unit_of self) offset) }
         ensures { IsPastNull result (model.entry (sections_of self.entry) (unit_of self.entry) offset) }

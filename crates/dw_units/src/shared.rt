@@ -48,7 +48,8 @@ impl<'a> Shared<'a> {
         ensures section { self.new.section ≡ self.old.section }
         ensures kept { IsKept self.old self.new }
         ensures found { IfOk result (λ k. HasTable self.new offset k) }
-        ensures fault { IfErr result (λ fault. MatchOption (form_fault fault) (Unit {0}) (λ told. abbreviations self.old.section offset ≡ Err told)) }
+        ensures fault { IfErr result (λ fault. MatchOption (form_fault fault) (Unit {0})
+            (λ told. abbreviations self.old.section offset ≡ Err told)) }
         ensures memory { IfErr result (λ fault. HidesNoFault fault (abbreviations self.old.section offset)) }
     {
         if let Some(place) = self.places.get(&offset) {

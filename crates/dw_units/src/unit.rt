@@ -101,7 +101,8 @@ fn root_fault(offset: u64, fault: FormFault) -> OpenFault
 
 /// The unit of a header. Its declarations and its first entry are read where it isn't skipped.
 ///
-/// The error is `Root` where they can't be read, or `Memory`; that is told only of a unit whose declarations can be read.
+/// The error is `Root` where they can't be read, or `Memory`; that is told only of a unit whose
+/// declarations can be read.
 pub(crate) fn open_unit<'a>(
     alloc: Global,
     sections: &Sections<'a>,
@@ -114,7 +115,8 @@ pub(crate) fn open_unit<'a>(
     ensures kept { IsKept shared.old shared.new }
     ensures header { IfOk result (λ unit. unit_shown unit ≡ header_shown header) }
     ensures opened { IfOk result (λ unit. IsOpened (sections_shown sections.now) shared.new unit) }
-    ensures root { GivesUnlessMemory (λ _. tt) refusal_of result (has_root (sections_shown sections.now) (header_shown header)) }
+    ensures root { GivesUnlessMemory (λ _. tt) refusal_of result
+        (has_root (sections_shown sections.now) (header_shown header)) }
     ensures memory { IfErr result (λ fault. HidesNoTable fault (sections_shown sections.now) (header_shown header)) }
 {
     if header.kind.is_skipped() {

@@ -1,6 +1,7 @@
 //! The units of a file, in order of offset.
 
-ghost use Rattle.std.specs.Prelude.{◌≡◌, ◌≤◌, ◌<◌, true, false, nat_le, option_and_then, None, OnOk, IfOk, IfErr, IfSome, MatchOption, Some, length, option_map, slice_get};
+ghost use Rattle.std.specs.Prelude.{◌≡◌, ◌≤◌, ◌<◌, true, false, nat_le, option_and_then, None, OnOk, IfOk, IfErr};
+ghost use Rattle.std.specs.Prelude.{IfSome, MatchOption, Some, length, option_map, slice_get};
 ghost use Rattle.std.specs.List.Sorted.{IsNonDecreasingBy, IsPartitionPoint};
 ghost use Rattle.dw_model.specs.Section as model_sections;
 ghost use Rattle.dw_model.specs.Unit.{units};
@@ -50,21 +51,24 @@ impl<'a> Model for Units<'a> {
 /// How many units begin at an offset or before it.
 fn begun(units: &[Unit<'_>], offset: u64) -> usize
     ensures within { result ≤ length units.now }
-    ensures begun { IsNonDecreasingBy (λ unit. unit.offset) units.now → IsPartitionPoint (λ unit. nat_le unit.offset offset ≡ true) (λ unit. nat_le unit.offset offset ≡ false) units.now result }
+    ensures begun { IsNonDecreasingBy (λ unit. unit.offset) units.now
+        → IsPartitionPoint (λ unit. nat_le unit.offset offset ≡ true)
+        (λ unit. nat_le unit.offset offset ≡ false) units.now result }
 {
     units.partition_point(|unit| unit.offset <= offset)
 }
 
 impl<'a> Units<'a> {
-    /// Cuts .debug_info into units, and reads the first entry of each that isn't skipped. Padding is
-    /// no unit.
+    /// Cuts .debug_info into units, and reads the first entry of each that isn't skipped. Padding
+    /// is no unit.
     ///
-    /// The error is the first condition that fails, unit by unit, or `Memory` where a growth was
-    /// refused.
+    /// The error is the first condition that fails, unit by unit, or `Memory` where an allocation
+    /// was refused.
     pub fn read(alloc: Global, elf: &Elf<'a>) -> Result<Self, OpenFault>
         ensures sections { IfOk result (λ units. units ≡ model_sections.sections elf.now) }
         ensures accepted { OnOk result (model.unit_refusal (model_sections.sections elf.now) ≡ None) }
-        ensures refused { IfErr result (λ fault. RefusesUnlessMemory fault (model.unit_refusal (model_sections.sections elf.now))) }
+        ensures refused { IfErr result (λ fault. RefusesUnlessMemory fault
+            (model.unit_refusal (model_sections.sections elf.now))) }
     {
         let sections = Sections::of(elf);
         let mut shared = Shared::new(alloc, sections.abbrevs);
@@ -102,10 +106,11 @@ impl<'a> Units<'a> {
         &self.units[i]
     }
 
-    /// The place of the unit in whose bytes an offset of .debug_info lies. Units stand in order, so it
-    /// is searched by halves.
+    /// The place of the unit in whose bytes an offset of .debug_info lies. Units are in order, so
+    /// it is searched by halves.
     pub fn holding(&self, offset: u64) -> Option<usize>
-        ensures holding { option_and_then (slice_get (units self.now.info)) result ≡ holding (units self.now.info) offset }
+        ensures holding { option_and_then (slice_get (units self.now.info)) result
+            ≡ holding (units self.now.info) offset }
         ensures within { IfSome result (λ i. i < length (units self.now.info)) }
     {
         let begun = begun(&self.units, offset);
@@ -133,22 +138,25 @@ impl<'a> Units<'a> {
         &self.sections
     }
 
-    /// The declarations of the unit at an index; `None` just for a skipped unit, which has no entry.
+    /// The declarations of the unit at an index; `None` just for a skipped unit, which has no
+    /// entry.
     #[inline(always)]
     pub(crate) fn abbrevs(&self, index: usize) -> Option<&Abbrevs>
         requires { index < length (units self.now.info) }
-        ensures { MatchOption result (HasNoEntry (unit_at self.now index)) (λ abbrevs. HasEntriesBy self.now (unit_at self.now index) abbrevs.now) }
+        ensures { MatchOption result (HasNoEntry (unit_at self.now index))
+            (λ abbrevs. HasEntriesBy self.now (unit_at self.now index) abbrevs.now) }
     {
         let table = self.units[index].table?;
         Some(self.shared.get(table))
     }
 
-    /// The entry at an offset of .debug_info, in the unit at a place; `None` for a null entry, which
-    /// ends a list of children.
+    /// The entry at an offset of .debug_info, in the unit at a place; `None` for a null entry,
+    /// which ends a list of children.
     ///
     /// The error is `End` where the offset doesn't lie between the unit's first entry and its end,
     /// and where the entry runs past that; `Code` where the unit has no declaration of the entry's
-    /// code; else the fault of its first value that can't be read; or `Memory`, which hides none of these.
+    /// code; else the fault of its first value that can't be read; or `Memory`, which hides none of
+    /// these.
     pub fn entry(
         &self,
         alloc: Global,
@@ -156,29 +164,34 @@ impl<'a> Units<'a> {
         offset: u64,
     ) -> Result<Option<Entry<'a>>, FormFault>
         requires { i < length (units self.now.info) }
-        ensures entry { IfSome (slice_get (units self.now.info) i) (λ unit. FindsEntry result (model.entry self.now unit offset)) }
-        ensures memory { IfErr result (λ fault. IfSome (slice_get (units self.now.info) i) (λ unit. HidesNoFault fault (model.entry self.now unit offset))) }
+        ensures entry { IfSome (slice_get (units self.now.info) i)
+            (λ unit. FindsEntry result (model.entry self.now unit offset)) }
+        ensures memory { IfErr result (λ fault. IfSome (slice_get (units self.now.info) i)
+            (λ unit. HidesNoFault fault (model.entry self.now unit offset))) }
     {
         self.at(i).entry(alloc, offset)
     }
 
-    /// Reads the entry at an offset of .debug_info, in the unit at a place, in place of the one that was
-    /// kept; `false` for a null entry, and then what was kept stays. The error is that of `entry`; then any
-    /// entry may be kept.
+    /// Reads the entry at an offset of .debug_info, in the unit at a place, in place of the one
+    /// that was kept; `false` for a null entry, and then what was kept stays. The error is that of
+    /// `entry`; then any entry may be kept.
     pub fn read_entry(&self, i: usize, offset: u64, kept: &mut Entry<'a>) -> Result<bool, FormFault>
         requires { i < length (units self.now.info) }
         ensures stays { IfOk result (λ found. found ≡ false → kept.new ≡ kept.old) }
-        ensures entry { IfSome (slice_get (units self.now.info) i) (λ unit. ReadsEntry result kept.new (model.entry self.now unit offset)) }
-        ensures memory { IfErr result (λ fault. IfSome (slice_get (units self.now.info) i) (λ unit. HidesNoFault fault (model.entry self.now unit offset))) }
+        ensures entry { IfSome (slice_get (units self.now.info) i)
+            (λ unit. ReadsEntry result kept.new (model.entry self.now unit offset)) }
+        ensures memory { IfErr result (λ fault. IfSome (slice_get (units self.now.info) i)
+            (λ unit. HidesNoFault fault (model.entry self.now unit offset))) }
     {
         self.at(i).read_entry(offset, kept)
     }
 
-    /// A walk over the entries of the unit at a place, from its first one on; `None` just for a skipped
-    /// unit.
+    /// A walk over the entries of the unit at a place, from its first one on; `None` just for a
+    /// skipped unit.
     pub fn entries(&self, i: usize) -> Option<Entries<'_, 'a>>
         requires { i < length (units self.now.info) }
-        ensures { IfSome (slice_get (units self.now.info) i) (λ unit. WalksFrom self.now unit (option_map (λ entries. entries) result)) }
+        ensures { IfSome (slice_get (units self.now.info) i)
+            (λ unit. WalksFrom self.now unit (option_map (λ entries. entries) result)) }
     {
         self.at(i).entries()
     }
@@ -188,7 +201,8 @@ impl<'a> Units<'a> {
     pub fn past_null(&self, i: usize, offset: u64) -> u64
         requires unit { i < length (units self.now.info) }
         requires null { IfSome (slice_get (units self.now.info) i) (λ unit. IsNull (model.entry self.now unit offset)) }
-        ensures { IfSome (slice_get (units self.now.info) i) (λ unit. IsPastNull result (model.entry self.now unit offset)) }
+        ensures { IfSome (slice_get (units self.now.info) i)
+            (λ unit. IsPastNull result (model.entry self.now unit offset)) }
     {
         self.at(i).past_null(offset)
     }

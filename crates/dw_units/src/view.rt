@@ -15,8 +15,8 @@ ghost use Rattle.dw_units.specs.Header.{header_shown};
 ghost use Rattle.dw_units.specs.Sections.{sections_shown};
 ghost use Rattle.dw_units.specs.View.{found_in};
 
+use crate::attributes::pass_values;
 use crate::class::counts;
-use crate::entries::pass_values;
 use crate::entry::cursor_at;
 use crate::header::Header;
 use crate::sections::Sections;
@@ -24,17 +24,17 @@ use dw_bytes::{Cursor, Width};
 use dw_forms::{Abbrevs, Decl, FormFault, Spec, Value, read_value};
 use std::marker::Model;
 
-/// An entry that can be read, of which each value is read when it is asked for: so it takes no memory.
-/// Contracts see the entry.
+/// An entry that can be read, of which each value is read when it is asked for: so it takes no
+/// memory. Contracts see the entry.
 #[derive(Drop)]
 pub struct EntryView<'b, 'a> {
-    declaration: &'b Decl,
+    pub(crate) declaration: &'b Decl,
     /// How many bytes the offsets of its unit have.
-    width: Width,
+    pub(crate) width: Width,
     /// Its offset, which counts from the first byte of .debug_info.
-    offset: u64,
+    pub(crate) offset: u64,
     /// Where its values begin.
-    values: Cursor<'a>,
+    pub(crate) values: Cursor<'a>,
 }
 
 impl<'b, 'a> Model for EntryView<'b, 'a> {
@@ -48,14 +48,18 @@ impl<'b, 'a> Model for EntryView<'b, 'a> {
     ghost invariant = { IsReadable };
 }
 
-/// The first value of a name, among those that specifications ask for, where all of them can be read.
+/// The first value of a name, among those that specifications ask for, where all of them can be
+/// read.
 fn first_value<'a>(
     values: &mut Cursor<'a>,
     specs: &[Spec],
     width: Width,
     name: u64,
 ) -> Option<Value<'a>>
-    ensures { (found : List Attribute × Place) → attributes_at (size_of width) (map spec_shown specs.now) values.old ≡ Ok found → option_map value_shown result ≡ option_map (λ first. first.value) (find (λ first. first.name == name) found.0) }
+    ensures { (found : List Attribute × Place)
+        → attributes_at (size_of width) (map spec_shown specs.now) values.old ≡ Ok found
+        → option_map value_shown result ≡ option_map
+        (λ first. first.value) (find (λ first. first.name == name) found.0) }
 {
     for spec in specs {
         let Ok(value) = read_value(values, spec.form, spec.implicit, width) else {
@@ -69,6 +73,20 @@ fn first_value<'a>(
 }
 
 impl<'b, 'a> EntryView<'b, 'a> {
+    /// Its offset, which counts from the first byte of .debug_info.
+    pub fn offset(&self) -> u64
+        ensures { result ≡ self.now.offset }
+    {
+        self.offset
+    }
+
+    /// A list of children follows it.
+    pub fn children(&self) -> bool
+        ensures { result ≡ self.now.children }
+    {
+        self.declaration.children
+    }
+
     /// A DW_TAG code.
     pub fn tag(&self) -> u64
         ensures { result ≡ self.now.tag }
@@ -105,7 +123,7 @@ impl<'b, 'a> EntryView<'b, 'a> {
 }
 
 /// The entry at the cursor, which goes just past it; `None` for a null entry, which ends a list of
-/// children. After a refusal the cursor may stand anywhere.
+/// children. After a refusal the cursor may be anywhere.
 #[tactic(auto, unfolding(dw_model::specs::Entry::entry_at))]
 fn view_at<'b, 'a>(
     cursor: &mut Cursor<'a>,
@@ -130,8 +148,8 @@ fn view_at<'b, 'a>(
     }))
 }
 
-/// The entry at an offset of .debug_info that lies between a unit's first entry and its end. `None` for a
-/// null entry, and where none can be read. Nothing past the unit's end is read.
+/// The entry at an offset of .debug_info that lies between a unit's first entry and its end. `None`
+/// for a null entry, and where none can be read. Nothing past the unit's end is read.
 #[tactic(auto, unfolding(dw_model::specs::Root::entry))]
 pub(crate) fn view_in<'b, 'a>(
     sections: &Sections<'a>,

@@ -181,8 +181,8 @@ fn faults_of_values(rt: HostRuntime) {
     }
 }
 
-/// Codes 1, 2, 9 and then 2 and 9 once more; the second has the pair of a number in the declaration,
-/// the zero of its end is padded.
+/// Codes 1, 2, 9 and then 2 and 9 once more; the second has the pair of a number in the
+/// declaration, the zero of its end is padded.
 const TABLE: &[u8] = &[
     0xaa, 1, 0x11, 1, 3, 8, 0, 0, 2, 0x2e, 0, 0x3a, 0x21, 0x7f, 0x80, 0, 0, 9, 0x34, 2, 0, 0, 2, 1,
     0, 0, 0, 9, 2, 0, 0, 0, 0,
@@ -205,8 +205,8 @@ fn tables_of_declarations(rt: HostRuntime) -> Result<(), Fail> {
     Ok(())
 }
 
-/// How many bytes the values of entries take: forms of one size, one of a length of its own, no pair, and one
-/// that names another.
+/// How many bytes the values of entries take: forms of one size, one of a length of its own, no
+/// pair, and one that names another.
 #[test]
 fn sizes_of_declarations(rt: HostRuntime) -> Result<(), Fail> {
     let bytes = &[
@@ -225,8 +225,8 @@ fn sizes_of_declarations(rt: HostRuntime) -> Result<(), Fail> {
     Ok(())
 }
 
-/// Where the first attribute of a name stands: DW_AT_external, DW_AT_name, DW_AT_low_pc, DW_AT_name again. What
-/// isn't there stands behind all; a name that tells of no function has no place.
+/// Where the first attribute of a name is: DW_AT_external, DW_AT_name, DW_AT_low_pc, DW_AT_name
+/// again. What isn't there is after all; a name that tells of no function has no place.
 #[test]
 fn places_of_declarations(rt: HostRuntime) -> Result<(), Fail> {
     let bytes = &[1, 0x2e, 0, 0x3f, 0x19, 3, 8, 0x11, 1, 3, 8, 0, 0, 0];
@@ -345,8 +345,8 @@ const MANY: &[u8] = &[
     0, 0,
 ];
 
-/// A table for which an allocation is refused is out of memory, and the next reading, with memory, gives it
-/// whole.
+/// A table for which an allocation is refused is out of memory, and the next reading, with memory,
+/// gives it whole.
 #[test]
 fn each_allocation_refused(rt: HostRuntime) -> Result<(), Fail> {
     let table = match Abbrevs::read(rt.alloc(), MANY, 0) {

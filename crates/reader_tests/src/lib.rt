@@ -1,5 +1,6 @@
-//! Tests of the crates that read a file, from its bytes to the functions of its units, through their public calls
-//! alone. They stand here so that those crates are proved once, and not once more with their tests.
+//! Tests of the crates that read a file, from its bytes to the functions of its units, through
+//! their public calls alone. They are here so that those crates are proved once, and not once more
+//! with their tests.
 #![tactic(auto)]
 
 #[cfg(test)]

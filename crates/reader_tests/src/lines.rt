@@ -221,8 +221,8 @@ fn each_opcode(rt: HostRuntime) -> Result<(), Fail> {
     Ok(())
 }
 
-/// Appends a sequence with so many rows to a program: row i, from 1 on, at 0x1000 + first + i with line 1 + i. It
-/// ends one byte after the last.
+/// Appends a sequence with so many rows to a program: row i, from 1 on, at 0x1000 + first + i with
+/// line 1 + i. It ends one byte after the last.
 fn push_rows(program: &mut Vec<u8>, first: u8, count: usize) -> Result<(), AllocError> {
     program.extend_from_slice(&[0, 9, 2, first, 0x10, 0, 0, 0, 0, 0, 0])?;
     for _ in 0..count {
@@ -256,7 +256,8 @@ fn rows_behind_checkpoints(rt: HostRuntime) -> Result<(), Fail> {
     Ok(())
 }
 
-/// The line of an address where a sequence with 200 rows from 0x1000 on stands before one from 0x1080 on.
+/// The line of an address where a sequence with 200 rows from 0x1000 on is before one from 0x1080
+/// on.
 fn line_of_two(address: u64) -> Option<u64> {
     match address {
         0x1001..=0x10c8 => Some(address - 0xfff),
@@ -265,8 +266,8 @@ fn line_of_two(address: u64) -> Option<u64> {
     }
 }
 
-/// From the row that was found last, whatever was asked before: in order, backwards, the same address twice, and in a
-/// drawn order.
+/// From the row that was found last, whatever was asked before: in order, backwards, the same
+/// address twice, and in a drawn order.
 #[test]
 fn rows_in_order(rt: HostRuntime) -> Result<(), Fail> {
     let mut program = Vec::new(rt.alloc());
@@ -458,8 +459,8 @@ fn path_at_last(alloc: Global, lines: &Lines<'_>) -> Result<Option<Vec<u8>>, All
     Ok(path)
 }
 
-/// A table for which an allocation is refused is out of memory, and so is a path; the next reading, with
-/// memory, gives them whole.
+/// A table for which an allocation is refused is out of memory, and so is a path; the next reading,
+/// with memory, gives them whole.
 #[test]
 fn each_allocation_refused(rt: HostRuntime) -> Result<(), Fail> {
     let alloc = rt.alloc();

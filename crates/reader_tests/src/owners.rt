@@ -163,7 +163,8 @@ fn agrees_with_a_scan(rt: HostRuntime) -> Result<(), Fail> {
     Ok(())
 }
 
-/// An index for which an allocation is refused is out of memory, and the next one, with memory, finds what it should.
+/// An index for which an allocation is refused is out of memory, and the next one, with memory,
+/// finds what it should.
 #[test]
 fn each_allocation_refused(rt: HostRuntime) -> Result<(), Fail> {
     let pairs = [

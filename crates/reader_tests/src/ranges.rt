@@ -1,4 +1,5 @@
-//! Ranges of entries, worked out by hand from the standard's tables, and what no clause says: that calls succeed.
+//! Ranges of entries, worked out by hand from the standard's tables, and what no clause says: that
+//! calls succeed.
 
 use crate::units::units_of;
 use dw_forms::{Tables, Value};
@@ -18,8 +19,8 @@ const ADDR: &[u8] = &[
     1, 2, 3, 4, 5, 6, 7, 8, 0, 0x10, 0, 0, 0, 0, 0, 0, 0, 0x20, 0, 0, 0, 0, 0, 0,
 ];
 
-/// First entries: with the bases 8 of addresses and 4 of range lists; with none; with these and an address; with
-/// these and an address by index.
+/// First entries: with the bases 8 of addresses and 4 of range lists; with none; with these and an
+/// address; with these and an address by index.
 const DECLARATIONS: &[u8] = &[
     1, 0x11, 0, 0x73, 0x17, 0x74, 0x17, 0, 0, 2, 0x11, 0, 0, 0, 3, 0x11, 0, 0x73, 0x17, 0x74, 0x17,
     0x11, 1, 0, 0, 4, 0x11, 0, 0x73, 0x17, 0x74, 0x17, 0x11, 0x1b, 0, 0, 0,
@@ -33,8 +34,9 @@ const ROOTS: [&[u8]; 5] = [
     &[4, 8, 0, 0, 0, 4, 0, 0, 0, 2],
 ];
 
-/// The units of these first entries by their indexes. What has bases has them as above; the address is 0x500, the one
-/// at index 1, or one at an index past the last. The skipped unit has no first entry.
+/// The units of these first entries by their indexes. What has bases has them as above; the address
+/// is 0x500, the one at index 1, or one at an index past the last. The skipped unit has no first
+/// entry.
 const BASED: usize = 0;
 
 const PLAIN: usize = 1;
@@ -47,7 +49,7 @@ const UNREADABLE: usize = 4;
 
 const SKIPPED: usize = 5;
 
-/// A file of these units, and of one of version 4 behind them.
+/// A file of these units, and of one of version 4 after them.
 fn file_of_roots(alloc: Global) -> Result<Vec<u8>, AllocError> {
     let mut info = Vec::new(alloc);
     for root in ROOTS {
@@ -96,8 +98,8 @@ fn are_expected(ranges: &[Range], expected: Expected) -> bool {
             .all(|(range, row)| range.begin == row.0 && range.end == row.1)
 }
 
-/// The ranges of an entry of the unit at an index are as expected, where .debug_rnglists has these bytes: read by
-/// themselves, and in place of others.
+/// The ranges of an entry of the unit at an index are as expected, where .debug_rnglists has these
+/// bytes: read by themselves, and in place of others.
 fn has_ranges(
     alloc: Global,
     units: &Units<'_>,
@@ -116,7 +118,7 @@ fn has_ranges(
         Err(fault) => fault == RangeFault::Bad && expected.is_none(),
     };
     let mut kept = vec![in alloc; Range { begin: 7, end: 8 }]?;
-    let in_place = match read_ranges(&mut kept, &entry, units.unit(i), &tables) {
+    let in_place = match read_ranges(&mut kept, &entry.named_ranges(), units.unit(i), &tables) {
         Ok(()) => are_expected(&kept, expected),
         Err(fault) => fault == RangeFault::Bad && expected.is_none(),
     };
@@ -142,7 +144,7 @@ const LISTS: [(&[u8], Expected); 28] = [
     (&[4, 3, 5, 0], Some(&[(3, 5)])),
     (&[4, 5, 5, 0], Some(&[])),
     (&[4, 5, 3, 0], Some(&[])),
-    // base_address holds for all entries behind it
+    // base_address holds for all entries after it
     (
         &[5, 0, 0x30, 0, 0, 0, 0, 0, 0, 4, 1, 2, 4, 3, 4, 0],
         Some(&[(0x3001, 0x3002), (0x3003, 0x3004)]),
@@ -169,7 +171,7 @@ const LISTS: [(&[u8], Expected); 28] = [
         &[7, 0xf0, 0xff, 0xff, 0xff, 0xff, 0xff, 0xff, 0xff, 15, 0],
         Some(&[(0xffff_ffff_ffff_fff0, 0xffff_ffff_ffff_ffff)]),
     ),
-    // what stands behind the end isn't read
+    // what is after the end isn't read
     (&[0, 8], Some(&[])),
     // an unknown entry
     (&[8, 0], None),
@@ -219,8 +221,8 @@ fn entries_of_lists(rt: HostRuntime) -> Result<(), Fail> {
     Ok(())
 }
 
-/// Lists in units of each kind: without a base no address has an index, and the first base is the address of the
-/// unit's first entry.
+/// Lists in units of each kind: without a base no address has an index, and the first base is the
+/// address of the unit's first entry.
 const IN_UNITS: [(usize, &[u8], Expected); 11] = [
     (PLAIN, &[1, 0, 0], None),
     (PLAIN, &[2, 0, 0, 0], None),
@@ -260,7 +262,7 @@ const INDEXED: &[u8] = &[9, 9, 9, 9, 8, 0, 0, 0, 12, 0, 0, 0, 4, 1, 2, 0, 4, 3, 
 const NAMED: [(usize, Value<'static>, Expected); 12] = [
     (BASED, Value::RangeIndex(0), Some(&[(1, 2)])),
     (BASED, Value::RangeIndex(1), Some(&[(3, 4)])),
-    // a list as an offset: it begins behind the section
+    // a list as an offset: it begins after the section
     (BASED, Value::RangeIndex(2), None),
     (BASED, Value::RangeIndex(4), None),
     (BASED, Value::RangeIndex(1 << 62), None),
@@ -390,8 +392,8 @@ fn faults_show_themselves(rt: HostRuntime) -> Result<(), Fail> {
     Ok(())
 }
 
-/// An entry of the first unit has these ranges, where they are read once more after an allocation was refused, by
-/// themselves and in place of others.
+/// An entry of the first unit has these ranges, where they are read once more after an allocation
+/// was refused, by themselves and in place of others.
 fn has_ranges_at_last(
     alloc: Global,
     units: &Units<'_>,
@@ -408,14 +410,16 @@ fn has_ranges_at_last(
         found => found?,
     };
     let mut kept = Vec::new(alloc);
-    match read_ranges(&mut kept, entry, units.unit(0), &tables) {
-        Err(RangeFault::Memory) => read_ranges(&mut kept, entry, units.unit(0), &tables)?,
+    let named = entry.named_ranges();
+    match read_ranges(&mut kept, &named, units.unit(0), &tables) {
+        Err(RangeFault::Memory) => read_ranges(&mut kept, &named, units.unit(0), &tables)?,
         read => read?,
     }
     Ok(are_expected(&found, expected) && are_expected(&kept, expected))
 }
 
-/// Ranges for which an allocation is refused are out of memory, and the next call, with memory, gives them whole.
+/// Ranges for which an allocation is refused are out of memory, and the next call, with memory,
+/// gives them whole.
 #[test]
 fn each_allocation_refused(rt: HostRuntime) -> Result<(), Fail> {
     let alloc = rt.alloc();

@@ -1,4 +1,5 @@
-//! Functions of units, chains and names, worked out by hand, and what no clause says: that calls succeed.
+//! Functions of units, chains and names, worked out by hand, and what no clause says: that calls
+//! succeed.
 
 use crate::units::units_of;
 use dw_frames::{Call, EntryId, Tree, TreeFault};
@@ -140,9 +141,9 @@ fn unit_of_a_target(rt: HostRuntime) -> Result<(), Fail> {
     Ok(())
 }
 
-/// A unit with children; an inlined subroutine of another, by an offset of the unit; a subprogram with a
-/// name; a block with children; a subprogram with a range list; a block with one; blocks with a name, with
-/// a value of no form, and with a number.
+/// A unit with children; an inlined subroutine of another, by an offset of the unit; a subprogram
+/// with a name; a block with children; a subprogram with a range list; a block with one; blocks
+/// with a name, with a value of no form, and with a number.
 const SHORT: &[u8] = &[
     1, 0x11, 1, 0, 0, 2, 0x1d, 0, 0x31, 0x13, 0, 0, 3, 0x2e, 0, 3, 8, 0, 0, 4, 0x0b, 1, 0, 0, 5,
     0x2e, 0, 0x55, 0x17, 0, 0, 6, 0x0b, 0, 0x55, 0x17, 0, 0, 7, 0x0b, 0, 3, 8, 0, 0, 8, 0x0b, 0, 3,
@@ -183,14 +184,14 @@ fn lists_ended_by_the_unit(rt: HostRuntime) -> Result<(), Fail> {
     expect_name(&rt, rt.alloc(), &info, SHORT, 15, Some(b"n"))
 }
 
-/// A unit whose function at 13 refers to the offset of what stands behind its list of entries.
+/// A unit whose function at 13 refers to the offset of what is after its list of entries.
 fn led_behind(alloc: Global, behind: &[u8]) -> Result<Vec<u8>, AllocError> {
     let mut entries = Vec::from_slice(alloc, &[1, 2, 19, 0, 0, 0, 0])?;
     entries.extend_from_slice(behind)?;
     unit_of(alloc, &entries)
 }
 
-/// What stands there, and the name.
+/// What is there, and the name.
 const TARGETS: [(&[u8], Option<&[u8]>); 7] = [
     (&[], None),
     (&[0], None),
@@ -220,10 +221,10 @@ fn unreadable_targets(rt: HostRuntime) -> Result<(), Fail> {
     expect_name(&rt, rt.alloc(), &skipped, SHORT, 13, None)
 }
 
-/// How many blocks stand in one another below the first entry, what stands in the last, and why that unit's
-/// functions can't be read, if they can't.
+/// How many blocks are in one another below the first entry, what is in the last, and why that
+/// unit's functions can't be read, if they can't.
 const FAULTS: [(usize, &[u8], Option<TreeFault>); 11] = [
-    // entries behind the list aren't read
+    // entries after the list aren't read
     (0, &[0, 0x7f], None),
     (1, &[0x7f], Some(TreeFault::Entry)),
     // entries that are cut: a function, one that is passed, and its text
@@ -255,8 +256,8 @@ fn faults_of_trees(rt: HostRuntime) -> Result<(), Fail> {
     Ok(())
 }
 
-/// Where an allocation is refused, a tree and a chain are out of memory, and the same call, with memory, gives them
-/// whole.
+/// Where an allocation is refused, a tree and a chain are out of memory, and the same call, with
+/// memory, gives them whole.
 #[test]
 fn each_allocation_refused(rt: HostRuntime) -> Result<(), Fail> {
     let alloc = rt.alloc();

@@ -26,8 +26,8 @@ enum Way {
 
 const WAYS: [Way; 2] = [Way::Alone, Way::InPlace];
 
-/// The entry at an offset, in the unit at an index, or why it can't be read. The entry that is kept first is that
-/// unit's first one.
+/// The entry at an offset, in the unit at an index, or why it can't be read. The entry that is kept
+/// first is that unit's first one.
 fn entry_at<'a>(
     alloc: Global,
     units: &Units<'a>,
@@ -81,8 +81,8 @@ fn entry_of_an_inlined_call(rt: HostRuntime) -> Result<(), Fail> {
     Ok(())
 }
 
-/// Offsets of the sample's first unit at which no entry is read: the reason, and none for a null entry. Its first
-/// entry stands at 0x0c, and its end is 0x5b.
+/// Offsets of the sample's first unit at which no entry is read: the reason, and none for a null
+/// entry. Its first entry is at 0x0c, and its end is 0x5b.
 const WITHOUT_ENTRY: [(u64, Option<FormFault>); 11] = [
     (0, Some(FormFault::End)),
     (0x0b, Some(FormFault::End)),
@@ -166,15 +166,18 @@ fn walk_of_a_unit(rt: HostRuntime) -> Result<(), Fail> {
         return Err(Fail::from("a unit"));
     }
     let mut entries = units.entries(0).ok_or("entries of the first unit")?;
-    let mut kept = Entry::unread(rt.alloc());
-    // The unit's first entry and the lexical block are no functions.
-    let rows = [None, Some(0x1d), Some(0x23), None, Some(0x36), Some(0x47)];
+    // The unit's first entry and the lexical block are no functions; the abstract instance at 0x1d names no ranges.
+    let rows = [None, None, Some(0x23), None, Some(0x36), Some(0x47)];
     for row in rows {
         assert!(rt; !entries.is_done());
-        let offset = match entries.next_function(&mut kept)? {
-            Next::Function => Some(kept.offset),
+        let offset = match entries.next_function()? {
+            Next::Function(entry) => Some(entry.offset()),
             Next::Passed { children } => {
                 assert!(rt; children);
+                None
+            }
+            Next::Unranged { children } => {
+                assert!(rt; !children);
                 None
             }
             Next::Null => return Err(Fail::from("no null entry")),
@@ -182,15 +185,15 @@ fn walk_of_a_unit(rt: HostRuntime) -> Result<(), Fail> {
         assert_eq!(rt; offset, row);
     }
     for _ in 0..4 {
-        let next = entries.next_function(&mut kept)?;
+        let next = entries.next_function()?;
         assert!(rt; matches!(next, Next::Null));
     }
     assert!(rt; entries.is_done());
     Ok(())
 }
 
-/// A unit; a function with two names, a number and a text, and the count of its addresses; one with a value of no
-/// form; one with a number in LEB128.
+/// A unit; a function with two names, a number and a text, and the count of its addresses; one with
+/// a value of no form; one with a number in LEB128.
 const DECLARATIONS: &[u8] = &[
     1, 0x11, 1, 0, 0, 2, 0x2e, 0, 3, 0x0b, 3, 8, 0x12, 0x0d, 0, 0, 3, 0x2e, 0, 3, 0x7e, 0, 0, 4,
     0x2e, 0, 3, 0x0f, 0, 0, 0,
@@ -218,6 +221,71 @@ fn first_of_two_attributes_decides(rt: HostRuntime) -> Result<(), Fail> {
     Ok(())
 }
 
+/// How a walk gives an entry.
+#[derive(Clone, Copy, Debug, PartialEq, Eq)]
+enum Given {
+    Null,
+    Function,
+    Unranged,
+    Passed,
+}
+
+/// Attributes of a function, names and forms, with the values of an entry, and how a walk gives it:
+/// with DW_AT_low_pc and DW_AT_high_pc, as a number and by indexes of addresses; with one of both,
+/// and with an end that is a text; with DW_AT_ranges, as an offset, through DW_FORM_indirect, and
+/// as a number, which is of no kind that counts; with a first DW_AT_ranges that is a number; and
+/// with none of them.
+const FUNCTIONS: [(&[u8], &[u8], Given); 9] = [
+    (
+        &[0x11, 1, 0x12, 0x0b],
+        &[0, 0, 0, 0, 0, 0, 0, 0, 4],
+        Given::Function,
+    ),
+    (&[0x11, 0x1b, 0x12, 0x29], &[0, 1], Given::Function),
+    (&[0x11, 0x1b], &[0], Given::Unranged),
+    (&[0x11, 0x1b, 0x12, 8], &[0, 0], Given::Unranged),
+    (&[0x55, 0x17], &[0, 0, 0, 0], Given::Function),
+    (&[0x55, 0x16], &[0x0b, 7], Given::Function),
+    (&[0x55, 6], &[0, 0, 0, 0], Given::Unranged),
+    (&[0x55, 0x0b, 0x55, 0x17], &[0, 0, 0, 0, 0], Given::Unranged),
+    (&[3, 8], &[b'f', 0], Given::Unranged),
+];
+
+/// How a walk over the first unit gives its second entry.
+fn second_of_walk(units: &Units<'_>) -> Result<Given, Fail> {
+    if units.len() == 0 {
+        return Err(Fail::from("a unit"));
+    }
+    let mut entries = units.entries(0).ok_or("entries of the first unit")?;
+    let _first = entries.next_function()?;
+    Ok(match entries.next_function()? {
+        Next::Null => Given::Null,
+        Next::Function(_) => Given::Function,
+        Next::Unranged { .. } => Given::Unranged,
+        Next::Passed { .. } => Given::Passed,
+    })
+}
+
+#[test]
+fn functions_by_their_declarations(rt: HostRuntime) -> Result<(), Fail> {
+    for tag in [0x2e, 0x1d, 0x0b] {
+        for (attributes, values, given) in FUNCTIONS {
+            let mut declarations = vec![in rt.alloc(); 1, 0x11, 1, 0, 0, 2, tag, 0]?;
+            declarations.extend_from_slice(attributes)?;
+            declarations.extend_from_slice(&[0, 0, 0])?;
+            let mut entry = vec![in rt.alloc(); 2]?;
+            entry.extend_from_slice(values)?;
+            let file = file_with(rt.alloc(), &entry, &declarations)?;
+            let units = units_of(rt.alloc(), &file)?;
+            let found = second_of_walk(&units)?;
+            // A lexical block is no function.
+            let expected = if tag == 0x0b { Given::Passed } else { given };
+            assert_eq!(rt; found, expected, "{attributes:?}");
+        }
+    }
+    Ok(())
+}
+
 /// Entries that can't be read, and why.
 const FAULTS: [(&[u8], FormFault); 4] = [
     (&[2, 5, b'f', 0], FormFault::End),
@@ -230,14 +298,13 @@ const FAULTS: [(&[u8], FormFault); 4] = [
 ];
 
 /// Why a walk over the first unit can't read its second entry.
-fn fault_of_walk(alloc: Global, units: &Units<'_>) -> Result<Option<FormFault>, Fail> {
+fn fault_of_walk(units: &Units<'_>) -> Result<Option<FormFault>, Fail> {
     if units.len() == 0 {
         return Err(Fail::from("a unit"));
     }
     let mut entries = units.entries(0).ok_or("entries of the first unit")?;
-    let mut kept = Entry::unread(alloc);
-    let _first = entries.next_function(&mut kept)?;
-    Ok(entries.next_function(&mut kept).err())
+    let _first = entries.next_function()?;
+    Ok(entries.next_function().err())
 }
 
 #[test]
@@ -249,13 +316,14 @@ fn faults_of_entries(rt: HostRuntime) -> Result<(), Fail> {
             let found = entry_at(rt.alloc(), &units, 0, 13, way)?;
             assert_eq!(rt; found.err(), Some(fault));
         }
-        assert_eq!(rt; fault_of_walk(rt.alloc(), &units)?, Some(fault));
+        assert_eq!(rt; fault_of_walk(&units)?, Some(fault));
     }
     Ok(())
 }
 
-/// Tables of abbreviations that can't be read: one that ends in a code, in a tag, before the flag for children, in a
-/// pair, and behind a pair; a tag of 65 bits; and a number of 65 bits that stands in the declaration.
+/// Tables of abbreviations that can't be read: one that ends in a code, in a tag, before the flag
+/// for children, in a pair, and after a pair; a tag of 65 bits; and a number of 65 bits that is in
+/// the declaration.
 const UNREADABLE_TABLES: [&[u8]; 7] = [
     &[0x80],
     &[1],
@@ -270,7 +338,8 @@ const UNREADABLE_TABLES: [&[u8]; 7] = [
     ],
 ];
 
-/// The abbreviations of a unit can't be read where anything in their table can't be, and that isn't out of memory.
+/// The abbreviations of a unit can't be read where anything in their table can't be, and that isn't
+/// out of memory.
 #[test]
 fn unreadable_tables(rt: HostRuntime) -> Result<(), Fail> {
     let info = unit_of(rt.alloc(), &[1, 0])?;
@@ -297,8 +366,9 @@ fn unreadable_tables(rt: HostRuntime) -> Result<(), Fail> {
     Ok(())
 }
 
-/// First entries of a unit that aren't one, for the declarations above: none at all, a null entry, a code without a
-/// declaration, and entries that end early, have an unknown form and a number of 65 bits.
+/// First entries of a unit that aren't one, for the declarations above: none at all, a null entry,
+/// a code without a declaration, and entries that end early, have an unknown form and a number of
+/// 65 bits.
 const NO_ROOTS: [&[u8]; 6] = [
     &[],
     &[0],
@@ -322,7 +392,8 @@ fn units_without_a_root(rt: HostRuntime) -> Result<(), Fail> {
     Ok(())
 }
 
-/// A skeleton unit, whose header has a number of eight bytes more, and behind it one of version 4 that is skipped.
+/// A skeleton unit, whose header has a number of eight bytes more, and after it one of version 4
+/// that is skipped.
 const SKELETON: &[u8] = &[
     0x12, 0, 0, 0, 5, 0, 4, 8, 0, 0, 0, 0, 1, 2, 3, 4, 5, 6, 7, 8, 1, 0, 0x0a, 0, 0, 0, 4, 0, 0, 0,
     0, 0, 8, 1, 0, 0,
@@ -376,8 +447,8 @@ fn units_at_last<'a>(alloc: Global, file: &'a [u8]) -> Result<Units<'a>, OpenFau
     units_of(alloc, file)
 }
 
-/// The entry at 13 of the first unit is whole, by itself and in place of another, where it is read once more after an
-/// allocation was refused.
+/// The entry at 13 of the first unit is whole, by itself and in place of another, where it is read
+/// once more after an allocation was refused.
 fn is_read_at_last(alloc: Global, units: &Units<'_>) -> Result<bool, Fail> {
     if units.len() == 0 {
         return Err(Fail::from("a unit"));
@@ -394,23 +465,8 @@ fn is_read_at_last(alloc: Global, units: &Units<'_>) -> Result<bool, Fail> {
     Ok(read && is_whole(&kept) && is_whole(&found.ok_or("no null entry")?))
 }
 
-/// The same for the second entry of a walk.
-fn is_walked_at_last(alloc: Global, units: &Units<'_>) -> Result<bool, Fail> {
-    if units.len() == 0 {
-        return Err(Fail::from("a unit"));
-    }
-    let mut entries = units.entries(0).ok_or("entries of the first unit")?;
-    let mut kept = Entry::unread(alloc);
-    let _first = entries.next_function(&mut kept)?;
-    let next = match entries.next_function(&mut kept) {
-        Err(FormFault::Memory) => entries.next_function(&mut kept)?,
-        next => next?,
-    };
-    Ok(next == Next::Function && is_whole(&kept))
-}
-
-/// Where an allocation is refused, units, an entry and a walk are out of memory, and the same call, with memory,
-/// gives them whole.
+/// Where an allocation is refused, units and an entry are out of memory, and the same call, with
+/// memory, gives them whole.
 #[test]
 fn each_allocation_refused(rt: HostRuntime) -> Result<(), Fail> {
     let entry = &[2, 0, 1, 2, 3, 4, 5, 6, 7, 8, 9, 10, 11, 12];
@@ -419,6 +475,5 @@ fn each_allocation_refused(rt: HostRuntime) -> Result<(), Fail> {
     };
     let units = units_at_last(rt.alloc(), &file)?;
     assert!(rt; is_read_at_last(rt.alloc(), &units)?);
-    assert!(rt; is_walked_at_last(rt.alloc(), &units)?);
     Ok(())
 }

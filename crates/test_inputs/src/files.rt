@@ -4,9 +4,10 @@ use dw_elf::Name;
 use std::alloc::{AllocError, Global};
 use std::test::Fail;
 
-/// Three units. The one at 0 covers 0x401000 to 0x40100e: its function `main` at 0x23 has `mid` at 0x36 inlined,
-/// in a block, and that has `leaf` at 0x47 inlined. The one at 0x5b is partial and has the entry of `mid`. The one
-/// at 0x6e covers 0x500000 to 0x500004 and has no functions and no rows. The last byte is at 0x8b.
+/// Three units. The one at 0 covers 0x401000 to 0x40100e: its function `main` at 0x23 has `mid` at
+/// 0x36 inlined, in a block, and that has `leaf` at 0x47 inlined. The one at 0x5b is partial and
+/// has the entry of `mid`. The one at 0x6e covers 0x500000 to 0x500004 and has no functions and no
+/// rows. The last byte is at 0x8b.
 pub const INFO: &[u8] = &[
     0x57, 0, 0, 0, 5, 0, 1, 8, 0, 0, 0, 0, 1, 0, 0, 0, 0, 0, 0x10, 0x40, 0, 0, 0, 0, 0, 0x0e, 0, 0,
     0, 3, 0x6c, 0x65, 0x61, 0x66, 0, 2, 0x6d, 0x61, 0x69, 0x6e, 0, 0, 0x10, 0x40, 0, 0, 0, 0, 0,
@@ -24,8 +25,8 @@ pub const ABBREVS: &[u8] = &[
     0x0b, 0, 0, 7, 0x3c, 1, 0, 0, 0,
 ];
 
-/// The header of a line table behind its length, with directory 0 `/w`, file 0 `z.c` and file 1 `a.c`:
-/// instructions of 1 byte, line_base -5, line_range 14, opcode_base 13.
+/// The header of a line table after its length, with directory 0 `/w`, file 0 `z.c` and file 1
+/// `a.c`: instructions of 1 byte, line_base -5, line_range 14, opcode_base 13.
 pub const HEADER: &[u8] = &[
     5, 0, 8, 0, 0x29, 0, 0, 0, 1, 1, 1, 0xfb, 0x0e, 0x0d, 0, 1, 1, 1, 1, 0, 0, 0, 1, 0, 0, 1, 1, 1,
     8, 1, b'/', b'w', 0, 2, 1, 8, 2, 0x0b, 2, b'z', b'.', b'c', 0, 0, b'a', b'.', b'c', 0, 0,
@@ -44,7 +45,7 @@ const PROGBITS: u32 = 1;
 
 const STRTAB: u32 = 3;
 
-/// A section header: where its name begins among the names, its type, and where its bytes stand.
+/// A section header: where its name begins among the names, its type, and where its bytes are.
 fn push_header(
     headers: &mut Vec<u8>,
     name: usize,
@@ -60,7 +61,8 @@ fn push_header(
     headers.extend_from_slice(&[0; 24])
 }
 
-/// The header of an executable file with so many section headers behind it, the last of which has the names.
+/// The header of an executable file with so many section headers after it, the last of which has
+/// the names.
 fn file_header(alloc: Global, count: usize) -> Result<Vec<u8>, AllocError> {
     let count = u16::try_from(count).unwrap_or(0);
     let mut file = Vec::new(alloc);
@@ -106,7 +108,8 @@ pub fn file_of(alloc: Global, info: &[u8], abbrevs: &[u8]) -> Result<Vec<u8>, Al
     )
 }
 
-/// The same with the rows of `main`: 0x401000 line 3, 0x401004 line 4, in a file 1 of path `/w/a.c`.
+/// The same with the rows of `main`: 0x401000 line 3, 0x401004 line 4, in a file 1 of path
+/// `/w/a.c`.
 pub fn with_lines(alloc: Global, info: &[u8], abbrevs: &[u8]) -> Result<Vec<u8>, AllocError> {
     let lines = line_table(alloc, HEADER, TWO_ROWS)?;
     elf(
@@ -124,7 +127,7 @@ pub fn sample(alloc: Global) -> Result<Vec<u8>, AllocError> {
     with_lines(alloc, INFO, ABBREVS)
 }
 
-/// Adds a compile unit with these bytes behind its header, whose declarations stand at 0.
+/// Adds a compile unit with these bytes after its header, whose declarations are at 0.
 pub fn push_unit(info: &mut Vec<u8>, entries: &[u8]) -> Result<(), AllocError> {
     let size = u32::try_from(entries.len().saturating_add(8)).unwrap_or(0);
     info.extend_from_slice(&size.to_le_bytes())?;
@@ -132,7 +135,7 @@ pub fn push_unit(info: &mut Vec<u8>, entries: &[u8]) -> Result<(), AllocError> {
     info.extend_from_slice(entries)
 }
 
-/// One compile unit with these bytes behind its header. Its first entry stands at 12.
+/// One compile unit with these bytes after its header. Its first entry is at 12.
 pub fn unit_of(alloc: Global, entries: &[u8]) -> Result<Vec<u8>, AllocError> {
     let mut info = Vec::new(alloc);
     push_unit(&mut info, entries)?;

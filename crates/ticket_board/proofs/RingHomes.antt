@@ -1,4 +1,5 @@
--- What lies in a slot of the ring's table, read off what the slot shows; and words that are written as they were.
+-- What lies in a slot of the ring's table, read off what the slot shows; and words that are written
+-- as they were.
 use Rattle.std.proofs.Common.{◌≡◌, ℕ, zero, suc, List, [], ◌∷◌, map, get_or, set, replicate, Option, Some, None, refl, ap}
 use mathlib.Core.Option as maybe
 use lib.ListN.{get_elem?}

@@ -97,7 +97,7 @@ module _ (shape : Shape) (some_room : 0 < shape.window) where
     pub home-here : s < shape.senders → length homes ≡ cells_in shape → home_at shape (set homes (cell_of shape s n) x) s n ≡ x
     home-here h e = get_or-set_same homes (cell_of shape s n) x Out (rw e (cell-within s n h))
 
-  -- ---- the number for which a cell stands
+  -- ---- the number for which a cell is
 
   pub around : (n : ℕ) → (n + shape.window) % shape.window ≡ n % shape.window
   around n =

@@ -213,7 +213,7 @@ module _ (meaning : Meaning) (shape : Shape) (key : List ℕ) (board : Board) (s
     second-asked : (t n : ℕ) → second_at shape words_asked t n ≡ second_at shape board.words t n
     second-asked t n = second-stays shape some_room board.words s (next_asked asking) (asked_word (next_asked asking)) t n
 
-    -- what is asked stands in the words of its number
+    -- what is asked is in the words of its number
     words-asked : (n : ℕ) → next_received asking ≤ n → n < length (asking.asked ++ query ∷ [])
         → HasWords (query_of (asks query (sender_at state s)) n) (first_at shape words_asked s n) (second_at shape words_asked s n)
     words-asked n from below = appended (sender_at state s).asked query (Address 0) n

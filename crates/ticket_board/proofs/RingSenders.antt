@@ -22,7 +22,7 @@ carried shape state state' first first' second second' home home' asking asking'
     subst (λ (x : (ℕ → ℕ) × (ℕ → ℕ) × (ℕ → ℕ) × (ℕ → Home) × Asking × Sender). SenderShows shape x.0 x.1 x.2 x.3 x.4 x.5)
     (λ i. (sym (fun_ext es) i, sym (fun_ext ef) i, sym (fun_ext e2) i, sym (fun_ext eh) i, sym e i, sym e' i)) old
 
--- the words of a query, where they stand
+-- the words of a query, where they are
 pub words-moved : (query query' : Query) (first first' second second' : ℕ) → query' ≡ query → first' ≡ first → second' ≡ second
     → HasWords query first second → HasWords query' first' second'
 words-moved query query' first first' second second' eq ef es old =
@@ -99,7 +99,7 @@ module _ (shape : Shape) (state first second : ℕ → ℕ) (home : ℕ → Home
       subst (λ (m : ℕ). (next_received asking ≤ m) × (m < next_received asking + shape.window) × (place_of sender m ≡ Waiting)) it.0
       (stands.1, stands.2, it.1)
 
-  -- a number that isn't answered yet stands at another place
+  -- a number that isn't answered yet is at another place
   pub put-there : (state' : ℕ → ℕ) (home' : ℕ → Home) (n : ℕ) (place : Place)
       → next_received asking ≤ n → n < next_received asking + shape.window → state n < answered_word n
       → ((m : ℕ) → next_received asking ≤ m → m < next_received asking + shape.window → m ≢ n → (state' m ≡ state m) × (home' m ≡ home m))

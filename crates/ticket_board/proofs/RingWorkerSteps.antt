@@ -105,7 +105,7 @@ module _ (meaning : Meaning) (shape : Shape) (key : List ℕ) (board : Board) (s
     held-words : HasWords (query_of (sender_at state s) n) (first_at shape board.words s n) (second_at shape board.words s n)
     held-words = (shows.senders s held-of).words n held-from held-below
 
-  -- ---- a number that isn't answered yet stands at another place
+  -- ---- a number that isn't answered yet is at another place
 
   module _ (s n x : ℕ) (home : Home) (place : Place) (new : State) (there : s < shape.senders)
       (from : next_received (asking s) ≤ n) (below : n < next_received (asking s) + shape.window) (early : states s n < answered_word n)

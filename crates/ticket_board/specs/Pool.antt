@@ -7,8 +7,8 @@ use Rattle.ticket_core.specs.Shape.{Fits}
 use Rattle.ticket_core.specs.State.{Shown, Meaning}
 use Rattle.ticket_board.specs.declared.pool.fault.PoolFault.{PoolFault}
 use Rattle.ticket_board.specs.declared.pool.fault.PoolFault.TheVariants.{BadShape, Memory}
-use Rattle.ticket_board.specs.declared.pool.sending.Came.{Came}
-use Rattle.ticket_board.specs.declared.pool.sending.Came.TheVariants.{End}
+use Rattle.ticket_board.specs.declared.pool.sender_task.Came.{Came}
+use Rattle.ticket_board.specs.declared.pool.sender_task.Came.TheVariants.{End}
 use Rattle.ticket_board.specs.declared.pool.task.Task.{Task}
 use Rattle.ticket_board.specs.declared.pool.task.Lot.{Lot}
 use Rattle.ticket_board.specs.Ring.Ends.{RingState}

@@ -19,8 +19,8 @@ pub record ClientSeat : Type 0 where
   pub table : TableId
   pub sender : ℕ
 
--- a client: what it asked and what it received, both by number, whether it is closed, whether the next number was found
--- answered, and the numbers that weren't when it looked
+-- a client: what it asked and what it received, both by number, whether it is closed, whether the
+-- next number was found answered, and the numbers that weren't when it looked
 pub record ClientState : Type 0 where
   pub seat : ClientSeat
   pub asked : List Query
@@ -73,7 +73,8 @@ finds found client = record client {
 abbrev pub receives : Shown → ClientState → ClientState
 receives answer client = record client { received = client.received ++ answer ∷ []; found = false }
 
--- the first condition that refuses a query: the client is closed, then it asked all it may, then its window is full
+-- the first condition that refuses a query: the client is closed, then it asked all it may, then
+-- its window is full
 abbrev pub ask_refusal : ClientState → Option AskFault
 ask_refusal client =
     if client.closed then Some Closed
@@ -85,7 +86,8 @@ ask_refusal client =
 abbrev pub HasEnded : ClientState → Type 0
 HasEnded client = (client.closed ≡ true) × (length client.received ≡ length client.asked)
 
--- what a client received is a beginning of the meanings of what it asked, in its order; and it keeps its limits
+-- what a client received is a beginning of the meanings of what it asked, in its order; and it
+-- keeps its limits
 pub record IsRightClient (meaning : Meaning) (client : ClientState) : Type 0 where
   pub within : length client.received ≤ length client.asked
   pub right : client.received ≡ map (meaning client.seat.key) (take (length client.received) client.asked)
@@ -101,7 +103,8 @@ pub record WorkerSeat : Type 0 where
   pub table : TableId
   pub worker : ℕ
 
--- a worker: the number in its hand, the cells that gave it nothing when it looked or tried, and what it answered
+-- a worker: the number in its hand, the cells that gave it nothing when it looked or tried, and
+-- what it answered
 pub record WorkerState : Type 0 where
   pub seat : WorkerSeat
   pub hand : Option Ticket

@@ -1,7 +1,9 @@
 //! A sender's client: it asks, and receives the answers in the order of its queries.
 
-ghost use Rattle.std.specs.Prelude.{◌≡◌, ◌<◌, ◌↔◌, true, false, None, Some, IfOk, OnOk, OnErr, MatchResult, length, nat_eq};
-ghost use Rattle.ticket_board.specs.Seats.{IsClientOf, IsRightClient, HasEnded, asks, closes, finds, receives, ask_refusal};
+ghost use Rattle.std.specs.Prelude.{◌≡◌, ◌<◌, ◌↔◌, true, false, None, Some, IfOk, OnOk, OnErr, MatchResult, length};
+ghost use Rattle.std.specs.Prelude.{nat_eq};
+ghost use Rattle.ticket_board.specs.Seats.{IsClientOf, IsRightClient, HasEnded, asks, closes, finds, receives};
+ghost use Rattle.ticket_board.specs.Seats.{ask_refusal};
 ghost use Rattle.ticket_board.specs.Outcome.{query_of, IsEnded, IfEnded, IfPending, OnAnswer};
 
 use crate::board::Board;
@@ -11,8 +13,8 @@ use crate::ring::Asker;
 use std::marker::Model;
 use ticket_core::{Query, Solver};
 
-/// A sender's client. Contracts see what it asked and received, by number, whether it is closed, whether the next
-/// number was found answered, and which numbers weren't when it looked.
+/// A sender's client. Contracts see what it asked and received, by number, whether it is closed,
+/// whether the next number was found answered, and which numbers weren't when it looked.
 #[derive(Drop)]
 pub struct Client<S: Solver> {
     pub(crate) asker: Asker<S>,
@@ -28,17 +30,19 @@ impl<S: Solver> Model for Client<S> {
 }
 
 impl<S: Solver> Client<S> {
-    /// Asks a query, and returns its number, counted from 0. It waits for nobody and takes no memory.
+    /// Asks a query, and returns its number, counted from 0. It waits for nobody and takes no
+    /// memory.
     ///
-    /// The errors, tested in this order: `Closed` after `close`; `Exhausted` where as many were asked
-    /// as the shape allows; `Full` where as many are outstanding as the window allows.
+    /// The errors, tested in this order: `Closed` after `close`; `Exhausted` where as many were
+    /// asked as the shape allows; `Full` where as many are outstanding as the window allows.
     pub fn ask<'a>(&mut self, board: &Board<'a, S>, query: Query) -> Result<u64, AskFault>
         requires { IsClientOf board.now self.old }
         ensures seat { self.new.seat ≡ self.old.seat }
         ensures number { IfOk result (λ n. n ≡ length self.old.asked) }
         ensures asked { OnOk result (self.new ≡ asks query self.old) }
         ensures refused { OnErr result (self.new ≡ self.old) }
-        ensures refusal { MatchResult result (λ _. ask_refusal self.old ≡ None) (λ fault. ask_refusal self.old ≡ Some fault) }
+        ensures refusal { MatchResult result (λ _. ask_refusal self.old ≡ None)
+            (λ fault. ask_refusal self.old ≡ Some fault) }
     {
         if self.closed {
             return Err(AskFault::Closed);
@@ -46,7 +50,8 @@ impl<S: Solver> Client<S> {
         self.asker.ask(&board.ring, query)
     }
 
-    /// Whether the next number was found answered. Then `next` gives it. It waits for nobody and takes no memory.
+    /// Whether the next number was found answered. Then `next` gives it. It waits for nobody and
+    /// takes no memory.
     pub fn ready<'a>(&mut self, board: &Board<'a, S>) -> bool
         requires { IsClientOf board.now self.old }
         ensures found { self.old.found ≡ true → result ≡ true }
@@ -62,15 +67,16 @@ impl<S: Solver> Client<S> {
         self.asker.has_all()
     }
 
-    /// The next number and its answer, in the order in which they were asked, each once; or that there
-    /// is none yet; or, exactly where the client is closed and received everything, the end. It waits for nobody
-    /// and takes no memory.
+    /// The next number and its answer, in the order in which they were asked, each once; or that
+    /// there is none yet; or, exactly where the client is closed and received everything, the end.
+    /// It waits for nobody and takes no memory.
     pub fn next<'a>(&mut self, board: &Board<'a, S>) -> Next<S::Answer>
         requires { IsClientOf board.now self.old }
         ensures seat { self.new.seat ≡ self.old.seat }
         ensures ended { IsEnded result ↔ HasEnded self.old }
         ensures number { OnAnswer result (λ n answer. (n ≡ length self.old.received) × (n < length self.old.asked)) }
-        ensures answer { OnAnswer result (λ n answer. S.shown answer ≡ S.meaning self.old.seat.key (query_of self.old n)) }
+        ensures answer { OnAnswer result (λ n answer. S.shown answer
+            ≡ S.meaning self.old.seat.key (query_of self.old n)) }
         ensures received { OnAnswer result (λ n answer. self.new ≡ receives (S.shown answer) self.old) }
         ensures pending { IfPending result ((self.old.found ≡ false) × (self.new ≡ finds false self.old)) }
         ensures stays { IfEnded result (self.new ≡ self.old) }
@@ -85,15 +91,16 @@ impl<S: Solver> Client<S> {
         Next::Answer(number, answer)
     }
 
-    /// Whatever was called before: what the client received is a beginning of the meanings of what it
-    /// asked, in its order. It does nothing.
+    /// Whatever was called before: what the client received is a beginning of the meanings of what
+    /// it asked, in its order. It does nothing.
     pub fn law_of_client(&self)
         ensures { IsRightClient S.meaning self.now }
     {
         self.asker.law_of_asker();
     }
 
-    /// Asks no more. What is outstanding is still received. Closed already, nothing changes. It makes no step.
+    /// Asks no more. What is outstanding is still received. Closed already, nothing changes. It
+    /// makes no step.
     pub fn close(&mut self)
         ensures seat { self.new.seat ≡ self.old.seat }
         ensures closed { self.new ≡ closes self.old }

@@ -9,7 +9,7 @@ pub enum BoardFault {
     /// The shape isn't within its limits.
     #[error("the shape of the board is not within its limits")]
     BadShape,
-    /// A growth of memory was refused.
+    /// An allocation was refused.
     #[error("out of memory")]
     Memory,
 }

@@ -5,7 +5,8 @@ ghost use Rattle.std.specs.List.{AllByRecursion};
 ghost use Rattle.ticket_core.specs.Shape.{Fits};
 ghost use Rattle.ticket_board.specs.Ring.Takers.{HasEmptyHand};
 ghost use Rattle.ticket_board.specs.Ring.Opened.{IsRingOf};
-ghost use Rattle.ticket_board.specs.Seats.{client_shown, worker_shown, new_clients, new_workers, IsClientOf, IsWorkerOf};
+ghost use Rattle.ticket_board.specs.Seats.{client_shown, worker_shown, new_clients, new_workers, IsClientOf};
+ghost use Rattle.ticket_board.specs.Seats.{IsWorkerOf};
 ghost use Rattle.ticket_board.specs.Faults.{RefusesShape};
 
 use crate::board::Board;
@@ -42,10 +43,11 @@ fn workers_of<S: Solver>(alloc: Global, takers: Vec<Taker<S>>) -> Result<Vec<Wor
     Ok(workers)
 }
 
-/// A board of this shape, a client for each sender and a worker for each worker of the shape, in order.
-/// All that they share, they share through the board, on whatever threads they are.
+/// A board of this shape, a client for each sender and a worker for each worker of the shape, in
+/// order. All that they share, they share through the board, on whatever threads they are.
 ///
-/// The error is `BadShape` for a shape past its limits, else `Memory` where an allocation was refused.
+/// The error is `BadShape` for a shape past its limits, else `Memory` where an allocation was
+/// refused.
 #[tactic(auto, using(crate::proofs::OpeningLemmas::all_clients, crate::proofs::OpeningLemmas::all_workers))]
 pub fn open<'a, S: Solver>(
     alloc: Global,

@@ -1,37 +1,37 @@
-//! The pool: queries are asked by many senders and answered by many workers, each on a thread of its
-//! own, and the answers stand in the order of the queries.
+//! The pool: queries are asked by many senders and answered by many workers, each on a thread of
+//! its own, and the answers are in the order of the queries.
 
 ghost use Rattle.std.specs.Prelude.{◌≡◌, IfOk, IfErr, OnOk, length};
 ghost use Rattle.ticket_board.specs.Pool.{AreAnswers, PoolFits, RefusesPool};
 
+mod answer_order;
 mod fault;
-mod gathering;
 mod idle;
 mod limits;
 mod maker;
 mod owners;
-mod running;
+mod sender_task;
 mod senders;
-mod sending;
 mod stop;
 mod task;
+mod threads;
+mod worker_task;
 mod workers;
-mod working;
 
 use crate::gate::Gate;
 use crate::opening::open;
+use answer_order::gather;
 pub use fault::PoolFault;
-use gathering::gather;
 pub use limits::pool_fits;
 pub use maker::Maker;
 use owners::Owned;
 pub use owners::Queries;
-use running::{Pool, run};
 use std::alloc::Global;
 use std::sync::Wait;
 use std::thread::Threads;
 use stop::Stop;
 use task::Task;
+use threads::{Pool, run};
 use ticket_core::{Shape, Solver};
 
 /// Answers all queries: the answer at `i` is that of `queries.asked[i]`, by the maker's key. There is a
@@ -39,11 +39,12 @@ use ticket_core::{Shape, Solver};
 /// `i % senders`. Each worker's solver is made on its thread. When the call returns, all threads have
 /// ended.
 ///
-/// A worker answers the queries that are meant for it, and others only where none of its own has waited
-/// for tens of milliseconds. The answers are the same for all owners.
+/// A worker answers the queries that are meant for it, and others only where none of its own has
+/// waited for tens of milliseconds. The answers are the same for all owners.
 ///
-/// The error is `BadShape` exactly where the shape is past its limits, or some sender would have more
-/// than `most` queries; else `Memory` where a growth or a thread was refused, which stops the pool.
+/// The error is `BadShape` exactly where the shape is past its limits, or some sender would have
+/// more than `most` queries; else `Memory` where an allocation or a thread was refused, which stops
+/// the pool.
 pub fn run_pool<
     S: Solver + Drop + Send + Sync,
     R: Threads + Wait + Sync,
@@ -57,7 +58,8 @@ pub fn run_pool<
     queries: Queries<'_>,
     gate: &G,
 ) -> Result<Vec<S::Answer>, PoolFault>
-    ensures answers { IfOk result (λ answers. AreAnswers S.shown S.meaning (M.key maker.now) queries.entry.asked.now answers.items) }
+    ensures answers { IfOk result (λ answers. AreAnswers S.shown S.meaning
+        (M.key maker.now) queries.entry.asked.now answers.items) }
     ensures fits { OnOk result (PoolFits shape (length queries.entry.asked.now)) }
     ensures refusal { IfErr result (λ fault. RefusesPool fault shape (length queries.entry.asked.now)) }
 {

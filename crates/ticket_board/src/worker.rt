@@ -14,8 +14,8 @@ use std::marker::{Brand, Model};
 use std::sync::ledger::{Blank, Ledger};
 use ticket_core::{NoMemory, Solver};
 
-/// A worker. Contracts see its hand, which is empty between its turns, the cells that gave it nothing, and the
-/// numbers that it answered.
+/// A worker. Contracts see its hand, which is empty between its turns, the cells that gave it
+/// nothing, and the numbers that it answered.
 #[derive(Drop)]
 pub struct Worker<S: Solver> {
     pub(crate) taker: Taker<S>,
@@ -40,11 +40,11 @@ impl<S: Solver> Worker<S> {
         self.taker.begin_at(cell);
     }
 
-    /// Takes a query, solves it and answers it. `Idle` says that no cell gave it a query in one pass over all of
-    /// them. It waits for nobody, and takes no memory of its own.
+    /// Takes a query, solves it and answers it. `Idle` says that no cell gave it a query in one
+    /// pass over all of them. It waits for nobody, and takes no memory of its own.
     ///
-    /// The error is the solver's alone: it was out of memory, and the number that was taken is given back, so it
-    /// waits again. The solver's key has to be the board's.
+    /// The error is the solver's alone: it was out of memory, and the number that was taken is
+    /// given back, so it waits again. The solver's key has to be the board's.
     pub fn turn<'a, G: Gate>(
         &mut self,
         board: &Board<'a, S>,
@@ -60,7 +60,8 @@ impl<S: Solver> Worker<S> {
         ensures idle { IfOk result (λ turn. IfIdle turn (MissedEvery board.now.shape self.old.missed self.new.missed)) }
         ensures none { OnErr result (self.new.done ≡ self.old.done) }
         ensures key { S.key solver.new ≡ S.key solver.old }
-        ensures refused { S.refused solver.new ≡ (if is_ok result then S.refused solver.old else S.refused solver.old + 1) }
+        ensures refused { S.refused solver.new
+            ≡ (if is_ok result then S.refused solver.old else S.refused solver.old + 1) }
     {
         self.turn_uncounted::<G, Brand>(board, solver, gate, Blank::new(1))
     }
@@ -85,13 +86,15 @@ impl<S: Solver> Worker<S> {
         ensures idle { IfOk result (λ turn. IfIdle turn (MissedEvery board.now.shape self.old.missed self.new.missed)) }
         ensures none { OnErr result (self.new.done ≡ self.old.done) }
         ensures key { S.key solver.new ≡ S.key solver.old }
-        ensures refused { S.refused solver.new ≡ (if is_ok result then S.refused solver.old else S.refused solver.old + 1) }
+        ensures refused { S.refused solver.new
+            ≡ (if is_ok result then S.refused solver.old else S.refused solver.old + 1) }
     {
         let mut steps = Steps::<L>::new(blank);
         self.turn_counted(board, solver, gate, &mut steps)
     }
 
-    /// A turn, as `turn` makes it. A step is one load, store or compare-exchange of a word of the board.
+    /// A turn, as `turn` makes it. A step is one load, store or compare-exchange of a word of the
+    /// board.
     pub fn turn_counted<'a, G: Gate, L: Ledger>(
         &mut self,
         board: &Board<'a, S>,
@@ -108,7 +111,8 @@ impl<S: Solver> Worker<S> {
         ensures idle { IfOk result (λ turn. IfIdle turn (MissedEvery board.now.shape self.old.missed self.new.missed)) }
         ensures none { OnErr result (self.new.done ≡ self.old.done) }
         ensures key { S.key solver.new ≡ S.key solver.old }
-        ensures refused { S.refused solver.new ≡ (if is_ok result then S.refused solver.old else S.refused solver.old + 1) }
+        ensures refused { S.refused solver.new
+            ≡ (if is_ok result then S.refused solver.old else S.refused solver.old + 1) }
         ensures counted { steps.new ≤ steps.old + 2 * cells_in board.now.shape + 4 }
     {
         let Some((sender, number, query)) = self.taker.take_counted(&board.ring, steps) else {

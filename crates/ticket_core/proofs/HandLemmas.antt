@@ -1,4 +1,5 @@
--- The calls of a core that fill or empty a hand, from the contracts of its lanes: `now` is the state that contracts see.
+-- The calls of a core that fill or empty a hand, from the contracts of its lanes: `now` is the
+-- state that contracts see.
 use Rattle.std.proofs.Common.{◌≡◌, ℕ, ◌<◌, false, List, length, get_or, set, Option, Some, None, IfSome, refl, sym, ◌∙◌, ap, subst, arith}
 use Rattle.std.proofs.lemmas.List.{length-map, get_or_default}
 use Rattle.ticket_core.specs.declared.shape.Shape.{Shape}

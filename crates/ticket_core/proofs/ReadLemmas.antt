@@ -1,4 +1,5 @@
--- What is read of a list after a push or a write, told by cases: a fact holds of what is read where it holds in each case.
+-- What is read of a list after a push or a write, told by cases: a fact holds of what is read where
+-- it holds in each case.
 use Rattle.std.proofs.Common.{◌≡◌, ℕ, zero, suc, ◌<◌, inl, inr, List, [], ◌∷◌, ◌++◌, length, get_or, set, refl, sym, subst, arith}
 use Rattle.std.proofs.lemmas.Bool.{cases_eq}
 use Rattle.std.proofs.lemmas.List.{get_or-set_same, get_or-set_other, get_or_past, length-append}
@@ -19,7 +20,7 @@ module _ {A : Type 0} where
     | inr ne ↦ subst P (sym (get_or-set_other xs i n y d ne)) (other ne)
   ]
 
-  -- what isn't the default stands in the list
+  -- what isn't the default is in the list
   pub inside : (xs : List A) (n : ℕ) (d : A) → (get_or xs n d ≡ d → ⊥) → n < length xs
   inside [] n d h = absurd (h (get_or_past [] n d (omega arith)))
   inside (x ∷ xs) zero d h = omega arith

@@ -29,7 +29,7 @@ asks query sender = record {
   places = sender.places ++ Waiting ∷ [];
 }
 
--- one number stands at another place
+-- one number is at another place
 abbrev pub puts : ℕ → Place → Sender → Sender
 puts n place sender = record {
   asked = sender.asked;
@@ -38,7 +38,7 @@ puts n place sender = record {
   places = slice_set sender.places n place;
 }
 
--- the answer that stands at a place
+-- the answer that is at a place
 abbrev pub answer_in : Place → Shown
 answer_in (Answered answer) = answer
 answer_in _ = gnil
@@ -101,7 +101,7 @@ picks_up w ticket state =
     with_hand w (Some ticket)
     (with_sender ticket.0 (puts ticket.1 (Held w) (sender_at state ticket.0)) state)
 
--- the worker's hand is empty then, and its ticket stands at this place
+-- the worker's hand is empty then, and its ticket is at this place
 abbrev pub puts_down : ℕ → Ticket → Place → State → State
 puts_down w ticket place state =
     with_hand w None
@@ -109,9 +109,9 @@ puts_down w ticket place state =
 
 -- ---- events
 
--- when an event can happen: asking, as long as the sender is open, may ask more in all and has room in its window;
--- taking, by an empty hand, of a number that waits; finishing and giving back, by a hand that isn't empty; collecting,
--- where the next number is answered; closing, always
+-- when an event can happen: asking, as long as the sender is open, may ask more in all and has room
+-- in its window; taking, by an empty hand, of a number that waits; finishing and giving back, by a
+-- hand that isn't empty; collecting, where the next number is answered; closing, always
 abbrev pub Can : Event → State → Type 0
 Can (Ask s query) state =
     (s < state.shape.senders) × ((sender_at state s).closed ≡ false)

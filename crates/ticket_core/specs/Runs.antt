@@ -13,7 +13,8 @@ Run meaning old (event ∷ events) new = Can event old × Run meaning (after mea
 abbrev pub Reaches : Meaning → Shape → List ℕ → List Event → State → Type 0
 Reaches meaning shape key events state = Run meaning (opening shape key) events state
 
--- what a sender received is no longer than what it asked, and each answer is the meaning of the query asked at its number
+-- what a sender received is no longer than what it asked, and each answer is the meaning of the
+-- query asked at its number
 abbrev pub IsRight : Meaning → List ℕ → Sender → Type 0
 IsRight meaning key sender =
     (length sender.received ≤ length sender.asked)

@@ -1,4 +1,4 @@
--- The state of a core: who asked what, who received what, and where each query stands.
+-- The state of a core: who asked what, who received what, and where each query is.
 use Rattle.std.specs.Prelude.{ℕ, ◌-◌, Bool, false, List, [], length, replicate, slice_index_or, Option, None}
 use base.Stored.{Gv, gnil}
 use Rattle.ticket_core.specs.declared.query.Query.{Query}
@@ -13,7 +13,7 @@ Shown = Gv
 abbrev pub Meaning : Type 0
 Meaning = List ℕ → Query → Shown
 
--- where one number of a sender stands: it is outstanding while it waits, is held or is answered
+-- where one number of a sender is: it is outstanding while it waits, is held or is answered
 pub data Place : Type 0 where
   Unasked : Place
   Waiting : Place
@@ -21,8 +21,8 @@ pub data Place : Type 0 where
   Answered : (answer : Shown) → Place
   Collected : Place
 
--- a sender: the queries that it asked and the answers that it received, both by number, whether it is closed, and the
--- place of each number that it asked
+-- a sender: the queries that it asked and the answers that it received, both by number, whether it
+-- is closed, and the place of each number that it asked
 pub record Sender : Type 0 where
   pub asked : List Query
   pub received : List Shown

@@ -11,7 +11,7 @@ pub enum NewFault {
     /// The shape isn't within its limits.
     #[error("the shape of the core is not within its limits")]
     BadShape,
-    /// A growth of memory was refused.
+    /// An allocation was refused.
     #[error("out of memory")]
     Memory,
 }
@@ -43,7 +43,7 @@ pub enum CoreFault {
     /// The sender is closed, and it received everything.
     #[error("this sender is closed and received everything")]
     Ended,
-    /// A growth of memory was refused.
+    /// An allocation was refused.
     #[error("out of memory")]
     Memory,
 }

@@ -1,4 +1,4 @@
-//! The queries of one sender, and where each stands.
+//! The queries of one sender, and where each is.
 
 ghost use Rattle.std.specs.Prelude.{◌≡◌, ◌≤◌, vec_len, vec_capacity};
 
@@ -6,7 +6,7 @@ mod calls;
 
 use crate::query::Query;
 
-/// Where a query stands that was asked.
+/// Where a query is that was asked.
 #[derive(Drop)]
 pub enum Slot<A: Drop> {
     /// It waits for a worker.

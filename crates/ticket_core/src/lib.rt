@@ -1,5 +1,5 @@
-//! Queries in order, each answered once: the core of a symbolizer's pool as a state machine, without
-//! threads.
+//! Queries in order, each answered once: the core of a symbolizer's pool as a state machine,
+//! without threads.
 //!
 //! Senders ask and collect, workers take, finish and give back. Each call is one event of the state
 //! machine that `specs/` defines, and `law_of_runs` says what holds after every list of events.

@@ -19,7 +19,7 @@ use std::alloc::{AllocError, Global};
 use std::marker::{Model, PhantomData};
 
 /// Queries in order, each answered once. Contracts see the state that the definitions speak of:
-/// who asked what, who received what, and where each number stands.
+/// who asked what, who received what, and where each number is.
 ///
 /// The work of a call doesn't grow with the number of queries that were asked: each call looks at
 /// one slot of one sender and at one hand. `ask` grows its lists by doubling.
@@ -45,12 +45,14 @@ impl<'a, S: Solver> Model for Core<'a, S> {
 
     ghost view = { λ core. state_shown S.shown core.shape core.key.now core.lanes.items core.hands.items };
 
-    ghost invariant = { λ core. IsSound S.meaning (state_shown S.shown core.shape core.key.now core.lanes.items core.hands.items) };
+    ghost invariant = { λ core. IsSound S.meaning
+        (state_shown S.shown core.shape core.key.now core.lanes.items core.hands.items) };
 }
 
 /// Lanes in which nothing was asked.
 fn new_lanes<A: Drop>(alloc: Global, count: usize) -> Result<Vec<Lane<A>>, AllocError>
-    ensures { IfOk result (λ lanes. (shown : A → Shown) → map (sender_shown shown) lanes.items ≡ replicate count fresh) }
+    ensures { IfOk result (λ lanes. (shown : A → Shown)
+        → map (sender_shown shown) lanes.items ≡ replicate count fresh) }
 {
     let mut lanes = Vec::with_capacity(alloc, count)?;
     for _ in 0..count {
@@ -73,7 +75,7 @@ fn new_hands(alloc: Global, count: usize) -> Result<Vec<Option<(usize, u64)>>, A
 impl<'a, S: Solver> Core<'a, S> {
     /// A core in which nothing was asked.
     ///
-    /// The error is `BadShape` for a shape past its limits, else `Memory` where a growth was
+    /// The error is `BadShape` for a shape past its limits, else `Memory` where an allocation was
     /// refused.
     pub fn new(alloc: Global, shape: Shape, key: &'a [u8]) -> Result<Self, NewFault>
         ensures opening { IfOk result (λ core. core ≡ opening shape key.now) }
@@ -94,8 +96,8 @@ impl<'a, S: Solver> Core<'a, S> {
         })
     }
 
-    /// Whatever was called before, what holds of each state that a run reaches holds of this one. It
-    /// does nothing.
+    /// Whatever was called before, what holds of each state that a run reaches holds of this one.
+    /// It does nothing.
     pub fn law_of_state(&self)
         ensures { IsSound S.meaning self.now }
     {
@@ -157,7 +159,8 @@ impl<'a, S: Solver> Core<'a, S> {
     /// The error is `HandEmpty`. It changes nothing, and the answer is dropped.
     pub fn finish(&mut self, worker: usize, answer: S::Answer) -> Result<(usize, u64), CoreFault>
         requires worker { worker < self.old.shape.workers }
-        requires right { IfSome (hand_at self.old worker) (λ ticket. S.shown answer ≡ meaning_of S.meaning self.old ticket) }
+        requires right { IfSome (hand_at self.old worker)
+            (λ ticket. S.shown answer ≡ meaning_of S.meaning self.old ticket) }
         ensures event { OnOk result (Step S.meaning (Finish worker) self.old self.new) }
         ensures ticket { IfOk result (λ ticket. hand_at self.old worker ≡ Some ticket) }
         ensures refusal { IfErr result (λ fault. Refuses fault (refusal (Finish worker) self.old)) }

@@ -15,7 +15,8 @@ pub enum QueryKind {
     Span(u64, u64),
 }
 
-/// A query: about an address, or about a span of addresses, which isn't empty. Contracts see which it is.
+/// A query: about an address, or about a span of addresses, which isn't empty. Contracts see which
+/// it is.
 ///
 /// It is kept in two words: an address and 0, or the two borders of a span.
 #[derive(Clone, Copy, Debug, PartialEq, Eq)]

@@ -32,7 +32,7 @@ pub trait Solver {
     fn key(&self) -> &[u8]
         ensures { result.now ≡ key self.now };
 
-    /// Answers the query. The error says that a growth of memory was refused.
+    /// Answers the query. The error says that an allocation was refused.
     fn solve(&mut self, query: Query) -> Result<Self::Answer, NoMemory>
         ensures right { IfOk result (λ answer. shown answer ≡ meaning (key self.old) query) }
         ensures key_stays { key self.new ≡ key self.old }

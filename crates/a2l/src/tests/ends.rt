@@ -25,7 +25,8 @@ impl Load for OneFile<'_> {
     }
 }
 
-/// An input that gives at most `most` bytes a call, and fails at the call that `fails_at` counts, from 0.
+/// An input that gives at most `most` bytes a call, and fails at the call that `fails_at` counts,
+/// from 0.
 #[derive(Drop)]
 pub struct Lines<'a, L: Ledger> {
     pub left: &'a [u8],

@@ -24,14 +24,14 @@ const ANSWERS: [Answered; 8] = [
         &["-e", "FILE", "-f", "-i", "401000", "401006", "40100e"],
         "main\n/w/a.c:3\nmid\n/w/a.c:4\nmain\n/w/z.c:20\n??\n??:0\n",
     ),
-    // behind a unit of version 4 the reference of the second frame leads into a header
+    // after a unit of version 4 the reference of the second frame leads into a header
     (
         MIXED,
         &["-e", "FILE", "-f", "-i", "401003"],
         "??\n/w/a.c:3\nmain\n/w/z.c:20\n",
     ),
     (SMALLEST, &["-e", "FILE", "0x0"], "??:0\n"),
-    // both units hold the address; the one that stands first answers, and only one of them has lines
+    // both units hold the address; the one that is first answers, and only one of them has lines
     (OVERLAPPING, &["-e", "FILE", "-f", "2000"], "??\n??:0\n"),
     (
         OVERLAPPING_TURNED,
@@ -58,8 +58,8 @@ fn frames_of_samples(rt: HostRuntime) -> Result<(), Fail> {
     Ok(())
 }
 
-/// Bytes that are put into the sample at a place, what is asked of it then, and how that ends: the status, the lines
-/// that answer, and the line that tells an error.
+/// Bytes that are put into the sample at a place, what is asked of it then, and how that ends: the
+/// status, the lines that answer, and the line that tells an error.
 type Damaged = (
     usize,
     &'static [u8],

@@ -8,7 +8,7 @@ pub const LIST: [&str; 3] = ["-e", "FILE", "--units"];
 
 pub const INLINED_LISTING: &str = "0x0 version 5 compile\n0x5b version 5 partial\n";
 
-/// Where the header of .debug_line stands in the sample: the size is at 32 of it.
+/// Where the header of .debug_line is in the sample: the size is at 32 of it.
 const LINE_HEADER: usize = 366 + 3 * 64;
 
 /// A sample, bytes that are put into it at a place, and its listing then.

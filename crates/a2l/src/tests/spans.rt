@@ -27,7 +27,7 @@ const SPANS: [Spanned; 13] = [
         1,
         "!bad address\n",
     ),
-    // both units hold 0x2000; the one that stands first answers
+    // both units hold 0x2000; the one that is first answers
     (
         OVERLAPPING_TURNED,
         &["-e", "FILE", "1000-3000"],
@@ -127,11 +127,13 @@ fn spans_of_samples(rt: HostRuntime) -> Result<(), Fail> {
     Ok(())
 }
 
-/// Bytes that are put into the sample at a place, the span that is asked then, the status, and the lines that answer.
+/// Bytes that are put into the sample at a place, the span that is asked then, the status, and the
+/// lines that answer.
 type Damaged = (usize, &'static [u8], &'static str, u8, &'static str);
 
 const DAMAGED: [Damaged; 4] = [
-    // without .debug_line, the unit's lines can't be read, but no address is asked of it before 0x401000
+    // without .debug_line, the unit's lines can't be read, but no address is asked of it before
+    // 0x401000
     (354, b"x", "400000-401001", 1, "!unit 0x0 fault 4\n"),
     (354, b"x", "40100d-401100", 1, "!unit 0x0 fault 4\n"),
     (354, b"x", "400000-401000", 0, "??:0\n"),

@@ -1,5 +1,5 @@
-//! The core once more, as plainly as it can be said: lists that are searched. A query is answered with what it
-//! asks about.
+//! The core once more, as plainly as it can be said: lists that are searched. A query is answered
+//! with what it asks about.
 
 use std::alloc::{AllocError, AllocFailed, Global};
 use ticket_core::{CoreFault, Query, QueryKind, Shape};

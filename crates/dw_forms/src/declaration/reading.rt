@@ -1,6 +1,6 @@
 //! Abbreviation declarations are read, by section 7.5.3 of DWARF 5.
 
-ghost use Rattle.std.specs.Prelude.{◌≡◌, IfSome, map, option_map};
+ghost use Rattle.std.specs.Prelude.{◌≡◌, IfSome, false, map, option_map};
 ghost use Rattle.dw_model.specs.Entry.{attributes_at};
 ghost use Rattle.dw_model.specs.Reading.{items};
 ghost use Rattle.dw_model.specs.Abbrev.{next_specification, declaration_behind, next_declaration};
@@ -10,10 +10,12 @@ ghost use Rattle.dw_forms.specs.Fault.{form_fault};
 ghost use Rattle.dw_forms.specs.Declaration.{spec_shown, declaration_shown};
 ghost use Rattle.dw_forms.specs.Size.{size_in, Skips};
 ghost use Rattle.dw_forms.specs.Firsts.{known_of, AreAllFirsts, AreFirsts};
+ghost use Rattle.dw_forms.specs.Ranged.{may_have_ranges, NamesNone};
 
 use crate::declaration::{Decl, Spec};
 use crate::fault::FormFault;
 use crate::firsts::Firsts;
+use crate::ranged::may_have_ranges;
 use crate::size::size_of_all;
 use dw_bytes::{Cursor, Width};
 use dw_model::dwarf::DW_FORM_implicit_const;
@@ -26,7 +28,8 @@ impl Decl {
     /// no one size, or the sum doesn't fit 64 bits.
     pub fn size(&self, width: Width) -> Option<usize>
         ensures size { result ≡ size_in (size_of width) (map spec_shown self.now.specs.items) }
-        ensures skips { IfSome result (λ n. Skips n (attributes_at (size_of width) (map spec_shown self.now.specs.items))) }
+        ensures skips { IfSome result (λ n. Skips n
+            (attributes_at (size_of width) (map spec_shown self.now.specs.items))) }
     {
         match width {
             Width::Four => self.size_32,
@@ -34,12 +37,23 @@ impl Decl {
         }
     }
 
-    /// Where the first attribute of each name that tells of a function stands, where a byte holds that.
+    /// Where the first attribute of each name that tells of a function is, where a byte holds that.
     pub fn firsts(&self) -> Firsts
         ensures told { AreAllFirsts (known_of result) (map (λ spec. spec.name) self.now.specs.items) }
         ensures right { AreFirsts (known_of result) (map (λ spec. spec.name) self.now.specs.items) }
     {
         self.firsts
+    }
+
+    /// Its entries may have ranges: it declares DW_AT_ranges, or both of DW_AT_low_pc and
+    /// DW_AT_high_pc, of kinds that count (sections 2.17 and 7.5.5). What is after DW_FORM_indirect
+    /// may be of any kind.
+    #[inline(always)]
+    pub fn may_have_ranges(&self) -> bool
+        ensures told { result ≡ may_have_ranges (map spec_shown self.now.specs.items) }
+        ensures right { result ≡ false → NamesNone (map spec_shown self.now.specs.items) }
+    {
+        self.ranged
     }
 }
 
@@ -70,7 +84,8 @@ pub(crate) fn next_spec(cursor: &mut Cursor<'_>) -> Result<Option<Spec>, FormFau
 
 /// The pairs of a declaration.
 fn specs_of(alloc: Global, cursor: &mut Cursor<'_>) -> Result<SmallVec<Spec, 8>, FormFault>
-    ensures { ReadsUnlessMemory (λ specs. map spec_shown specs.items) form_fault result (items (λ p. p.left) next_specification cursor.old) cursor.new }
+    ensures { ReadsUnlessMemory (λ specs. map spec_shown specs.items) form_fault result
+        (items (λ p. p.left) next_specification cursor.old) cursor.new }
 {
     let mut specs = SmallVec::new(alloc);
     loop {
@@ -91,6 +106,7 @@ fn declaration_of(alloc: Global, cursor: &mut Cursor<'_>, code: u64) -> Result<D
     let specs = specs_of(alloc, cursor)?;
     let size_32 = size_of_all(specs.as_slice(), Width::Four);
     let size_64 = size_of_all(specs.as_slice(), Width::Eight);
+    let ranged = may_have_ranges(specs.as_slice());
     let firsts = Firsts::of(specs.as_slice());
     Ok(Decl {
         code,
@@ -99,6 +115,7 @@ fn declaration_of(alloc: Global, cursor: &mut Cursor<'_>, code: u64) -> Result<D
         specs,
         size_32,
         size_64,
+        ranged,
         firsts,
     })
 }
@@ -106,7 +123,8 @@ fn declaration_of(alloc: Global, cursor: &mut Cursor<'_>, code: u64) -> Result<D
 /// The next declaration of a table; `None` at the code 0 and at the section's end, which end it.
 #[tactic(auto, unfolding(dw_model::specs::Abbrev::next_declaration))]
 pub(crate) fn next_decl(alloc: Global, cursor: &mut Cursor<'_>) -> Result<Option<Decl>, FormFault>
-    ensures { ReadsUnlessMemory (option_map declaration_shown) form_fault result (next_declaration cursor.old) cursor.new }
+    ensures { ReadsUnlessMemory (option_map declaration_shown) form_fault result
+        (next_declaration cursor.old) cursor.new }
 {
     if cursor.left() == 0 {
         return Ok(None);

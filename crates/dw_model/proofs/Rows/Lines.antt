@@ -17,7 +17,7 @@ no_tables = record { str = []; line_str = []; str_offsets = []; addr = []; rngli
 abbrev no_bases : Bases
 no_bases = record { str_offsets = None; addr = None; rnglists = None; offset_size = 4 }
 
--- the rows of the table that stands at the front of a section
+-- the rows of the table that is at the front of a section
 abbrev rows : List ℕ → Result (List Row) Bad
 rows section = do
   header ← line_header no_tables no_bases section 0
@@ -38,7 +38,8 @@ is_readable section = rows section >>= λ _. Ok tt
 abbrev two_rows : List ℕ
 two_rows = hex (codes "00 09 02 00 10 40 00 00 00 00 00 14 4b 02 0a 00 01 01")
 
--- a table without directories and files whose standard opcodes are those up to 13, the last with two operands
+-- a table without directories and files whose standard opcodes are those up to 13, the last with
+-- two operands
 abbrev with_opcode_13 : List ℕ → List ℕ
 with_opcode_13 = line_table_of (hex (codes "01 01 01 fb 0e 0e 00 01 01 01 01 00 00 00 01 00 00 01 02 00 00 00 00"))
 

@@ -23,7 +23,7 @@ all = record { functions = true; inlines = true; addresses = true }
 abbrev word : List ℕ → List (List ℕ)
 word text = text ∷ []
 
--- a unit with an undeclared entry, and a unit without lines behind it
+-- a unit with an undeclared entry, and a unit without lines after it
 abbrev faulty : List ℕ
 faulty = with_info (poke inlined_info 0x23 (0x63 ∷ []) ++ bare_unit)
 
@@ -209,7 +209,8 @@ pieces_cut_off : text plain inlined (word (codes "401002-401006")) ≡ codes "0x
 unfolding on_samples
 pieces_cut_off = refl
 
--- with -f and -i the same, and with -a the span before its pieces; no address of it is covered before the unit and behind it
+-- with -f and -i the same, and with -a the span before its pieces; no address of it is covered
+-- before the unit and after it
 pieces_with_the_span : text all inlined (word (codes "400ffe-401010")) ≡ codes "0x0000000000400ffe-0x0000000000401010\n0x0000000000401000-0x0000000000401004 /w/a.c:3\n0x0000000000401004-0x000000000040100e /w/a.c:4\n"
 unfolding on_samples
 pieces_with_the_span = refl

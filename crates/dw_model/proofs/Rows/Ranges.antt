@@ -9,7 +9,7 @@ use Rattle.dw_model.specs.Ranges.{Range, range, ranges_of, covers}
 use Rattle.dw_model.proofs.Samples.{hex}
 use Rattle.dw_model.proofs.OnSamples.{on_samples}
 
--- a section of range lists, beside two addresses behind eight bytes
+-- a section of range lists, beside two addresses after eight bytes
 abbrev tables : List ℕ → Tables
 tables rnglists = record {
   str = [];

@@ -58,7 +58,8 @@ module _ {S : Type 0} where
     pub window : asked ≤ received + shape.window
     pub most : asked ≤ shape.most
 
--- what a sender received is a beginning of the meanings of what it asked, in its order; and it keeps its limits
+-- what a sender received is a beginning of the meanings of what it asked, in its order; and it
+-- keeps its limits
 pub record IsRightAsker (meaning : Meaning) (asker : AskerState) : Type 0 where
   pub within : next_received asker.asking ≤ next_asked asker.asking
   pub right : asker.asking.received ≡ map (meaning asker.key) (take (next_received asker.asking) asker.asking.asked)

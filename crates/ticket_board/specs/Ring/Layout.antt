@@ -1,4 +1,5 @@
--- Where the words and the slot of a number stand: each sender has as many cells as its window, and a number uses one.
+-- Where the words and the slot of a number are: each sender has as many cells as its window, and a
+-- number uses one.
 use Rattle.std.specs.Prelude.{ℕ, ◌+◌, ◌*◌, ◌%◌, List, slice_index_or}
 use Rattle.ticket_core.specs.declared.shape.Shape.{Shape}
 
@@ -43,7 +44,7 @@ second_place shape s n = word_of (cell_of shape s n) second_field
 abbrev pub words_in : Shape → ℕ
 words_in shape = cells_in shape * cell_words
 
--- what stands there
+-- what is there
 abbrev pub state_at : Shape → List ℕ → ℕ → ℕ → ℕ
 state_at shape words s n = slice_index_or words (state_place shape s n) 0
 

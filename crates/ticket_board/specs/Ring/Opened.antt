@@ -35,6 +35,7 @@ new_askers ring = askers_from ring 0 ring.shape.senders
 abbrev pub new_takers : RingState → List TakerState
 new_takers ring = takers_from ring 0 ring.shape.workers
 
--- the seat from which others are cut off: it is the ring's, so many were cut off from it, and no slot is out with it
+-- the seat from which others are cut off: it is the ring's, so many were cut off from it, and no
+-- slot is out with it
 abbrev pub IsDesk : {S : Type 0} → RingState → ℕ → TableId → table.Me S View → Type 0
 IsDesk ring cut table me = (table ≡ ring.table) × (me ≡ (opener ring.shape ring.key cut, []))

@@ -52,7 +52,8 @@ cut_of _ = 0
 
 -- ---- what it knows
 
--- the query that a sender wrote ahead; and where it wrote the first word alone, the query of that and this second word
+-- the query that a sender wrote ahead; and where it wrote the first word alone, the query of that
+-- and this second word
 abbrev pub ahead_of : Role → Query
 ahead_of role = query_known (asking_of role).ahead
 
@@ -63,7 +64,8 @@ ahead_with role second = of_words (first_known (asking_of role).ahead) second
 abbrev pub collecting_of : Role → Shown
 collecting_of role = unwrap_or (asking_of role).collecting gnil
 
--- the number that a worker saw asked, and the one in its hand, with its query, or the first word of that, where no more is read
+-- the number that a worker saw asked, and the one in its hand, with its query, or the first word of
+-- that, where no more is read
 abbrev pub seen_of : Role → Ticket
 seen_of role = unwrap_or (working_of role).seen (0, 0)
 
@@ -97,7 +99,8 @@ module _ {A : Type 0} where
       (answer : A) × CarriesFirst (cell_of me.0.shape (hand_of me.0.role).0 (hand_of me.0.role).1) (Some answer) me
       × (shown answer ≡ meaning me.0.key (read_of me.0.role))
 
-  -- a sender's seat after a step, where it found this state word and this in the slot; and the slots that are out with it then
+  -- a sender's seat after a step, where it found this state word and this in the slot; and the
+  -- slots that are out with it then
   abbrev pub KnowsSent : SenderStep → ℕ → Home → List (ℕ × Option A) → table.Me (Option A) View → table.Me (Option A) View → Type 0
   KnowsSent step word home slots old new =
       new ≡ (asker old.0.shape old.0.key (sender_of old.0.role) (asking_after (asking_of old.0.role) step word home), slots)

@@ -27,7 +27,7 @@ AnswerShows n next collecting answer word home =
     ((word ≡ answered_word n) × (home ≡ Full answer))
     ⊎ ((word ≡ collecting_word n) × (home ≡ Out) × (n ≡ next) × (collecting ≡ Some answer))
 
--- the state word and the slot of the number n, by where it stands
+-- the state word and the slot of the number n, by where it is
 abbrev pub CellShows : ℕ → ℕ → Option Shown → Place → ℕ → Home → Type 0
 CellShows n next collecting Unasked word home = (word ≡ free_word n) × (home ≡ Empty)
 CellShows n next collecting Waiting word home = (word ≡ asked_word n) × (home ≡ Empty)
@@ -41,7 +41,7 @@ CellShows n next collecting Collected word home = ⊥
 abbrev pub HasWords : Query → ℕ → ℕ → Type 0
 HasWords query first second = (first ≡ first_word query) × (second ≡ second_word query) × IsQuery query
 
--- of a query that is written ahead, the words that are known stand there
+-- of a query that is written ahead, the words that are known are there
 abbrev pub IsAhead : Known → ℕ → ℕ → Type 0
 IsAhead Nothing first second = Unit {0}
 IsAhead (FirstWord word) first second = first ≡ word
@@ -58,14 +58,15 @@ IsKnown (Whole known) query = known ≡ query
 pub record SenderShows (shape : Shape) (state first second : ℕ → ℕ) (home : ℕ → Home) (asking : Asking) (sender : Sender) : Type 0 where
   pub asked : sender.asked ≡ asking.asked
   pub received : sender.received ≡ asking.received
-  -- closing stands in the client alone
+  -- closing is in the client alone
   pub stays_open : sender.closed ≡ false
   -- the cells stand for the numbers from the next one to be received on
   pub cells : (n : ℕ) → next_received asking ≤ n → n < next_received asking + shape.window
       → CellShows n (next_received asking) asking.collecting (place_of sender n) (state n) (home n)
   -- and hold both words of each query that was asked
   pub words : (n : ℕ) → next_received asking ≤ n → n < next_asked asking → HasWords (query_of sender n) (first n) (second n)
-  -- the cell of the next number holds what is written ahead, which is written only where one more may be asked
+  -- the cell of the next number holds what is written ahead, which is written only where one more
+  -- may be asked
   pub ahead : IsAhead asking.ahead (first (next_asked asking)) (second (next_asked asking))
   pub room : asking.ahead ≢ Nothing → HasRoom shape asking
   pub found : asking.found ≡ true → state (next_received asking) ≡ answered_word (next_received asking)
@@ -82,7 +83,7 @@ pub record WorkerShows (shape : Shape) (state : State) (w : ℕ) (working : Work
 
 -- ---- seats
 
--- where a seat of this role stands among so many
+-- where a seat of this role is among so many
 abbrev pub StandsAt : Shape → ℕ → ℕ → Role → Type 0
 StandsAt shape seats seat (Opens cut) = (seat ≡ 0) × (seats ≡ suc cut)
 StandsAt shape seats seat (Asks s asking) = (seat ≡ sender_seat s) × (s < shape.senders)
@@ -103,12 +104,12 @@ Sits board seat view = get_elem? board.views seat ≡ some view
 abbrev pub is_same : ℕ → ℕ → Ticket → Bool
 is_same s n ticket = nat_eq ticket.0 s && nat_eq ticket.1 n
 
--- how often the number stands in a list
+-- how often the number is in a list
 abbrev pub times : ℕ → ℕ → List Ticket → ℕ
 times s n [] = 0
 times s n (ticket ∷ tickets) = (if is_same s n ticket then 1 else 0) + times s n tickets
 
--- how often it stands in the lists of all workers
+-- how often it is in the lists of all workers
 abbrev pub times_done : ℕ → ℕ → List View → ℕ
 times_done s n [] = 0
 times_done s n (view ∷ views) = times s n (working_of view.role).done + times_done s n views

@@ -1,4 +1,5 @@
--- The steps of the ring, each on one word by one seat: when a step may be made, what it changes, and which event it is.
+-- The steps of the ring, each on one word by one seat: when a step may be made, what it changes,
+-- and which event it is.
 use Rattle.std.specs.Prelude.{◌≡◌, ℕ, ◌+◌, ◌/◌, ◌%◌, ◌<◌, Bool, true, false, List, [], ◌∷◌, ◌++◌, slice_index_or, slice_set, Option, Some, None, nat_eq, if◌then◌else◌}
 use Rattle.ticket_core.specs.declared.query.Query.{Query}
 use Rattle.ticket_core.specs.declared.shape.Shape.{Shape}
@@ -55,7 +56,8 @@ homes_sent shape s asking _ homes = homes
 abbrev pub is_answered_word : Asking → ℕ → Bool
 is_answered_word asking word = nat_eq word (answered_word (next_received asking))
 
--- what the sender knows after it; of the number that it receives next, this is the state word, and this lies in the slot
+-- what the sender knows after it; of the number that it receives next, this is the state word, and
+-- this lies in the slot
 abbrev pub asking_after : Asking → SenderStep → ℕ → Home → Asking
 asking_after asking (WritesFirst first) word home = record asking { ahead = FirstWord first }
 asking_after asking (WritesSecond query) word home = record asking { ahead = Whole query }
@@ -87,7 +89,8 @@ event_sent s _ = None
 pub data WorkerStep : Type 0 where
   -- loads the state word of a cell
   LooksAt : (cell : ℕ) → WorkerStep
-  -- exchanges the word that says that the number waits for one that says that it is taken, in one try; and takes the slot
+  -- exchanges the word that says that the number waits for one that says that it is taken, in one
+  -- try; and takes the slot
   Takes : (s n : ℕ) → WorkerStep
   -- loads the first word of the query of the number in its hand
   ReadsFirst : (s n : ℕ) → WorkerStep

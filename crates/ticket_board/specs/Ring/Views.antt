@@ -30,7 +30,7 @@ pub record Asking : Type 0 where
   -- what it asked and what it received, both by number
   pub asked : List Query
   pub received : List Shown
-  -- the query that stands in the cell of the next number, which isn't asked yet
+  -- the query that is in the cell of the next number, which isn't asked yet
   pub ahead : Known
   -- the next number to be received was found answered
   pub found : Bool

@@ -10,7 +10,7 @@ pub enum PoolFault {
     /// The shape isn't within its limits, or a sender would have more queries than it may ask.
     #[error("the shape of the pool is not within its limits")]
     BadShape,
-    /// A growth of memory or a thread was refused.
+    /// An allocation or a thread was refused.
     #[error("out of memory")]
     Memory,
 }

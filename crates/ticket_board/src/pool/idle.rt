@@ -8,12 +8,12 @@ use std::time::Duration;
 /// For how many microseconds it sleeps at most. Nobody wakes it.
 const PAUSE: u64 = 50;
 
-/// After how many sleeps in a row it has waited for long: tens of milliseconds, far longer than most units
-/// take to be read.
+/// After how many sleeps in a row it has waited for long: tens of milliseconds, far longer than
+/// most units take to be read.
 const LONG: u32 = 1000;
 
-/// A thread that gives way while it finds nothing to do, and sleeps where that lasts, so that it takes
-/// no processor from those that work. No proof rests on it.
+/// A thread that gives way while it finds nothing to do, and sleeps where that lasts, so that it
+/// takes no processor from those that work. No proof rests on it.
 #[derive(Drop)]
 pub struct Idle {
     parker: Parker,

@@ -14,7 +14,7 @@ pub trait Maker<S: Solver> {
     fn key(&self) -> &[u8]
         ensures { result.now ≡ key self.now };
 
-    /// Makes a solver. The error says that a growth of memory was refused.
+    /// Makes a solver. The error says that an allocation was refused.
     fn make(&self, alloc: Global) -> Result<S, NoMemory>
         ensures { IfOk result (λ solver. S.key solver ≡ key self.now) };
 }

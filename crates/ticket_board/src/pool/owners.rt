@@ -55,8 +55,8 @@ impl Owned<'_> {
         None
     }
 
-    /// The first cell, from this one on and round from there, where a number waits that is meant for
-    /// the worker.
+    /// The first cell, from this one on and round from there, where a number waits that is meant
+    /// for the worker.
     pub fn find<'a, S: Solver>(&self, board: &Board<'a, S>, from: usize) -> Option<usize> {
         match self.find_in(board, from, self.cells) {
             Some(cell) => Some(cell),

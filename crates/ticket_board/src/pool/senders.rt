@@ -5,7 +5,7 @@ ghost use Rattle.std.specs.VecDeque.{deque_len, deque_capacity};
 ghost use Rattle.std.specs.Thread.{IsSync};
 ghost use Rattle.ticket_board.specs.Pool.{EachFrom, IsLane, AreLanes, IsNewSender, IsPromised};
 
-use super::sending::{Sending, send};
+use super::sender_task::{Sending, send};
 use super::stop::Stop;
 use super::task::{Lane, Lot, Task};
 use crate::board::Board;
@@ -47,7 +47,8 @@ fn start_sender<'s, 'a: 's, E: 's, S: Solver + Drop + Send + Sync, R: Wait + Syn
             requires key { sending.task.key.now ≡ sending.board.now.key }
             requires senders { (1 ≤ sending.task.senders) × (sending.task.senders ≤ 64) }
             requires client { IsNewSender sending.board.now sending.sender sending.client }
-            ensures { IfOk result (λ lane. IsLane S.shown S.meaning sending.entry.task.key.now sending.entry.task.senders sending.entry.task.queries.now sending.entry.sender lane.items) }
+            ensures { IfOk result (λ lane. IsLane S.shown S.meaning sending.entry.task.key.now
+                sending.entry.task.senders sending.entry.task.queries.now sending.entry.sender lane.items) }
         { send(rt, alloc, sending) },
     )?;
     Ok(thread)
@@ -102,7 +103,8 @@ pub fn join_senders<S: Solver, R: Threads>(
     requires promised { EachFrom (λ sender thread. IsPromised task.now sender thread.promise) 0 threads.items }
     requires room { (deque_len room ≡ 0) × (vec_len threads ≤ deque_capacity room) }
     ensures count { IfOk result (λ lanes. deque_len lanes ≡ vec_len threads.entry) }
-    ensures lanes { IfOk result (λ lanes. AreLanes S.shown S.meaning task.now.key.now task.now.senders task.now.queries.now (map (λ lane. lane.items) lanes.items)) }
+    ensures lanes { IfOk result (λ lanes. AreLanes S.shown S.meaning task.now.key.now task.now.senders
+        task.now.queries.now (map (λ lane. lane.items) lanes.items)) }
 {
     let mut lanes = room;
     let mut refused = false;

@@ -18,8 +18,8 @@ pub struct Task<'q> {
 /// The answers that one sender received, in the order of its queries.
 pub type Lane<S> = VecDeque<<S as Solver>::Answer>;
 
-/// What one sender answers of a task: the query at its own number, and from there on as many queries
-/// further as there are senders. Its thread promises that lane.
+/// What one sender answers of a task: the query at its own number, and from there on as many
+/// queries further as there are senders. Its thread promises that lane.
 #[derive(Drop)]
 pub struct Lot<'q, S> {
     pub task: Task<'q>,
@@ -31,5 +31,7 @@ impl<'q, S: Solver> Promise<Result<VecDeque<S::Answer>, NoMemory>> for Lot<'q, S
     ghost use Rattle.std.specs.Prelude.{IfOk};
     ghost use Rattle.ticket_board.specs.Pool.{IsLane};
 
-    ghost kept_by = { λ lot result. IfOk result (λ lane. IsLane S.shown S.meaning lot.task.key.now lot.task.senders lot.task.queries.now lot.sender lane.items) };
+    ghost kept_by = { λ lot result. IfOk result
+        (λ lane. IsLane S.shown S.meaning lot.task.key.now lot.task.senders lot.task.queries.now lot.sender
+        lane.items) };
 }

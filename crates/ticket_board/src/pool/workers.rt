@@ -8,7 +8,7 @@ ghost use Rattle.ticket_board.specs.Seats.{IsWorkerOf};
 use super::maker::Maker;
 use super::owners::Owned;
 use super::stop::Stop;
-use super::working::{Serving, serve};
+use super::worker_task::{Serving, serve};
 use crate::board::Board;
 use crate::gate::Gate;
 use crate::worker::Worker;
@@ -48,8 +48,9 @@ fn start_worker<
     Ok(thread)
 }
 
-/// Starts the threads of the workers into `threads`, which has room for them; `owned` is what is meant for
-/// the first. The error says that one was refused: then the pool stops, and the later ones aren't started.
+/// Starts the threads of the workers into `threads`, which has room for them; `owned` is what is
+/// meant for the first. The error says that one was refused: then the pool stops, and the later
+/// ones aren't started.
 pub fn start_workers<
     's,
     'a: 's,

@@ -2,7 +2,8 @@
 
 ghost use Rattle.std.specs.Prelude.{◌≡◌, ◌<◌, true, None, Some, IfOk, OnOk, OnErr, MatchResult, nat_eq};
 ghost use Rattle.ticket_board.specs.Ring.Views.{next_asked, next_received};
-ghost use Rattle.ticket_board.specs.Ring.Ends.{IsAskerOf, IsRightAsker, asking_refusal, asked_at, asks_one, looks, receives_one};
+ghost use Rattle.ticket_board.specs.Ring.Ends.{IsAskerOf, IsRightAsker, asking_refusal, asked_at, asks_one, looks};
+ghost use Rattle.ticket_board.specs.Ring.Ends.{receives_one};
 
 use crate::fault::AskFault;
 use crate::ring::board::Ring;
@@ -31,7 +32,8 @@ impl<S: Solver> Model for Asker<S> {
 
     ghost view = { λ asker. asker_shown asker.sender asker.seat.table_id asker.seat.me };
 
-    ghost invariant = { λ asker. IsAsker S.meaning asker.sender asker.asked asker.received asker.found asker.shape asker.seat.me };
+    ghost invariant = { λ asker. IsAsker S.meaning asker.sender asker.asked asker.received asker.found asker.shape
+        asker.seat.me };
 }
 
 impl<S: Solver> Asker<S> {
@@ -44,7 +46,8 @@ impl<S: Solver> Asker<S> {
         ensures number { IfOk result (λ n. n ≡ next_asked self.old.asking) }
         ensures asked { OnOk result (self.new ≡ record self.old { asking = asks_one query self.old.asking }) }
         ensures refused { OnErr result (self.new ≡ self.old) }
-        ensures refusal { MatchResult result (λ _. asking_refusal self.old.shape self.old.asking ≡ None) (λ fault. asking_refusal self.old.shape self.old.asking ≡ Some fault) }
+        ensures refusal { MatchResult result (λ _. asking_refusal self.old.shape self.old.asking ≡ None)
+            (λ fault. asking_refusal self.old.shape self.old.asking ≡ Some fault) }
     {
         if self.asked >= self.shape.most {
             return Err(AskFault::Exhausted);
@@ -62,7 +65,8 @@ impl<S: Solver> Asker<S> {
         Ok(number)
     }
 
-    /// Whether the next number was found answered, as `collect` asks. It waits for nobody and takes no memory.
+    /// Whether the next number was found answered, as `collect` asks. It waits for nobody and takes
+    /// no memory.
     pub fn ready<'a>(&mut self, ring: &Ring<'a, S>) -> bool
         requires { IsAskerOf ring.now self.old }
         ensures found { self.old.asking.found ≡ true → result ≡ true }
@@ -81,8 +85,8 @@ impl<S: Solver> Asker<S> {
         self.found
     }
 
-    /// Receives the answer of the next number, which was found answered, and returns that number and its answer.
-    /// It waits for nobody and takes no memory.
+    /// Receives the answer of the next number, which was found answered, and returns that number
+    /// and its answer. It waits for nobody and takes no memory.
     pub fn collect<'a>(&mut self, ring: &Ring<'a, S>) -> (u64, S::Answer)
         requires ring { IsAskerOf ring.now self.old }
         requires found { self.old.asking.found ≡ true }
@@ -110,8 +114,8 @@ impl<S: Solver> Asker<S> {
         self.received == self.asked
     }
 
-    /// Whatever was called before: what was received is a beginning of the meanings of what was asked, in its
-    /// order. It does nothing.
+    /// Whatever was called before: what was received is a beginning of the meanings of what was
+    /// asked, in its order. It does nothing.
     pub fn law_of_asker(&self)
         ensures { IsRightAsker S.meaning self.now }
     {

@@ -20,16 +20,21 @@ impl<'a, S: Solver> Model for Ring<'a, S> {
 
     ghost Value = { RingState };
 
-    ghost view = { λ ring. record { shape = ring.table.shared.key.shape; key = ring.table.shared.key.key.now; table = ring.table.shared.table_id } };
+    ghost view = { λ ring. record {
+      shape = ring.table.shared.key.shape;
+      key = ring.table.shared.key.key.now;
+      table
+          = ring.table.shared.table_id;
+    } };
 
     ghost invariant = { λ ring. IsRing ring.shape ring.table.shared.key.shape ring.table.shared.table_id };
 }
 
 impl<'a, S: Solver> Ring<'a, S> {
-    /// The state word of a cell, as some thread left it: eight times the number for which the cell stands, and 0
-    /// where that number isn't asked yet, 1 where it waits, 2 where a worker holds it, 3 where it is answered, or 4
-    /// where its answer is on its way to the sender. `None` where there is no such cell. It looks without a seat, so
-    /// it is no step, and it promises nothing.
+    /// The state word of a cell, as some thread left it: eight times the number for which the cell
+    /// is, and 0 where that number isn't asked yet, 1 where it waits, 2 where a worker holds it, 3
+    /// where it is answered, or 4 where its answer is on its way to the sender. `None` where there
+    /// is no such cell. It looks without a seat, so it is no step, and it promises nothing.
     pub fn state_word(&self, cell: usize) -> Option<u64> {
         if cell >= self.shape.senders * self.shape.window {
             return None;
@@ -37,8 +42,9 @@ impl<'a, S: Solver> Ring<'a, S> {
         Some(self.table.shared.peek(cell * CELL_WORDS + STATE))
     }
 
-    /// The sender and the number that wait in a cell, as far as can be seen: another thread may take the number at
-    /// any moment. `None` where the cell's number doesn't wait, or there is no such cell.
+    /// The sender and the number that wait in a cell, as far as can be seen: another thread may
+    /// take the number at any moment. `None` where the cell's number doesn't wait, or there is no
+    /// such cell.
     pub fn waits_at(&self, cell: usize) -> Option<(usize, u64)> {
         let word = self.state_word(cell)?;
         if word % 8 != 1 {

@@ -7,11 +7,13 @@
 ghost use Rattle.std.specs.Prelude.{ℕ};
 ghost use Rattle.ticket_core.specs.declared.query.Query.{Query};
 ghost use Rattle.ticket_core.specs.State.{Meaning, Shown};
-ghost use Rattle.ticket_board.specs.Ring.Steps.{SenderStep, WritesFirst, WritesSecond, Publishes, LooksNext, BringsOut, Receives, WorkerStep, LooksAt, Takes, ReadsFirst, ReadsSecond, Answers, GivesBack};
+ghost use Rattle.ticket_board.specs.Ring.Steps.{SenderStep, WritesFirst, WritesSecond, Publishes, LooksNext};
+ghost use Rattle.ticket_board.specs.Ring.Steps.{BringsOut, Receives, WorkerStep, LooksAt, Takes, ReadsFirst};
+ghost use Rattle.ticket_board.specs.Ring.Steps.{ReadsSecond, Answers, GivesBack};
 ghost use Rattle.ticket_board.specs.Ring.Laws.{OpeningLaw, SeatLaw, SenderLaw, WorkerLaw};
 
-/// The opened ring shows the opening state of the core, and cutting off the seat of a sender or of a
-/// worker leaves the state that it shows.
+/// The opened ring shows the opening state of the core, and cutting off the seat of a sender or of
+/// a worker leaves the state that it shows.
 pub fn law_of_opening()
     ensures opening { (meaning : Meaning) → OpeningLaw meaning }
     ensures seats { (meaning : Meaning) → SeatLaw meaning }
@@ -22,7 +24,7 @@ pub fn law_of_k1()
     ensures { (meaning : Meaning) (word : ℕ) → SenderLaw meaning (WritesFirst word) }
 {}
 
-/// A sender stores that this number waits, of whose query both words stand in the cell: it is asked.
+/// A sender stores that this number waits, of whose query both words are in the cell: it is asked.
 pub fn law_of_k2()
     ensures { (meaning : Meaning) (query : Query) → SenderLaw meaning (Publishes query) }
 {}
@@ -44,10 +46,12 @@ pub fn law_of_k5()
     ensures { (meaning : Meaning) (s n : ℕ) → WorkerLaw meaning (ReadsFirst s n) }
 {}
 
-/// A worker stores that the number in its hand is answered, of whose query it read both words, with its
-/// meaning in the slot: it is finished. Or it stores that the number waits again: it is given back.
+/// A worker stores that the number in its hand is answered, of whose query it read both words, with
+/// its meaning in the slot: it is finished. Or it stores that the number waits again: it is given
+/// back.
 pub fn law_of_k6()
-    ensures answers { (meaning : Meaning) (s n : ℕ) (query : Query) (answer : Shown) → WorkerLaw meaning (Answers s n query answer) }
+    ensures answers { (meaning : Meaning) (s n : ℕ) (query : Query) (answer : Shown)
+        → WorkerLaw meaning (Answers s n query answer) }
     ensures gives_back { (meaning : Meaning) (s n : ℕ) → WorkerLaw meaning (GivesBack s n) }
 {}
 

@@ -1,4 +1,4 @@
-//! Where the words of a cell stand.
+//! Where the words of a cell are.
 
 ghost use Rattle.std.specs.Prelude.{◌≡◌, ◌<◌};
 ghost use Rattle.ticket_core.specs.Shape.{Fits};

@@ -1,4 +1,5 @@
-//! How a ring is opened: its words are made, and the seats of senders and workers are cut off one by one.
+//! How a ring is opened: its words are made, and the seats of senders and workers are cut off one
+//! by one.
 
 ghost use Rattle.std.specs.Prelude.{◌≡◌, ◌+◌, ◌<◌, [], IfOk, IfErr, OnOk};
 ghost use Rattle.ticket_core.specs.Shape.{Fits};
@@ -18,7 +19,8 @@ use atomic_table::Table;
 use std::alloc::{AllocError, Global};
 use ticket_core::{Shape, Solver};
 
-/// The words of a ring in which nothing was asked: each cell is free for the first number that uses it.
+/// The words of a ring in which nothing was asked: each cell is free for the first number that uses
+/// it.
 fn free_words(alloc: Global, shape: &Shape) -> Result<Vec<u64>, AllocError>
     requires { Fits shape.now }
     ensures { IfOk result (λ words. AreFree shape.now words.items) }
@@ -120,10 +122,11 @@ fn open_takers<'a, S: Solver>(
 }
 
 impl<'a, S: Solver> Ring<'a, S> {
-    /// A ring of this shape, with an end for each sender and each worker, in order. It shows the opening state of
-    /// the core, by `law_of_opening`: nothing was asked.
+    /// A ring of this shape, with an end for each sender and each worker, in order. It shows the
+    /// opening state of the core, by `law_of_opening`: nothing was asked.
     ///
-    /// The error is `BadShape` for a shape past its limits, else `Memory` where an allocation was refused.
+    /// The error is `BadShape` for a shape past its limits, else `Memory` where an allocation was
+    /// refused.
     pub fn open(
         alloc: Global,
         shape: Shape,

@@ -5,8 +5,10 @@ ghost use Rattle.atomic_table.specs.Table.{rest};
 ghost use Rattle.ticket_board.specs.Ring.Layout.{cell_words};
 ghost use Rattle.ticket_board.specs.Ring.Homes.{Out};
 ghost use Rattle.ticket_board.specs.Ring.Steps.{WritesFirst, WritesSecond, Publishes, LooksNext, Receives};
-ghost use Rattle.ticket_board.specs.Ring.Rule.{ahead_of, ahead_with, collecting_of, seen_of, hand_of, first_read_of, left_after, cut_from};
-ghost use Rattle.ticket_board.specs.Ring.Rule.{KnowsSent, KnowsAnswer, KnowsLooked, KnowsTried, KnowsFirst, KnowsSecond, KnowsAnswered, KnowsGivenBack};
+ghost use Rattle.ticket_board.specs.Ring.Rule.{ahead_of, ahead_with, collecting_of, seen_of, hand_of, first_read_of};
+ghost use Rattle.ticket_board.specs.Ring.Rule.{left_after, cut_from};
+ghost use Rattle.ticket_board.specs.Ring.Rule.{KnowsSent, KnowsAnswer, KnowsLooked, KnowsTried, KnowsFirst};
+ghost use Rattle.ticket_board.specs.Ring.Rule.{KnowsSecond, KnowsAnswered, KnowsGivenBack};
 
 use crate::ring::rule::Knowledge;
 use atomic_table::{Play, Split};
@@ -33,7 +35,8 @@ impl<T> Play<Option<T>, Knowledge> for WriteFirst {
 pub struct WriteSecond;
 
 impl<T> Play<Option<T>, Knowledge> for WriteSecond {
-    ghost then = { λ step old word new. KnowsSent (WritesSecond (ahead_with old.0.role step.first)) 0 Out old.1 old new };
+    ghost then = { λ step old word new. KnowsSent
+        (WritesSecond (ahead_with old.0.role step.first)) 0 Out old.1 old new };
 }
 
 /// A number is asked.

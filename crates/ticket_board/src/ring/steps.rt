@@ -1,15 +1,20 @@
-//! The steps of the ring on its table, each one store, load or compare-exchange: first those of a sender, then
-//! those of a worker, which are counted.
+//! The steps of the ring on its table, each one store, load or compare-exchange: first those of a
+//! sender, then those of a worker, which are counted.
 
 ghost use Rattle.std.specs.Prelude.{◌≡◌, ◌<◌, ◌+◌, true, Some, None};
 ghost use Rattle.atomic_table.specs.Table.{rest};
 ghost use Rattle.ticket_core.specs.Query.{first_word};
-ghost use Rattle.ticket_board.specs.Ring.Layout.{cells_in, cell_of, word_of, state_field, first_place, second_place, state_place, free_word, asked_word, taken_word, answered_word, collecting_word};
+ghost use Rattle.ticket_board.specs.Ring.Layout.{cells_in, cell_of, word_of, state_field, first_place, second_place};
+ghost use Rattle.ticket_board.specs.Ring.Layout.{state_place, free_word, asked_word, taken_word, answered_word};
+ghost use Rattle.ticket_board.specs.Ring.Layout.{collecting_word};
 ghost use Rattle.ticket_board.specs.Ring.Homes.{Out};
-ghost use Rattle.ticket_board.specs.Ring.Views.{FirstWord, Whole, asking_of, working_of, next_asked, next_received, HasRoom};
+ghost use Rattle.ticket_board.specs.Ring.Views.{FirstWord, Whole, asking_of, working_of, next_asked, next_received};
+ghost use Rattle.ticket_board.specs.Ring.Views.{HasRoom};
 ghost use Rattle.ticket_board.specs.Ring.Steps.{WritesFirst, WritesSecond, Publishes, LooksNext, Receives};
-ghost use Rattle.ticket_board.specs.Ring.Rule.{IsSender, IsWorker, sender_of, ahead_of, collecting_of, seen_of, hand_of, read_of, first_read_of};
-ghost use Rattle.ticket_board.specs.Ring.Rule.{KnowsSent, KnowsAnswer, KnowsLooked, KnowsTried, KnowsFirst, KnowsSecond, KnowsAnswered, KnowsGivenBack};
+ghost use Rattle.ticket_board.specs.Ring.Rule.{IsSender, IsWorker, sender_of, ahead_of, collecting_of, seen_of};
+ghost use Rattle.ticket_board.specs.Ring.Rule.{hand_of, read_of, first_read_of};
+ghost use Rattle.ticket_board.specs.Ring.Rule.{KnowsSent, KnowsAnswer, KnowsLooked, KnowsTried, KnowsFirst};
+ghost use Rattle.ticket_board.specs.Ring.Rule.{KnowsSecond, KnowsAnswered, KnowsGivenBack};
 ghost use Rattle.ticket_board.specs.Ring.Rule.{CarriesFirst, CarriesMeaning};
 
 use crate::ring::layout::{CELL_WORDS, STATE};
@@ -33,7 +38,8 @@ pub fn write_first<'a, S: Solver>(
     requires within { word < shelf.now.table_id.words }
     requires sender { IsSender seat.old.me.0.role }
     requires room { HasRoom seat.old.me.0.shape (asking_of seat.old.me.0.role) }
-    requires place { word ≡ first_place seat.old.me.0.shape (sender_of seat.old.me.0.role) (next_asked (asking_of seat.old.me.0.role)) }
+    requires place { word ≡ first_place seat.old.me.0.shape (sender_of seat.old.me.0.role)
+        (next_asked (asking_of seat.old.me.0.role)) }
     ensures same { (seat.new.table_id ≡ seat.old.table_id) × (seat.new.id ≡ seat.old.id) }
     ensures told { KnowsSent (WritesFirst first) 0 Out seat.old.me.1 seat.old.me seat.new.me }
 {
@@ -51,7 +57,8 @@ pub fn write_second<'a, S: Solver>(
     requires within { word < shelf.now.table_id.words }
     requires sender { IsSender seat.old.me.0.role }
     requires written { (asking_of seat.old.me.0.role).ahead ≡ FirstWord (first_word query) }
-    requires place { word ≡ second_place seat.old.me.0.shape (sender_of seat.old.me.0.role) (next_asked (asking_of seat.old.me.0.role)) }
+    requires place { word ≡ second_place seat.old.me.0.shape (sender_of seat.old.me.0.role)
+        (next_asked (asking_of seat.old.me.0.role)) }
     ensures same { (seat.new.table_id ≡ seat.old.table_id) × (seat.new.id ≡ seat.old.id) }
     ensures told { KnowsSent (WritesSecond query) 0 Out seat.old.me.1 seat.old.me seat.new.me }
 {
@@ -64,7 +71,8 @@ pub fn publish<'a, S: Solver>(shelf: &Shelf<'a, S>, seat: &mut Place<S>, word: u
     requires within { word < shelf.now.table_id.words }
     requires sender { IsSender seat.old.me.0.role }
     requires written { (asking_of seat.old.me.0.role).ahead ≡ Whole (ahead_of seat.old.me.0.role) }
-    requires place { word ≡ state_place seat.old.me.0.shape (sender_of seat.old.me.0.role) (next_asked (asking_of seat.old.me.0.role)) }
+    requires place { word ≡ state_place seat.old.me.0.shape (sender_of seat.old.me.0.role)
+        (next_asked (asking_of seat.old.me.0.role)) }
     requires asked { asked ≡ asked_word (next_asked (asking_of seat.old.me.0.role)) }
     ensures same { (seat.new.table_id ≡ seat.old.table_id) × (seat.new.id ≡ seat.old.id) }
     ensures told { KnowsSent (Publishes (ahead_of seat.old.me.0.role)) 0 Out seat.old.me.1 seat.old.me seat.new.me }
@@ -77,7 +85,8 @@ pub fn look_next<'a, S: Solver>(shelf: &Shelf<'a, S>, seat: &mut Place<S>, word:
     requires table { seat.old.table_id ≡ shelf.now.table_id }
     requires within { word < shelf.now.table_id.words }
     requires sender { IsSender seat.old.me.0.role }
-    requires place { word ≡ state_place seat.old.me.0.shape (sender_of seat.old.me.0.role) (next_received (asking_of seat.old.me.0.role)) }
+    requires place { word ≡ state_place seat.old.me.0.shape (sender_of seat.old.me.0.role)
+        (next_received (asking_of seat.old.me.0.role)) }
     ensures same { (seat.new.table_id ≡ seat.old.table_id) × (seat.new.id ≡ seat.old.id) }
     ensures told { KnowsSent LooksNext result Out seat.old.me.1 seat.old.me seat.new.me }
 {
@@ -90,7 +99,8 @@ pub fn bring_out<'a, S: Solver>(shelf: &Shelf<'a, S>, seat: &mut Place<S>, word:
     requires within { word < shelf.now.table_id.words }
     requires sender { IsSender seat.old.me.0.role }
     requires found { (asking_of seat.old.me.0.role).found ≡ true }
-    requires place { word ≡ state_place seat.old.me.0.shape (sender_of seat.old.me.0.role) (next_received (asking_of seat.old.me.0.role)) }
+    requires place { word ≡ state_place seat.old.me.0.shape (sender_of seat.old.me.0.role)
+        (next_received (asking_of seat.old.me.0.role)) }
     requires out { out ≡ collecting_word (next_received (asking_of seat.old.me.0.role)) }
     ensures same { (seat.new.table_id ≡ seat.old.table_id) × (seat.new.id ≡ seat.old.id) }
     ensures told { (answer : S.Answer) × KnowsAnswer S.shown S.meaning answer seat.old.me seat.new.me }
@@ -98,17 +108,21 @@ pub fn bring_out<'a, S: Solver>(shelf: &Shelf<'a, S>, seat: &mut Place<S>, word:
     shelf.store::<BringOut<S>>(seat, word, out);
 }
 
-/// Stores that the cell is free for the number a window later, and gives the slot back, which is empty.
+/// Stores that the cell is free for the number a window later, and gives the slot back, which is
+/// empty.
 pub fn receive<'a, S: Solver>(shelf: &Shelf<'a, S>, seat: &mut Place<S>, word: usize, free: u64)
     requires table { seat.old.table_id ≡ shelf.now.table_id }
     requires within { word < shelf.now.table_id.words }
     requires sender { IsSender seat.old.me.0.role }
     requires out { (asking_of seat.old.me.0.role).collecting ≡ Some (collecting_of seat.old.me.0.role) }
-    requires slot { CarriesFirst (cell_of seat.old.me.0.shape (sender_of seat.old.me.0.role) (next_received (asking_of seat.old.me.0.role))) None seat.old.me }
-    requires place { word ≡ state_place seat.old.me.0.shape (sender_of seat.old.me.0.role) (next_received (asking_of seat.old.me.0.role)) }
+    requires slot { CarriesFirst (cell_of seat.old.me.0.shape (sender_of seat.old.me.0.role)
+        (next_received (asking_of seat.old.me.0.role))) None seat.old.me }
+    requires place { word ≡ state_place seat.old.me.0.shape (sender_of seat.old.me.0.role)
+        (next_received (asking_of seat.old.me.0.role)) }
     requires free { free ≡ free_word (next_received (asking_of seat.old.me.0.role) + seat.old.me.0.shape.window) }
     ensures same { (seat.new.table_id ≡ seat.old.table_id) × (seat.new.id ≡ seat.old.id) }
-    ensures told { KnowsSent (Receives (collecting_of seat.old.me.0.role)) 0 Out (rest seat.old.me.1) seat.old.me seat.new.me }
+    ensures told { KnowsSent (Receives (collecting_of seat.old.me.0.role)) 0 Out
+        (rest seat.old.me.1) seat.old.me seat.new.me }
 {
     shelf.store::<Receive>(seat, word, free);
 }
@@ -134,8 +148,9 @@ pub fn look_at<'a, S: Solver, L: Ledger>(
     shelf.load::<LookAt>(seat, cell * CELL_WORDS + STATE)
 }
 
-/// Exchanges the word of the number that a worker saw for one that says that it is taken, in one try, and returns
-/// the word that was there. Where that said that the number waits, the slot is taken too.
+/// Exchanges the word of the number that a worker saw for one that says that it is taken, in one
+/// try, and returns the word that was there. Where that said that the number waits, the slot is
+/// taken too.
 pub fn try_take<'a, S: Solver, L: Ledger>(
     shelf: &Shelf<'a, S>,
     seat: &mut Place<S>,
@@ -149,7 +164,8 @@ pub fn try_take<'a, S: Solver, L: Ledger>(
     requires worker { IsWorker seat.old.me.0.role }
     requires empty { (working_of seat.old.me.0.role).hand ≡ None }
     requires seen { (working_of seat.old.me.0.role).seen ≡ Some (seen_of seat.old.me.0.role) }
-    requires place { word ≡ state_place seat.old.me.0.shape (seen_of seat.old.me.0.role).0 (seen_of seat.old.me.0.role).1 }
+    requires place { word ≡ state_place seat.old.me.0.shape (seen_of seat.old.me.0.role).0
+        (seen_of seat.old.me.0.role).1 }
     requires asked { asked ≡ asked_word (seen_of seat.old.me.0.role).1 }
     requires taken { taken ≡ taken_word (seen_of seat.old.me.0.role).1 }
     ensures same { (seat.new.table_id ≡ seat.old.table_id) × (seat.new.id ≡ seat.old.id) }
@@ -171,7 +187,8 @@ pub fn read_first<'a, S: Solver, L: Ledger>(
     requires within { word < shelf.now.table_id.words }
     requires worker { IsWorker seat.old.me.0.role }
     requires held { (working_of seat.old.me.0.role).hand ≡ Some (hand_of seat.old.me.0.role) }
-    requires place { word ≡ first_place seat.old.me.0.shape (hand_of seat.old.me.0.role).0 (hand_of seat.old.me.0.role).1 }
+    requires place { word ≡ first_place seat.old.me.0.shape (hand_of seat.old.me.0.role).0
+        (hand_of seat.old.me.0.role).1 }
     ensures same { (seat.new.table_id ≡ seat.old.table_id) × (seat.new.id ≡ seat.old.id) }
     ensures told { KnowsFirst (hand_of seat.old.me.0.role) result seat.old.me seat.new.me }
     ensures counted { steps.new ≡ steps.old + 1 }
@@ -192,17 +209,19 @@ pub fn read_second<'a, S: Solver, L: Ledger>(
     requires worker { IsWorker seat.old.me.0.role }
     requires held { (working_of seat.old.me.0.role).hand ≡ Some (hand_of seat.old.me.0.role) }
     requires read { (working_of seat.old.me.0.role).read ≡ FirstWord (first_read_of seat.old.me.0.role) }
-    requires place { word ≡ second_place seat.old.me.0.shape (hand_of seat.old.me.0.role).0 (hand_of seat.old.me.0.role).1 }
+    requires place { word ≡ second_place seat.old.me.0.shape (hand_of seat.old.me.0.role).0
+        (hand_of seat.old.me.0.role).1 }
     ensures same { (seat.new.table_id ≡ seat.old.table_id) × (seat.new.id ≡ seat.old.id) }
-    ensures told { KnowsSecond (hand_of seat.old.me.0.role) (first_read_of seat.old.me.0.role) result seat.old.me seat.new.me }
+    ensures told { KnowsSecond (hand_of seat.old.me.0.role)
+        (first_read_of seat.old.me.0.role) result seat.old.me seat.new.me }
     ensures counted { steps.new ≡ steps.old + 1 }
 {
     steps.tick();
     shelf.load::<ReadSecond>(seat, word)
 }
 
-/// Stores that the number in a worker's hand is answered, and gives the slot back, in which the meaning of its
-/// query lies.
+/// Stores that the number in a worker's hand is answered, and gives the slot back, in which the
+/// meaning of its query lies.
 pub fn finish<'a, S: Solver, L: Ledger>(
     shelf: &Shelf<'a, S>,
     seat: &mut Place<S>,
@@ -216,7 +235,8 @@ pub fn finish<'a, S: Solver, L: Ledger>(
     requires held { (working_of seat.old.me.0.role).hand ≡ Some (hand_of seat.old.me.0.role) }
     requires read { (working_of seat.old.me.0.role).read ≡ Whole (read_of seat.old.me.0.role) }
     requires slot { CarriesMeaning S.shown S.meaning seat.old.me }
-    requires place { word ≡ state_place seat.old.me.0.shape (hand_of seat.old.me.0.role).0 (hand_of seat.old.me.0.role).1 }
+    requires place { word ≡ state_place seat.old.me.0.shape (hand_of seat.old.me.0.role).0
+        (hand_of seat.old.me.0.role).1 }
     requires answered { answered ≡ answered_word (hand_of seat.old.me.0.role).1 }
     ensures same { (seat.new.table_id ≡ seat.old.table_id) × (seat.new.id ≡ seat.old.id) }
     ensures told { KnowsAnswered (hand_of seat.old.me.0.role) (rest seat.old.me.1) seat.old.me seat.new.me }
@@ -238,8 +258,10 @@ pub fn give_back<'a, S: Solver, L: Ledger>(
     requires within { word < shelf.now.table_id.words }
     requires worker { IsWorker seat.old.me.0.role }
     requires held { (working_of seat.old.me.0.role).hand ≡ Some (hand_of seat.old.me.0.role) }
-    requires slot { CarriesFirst (cell_of seat.old.me.0.shape (hand_of seat.old.me.0.role).0 (hand_of seat.old.me.0.role).1) None seat.old.me }
-    requires place { word ≡ state_place seat.old.me.0.shape (hand_of seat.old.me.0.role).0 (hand_of seat.old.me.0.role).1 }
+    requires slot { CarriesFirst (cell_of seat.old.me.0.shape (hand_of seat.old.me.0.role).0
+        (hand_of seat.old.me.0.role).1) None seat.old.me }
+    requires place { word ≡ state_place seat.old.me.0.shape (hand_of seat.old.me.0.role).0
+        (hand_of seat.old.me.0.role).1 }
     requires asked { asked ≡ asked_word (hand_of seat.old.me.0.role).1 }
     ensures same { (seat.new.table_id ≡ seat.old.table_id) × (seat.new.id ≡ seat.old.id) }
     ensures told { KnowsGivenBack (hand_of seat.old.me.0.role) (rest seat.old.me.1) seat.old.me seat.new.me }

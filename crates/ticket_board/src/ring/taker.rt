@@ -2,7 +2,8 @@
 
 ghost use Rattle.std.specs.Prelude.{◌≡◌, ◌+◌, ◌*◌, ◌≤◌, ◌<◌, None, Some, IsSome, IsTrue, IfSome, MatchBool};
 ghost use Rattle.ticket_board.specs.Ring.Layout.{cells_in};
-ghost use Rattle.ticket_board.specs.Ring.Takers.{IsTakerOf, HasSought, HoldsRead, IsMeaning, MissedEach, MissedAll, Between};
+ghost use Rattle.ticket_board.specs.Ring.Takers.{IsTakerOf, HasSought, HoldsRead, IsMeaning, MissedEach, MissedAll};
+ghost use Rattle.ticket_board.specs.Ring.Takers.{Between};
 ghost use Rattle.ticket_board.specs.Ring.Takers.{knowing, answers_one, gives_one};
 
 use crate::ring::board::Ring;
@@ -46,7 +47,8 @@ impl<S: Solver> Taker<S> {
         requires empty { self.old.working.hand ≡ None }
         requires within { cell < cells_in ring.now.shape }
         ensures sought { HasSought self.old self.new }
-        ensures found { MatchBool result (IsSome self.new.working.hand) (MissedEach (λ other. other ≡ cell) self.old.working self.new.working) }
+        ensures found { MatchBool result (IsSome self.new.working.hand)
+            (MissedEach (λ other. other ≡ cell) self.old.working self.new.working) }
         ensures counted { steps.new ≤ steps.old + 2 }
     {
         let shelf = &ring.table.shared;
@@ -77,7 +79,8 @@ impl<S: Solver> Taker<S> {
         requires order { from ≤ to }
         requires within { to ≤ cells_in ring.now.shape }
         ensures sought { HasSought self.old self.new }
-        ensures found { MatchBool result (IsSome self.new.working.hand) (MissedEach (Between from to) self.old.working self.new.working) }
+        ensures found { MatchBool result (IsSome self.new.working.hand)
+            (MissedEach (Between from to) self.old.working self.new.working) }
         ensures counted { steps.new + 2 * from ≤ steps.old + 2 * to }
     {
         for cell in from..to {
@@ -93,7 +96,8 @@ impl<S: Solver> Taker<S> {
         requires ring { IsTakerOf ring.now self.old }
         requires empty { self.old.working.hand ≡ None }
         ensures sought { HasSought self.old self.new }
-        ensures found { MatchBool result (IsSome self.new.working.hand) (MissedAll ring.now.shape self.old.working self.new.working) }
+        ensures found { MatchBool result (IsSome self.new.working.hand)
+            (MissedAll ring.now.shape self.old.working self.new.working) }
         ensures counted { steps.new ≤ steps.old + 2 * cells_in ring.now.shape }
     {
         let cells = self.shape.senders * self.shape.window;
@@ -127,8 +131,9 @@ impl<S: Solver> Taker<S> {
         (sender, number, Query::of_words(first, second))
     }
 
-    /// Takes a number that waits, and returns its sender, the number and its query; or `None`, where no cell gave
-    /// it one in one pass over all cells. It waits for nobody and takes no memory.
+    /// Takes a number that waits, and returns its sender, the number and its query; or `None`,
+    /// where no cell gave it one in one pass over all cells. It waits for nobody and takes no
+    /// memory.
     pub fn take<'a>(&mut self, ring: &Ring<'a, S>) -> Option<(usize, u64, Query)>
         requires ring { IsTakerOf ring.now self.old }
         requires empty { self.old.working.hand ≡ None }
@@ -158,8 +163,8 @@ impl<S: Solver> Taker<S> {
         self.take_counted(ring, &mut steps)
     }
 
-    /// Takes a number, as `take` does. A step is one load or compare-exchange of a word: there are at most two for
-    /// each cell, and two more.
+    /// Takes a number, as `take` does. A step is one load or compare-exchange of a word: there are
+    /// at most two for each cell, and two more.
     pub fn take_counted<'a, L: Ledger>(
         &mut self,
         ring: &Ring<'a, S>,
@@ -178,8 +183,8 @@ impl<S: Solver> Taker<S> {
         Some(self.read(ring, steps))
     }
 
-    /// Answers the number in the hand, and returns its sender and the number. It waits for nobody and takes no
-    /// memory.
+    /// Answers the number in the hand, and returns its sender and the number. It waits for nobody
+    /// and takes no memory.
     pub fn answer<'a, L: Ledger>(
         &mut self,
         ring: &Ring<'a, S>,
@@ -209,8 +214,8 @@ impl<S: Solver> Taker<S> {
         (sender, number)
     }
 
-    /// Gives the number in the hand back, which waits again, and returns its sender and the number. It waits for
-    /// nobody and takes no memory.
+    /// Gives the number in the hand back, which waits again, and returns its sender and the number.
+    /// It waits for nobody and takes no memory.
     pub fn give_back<'a>(&mut self, ring: &Ring<'a, S>) -> (usize, u64)
         requires ring { IsTakerOf ring.now self.old }
         requires held { IsSome self.old.working.hand }

@@ -1,5 +1,5 @@
-//! What is done with the queries of one sender. What it takes memory for, it takes before it changes
-//! anything.
+//! What is done with the queries of one sender. What it takes memory for, it takes before it
+//! changes anything.
 
 ghost use Rattle.std.specs.Prelude.{◌≡◌, ◌<◌, false, None, OnOk, OnErr, IfOk, MatchResult, vec_len, vec_capacity};
 ghost use Rattle.ticket_core.specs.State.{Shown, fresh, Held, Waiting, place_of, next_of};
@@ -59,7 +59,8 @@ impl<A: Drop> Lane<A> {
     /// Asks a query, and gives its number.
     pub fn ask(&mut self, shape: &Shape, query: Query) -> Result<u64, CoreFault>
         ensures number { IfOk result (λ n. n ≡ vec_len self.old.asked) }
-        ensures asked { OnOk result ((shown : A → Shown) → sender_shown shown self.new ≡ asks query (sender_shown shown self.old)) }
+        ensures asked { OnOk result ((shown : A → Shown)
+            → sender_shown shown self.new ≡ asks query (sender_shown shown self.old)) }
         ensures kept { OnErr result ((shown : A → Shown) → sender_shown shown self.new ≡ sender_shown shown self.old) }
         ensures refusal { (shown : A → Shown) → MatchResult result
             (λ _. ask_refusal shape.now (sender_shown shown self.old) ≡ None)
@@ -83,7 +84,8 @@ impl<A: Drop> Lane<A> {
 
     /// Gives a number that waits to a worker.
     pub fn take(&mut self, worker: usize, number: u64) -> Result<(), CoreFault>
-        ensures taken { OnOk result ((shown : A → Shown) → sender_shown shown self.new ≡ puts number (Held worker) (sender_shown shown self.old)) }
+        ensures taken { OnOk result ((shown : A → Shown)
+            → sender_shown shown self.new ≡ puts number (Held worker) (sender_shown shown self.old)) }
         ensures kept { OnErr result ((shown : A → Shown) → sender_shown shown self.new ≡ sender_shown shown self.old) }
         ensures refusal { (shown : A → Shown) → MatchResult result
             (λ _. place_of (sender_shown shown self.old) number ≡ Waiting)
@@ -99,7 +101,8 @@ impl<A: Drop> Lane<A> {
     /// Puts a number that was asked into another slot.
     pub fn put(&mut self, number: u64, slot: Slot<A>)
         requires { number < vec_len self.old.slots }
-        ensures { (shown : A → Shown) → sender_shown shown self.new ≡ puts number (place_shown shown slot) (sender_shown shown self.old) }
+        ensures { (shown : A → Shown) → sender_shown shown self.new
+            ≡ puts number (place_shown shown slot) (sender_shown shown self.old) }
     {
         self.slots[number as usize] = slot;
     }
@@ -107,7 +110,8 @@ impl<A: Drop> Lane<A> {
     /// Moves the answer of the next number to those that were received, and gives the number.
     pub fn collect(&mut self) -> Result<u64, CoreFault>
         ensures number { IfOk result (λ n. n ≡ vec_len self.old.received) }
-        ensures collected { OnOk result ((shown : A → Shown) → sender_shown shown self.new ≡ collects (sender_shown shown self.old)) }
+        ensures collected { OnOk result ((shown : A → Shown)
+            → sender_shown shown self.new ≡ collects (sender_shown shown self.old)) }
         ensures kept { OnErr result ((shown : A → Shown) → sender_shown shown self.new ≡ sender_shown shown self.old) }
         ensures refusal { (shown : A → Shown) → MatchResult result
             (λ _. collect_refusal (sender_shown shown self.old) ≡ None)

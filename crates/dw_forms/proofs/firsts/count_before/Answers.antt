@@ -4,7 +4,7 @@ use Rattle.dw_forms.specs.declared.declaration.Spec.{Spec}
 use Rattle.dw_forms.proofs.FirstsLemmas.{names_of, before-here, before-later, before-end, told-place, untold-place}
 use Rattle.dw_forms.proofs.firsts.count_before.Goals as goal
 
--- what stands in the place of a specification behind the last one
+-- what is in the place of a specification after the last one
 abbrev none : Spec
 none = record { name = 0; form = 0; implicit = None }
 

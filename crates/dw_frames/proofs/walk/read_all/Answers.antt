@@ -3,7 +3,7 @@ use Rattle.std.specs.Prelude.{MatchOption}
 use Rattle.std.proofs.lemmas.Result.{err_from_is_err_and}
 use Rattle.dw_model.specs.Tree.{tree}
 use Rattle.dw_forms.specs.Fault.{form_fault}
-use Rattle.dw_units.specs.Entries.{IsNext}
+use Rattle.dw_units.specs.Entries.{IsNext, ranged_at}
 use Rattle.dw_units.specs.OpenUnit.{sections_of, unit_of}
 use Rattle.dw_frames.specs.Fault.{tree_fault}
 use Rattle.dw_frames.specs.Reader.{can_be_used, nodes_on}
@@ -21,14 +21,14 @@ pub returns-in-Null : goal.returns-in-Null
 returns-in-Null c =
     let walk = c.in-Some.ensures in
     let read = c.in_ok-first.ensures.next in
-    root-null (sections_of c.args.unit) (unit_of c.args.unit) c.in-Some.entries walk.3 walk.0 walk.1 read.0 c.next_function.new.self.place read.1 (subst (λ next. IsNext next c.next_function.new.kept read.0) c.in-Null.is read.2)
+    root-null (sections_of c.args.unit) (unit_of c.args.unit) c.in-Some.entries walk.3 walk.0 walk.1 read.0 c.next_function.new.self.place read.1 (subst (λ next. IsNext (ranged_at c.in-Some.entries.declarations c.in-Some.entries.place) next read.0) c.in-Null.is read.2)
 
 pub returns-in_err-keep : goal.returns-in_err-keep
 returns-in_err-keep c =
     let p = err_from_is_err_and c.from_residual-in_err-keep.result c.from_residual-in_err-keep.ensures.1 in
     let walk = c.in-Some.ensures in
     let read = c.in_ok-first.ensures.next in
-    let told = subst (λ fault. MatchOption (tree_fault fault) (Unit {0}) (λ told. can_be_used (sections_of c.args.unit) (unit_of c.args.unit) (length c.new-drafts.result.lists) read.0 ≡ Err told)) (sym p.2) (c.in_err-keep.ensures.entry read.0 read.2) in
+    let told = subst (λ fault. MatchOption (tree_fault fault) (Unit {0}) (λ told. can_be_used (sections_of c.args.unit) (unit_of c.args.unit) (length c.new-drafts.result.lists) read.0 ≡ Err told)) (sym p.2) (c.in_err-keep.ensures.entry (ranged_at c.in-Some.entries.declarations c.in-Some.entries.place) read.0 read.2) in
     rw (p.1) (root-unused (sections_of c.args.unit) (unit_of c.args.unit) c.in-Some.entries walk.3 walk.0 walk.1 c.new-drafts.result read.0 c.next_function.new.self.place (tree_fault p.0) c.new-drafts.ensures read.1 told)
 
 pub returns-in_err-read_below : goal.returns-in_err-read_below
@@ -36,8 +36,8 @@ returns-in_err-read_below c =
     let p = err_from_is_err_and c.from_residual-in_err-read_below.result c.from_residual-in_err-read_below.ensures.1 in
     let walk = c.in-Some.ensures in
     let read = c.in_ok-first.ensures.next in
-    let first = found-some c.in_ok-first.first c.next_function.new.kept read.0 read.2 c.in_default-first.not-Null in
-    let kept = c.in_ok-keep.ensures.entry read.0 read.2 in
+    let first = found-some (ranged_at c.in-Some.entries.declarations c.in-Some.entries.place) c.in_ok-first.first read.0 read.2 c.in_default-first.not-Null in
+    let kept = c.in_ok-keep.ensures.entry (ranged_at c.in-Some.entries.declarations c.in-Some.entries.place) read.0 read.2 in
     let b = began (sections_of c.args.unit) (unit_of c.args.unit) c.in-Some.entries walk.3 walk.0 walk.1 c.new-drafts.result c.keep.new.drafts read.0 first.0 c.next_function.new.self c.new-drafts.ensures c.in_ok-first.ensures.declarations c.in_ok-first.ensures.offset_size read.1 first.1 kept.0 kept.1 in
     let told = subst (λ fault. MatchOption (tree_fault fault) (Unit {0}) (λ told. nodes_on (sections_of c.args.unit) (unit_of c.args.unit) c.next_function.new.self (length c.keep.new.drafts.lists) ≡ Err told)) (sym p.2) ((rw (c.in_ok-keep.ensures.same) at c.in_err-read_below.ensures) (record { depth = 0; entry = b.entry } ∷ []) b.follows) in
     rw (p.1) (below-faults (sections_of c.args.unit) (unit_of c.args.unit) c.in-Some.entries walk.3 walk.0 walk.1 c.new-drafts.result c.keep.new.drafts c.next_function.new.self (tree_fault p.0) b told)
@@ -46,7 +46,7 @@ pub returns : goal.returns
 returns c =
     let walk = c.in-Some.ensures in
     let read = c.in_ok-first.ensures.next in
-    let first = found-some c.in_ok-first.first c.next_function.new.kept read.0 read.2 c.in_default-first.not-Null in
-    let kept = c.in_ok-keep.ensures.entry read.0 read.2 in
+    let first = found-some (ranged_at c.in-Some.entries.declarations c.in-Some.entries.place) c.in_ok-first.first read.0 read.2 c.in_default-first.not-Null in
+    let kept = c.in_ok-keep.ensures.entry (ranged_at c.in-Some.entries.declarations c.in-Some.entries.place) read.0 read.2 in
     let b = began (sections_of c.args.unit) (unit_of c.args.unit) c.in-Some.entries walk.3 walk.0 walk.1 c.new-drafts.result c.keep.new.drafts read.0 first.0 c.next_function.new.self c.new-drafts.ensures c.in_ok-first.ensures.declarations c.in_ok-first.ensures.offset_size read.1 first.1 kept.0 kept.1 in
     below-follows (sections_of c.args.unit) (unit_of c.args.unit) c.in-Some.entries walk.3 walk.0 walk.1 c.new-drafts.result c.keep.new.drafts c.read_below.new.drafts c.next_function.new.self b ((rw (c.in_ok-keep.ensures.same) at c.in_ok-read_below.ensures) (record { depth = 0; entry = b.entry } ∷ []) b.follows)

@@ -4,6 +4,7 @@ use Rattle.std.proofs.lemmas.Bool.{or_from, or_left, or_right, ne_eqb, eq-eqb}
 use Rattle.std.proofs.lemmas.Result.{err_from_is_err_and}
 use Rattle.dw_model.proofs.AdvanceLemmas.{entry-onward}
 use Rattle.dw_forms.specs.Fault.{form_fault}
+use Rattle.dw_units.specs.Entries.{ranged_at}
 use Rattle.dw_frames.specs.Fault.{tree_fault}
 use Rattle.dw_frames.specs.Reader.{nodes_on, can_be_used}
 use Rattle.dw_frames.proofs.WalkLemmas.{starts, goes-on, ends, stops-unread, stops-unused}
@@ -35,7 +36,7 @@ loop-entries-preserved c = (
   λ before f.
       let open_still = more c.depth.result (length c.loop-entries.drafts.lists) (length c.loop-entries.entries.place.left) c.is_done.result c.depth.ensures c.loop-entries-test.true c.is_done.ensures c.if-not-is_done.true in
       let read = c.in_ok-next.ensures.next in
-      let kept = (rw (c.loop-entries.invariant.0) at c.in_ok-keep.ensures.entry) read.0 read.2 in
+      let kept = (rw (c.loop-entries.invariant.0) at c.in_ok-keep.ensures.entry) (ranged_at c.loop-entries.entries.declarations c.loop-entries.entries.place) read.0 read.2 in
       goes-on c.args.reader.now.of.sections c.args.reader.now.of.unit before c.args.entries.now (length c.args.drafts.now.lists) c.loop-entries.drafts c.keep.new.drafts c.loop-entries.entries c.next_function.new.self read.0 open_still c.in_ok-next.ensures.declarations c.in_ok-next.ensures.offset_size read.1 kept.0 kept.1 (c.loop-entries.invariant.1 before f),
 )
 
@@ -44,7 +45,7 @@ returns-in_err-keep c before f =
     let p = err_from_is_err_and c.from_residual-in_err-keep.result c.from_residual-in_err-keep.ensures.1 in
     let open_still = more c.depth.result (length c.loop-entries.drafts.lists) (length c.loop-entries.entries.place.left) c.is_done.result c.depth.ensures c.loop-entries-test.true c.is_done.ensures c.if-not-is_done.true in
     let read = c.in_ok-next.ensures.next in
-    let told = subst (λ fault. MatchOption (tree_fault fault) (Unit {0}) (λ told. can_be_used c.args.reader.now.of.sections c.args.reader.now.of.unit (length c.loop-entries.drafts.lists) read.0 ≡ Err told)) (sym p.2) ((rw (c.loop-entries.invariant.0) at c.in_err-keep.ensures.entry) read.0 read.2) in
+    let told = subst (λ fault. MatchOption (tree_fault fault) (Unit {0}) (λ told. can_be_used c.args.reader.now.of.sections c.args.reader.now.of.unit (length c.loop-entries.drafts.lists) read.0 ≡ Err told)) (sym p.2) ((rw (c.loop-entries.invariant.0) at c.in_err-keep.ensures.entry) (ranged_at c.loop-entries.entries.declarations c.loop-entries.entries.place) read.0 read.2) in
     rw (p.1) (stops-unused c.args.reader.now.of.sections c.args.reader.now.of.unit before c.args.entries.now (length c.args.drafts.now.lists) c.loop-entries.drafts c.loop-entries.entries read.0 c.next_function.new.self.place (tree_fault p.0) open_still read.1 told (c.loop-entries.invariant.1 before f))
 
 pub returns-else-not-is_done : goal.returns-else-not-is_done

@@ -13,7 +13,7 @@ use Rattle.dw_line.proofs.CountLemmas.{still_tells}
 use Rattle.dw_line.proofs.EntryLemmas.{none_found, contains_more, contains_bad, contains_all}
 use Rattle.dw_line.proofs.entries.contents_of.Goals as goal
 
--- what stands in the place of a format behind the last one
+-- what is in the place of a format after the last one
 abbrev none : Format
 none = record { content = 0; form = 0 }
 

@@ -8,7 +8,7 @@ use Rattle.dw_line.specs.Reached.{FindsFrom}
 use Rattle.dw_line.proofs.SearchLemmas.{rises, Splits, finds_none, finds_by_halves}
 use Rattle.dw_line.proofs.search.row_in_sequence.Goals as goal
 
--- what stands in the place of a checkpoint behind the last one
+-- what is in the place of a checkpoint after the last one
 abbrev none : Checkpoint
 none = record { registers = record { address = 0; file = 0; line = 0; column = 0 }; place = 0 }
 

@@ -9,7 +9,7 @@ use Rattle.dw_symbols.specs.Answer.{location_shown, frame_shown}
 use Rattle.dw_symbols.proofs.FrameLemmas.{called_at, goes_on, ends, no-frames}
 use Rattle.dw_symbols.proofs.frames.frames_of.Goals as goal
 
--- what stands behind the last function
+-- what is after the last function
 abbrev none : Described
 none = record { name = None; call = record { file = None; line = None; column = None } }
 

@@ -11,7 +11,7 @@ use Rattle.dw_units.specs.Entry.{attribute_shown}
 use Rattle.dw_units.proofs.EntryLemmas.{starts, goes_on, stops-exactly, ends}
 use Rattle.dw_units.proofs.attributes.pass_attributes.Goals as goal
 
--- what stands in the place of a specification behind the last one
+-- what is in the place of a specification after the last one
 abbrev none : Spec
 none = record { name = 0; form = 0; implicit = None }
 

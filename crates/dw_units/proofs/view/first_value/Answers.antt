@@ -8,7 +8,7 @@ use Rattle.dw_forms.specs.Value.{value_shown}
 use Rattle.dw_units.proofs.ViewLemmas.{goes-on, ends-here, fails-never, ends}
 use Rattle.dw_units.proofs.view.first_value.Goals as goal
 
--- what stands in the place of a specification behind the last one
+-- what is in the place of a specification after the last one
 abbrev none : Spec
 none = record { name = 0; form = 0; implicit = None }
 
