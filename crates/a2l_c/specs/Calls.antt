@@ -1,0 +1,31 @@
+-- What a handle of C's holds.
+use Rattle.std.specs.Prelude.{◌≡◌, ℕ, List, Option, Some, IsSome, true}
+use Rattle.dw_model.specs.Answer.{Answer}
+use Rattle.dw_model.specs.Faults.{Refusal}
+use Rattle.dw_elf.specs.declared.fault.OpenFault.{OpenFault}
+use Rattle.dw_elf.specs.OpenFault.{refusal_of}
+use Rattle.a2l_c.specs.declared.structs.CHandle.{CHandle}
+use Rattle.a2l_c.specs.declared.structs.CRefusal.{CRefusal}
+use Rattle.a2l_c.specs.Structs.{IsReason}
+use Rattle.a2l_c.specs.SessionState.{SessionState}
+
+-- Where a handle says that it is open, it holds a session. C owes this: it sets handles to zero,
+-- and leaves them to the calls.
+abbrev pub IsValid : CHandle → Type 0
+IsValid handle = handle.open ≡ true → IsSome handle.handle.session
+
+-- a handle is open, and its session shows this
+abbrev pub Holds : CHandle → SessionState → Type 0
+Holds handle session = (handle.open ≡ true) × (handle.handle.session ≡ Some session)
+
+-- a handle holds what it held
+abbrev pub Stays : CHandle → CHandle → Type 0
+Stays old new = (session : SessionState) → Holds old session → Holds new session
+
+-- after a question the answers are these of the file
+abbrev pub Answers : (List ℕ → List Answer) → CHandle → CHandle → Type 0
+Answers meaning old new = (session : SessionState) → Holds old session → Holds new (record { file = session.file; answers = meaning session.file })
+
+-- a file is refused, and a struct tells why
+abbrev pub TellsRefusal : Option Refusal → CRefusal → Type 0
+TellsRefusal refusal told = (fault : OpenFault) × (IsSome refusal × (refusal_of fault ≡ refusal)) × IsReason fault told

@@ -1,0 +1,306 @@
+//! The functions that C calls. Each takes the session out of its handle, works, and puts it back.
+//!
+//! What a caller in C owes, since nothing checks it there: handles are set to zero before the first
+//! call and are left to these functions (`IsValid`), one call at a time uses a handle, and the
+//! bytes of a file stay until the last handle over it is closed. Numbers of `Status` are what the
+//! calls return.
+
+ghost use Rattle.std.specs.Prelude.{◌≡◌, ◌⊎◌, ◌≢◌, ◌<◌, [], ◌∷◌, true, false, None, Some, length, map, option_map};
+ghost use Rattle.std.specs.Prelude.{slice_get, MatchOption};
+ghost use Rattle.dw_model.specs.Answer.{answer, location};
+ghost use Rattle.dw_model.specs.Pieces.{pieces};
+ghost use Rattle.dw_model.specs.Refusal.{refusal};
+ghost use Rattle.a2l_c.specs.SessionState.{SessionState};
+ghost use Rattle.a2l_c.specs.Answers.{frame_in, piece_in};
+ghost use Rattle.a2l_c.specs.Calls.{IsValid, Holds, Stays, Answers, TellsRefusal};
+ghost use Rattle.a2l_c.specs.Structs.{TellsFrameLength, TellsPieceLength, answer_told, frame_told, piece_told};
+
+use crate::handle::Handle;
+use crate::session::Session;
+use crate::status::Status;
+use crate::structs::{CAnswer, CFrame, CHandle, CPiece, CRefusal, tell_refusal};
+use crate::telling::{answer_at, frame_at, piece_at};
+use dw_elf::OpenFault;
+use std::alloc::Global;
+use std::num::NonZeroUsize;
+
+/// Puts a new session into a handle that is closed.
+fn keep(alloc: Global, session: Session, handle: &mut CHandle) -> Status
+    requires closed { handle.old.open ≡ false }
+    ensures held { result ≡ Status.Done → Holds handle.new session }
+    ensures stays { result ≡ Status.Memory → handle.new ≡ handle.old }
+    ensures ends { (result ≡ Status.Done) ⊎ (result ≡ Status.Memory) }
+{
+    let Ok(session) = Box::new(alloc, session) else {
+        return Status::Memory;
+    };
+    handle.handle = Handle::empty(alloc);
+    handle.handle.put(session);
+    handle.open = true;
+    Status::Done
+}
+
+/// Opens a file, for a handle that is closed.
+fn open(
+    alloc: Global,
+    file: &'static [u8],
+    capacity: NonZeroUsize,
+    handle: &mut CHandle,
+    why: &mut CRefusal<'static>,
+) -> Status
+    requires closed { handle.old.open ≡ false }
+    ensures opened { result ≡ Status.Done → Holds handle.new (record { file = file.now; answers = [] }) }
+    ensures accepted { result ≡ Status.Done → refusal file.now ≡ None }
+    ensures refused { result ≡ Status.Refused → TellsRefusal (refusal file.now) why.new }
+    ensures stays { result ≢ Status.Done → handle.new ≡ handle.old }
+    ensures ends { (result ≡ Status.Done) ⊎ ((result ≡ Status.Memory) ⊎ (result ≡ Status.Refused)) }
+{
+    match Session::open(alloc, file, capacity) {
+        Ok(session) => keep(alloc, session, handle),
+        Err(OpenFault::Memory) => Status::Memory,
+        Err(fault) => {
+            tell_refusal(&fault, why);
+            Status::Refused
+        }
+    }
+}
+
+/// Opens a file by its bytes.
+#[unsafe(no_mangle)]
+pub extern "C" fn a2l_open(
+    alloc: Global,
+    file: &'static [u8],
+    capacity: usize,
+    handle: &mut CHandle,
+    why: &mut CRefusal<'static>,
+) -> u32
+    requires valid { IsValid handle.old }
+    ensures valid { IsValid handle.new }
+    ensures opened { result ≡ 0 → Holds handle.new (record { file = file.now; answers = [] }) }
+    ensures accepted { result ≡ 0 → refusal file.now ≡ None }
+    ensures refused { result ≡ 2 → TellsRefusal (refusal file.now) why.new }
+    ensures capacity { result ≡ 3 → capacity ≡ 0 }
+    ensures open { result ≡ 5 → handle.old.open ≡ true }
+    ensures stays { result ≢ 0 → handle.new ≡ handle.old }
+{
+    if handle.open {
+        return Status::Open.number();
+    }
+    let Some(capacity) = NonZeroUsize::new(capacity) else {
+        return Status::Capacity.number();
+    };
+    open(alloc, file, capacity, handle, why).number()
+}
+
+/// Opens a second handle over the file of a first one.
+#[unsafe(no_mangle)]
+pub extern "C" fn a2l_beside(
+    alloc: Global,
+    handle: &mut CHandle,
+    capacity: usize,
+    other: &mut CHandle,
+) -> u32
+    requires valid { IsValid handle.old }
+    requires other { IsValid other.old }
+    ensures valid { IsValid handle.new }
+    ensures other { IsValid other.new }
+    ensures opened { result ≡ 0 → (session : SessionState) → Holds handle.old session
+        → Holds other.new (record { file = session.file; answers = [] }) }
+    ensures stays { Stays handle.old handle.new }
+    ensures unopened { result ≢ 0 → other.new ≡ other.old }
+    ensures closed { result ≡ 4 → handle.old.open ≡ false }
+{
+    if !handle.open {
+        return Status::Closed.number();
+    }
+    if other.open {
+        return Status::Open.number();
+    }
+    let Some(capacity) = NonZeroUsize::new(capacity) else {
+        return Status::Capacity.number();
+    };
+    let session = handle.handle.take(alloc);
+    let made = session.beside(capacity);
+    handle.handle.put(session);
+    match made {
+        Ok(beside) => keep(alloc, beside, other).number(),
+        Err(_) => Status::Memory.number(),
+    }
+}
+
+/// Closes a handle.
+#[unsafe(no_mangle)]
+pub extern "C" fn a2l_close(alloc: Global, handle: &mut CHandle) -> u32
+    requires valid { IsValid handle.old }
+    ensures closed { handle.new.open ≡ false }
+    ensures status { result ≡ 0 → handle.old.open ≡ true }
+{
+    if !handle.open {
+        return Status::Closed.number();
+    }
+    drop(handle.handle.take(alloc));
+    handle.open = false;
+    Status::Done.number()
+}
+
+/// Asks what addresses mean.
+#[unsafe(no_mangle)]
+pub extern "C" fn a2l_find_frames(alloc: Global, handle: &mut CHandle, addresses: &[u64]) -> u32
+    requires valid { IsValid handle.old }
+    ensures valid { IsValid handle.new }
+    ensures found { result ≡ 0 → Answers (λ file. map (answer file) addresses.now) handle.old handle.new }
+    ensures stays { result ≢ 0 → Stays handle.old handle.new }
+    ensures closed { result ≡ 4 → handle.old.open ≡ false }
+    ensures ends { (result ≡ 0) ⊎ ((result ≡ 1) ⊎ (result ≡ 4)) }
+{
+    if !handle.open {
+        return Status::Closed.number();
+    }
+    let mut session = handle.handle.take(alloc);
+    let found = session.find_frames(addresses);
+    handle.handle.put(session);
+    match found {
+        Ok(()) => Status::Done.number(),
+        Err(_) => Status::Memory.number(),
+    }
+}
+
+/// Asks where addresses come from, by line tables alone.
+#[unsafe(no_mangle)]
+pub extern "C" fn a2l_find_locations(alloc: Global, handle: &mut CHandle, addresses: &[u64]) -> u32
+    requires valid { IsValid handle.old }
+    ensures valid { IsValid handle.new }
+    ensures found { result ≡ 0 → Answers (λ file. map (location file) addresses.now) handle.old handle.new }
+    ensures stays { result ≢ 0 → Stays handle.old handle.new }
+    ensures closed { result ≡ 4 → handle.old.open ≡ false }
+    ensures ends { (result ≡ 0) ⊎ ((result ≡ 1) ⊎ (result ≡ 4)) }
+{
+    if !handle.open {
+        return Status::Closed.number();
+    }
+    let mut session = handle.handle.take(alloc);
+    let found = session.find_locations(addresses);
+    handle.handle.put(session);
+    match found {
+        Ok(()) => Status::Done.number(),
+        Err(_) => Status::Memory.number(),
+    }
+}
+
+/// Asks for the pieces of a span.
+#[unsafe(no_mangle)]
+pub extern "C" fn a2l_find_pieces(alloc: Global, handle: &mut CHandle, low: u64, high: u64) -> u32
+    requires valid { IsValid handle.old }
+    ensures valid { IsValid handle.new }
+    ensures found { result ≡ 0 → Answers (λ file. pieces file low high ∷ []) handle.old handle.new }
+    ensures stays { result ≢ 0 → Stays handle.old handle.new }
+    ensures closed { result ≡ 4 → handle.old.open ≡ false }
+    ensures ends { (result ≡ 0) ⊎ ((result ≡ 1) ⊎ (result ≡ 4)) }
+{
+    if !handle.open {
+        return Status::Closed.number();
+    }
+    let mut session = handle.handle.take(alloc);
+    let found = session.find_pieces(low, high);
+    handle.handle.put(session);
+    match found {
+        Ok(()) => Status::Done.number(),
+        Err(_) => Status::Memory.number(),
+    }
+}
+
+/// Tells what the answer at a place is.
+#[unsafe(no_mangle)]
+pub extern "C" fn a2l_answer_at(
+    alloc: Global,
+    handle: &mut CHandle,
+    i: usize,
+    told: &mut CAnswer,
+) -> u32
+    requires valid { IsValid handle.old }
+    ensures valid { IsValid handle.new }
+    ensures told { result ≡ 0 → (session : SessionState) → Holds handle.old session
+        → option_map answer_told (slice_get session.answers i) ≡ Some told.new }
+    ensures outside { result ≡ 6 → (session : SessionState) → Holds handle.old session
+        → slice_get session.answers i ≡ None }
+    ensures stays { Stays handle.old handle.new }
+    ensures closed { result ≡ 4 → handle.old.open ≡ false }
+    ensures ends { (result ≡ 0) ⊎ ((result ≡ 4) ⊎ (result ≡ 6)) }
+{
+    if !handle.open {
+        return Status::Closed.number();
+    }
+    let session = handle.handle.take(alloc);
+    let status = answer_at(session.answers(), i, told);
+    handle.handle.put(session);
+    status.number()
+}
+
+/// Tells a frame of an answer.
+#[unsafe(no_mangle)]
+pub extern "C" fn a2l_frame_at(
+    alloc: Global,
+    handle: &mut CHandle,
+    i: usize,
+    j: usize,
+    path: &mut [u8],
+    told: &mut CFrame<'static>,
+) -> u32
+    requires valid { IsValid handle.old }
+    ensures valid { IsValid handle.new }
+    ensures told { result ≡ 0 → (session : SessionState) → Holds handle.old session
+        → frame_in session.answers i j ≡ Some (frame_told told.new path.new) }
+    ensures outside { result ≡ 6 → (session : SessionState) → Holds handle.old session
+        → frame_in session.answers i j ≡ None }
+    ensures short { result ≡ 7 → (session : SessionState) → Holds handle.old session
+        → MatchOption (frame_in session.answers i j) ⊥ (λ frame. TellsFrameLength told.new frame (length path.old)) }
+    ensures stays { Stays handle.old handle.new }
+    ensures closed { result ≡ 4 → handle.old.open ≡ false }
+    ensures ends { (result ≡ 0) ⊎ ((result ≡ 4) ⊎ ((result ≡ 6) ⊎ (result ≡ 7))) }
+{
+    if !handle.open {
+        return Status::Closed.number();
+    }
+    let session = handle.handle.take(alloc);
+    let status = frame_at(session.answers(), i, j, path, told);
+    handle.handle.put(session);
+    status.number()
+}
+
+/// Tells a piece of a span.
+#[unsafe(no_mangle)]
+pub extern "C" fn a2l_piece_at(
+    alloc: Global,
+    handle: &mut CHandle,
+    j: usize,
+    path: &mut [u8],
+    told: &mut CPiece,
+) -> u32
+    requires valid { IsValid handle.old }
+    ensures valid { IsValid handle.new }
+    ensures told { result ≡ 0 → (session : SessionState) → Holds handle.old session
+        → piece_in session.answers j ≡ Some (piece_told told.new path.new) }
+    ensures outside { result ≡ 6 → (session : SessionState) → Holds handle.old session
+        → piece_in session.answers j ≡ None }
+    ensures short { result ≡ 7 → (session : SessionState) → Holds handle.old session
+        → MatchOption (piece_in session.answers j) ⊥ (λ piece. TellsPieceLength told.new piece (length path.old)) }
+    ensures stays { Stays handle.old handle.new }
+    ensures closed { result ≡ 4 → handle.old.open ≡ false }
+    ensures ends { (result ≡ 0) ⊎ ((result ≡ 4) ⊎ ((result ≡ 6) ⊎ (result ≡ 7))) }
+{
+    if !handle.open {
+        return Status::Closed.number();
+    }
+    let session = handle.handle.take(alloc);
+    let status = piece_at(session.answers(), j, path, told);
+    handle.handle.put(session);
+    status.number()
+}
+
+/// The version of the interface: 65536 times the first number, 256 times the second, and the third.
+#[unsafe(no_mangle)]
+pub extern "C" fn a2l_version() -> u32
+    ensures { result ≡ 256 }
+{
+    0x0000_0100
+}

@@ -1,0 +1,166 @@
+//! What is after a handle: an open file, and what was asked of it last.
+
+ghost use Rattle.std.specs.Prelude.{◌≡◌, [], ◌∷◌, None, Some, OnOk, IfOk, IfErr, IfSome, IsNone, map, option_map};
+ghost use Rattle.std.specs.Prelude.{slice_get};
+ghost use Rattle.dw_model.specs.Answer as model;
+ghost use Rattle.dw_model.specs.Pieces.{pieces};
+ghost use Rattle.dw_model.specs.Refusal.{refusal};
+ghost use Rattle.dw_elf.specs.OpenFault.{RefusesUnlessMemory};
+ghost use Rattle.dw_symbols.specs.Answer.{answer_shown};
+
+use dw_elf::OpenFault;
+use dw_symbols::{Answer, Context, Image};
+use std::alloc::{AllocError, Global};
+use std::marker::Model;
+use std::num::NonZeroUsize;
+use std::sync::Arc;
+
+/// An open file, which others may share, and the answers of the last question. Contracts see the
+/// bytes of the file and the answers.
+#[derive(Drop)]
+pub(crate) struct Session {
+    alloc: Global,
+    image: Arc<Image<'static>>,
+    /// How many units a question keeps.
+    capacity: NonZeroUsize,
+    answers: Vec<Answer<'static>>,
+}
+
+impl Model for Session {
+    ghost use Rattle.a2l_c.specs.SessionState.{SessionState, session_code};
+    ghost use Rattle.a2l_c.specs.Session.{state_of};
+
+    ghost Value = { SessionState };
+
+    ghost coded = { session_code };
+
+    ghost view = { state_of };
+}
+
+/// What addresses mean, in their order: their frames, or why their units can't be read.
+fn frames_of(
+    alloc: Global,
+    image: &Image<'static>,
+    capacity: NonZeroUsize,
+    addresses: &[u64],
+) -> Result<Vec<Answer<'static>>, AllocError>
+    ensures { IfOk result (λ answers. map answer_shown answers.items ≡ map (model.answer image.now) addresses.now) }
+{
+    let mut context = Context::new(alloc, image, capacity)?;
+    let mut answers = Vec::new(alloc);
+    for a in addresses {
+        let answer = context.find_frames(*a)?;
+        answers.push(answer)?;
+    }
+    Ok(answers)
+}
+
+/// Where addresses come from, in their order, by the line tables of their units alone.
+fn locations_of(
+    alloc: Global,
+    image: &Image<'static>,
+    capacity: NonZeroUsize,
+    addresses: &[u64],
+) -> Result<Vec<Answer<'static>>, AllocError>
+    ensures { IfOk result (λ answers. map answer_shown answers.items ≡ map (model.location image.now) addresses.now) }
+{
+    let mut context = Context::new(alloc, image, capacity)?;
+    let mut answers = Vec::new(alloc);
+    for a in addresses {
+        let answer = context.find_location(*a)?;
+        answers.push(answer)?;
+    }
+    Ok(answers)
+}
+
+/// The pieces of a span, as the one answer of a list.
+fn pieces_of(
+    alloc: Global,
+    image: &Image<'static>,
+    capacity: NonZeroUsize,
+    low: u64,
+    high: u64,
+) -> Result<Vec<Answer<'static>>, AllocError>
+    ensures { IfOk result (λ answers. map answer_shown answers.items ≡ pieces image.now low high ∷ []) }
+{
+    let mut context = Context::new(alloc, image, capacity)?;
+    let answer = context.find_location_range(low, high)?;
+    Ok(vec![in alloc; answer]?)
+}
+
+impl Session {
+    /// Opens a file. Nothing was asked yet.
+    pub(crate) fn open(
+        alloc: Global,
+        file: &'static [u8],
+        capacity: NonZeroUsize,
+    ) -> Result<Session, OpenFault>
+        ensures opened { IfOk result (λ session. session ≡ record { file = file.now; answers = [] }) }
+        ensures accepted { OnOk result (refusal file.now ≡ None) }
+        ensures refused { IfErr result (λ fault. RefusesUnlessMemory fault (refusal file.now)) }
+    {
+        let image = Arc::new(alloc, Image::open(alloc, file)?)?;
+        let answers = Vec::new(alloc);
+        Ok(Session {
+            alloc,
+            image,
+            capacity,
+            answers,
+        })
+    }
+
+    /// A second session over the same file. Nothing was asked of it yet.
+    pub(crate) fn beside(&self, capacity: NonZeroUsize) -> Result<Session, AllocError>
+        ensures { IfOk result (λ session. session ≡ record { file = self.now.file; answers = [] }) }
+    {
+        let image = Arc::try_clone(&self.image)?;
+        let answers = Vec::new(self.alloc);
+        Ok(Session {
+            alloc: self.alloc,
+            image,
+            capacity,
+            answers,
+        })
+    }
+
+    /// Asks what addresses mean. After a refusal of memory nothing has changed.
+    pub(crate) fn find_frames(&mut self, addresses: &[u64]) -> Result<(), AllocError>
+        ensures found { OnOk result (self.new.answers ≡ map (model.answer self.old.file) addresses.now) }
+        ensures file { self.new.file ≡ self.old.file }
+        ensures refused { IfErr result (λ _. self.new ≡ self.old) }
+    {
+        let image: &Image<'static> = &self.image;
+        self.answers = frames_of(self.alloc, image, self.capacity, addresses)?;
+        Ok(())
+    }
+
+    /// Asks where addresses come from, by line tables alone. After a refusal of memory nothing has
+    /// changed.
+    pub(crate) fn find_locations(&mut self, addresses: &[u64]) -> Result<(), AllocError>
+        ensures found { OnOk result (self.new.answers ≡ map (model.location self.old.file) addresses.now) }
+        ensures file { self.new.file ≡ self.old.file }
+        ensures refused { IfErr result (λ _. self.new ≡ self.old) }
+    {
+        let image: &Image<'static> = &self.image;
+        self.answers = locations_of(self.alloc, image, self.capacity, addresses)?;
+        Ok(())
+    }
+
+    /// Asks for the pieces of a span. After a refusal of memory nothing has changed.
+    pub(crate) fn find_pieces(&mut self, low: u64, high: u64) -> Result<(), AllocError>
+        ensures found { OnOk result (self.new.answers ≡ pieces self.old.file low high ∷ []) }
+        ensures file { self.new.file ≡ self.old.file }
+        ensures refused { IfErr result (λ _. self.new ≡ self.old) }
+    {
+        let image: &Image<'static> = &self.image;
+        self.answers = pieces_of(self.alloc, image, self.capacity, low, high)?;
+        Ok(())
+    }
+
+    /// The answers of the last question, in the order of what was asked.
+    pub(crate) fn answers(&self) -> &[Answer<'static>]
+        ensures { map answer_shown result.now ≡ self.now.answers }
+    {
+        &self.answers
+    }
+}

@@ -1,0 +1,103 @@
+//! The parts of answers by their places.
+
+ghost use Rattle.std.specs.Prelude.{◌≡◌, ◌<◌, ◌⊎◌, None, Some, length, map, option_map, slice_get, MatchOption};
+ghost use Rattle.dw_symbols.specs.Answer.{answer_shown, frame_shown, piece_shown};
+ghost use Rattle.a2l_c.specs.Answers as model;
+ghost use Rattle.a2l_c.specs.Structs.{TellsFrameLength, TellsPieceLength, answer_told, frame_told, piece_told};
+
+use crate::status::Status;
+use crate::structs::{CAnswer, CFrame, CPiece, tell_answer, tell_frame, tell_piece};
+use dw_symbols::{Answer, Frame, Piece};
+
+/// The frame of an answer at a place, innermost first.
+fn frame_of<'b>(answer: &'b Answer<'static>, j: usize) -> Option<&'b Frame<'static>>
+    ensures { option_map (λ frame. frame_shown frame.now) result ≡ model.frame_of j (answer_shown answer.now) }
+{
+    match answer {
+        Answer::Found { unit: _, frames } => frames.get(j),
+        _ => None,
+    }
+}
+
+/// The piece of an answer at a place.
+fn piece_of<'b>(answer: &'b Answer<'static>, j: usize) -> Option<&'b Piece>
+    ensures { option_map (λ piece. piece_shown piece.now) result ≡ model.piece_of j (answer_shown answer.now) }
+{
+    match answer {
+        Answer::Pieces(pieces) => pieces.get(j),
+        _ => None,
+    }
+}
+
+/// Tells what the answer at a place is.
+pub(crate) fn answer_at(answers: &[Answer<'static>], i: usize, told: &mut CAnswer) -> Status
+    ensures told { result ≡ Status.Done → option_map answer_told (slice_get (map answer_shown answers.now) i)
+        ≡ Some told.new }
+    ensures outside { result ≡ Status.Outside → slice_get (map answer_shown answers.now) i ≡ None }
+    ensures ends { (result ≡ Status.Done) ⊎ (result ≡ Status.Outside) }
+{
+    let Some(answer) = answers.get(i) else {
+        return Status::Outside;
+    };
+    tell_answer(answer, told);
+    Status::Done
+}
+
+/// The frame at place `j` of the answer at place `i`.
+fn frame_in<'b>(answers: &'b [Answer<'static>], i: usize, j: usize) -> Option<&'b Frame<'static>>
+    ensures { option_map (λ frame. frame_shown frame.now) result ≡ model.frame_in (map answer_shown answers.now) i j }
+{
+    let answer = answers.get(i)?;
+    frame_of(answer, j)
+}
+
+/// The piece at place `j` of the first answer.
+fn piece_in<'b>(answers: &'b [Answer<'static>], j: usize) -> Option<&'b Piece>
+    ensures { option_map (λ piece. piece_shown piece.now) result ≡ model.piece_in (map answer_shown answers.now) j }
+{
+    let answer = answers.get(0)?;
+    piece_of(answer, j)
+}
+
+/// Tells the frame at place `j` of the answer at place `i`.
+pub(crate) fn frame_at(
+    answers: &[Answer<'static>],
+    i: usize,
+    j: usize,
+    buffer: &mut [u8],
+    told: &mut CFrame<'static>,
+) -> Status
+    ensures told { result ≡ Status.Done → model.frame_in (map answer_shown answers.now) i j
+        ≡ Some (frame_told told.new buffer.new) }
+    ensures outside { result ≡ Status.Outside → model.frame_in (map answer_shown answers.now) i j ≡ None }
+    ensures short { result ≡ Status.Short
+        → MatchOption (model.frame_in (map answer_shown answers.now) i j) ⊥
+        (λ frame. TellsFrameLength told.new frame (length buffer.old)) }
+    ensures ends { (result ≡ Status.Done) ⊎ ((result ≡ Status.Outside) ⊎ (result ≡ Status.Short)) }
+{
+    let Some(frame) = frame_in(answers, i, j) else {
+        return Status::Outside;
+    };
+    tell_frame(frame, buffer, told)
+}
+
+/// Tells the piece at place `j` of the first answer.
+pub(crate) fn piece_at(
+    answers: &[Answer<'static>],
+    j: usize,
+    buffer: &mut [u8],
+    told: &mut CPiece,
+) -> Status
+    ensures told { result ≡ Status.Done → model.piece_in (map answer_shown answers.now) j
+        ≡ Some (piece_told told.new buffer.new) }
+    ensures outside { result ≡ Status.Outside → model.piece_in (map answer_shown answers.now) j ≡ None }
+    ensures short { result ≡ Status.Short
+        → MatchOption (model.piece_in (map answer_shown answers.now) j) ⊥
+        (λ piece. TellsPieceLength told.new piece (length buffer.old)) }
+    ensures ends { (result ≡ Status.Done) ⊎ ((result ≡ Status.Outside) ⊎ (result ≡ Status.Short)) }
+{
+    let Some(piece) = piece_in(answers, j) else {
+        return Status::Outside;
+    };
+    tell_piece(piece, buffer, told)
+}

@@ -1,0 +1,112 @@
+#!/usr/bin/env bash
+# The library for C: its only global names are those of the header, and it calls nothing but memory; the examples are
+# built with warnings as errors; what they tell of a sample and of themselves is what `a2l` writes, to the byte, and so is
+# why a file is refused; a program that crashes tells where; each number that a call returns, each allocation refused in
+# turn and four threads with a handle each, also under valgrind (tests/library/calls.c); the tests of the Rust crate; and
+# what `make install` puts in place is enough for a program. Run it after `make library` and after `rt run` in crates/a2l
+# has built the program.
+. "$(dirname "$0")/programs.sh"
+need_a2l
+flags=(-std=gnu11 -O2 -gdwarf-5 -Wall -Wextra -Wpedantic -Werror)
+
+# Where the library isn't built yet, all that it stands on is proved for it.
+timeout 900 make -s -C "$here" library > make.log 2>&1 || {
+    [ $? = 124 ] && { echo "skipped, the library is not built within 15 minutes"; exit 0; }
+    cat make.log
+    exit 1
+}
+library=$here/out/liba2l.a
+
+# The global names of the library, and those that it wants of others.
+names=$(nm -g --defined-only "$library" | awk 'NF == 3 { print $3 }' | sort)
+declared=$(grep -oE '\ba2l_[a-z_]+\(' "$here/include/a2l.h" | tr -d '(' | sort -u)
+[ "$names" = "$declared" ] || { echo "the library has other names than the header: $names"; exit 1; }
+wanted=$(nm -u "$library" | awk 'NF == 2 { print $2 }' | sort | tr '\n' ' ')
+for name in $wanted; do
+    case $name in
+    malloc | realloc | free | memcpy | memmove | memset | memcmp | bcmp | strlen) ;;
+    *) echo "the library calls $name"; exit 1 ;;
+    esac
+done
+
+make -s -C "$here/examples" OUT="$work/out" "$work/out/addresses" "$work/out/crash" "$work/out/frames" > make.log 2>&1 ||
+    { cat make.log; exit 1; }
+
+# The addresses of .text of a file, every so many of them.
+addresses_of() {
+    local begin size
+    read -r begin size < <(readelf -SW "$1" | sed -n 's/^.* \.text  *PROGBITS  *\([0-9a-f]*\) [0-9a-f]* \([0-9a-f]*\) .*$/\1 \2/p')
+    seq $((16#$begin)) "$2" $((16#$begin + 16#$size)) | xargs printf '%x\n'
+}
+
+# What the example prints of a file is what the program writes.
+compare() {
+    "$a2l" -e "$1" -f -i -a < "$2" > wanted || [ $? = 1 ]
+    "$work/out/addresses" "$1" < "$2" > found
+    cmp wanted found || { echo "other frames of $1"; exit 1; }
+    compared=$((compared + $(wc -l < "$2")))
+}
+
+compared=0
+seq $((0x400ff0)) $((0x401030)) | xargs printf '%x\n' > sample.list
+compare "$here/samples/inlined.elf" sample.list
+for program in addresses crash; do
+    addresses_of "$work/out/$program" 7 > "$program.list"
+    compare "$work/out/$program" "$program.list"
+done
+"${CC:-cc}" "${flags[@]}" -I"$here/include" -o calls "$here/tests/library/calls.c" "$library" \
+    -Wl,--wrap=malloc,--wrap=realloc -pthread
+addresses_of calls 7 > calls.list
+compare calls calls.list
+[ "$("$work/out/frames" "$here/samples/inlined.elf" 401004 | head -n 1)" = "leaf at /w/a.c:4" ] || { echo "C++: other frames"; exit 1; }
+
+# A file that is cut, one without bytes, and a folder.
+refused=0
+: > empty
+for n in 0 1 63 64 200 400 600 685; do
+    head -c "$n" "$here/samples/inlined.elf" > cut
+    "$a2l" -e cut 401004 2> wanted && { echo "a file of $n bytes is accepted"; exit 1; }
+    "$work/out/addresses" cut 401004 2> found && { echo "a file of $n bytes is accepted"; exit 1; }
+    sed -i 's/^a2l: //' wanted
+    cmp wanted found || { echo "another refusal of $n bytes"; exit 1; }
+    refused=$((refused + 1))
+done
+"$work/out/addresses" "$work" 401004 2> found && { echo "a folder is accepted"; exit 1; }
+grep -q 'Is a directory' found || { echo "a folder: $(cat found)"; exit 1; }
+
+# A program that crashes tells in which functions it stands, and the signal has its way.
+(ulimit -c 0; "$work/out/crash" > found 2> /dev/null) && { echo "the program doesn't crash"; exit 1; }
+[ "$(sed -n '1p;3p;5p' found | tr '\n' ' ')" = "store crash main " ] || { echo "a crash: $(cat found)"; exit 1; }
+[ "$(grep -c "crash.c:[0-9]" found)" = 3 ] || { echo "a crash: $(cat found)"; exit 1; }
+
+# The calls, on the sample and on the program itself.
+main=$(nm calls | awk '$3 == "test_numbers" || $3 == "main" { print $1 }' | head -n 1)
+calls=$(./calls "$here/samples/inlined.elf" 401004)
+./calls calls "$main" > own
+if has "the calls under valgrind" valgrind; then
+    for words in "$here/samples/inlined.elf 401004" "calls $main"; do
+        # shellcheck disable=SC2086
+        valgrind -q --leak-check=full --show-leak-kinds=all --errors-for-leak-kinds=all --error-exitcode=9 \
+            ./calls $words > under 2>&1 || { cat under; exit 1; }
+    done
+    valgrind -q --leak-check=full --error-exitcode=9 "$work/out/addresses" "$here/samples/inlined.elf" 401004 > under 2>&1 ||
+        { cat under; exit 1; }
+fi
+
+if has "the Rust crate" cargo; then
+    A2L_LIB_DIR=$here/out CARGO_TARGET_DIR=$work/target cargo test --offline --quiet \
+        --manifest-path "$here/examples/rust/Cargo.toml" > cargo.log 2>&1 || { cat cargo.log; exit 1; }
+fi
+
+# What is installed is enough for a program.
+make -s -C "$here" install-files DESTDIR="$work/root" PREFIX=/opt/a2l PROGRAM="$a2l" > make.log 2>&1 || { cat make.log; exit 1; }
+for file in bin/a2l lib/liba2l.a lib/pkgconfig/a2l.pc include/a2l.h include/a2l_file.h share/man/man1/a2l.1; do
+    [ -s "$work/root/opt/a2l/$file" ] || { echo "not installed: $file"; exit 1; }
+done
+[ "$(find "$work/root" -type f | wc -l)" = 6 ] || { echo "more is installed"; exit 1; }
+"${CC:-cc}" "${flags[@]}" -I"$work/root/opt/a2l/include" -I"$here/examples" -o installed "$here/examples/addresses.c" \
+    -L"$work/root/opt/a2l/lib" -la2l
+./installed "$here/samples/inlined.elf" 401004 > found
+grep -q '^leaf$' found || { echo "the installed library: $(cat found)"; exit 1; }
+
+echo "frames of $compared addresses and $refused refusals agree; $calls"
