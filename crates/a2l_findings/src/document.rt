@@ -15,7 +15,7 @@ fn digits_of(alloc: Global, bytes: &[u8]) -> Result<String, AllocError> {
     Ok(digits)
 }
 
-/// An offset or an address, in hexadecimal digits behind 0x.
+/// An offset or an address, in hexadecimal digits after 0x.
 pub fn place_value(alloc: Global, place: u64) -> Result<Value, AllocError> {
     let text = format!(in alloc; "0x{place:x}")?;
     Ok(Value::String(text))
@@ -38,7 +38,8 @@ fn fact_value(alloc: Global, fact: &Fact<'_>) -> Result<Value, AllocError> {
     }
 }
 
-/// Adds facts: those of the note itself by their names, and those of something as an object of their own.
+/// Adds facts: those of the note itself by their names, and those of something as an object of
+/// their own.
 fn put_facts(
     alloc: Global,
     map: &mut Map<String, Value>,

@@ -55,10 +55,10 @@ pub fn read_lines<'a>(
 }
 
 /// The functions of a unit that answers, where they can be read; and their fault.
-pub fn read_tree<'a>(
+pub fn read_tree<'b, 'a>(
     alloc: Global,
-    here: OpenUnit<'_, 'a>,
-) -> Result<(Option<Tree<'a>>, Option<UnitFault>), AllocError> {
+    here: OpenUnit<'b, 'a>,
+) -> Result<(Option<Tree<'b, 'a>>, Option<UnitFault>), AllocError> {
     if here.unit().kind.is_skipped() {
         return Ok((None, None));
     }

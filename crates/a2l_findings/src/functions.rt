@@ -2,10 +2,10 @@
 
 use dw_model::dwarf::DW_TAG_subprogram;
 use dw_ranges::{Range, RangeFault, read_ranges};
-use dw_units::{Entry, Next, OpenUnit};
+use dw_units::{EntryView, Next, OpenUnit};
 use std::alloc::{AllocError, Global};
 
-/// The subprograms of a unit, in order.
+/// The subprograms of a unit that may have ranges, in order.
 #[derive(Drop)]
 pub struct Subprograms {
     /// The offsets of their entries in .debug_info.
@@ -18,16 +18,17 @@ pub struct Subprograms {
 fn add<'a>(
     found: &mut Subprograms,
     here: OpenUnit<'_, 'a>,
-    entry: &Entry<'a>,
+    entry: &EntryView<'_, 'a>,
     ranges: &mut Vec<Range>,
 ) -> Result<(), AllocError> {
-    match read_ranges(ranges, entry, here.unit(), here.units().tables()) {
+    let named = entry.named_ranges();
+    match read_ranges(ranges, &named, here.unit(), here.units().tables()) {
         Ok(()) => {}
         Err(RangeFault::Bad) => return Ok(()),
         Err(RangeFault::Memory) => return Err(AllocError),
     }
     let index = found.offsets.len();
-    found.offsets.push(entry.offset)?;
+    found.offsets.push(entry.offset())?;
     for range in ranges.as_slice() {
         found.ranges.push((*range, index))?;
     }
@@ -43,7 +44,6 @@ pub fn subprograms_of(alloc: Global, here: OpenUnit<'_, '_>) -> Result<Subprogra
     let Some(mut entries) = here.entries() else {
         return Ok(found);
     };
-    let mut entry = Entry::unread(alloc);
     let mut ranges = Vec::new(alloc);
     let mut depth = 0usize;
     // Each entry has a byte at least.
@@ -51,7 +51,7 @@ pub fn subprograms_of(alloc: Global, here: OpenUnit<'_, '_>) -> Result<Subprogra
         if entries.is_done() {
             return Ok(found);
         }
-        let Ok(next) = entries.next_function(&mut entry) else {
+        let Ok(next) = entries.next_function() else {
             return Ok(found);
         };
         let children = match next {
@@ -59,14 +59,16 @@ pub fn subprograms_of(alloc: Global, here: OpenUnit<'_, '_>) -> Result<Subprogra
                 depth = depth.saturating_sub(1);
                 false
             }
-            Next::Passed { children } => children,
-            Next::Function => entry.children,
+            Next::Passed { children } | Next::Unranged { children } => children,
+            Next::Function(entry) => {
+                if entry.tag() == DW_TAG_subprogram {
+                    add(&mut found, here, &entry, &mut ranges)?;
+                }
+                entry.children()
+            }
         };
         if children {
             depth = depth.saturating_add(1);
-        }
-        if matches!(next, Next::Function) && entry.tag == DW_TAG_subprogram {
-            add(&mut found, here, &entry, &mut ranges)?;
         }
         if depth == 0 {
             return Ok(found);

@@ -31,6 +31,9 @@ pub(crate) struct Gathered<'a> {
     pub(crate) skeletons: Option<Group<'a>>,
     pub(crate) dwo_name: Option<&'a [u8]>,
     pub(crate) supplementary: Option<Group<'a>>,
+    /// The table of abbreviations that was looked at last, and whether its values lead to a
+    /// supplementary file.
+    last_table: Option<(u64, bool)>,
     pub(crate) faulty: Vec<FaultyUnits<'a>>,
     pub(crate) functions_over: Option<Overlap<'a>>,
 }
@@ -89,6 +92,7 @@ impl<'a> Gathered<'a> {
             skeletons: None,
             dwo_name: None,
             supplementary: None,
+            last_table: None,
             faulty: Vec::new(alloc),
             functions_over: None,
         }
@@ -99,7 +103,7 @@ impl<'a> Gathered<'a> {
         &mut self,
         scene: Scene<'_, 'a>,
         here: OpenUnit<'_, 'a>,
-        tree: &Option<Tree<'a>>,
+        tree: &Option<Tree<'_, 'a>>,
         functions: &Subprograms,
     ) -> Result<(), AllocError> {
         let Some(tree) = tree else {
@@ -112,6 +116,19 @@ impl<'a> Gathered<'a> {
         Ok(())
     }
 
+    /// The table at an offset declares values that lead to a supplementary file. Units that share a
+    /// table mostly are side by side.
+    fn leads_elsewhere(&mut self, scene: Scene<'_, 'a>, offset: u64) -> bool {
+        if let Some((last, leads)) = self.last_table {
+            if last == offset {
+                return leads;
+            }
+        }
+        let leads = uses_supplementary(scene.sections.abbrevs, offset);
+        self.last_table = Some((offset, leads));
+        leads
+    }
+
     /// Looks at what a unit says of other files.
     fn look_at_others(&mut self, scene: Scene<'_, 'a>, here: OpenUnit<'_, 'a>) {
         if let Kind::Skeleton = here.unit().kind {
@@ -120,7 +137,7 @@ impl<'a> Gathered<'a> {
             }
             self.skeletons = Some(with_unit(self.skeletons, unit_at(here)));
         }
-        if uses_supplementary(scene.sections.abbrevs, here.unit().debug_abbrev_offset) {
+        if self.leads_elsewhere(scene, here.unit().debug_abbrev_offset) {
             self.supplementary = Some(with_unit(self.supplementary, unit_at(here)));
         }
     }

@@ -1,4 +1,5 @@
-//! What can puzzle a user of a file: units that aren't read, code that no unit covers, and ranges that lie over others.
+//! What can puzzle a user of a file: units that aren't read, code that no unit covers, and ranges
+//! that lie over others.
 #![tactic(auto)]
 
 mod census;

@@ -1,4 +1,5 @@
-//! What is told of a file or an address: a sentence, the facts in it by their names, and what to do about it.
+//! What is told of a file or an address: a sentence, the facts in it by their names, and what to do
+//! about it.
 
 use a2l_reasons::Reason;
 use std::alloc::{AllocError, Global};
@@ -35,7 +36,7 @@ pub struct Note<'a> {
     alloc: Global,
     /// What kind of thing is told.
     pub kind: &'static str,
-    /// The sentence, without an end of the line. Names and paths stand in it byte for byte.
+    /// The sentence, without an end of the line. Names and paths are in it byte for byte.
     pub sentence: Vec<u8>,
     pub facts: Vec<Named<'a>>,
     /// What to do about it.

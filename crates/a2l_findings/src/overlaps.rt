@@ -1,4 +1,4 @@
-//! Ranges that lie over others though no code stands where they begin: those of what a linker dropped.
+//! Ranges that lie over others though no code is where they begin: those of what a linker dropped.
 
 ghost use Rattle.std.specs.Prelude.{◌<◌};
 ghost use Rattle.dw_model.specs.Steady.{last_address};
@@ -39,7 +39,8 @@ impl<'b, 'a> Code<'b, 'a> {
         Code { headers, is_known }
     }
 
-    /// No code stands where a range begins: it begins outside of each executable section, or at 0 where none is known.
+    /// No code is where a range begins: it begins outside of each executable section, or at 0 where
+    /// none is known.
     pub(crate) fn misses(&self, range: Range) -> bool {
         if !self.is_known {
             return range.begin == 0;
@@ -58,7 +59,7 @@ fn next_border(all: &Index, live: &Index, at: u64) -> u64
     if one <= other { one } else { other }
 }
 
-/// Those ranges that begin where code stands.
+/// Those ranges that begin where code is.
 fn with_code(
     alloc: Global,
     code: Code<'_, '_>,
@@ -94,8 +95,8 @@ fn with_span(found: Option<Hidden>, span: Range, told: usize, hidden: usize) -> 
     }
 }
 
-/// What was found so far, with a span that all ranges give to one owner, and those that begin where code stands to
-/// another, if they differ.
+/// What was found so far, with a span that all ranges give to one owner, and those that begin where
+/// code is to another, if they differ.
 fn with_owners(
     found: Option<Hidden>,
     span: Range,
@@ -111,7 +112,7 @@ fn with_owners(
     Some(with_span(found, span, told, hidden))
 }
 
-/// The addresses that all ranges give to another owner than those do that begin where code stands.
+/// The addresses that all ranges give to another owner than those do that begin where code is.
 fn compare(all: &Index, live: &Index) -> Option<Hidden> {
     let mut found = None;
     let mut at = 0u64;
@@ -124,8 +125,8 @@ fn compare(all: &Index, live: &Index) -> Option<Hidden> {
     found
 }
 
-/// The addresses at which a range that begins where no code stands is answered in place of one that does; each range
-/// has its owner, and the least owner answers.
+/// The addresses at which a range that begins without code is answered in place of one that does;
+/// each range has its owner, and the least owner answers.
 pub(crate) fn hidden_in(
     alloc: Global,
     code: Code<'_, '_>,

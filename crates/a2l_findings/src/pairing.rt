@@ -1,4 +1,5 @@
-//! How a file is tied to its debug information: by a link to another file, by its build id, or by a supplementary file.
+//! How a file is tied to its debug information: by a link to another file, by its build id, or by a
+//! supplementary file.
 
 use a2l_reasons::{SectionHeader, section_headers};
 use dw_bytes::Cursor;
@@ -23,7 +24,8 @@ fn text_in(section: &[u8]) -> Option<&[u8]> {
     Cursor::new(section).text()
 }
 
-/// The name of the supplementary file in .debug_sup, which begins with a version and a flag (DWARF 5, section 7.3.6).
+/// The name of the supplementary file in .debug_sup, which begins with a version and a flag (DWARF
+/// 5, section 7.3.6).
 fn sup_name(section: &[u8]) -> Option<&[u8]> {
     let mut cursor = Cursor::new(section);
     let _version = cursor.u16()?;

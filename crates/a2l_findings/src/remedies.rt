@@ -27,7 +27,8 @@ pub const NO_INFO: &str = "compile and link with -g, and don't strip the program
 
 /// Units without ranges.
 pub const NO_RANGES: &str =
-    "make the unit's first entry tell DW_AT_ranges, or DW_AT_low_pc with DW_AT_high_pc, as gcc and clang do with -g; of assembler sources the assembler does";
+    "make the unit's first entry tell DW_AT_ranges, or DW_AT_low_pc with DW_AT_high_pc, as gcc and clang do \
+     with -g; of assembler sources the assembler does";
 
 /// Skeleton units.
 pub const SKELETON: &str =
@@ -43,8 +44,10 @@ pub const BAD_TREE: &str =
 
 /// Line tables that can't be read.
 pub const BAD_LINES: &str =
-    "compile the unit again, by an assembler that writes line tables of version 5 (GNU Binutils 2.35 or later, or clang's own); `readelf --debug-dump=rawline` shows the table";
+    "compile the unit again, by an assembler that writes line tables of version 5 (GNU Binutils 2.35 or later, \
+     or clang's own); `readelf --debug-dump=rawline` shows the table";
 
 /// Ranges that hide others.
 pub const HIDDEN: &str =
-    "link by a linker that marks dropped code (ld.lld), without --gc-sections, or with -no-pie, so that no code lies near address 0";
+    "link without --gc-sections, or with -no-pie so that no code lies near address 0, or by ld.lld with -z \
+     dead-reloc-in-nonalloc=.debug_*=0xffffffffffffffff, which marks dropped code";

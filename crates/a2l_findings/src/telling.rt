@@ -204,9 +204,12 @@ fn overlap_note<'a>(
     note.count("addresses", overlap.addresses)?;
     note.say(" addresses in ")?;
     note.count("spans", overlap.spans)?;
-    note.say(
-        " spans answered by ranges that begin where no code is, over those of code; the first: ",
-    )?;
+    note.say(if overlap.spans == 1 {
+        " span"
+    } else {
+        " spans"
+    })?;
+    note.say(" answered by ranges that begin where no code is, over those of code; the first: ")?;
     note.span(overlap.first.begin, overlap.first.end)?;
     note.say(" by ")?;
     note.begin_group("told");

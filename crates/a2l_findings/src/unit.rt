@@ -86,36 +86,44 @@ fn root_attributes<'a>(
     }
 }
 
-/// A unit that is skipped, and its type where its version has one.
+/// The type of the unit at an offset, where its version has one and its header can be read.
+pub(crate) fn type_at(
+    alloc: Global,
+    sections: &Sections<'_>,
+    offset: u64,
+) -> Result<Option<u8>, AllocError> {
+    match unit_header(alloc, sections.info, offset) {
+        Ok(header) if header.unit_type != 0 => Ok(Some(header.unit_type)),
+        Ok(_) | Err(Stop::For(_)) => Ok(None),
+        Err(Stop::Memory) => Err(AllocError),
+    }
+}
+
+/// A unit that is skipped.
 pub(crate) fn skipped_at<'a>(
     alloc: Global,
     sections: &Sections<'a>,
     offset: u64,
-) -> Result<(UnitAt<'a>, Option<u8>), AllocError> {
-    let unknown = UnitAt {
-        offset,
-        name: None,
-        producer: None,
-    };
+) -> Result<UnitAt<'a>, AllocError> {
     let header = match unit_header(alloc, sections.info, offset) {
         Ok(header) => header,
-        Err(Stop::For(_)) => return Ok((unknown, None)),
+        Err(Stop::For(_)) => {
+            return Ok(UnitAt {
+                offset,
+                name: None,
+                producer: None,
+            });
+        }
         Err(Stop::Memory) => return Err(AllocError),
-    };
-    let unit_type = if header.unit_type == 0 {
-        None
-    } else {
-        Some(header.unit_type)
     };
     let attributes = root_attributes(alloc, sections, &header)?;
     let bases = bases_of(&attributes, header.width);
     let tables = &sections.tables;
-    let unit = UnitAt {
+    Ok(UnitAt {
         offset,
         name: first_text(tables, &bases, &attributes, DW_AT_name),
         producer: first_text(tables, &bases, &attributes, DW_AT_producer),
-    };
-    Ok((unit, unit_type))
+    })
 }
 
 /// The text of the first attribute of a name.
@@ -130,7 +138,7 @@ fn first_text<'a>(
 }
 
 impl<'a> UnitAt<'a> {
-    /// Tells the unit in a sentence: where it stands, and its name.
+    /// Tells the unit in a sentence: where it is, and its name.
     pub fn tell(&self, note: &mut Note<'a>) -> Result<(), AllocError> {
         note.say("unit ")?;
         note.place("unit", self.offset)?;

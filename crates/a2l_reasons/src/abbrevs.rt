@@ -27,7 +27,8 @@ fn pass_pairs(fields: &mut Fields<'_>) -> Result<(), Stop> {
     Ok(())
 }
 
-/// A form by which an entry leads to a supplementary file (DWARF 5, section 7.3.6; and those of a vendor before it).
+/// A form by which an entry leads to a supplementary file (DWARF 5, section 7.3.6; and those of a
+/// vendor before it).
 fn is_supplementary(form: u64) -> bool {
     matches!(
         form,
@@ -39,7 +40,8 @@ fn is_supplementary(form: u64) -> bool {
     )
 }
 
-/// Some pair of the declaration at the cursor, behind its code, has such a form; `None` where it can't be read.
+/// Some pair of the declaration at the cursor, after its code, has such a form; `None` where it
+/// can't be read.
 fn declares_supplementary(cursor: &mut Cursor<'_>) -> Option<bool> {
     let _tag = cursor.uleb().ok()?;
     let _children = cursor.u8()?;
@@ -58,7 +60,8 @@ fn declares_supplementary(cursor: &mut Cursor<'_>) -> Option<bool> {
     None
 }
 
-/// The abbreviations at an offset of .debug_abbrev declare values that lead to a supplementary file.
+/// The abbreviations at an offset of .debug_abbrev declare values that lead to a supplementary
+/// file.
 pub fn uses_supplementary(section: &[u8], offset: u64) -> bool {
     let mut cursor = Cursor::new(section);
     let Some(_) = cursor.take(offset as usize) else {

@@ -18,7 +18,8 @@ pub const DW_AT_dwo_name: u64 = 0x76;
 /// The same before version 5. Not of the standard: a vendor's.
 pub const DW_AT_GNU_dwo_name: u64 = 0x2130;
 
-/// The oldest version of units whose headers are known (DWARF 5, section 7.5.1; the versions before it).
+/// The oldest version of units whose headers are known (DWARF 5, section 7.5.1; the versions before
+/// it).
 pub(crate) const OLDEST_VERSION: u16 = 2;
 
 /// Bytes of the file header: the size of `Elf64_Ehdr` (ELF section 3).
@@ -30,5 +31,5 @@ pub(crate) const SHF_ALLOC: u64 = 0x2;
 /// Bit of `sh_flags` on a section with instructions (ELF section 4).
 pub(crate) const SHF_EXECINSTR: u64 = 0x4;
 
-/// Below how many entries one may stand, as the reader of functions has it.
+/// Below how many entries one may be, as the reader of functions has it.
 pub(crate) const MOST_DEPTH: usize = 512;

@@ -44,7 +44,8 @@ fn declared<'b>(fields: &Fields<'_>, abbrevs: &'b Abbrevs, code: u64) -> Result<
     }
 }
 
-/// The entry at an offset of a unit. Its attributes take the place of those that were kept; a null entry has none.
+/// The entry at an offset of a unit. Its attributes take the place of those that were kept; a null
+/// entry has none.
 pub fn entry_at<'a>(
     alloc: Global,
     info: &'a [u8],

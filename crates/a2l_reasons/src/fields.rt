@@ -6,7 +6,7 @@ use dw_bytes::{Cursor, Initial, Leb, Width};
 use dw_forms::{FormFault, Value, read_value};
 use std::alloc::{AllocError, Global};
 
-/// Reads the fields of what stands at a spot. Offsets are those of a section.
+/// Reads the fields of what is at a spot. Offsets are those of a section.
 #[derive(Drop)]
 pub(crate) struct Fields<'a> {
     alloc: Global,
@@ -16,8 +16,8 @@ pub(crate) struct Fields<'a> {
 }
 
 impl<'a> Fields<'a> {
-    /// Fields from an offset of a section on, of which the bytes up to some end are given. At its end where the
-    /// offset lies past it.
+    /// Fields from an offset of a section on, of which the bytes up to some end are given. At its
+    /// end where the offset lies past it.
     pub(crate) fn new(
         alloc: Global,
         spot: Spot,

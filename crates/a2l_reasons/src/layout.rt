@@ -101,7 +101,7 @@ pub(crate) fn raw_header(file: &[u8], offset: u64) -> Option<RawHeader> {
     Some(header)
 }
 
-/// Where the header of an index stands; `None` where that doesn't fit 64 bits.
+/// Where the header of an index is; `None` where that doesn't fit 64 bits.
 pub(crate) fn header_offset(fields: &TableFields, index: u64) -> Option<u64> {
     fields.e_shoff.checked_add(index.checked_mul(SHDR_SIZE)?)
 }

@@ -1,8 +1,9 @@
-//! Why a file, a unit, an entry, a range list or a line table can't be read: which field it is, what it holds and
-//! what was wanted.
+//! Why a file, a unit, an entry, a range list or a line table can't be read: which field it is,
+//! what it holds and what was wanted.
 //!
-//! Everything here reads a second time what the crates below have refused, and stops at the first field that they
-//! can't have taken. So it is slower than they are, and says where they only answer.
+//! Everything here reads a second time what the crates below have refused, and stops at the first
+//! field that they can't have taken. So it is slower than they are, and says where they only
+//! answer.
 #![tactic(auto)]
 
 mod abbrevs;

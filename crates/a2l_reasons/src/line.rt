@@ -54,7 +54,7 @@ fn not_zero(fields: &Fields<'_>, field: &str, found: u8) -> Result<(), Stop> {
     Err(fields.refuse_number(field, 0, "1 at least"))
 }
 
-/// The fields behind header_length, where offsets have a width.
+/// The fields after header_length, where offsets have a width.
 fn header_behind<'a>(
     alloc: Global,
     fields: &mut Fields<'a>,
@@ -111,7 +111,7 @@ pub fn line_table<'a>(
     let mut fields = fields_up_to(alloc, offset, section, offset, end);
     let (_, width) = fields.length()?;
     let version = fields.u16("version")?;
-    // The fields of other versions stand elsewhere, so nothing behind the version is told of them.
+    // The fields of other versions are elsewhere, so nothing after the version is told of them.
     exactly(
         &fields,
         "version",

@@ -1,4 +1,5 @@
-//! The lists of directories and files of a line table, with why they can't be read, by section 6.2.4.1 of DWARF 5.
+//! The lists of directories and files of a line table, with why they can't be read, by section
+//! 6.2.4.1 of DWARF 5.
 
 use crate::fields::Fields;
 use crate::reason::Stop;
@@ -29,7 +30,7 @@ pub struct LineTable<'a> {
     pub(crate) end: u64,
 }
 
-/// What stands in each entry of a list: a content type, a DW_LNCT code, in a form, a DW_FORM code.
+/// What is in each entry of a list: a content type, a DW_LNCT code, in a form, a DW_FORM code.
 #[derive(Clone, Copy)]
 struct Format {
     content: u64,
@@ -57,7 +58,7 @@ fn formats_of(alloc: Global, fields: &mut Fields<'_>, count: u8) -> Result<Vec<F
     Ok(formats)
 }
 
-/// The entry of a list that stands next.
+/// The entry of a list that is next.
 fn entry_of<'a>(
     alloc: Global,
     fields: &mut Fields<'a>,

@@ -147,7 +147,8 @@ fn check_list(reader: Reader<'_, '_>, offset: u64) -> Result<(), Stop> {
     Ok(())
 }
 
-/// The offset of .debug_rnglists that a value names, an offset itself or an index behind the unit's base.
+/// The offset of .debug_rnglists that a value names, an offset itself or an index after the unit's
+/// base.
 fn list_offset(reader: Reader<'_, '_>, spot: Spot, value: &Value<'_>) -> Result<Option<u64>, Stop> {
     let alloc = reader.alloc;
     let section = reader.tables.rnglists;

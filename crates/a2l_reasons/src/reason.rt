@@ -3,7 +3,7 @@
 use crate::spot::Spot;
 use std::alloc::{AllocError, AllocFailed, Global};
 
-/// A field that can't be taken: where it stands, what it is, what it holds and what was wanted of it.
+/// A field that can't be taken: where it is, what it is, what it holds and what was wanted of it.
 #[derive(Debug, Drop)]
 pub struct Reason {
     pub spot: Spot,

@@ -67,7 +67,8 @@ fn find_reason(alloc: Global, file: &[u8], fault: OpenFault) -> Result<(), Stop>
     }
 }
 
-/// The reason for which a file was refused: the first field that can't be taken. `None` where no reason was found.
+/// The reason for which a file was refused: the first field that can't be taken. `None` where no
+/// reason was found.
 pub fn refusal_reason(
     alloc: Global,
     file: &[u8],
@@ -89,7 +90,8 @@ pub fn remedy_of(fault: OpenFault) -> &'static str {
         OpenFault::Compressed(_) =>
             "run `objcopy --decompress-debug-sections FILE NEW`, and ask the new file",
         OpenFault::UnitHeader(_) | OpenFault::Root(_) | OpenFault::RootRanges(_) => {
-            "build the file again, since its debug information is damaged or isn't of the standard; `readelf --debug-dump=info` shows it"
+            "build the file again, since its debug information is damaged or isn't of the standard; `readelf \
+             --debug-dump=info` shows it"
         }
         OpenFault::AddressSize(_) => "build it for a 64-bit machine, or ask another tool",
         OpenFault::Memory => "give the program more memory",

@@ -1,8 +1,8 @@
-//! Where a field stands.
+//! Where a field is.
 
 use std::alloc::{AllocError, Global};
 
-/// Where a field stands that can't be taken. Offsets count from the first byte of the section.
+/// Where a field is that can't be taken. Offsets count from the first byte of the section.
 #[derive(Clone, Copy, Debug, PartialEq, Eq)]
 pub enum Spot {
     /// The header of the file.

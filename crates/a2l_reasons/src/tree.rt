@@ -39,7 +39,7 @@ fn check_function(alloc: Global, here: OpenUnit<'_, '_>, offset: u64) -> Result<
     }
 }
 
-/// An entry may not stand too deep, and where it is a function its ranges have to be read.
+/// An entry may not be too deep, and where it is a function its ranges have to be read.
 fn check_entry(
     alloc: Global,
     here: OpenUnit<'_, '_>,
@@ -63,7 +63,8 @@ fn check_entry(
     Ok(())
 }
 
-/// Why the functions of a unit can't be read: its entries in order, up to the end of the list below the first.
+/// Why the functions of a unit can't be read: its entries in order, up to the end of the list below
+/// the first.
 pub fn tree_reason<'a>(
     alloc: Global,
     here: OpenUnit<'_, 'a>,

@@ -1,4 +1,5 @@
-//! The header of a unit, of every version that is known, by section 7.5.1 of DWARF 5 and of the versions before it.
+//! The header of a unit, of every version that is known, by section 7.5.1 of DWARF 5 and of the
+//! versions before it.
 
 use crate::codes::{DW_UT_SPLIT_COMPILE, DW_UT_SPLIT_TYPE, DW_UT_TYPE, OLDEST_VERSION};
 use crate::fields::Fields;
@@ -10,7 +11,8 @@ use dw_model::dwarf::{
 };
 use std::alloc::Global;
 
-/// What the header of a unit says, also of one that is skipped. Offsets count from the first byte of .debug_info.
+/// What the header of a unit says, also of one that is skipped. Offsets count from the first byte
+/// of .debug_info.
 #[derive(Clone, Copy, Debug)]
 pub struct UnitHeader {
     pub offset: u64,
@@ -27,8 +29,8 @@ pub struct UnitHeader {
     pub first_entry: u64,
 }
 
-/// What stands at the end of a header of version 5, by its type: the id of a split unit, or the signature of a type and
-/// where it stands.
+/// What is at the end of a header of version 5, by its type: the id of a split unit, or the
+/// signature of a type and where it is.
 fn pass_ids(fields: &mut Fields<'_>, unit_type: u8, width: Width) -> Result<(), Stop> {
     match unit_type {
         DW_UT_COMPILE | DW_UT_PARTIAL => Ok(()),
@@ -88,7 +90,8 @@ pub fn unit_header(alloc: Global, info: &[u8], offset: u64) -> Result<UnitHeader
     })
 }
 
-/// Why the header of a unit can't be taken: a field of it isn't there, or its addresses haven't 8 bytes.
+/// Why the header of a unit can't be taken: a field of it isn't there, or its addresses haven't 8
+/// bytes.
 pub(crate) fn header_reason(alloc: Global, info: &[u8], offset: u64) -> Result<(), Stop> {
     let whole = unit_header(alloc, info, offset)?;
     if whole.address_size != ADDRESS_SIZE {

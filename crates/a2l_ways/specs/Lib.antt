@@ -1,1 +1,4 @@
+pub mod Page
+pub mod Report
+pub mod Told
 pub mod Way

@@ -10,7 +10,7 @@ use dw_units::{Entry, OpenUnit};
 use std::alloc::{AllocError, Global};
 
 /// Tells where a function was called that was inlined.
-fn tell_call(note: &mut Note<'_>, tree: &Tree<'_>, id: EntryId) -> Result<(), AllocError> {
+fn tell_call(note: &mut Note<'_>, tree: &Tree<'_, '_>, id: EntryId) -> Result<(), AllocError> {
     let call = tree.call(id);
     note.begin_group("call");
     note.say(", called")?;
@@ -50,11 +50,12 @@ fn tell_range<'a>(
     Ok(())
 }
 
-/// A function at the address: its entry, its range, from where its name comes, and where it was called.
+/// A function at the address: its entry, its range, from where its name comes, and where it was
+/// called.
 fn function_note<'a>(
     alloc: Global,
     here: OpenUnit<'_, 'a>,
-    tree: &Tree<'a>,
+    tree: &Tree<'_, 'a>,
     id: EntryId,
     address: u64,
 ) -> Result<Note<'a>, AllocError> {
@@ -95,7 +96,7 @@ fn no_function_note<'a>(alloc: Global) -> Result<Note<'a>, AllocError> {
 fn push_others<'a>(
     alloc: Global,
     notes: &mut Vec<Note<'a>>,
-    tree: &Tree<'a>,
+    tree: &Tree<'_, 'a>,
     functions: &Subprograms,
     outermost: Option<EntryId>,
     address: u64,
@@ -134,7 +135,7 @@ pub(crate) fn push_functions<'a>(
     scene: &Scene<'_, 'a>,
     notes: &mut Vec<Note<'a>>,
     here: OpenUnit<'_, 'a>,
-    tree: &Tree<'a>,
+    tree: &Tree<'_, 'a>,
     address: u64,
 ) -> Result<(), AllocError> {
     let alloc = scene.alloc;

@@ -8,7 +8,8 @@ use dw_model::dwarf::DW_AT_comp_dir;
 use dw_units::OpenUnit;
 use std::alloc::AllocError;
 
-/// The row at an address: its addresses, where rows without a gap around it begin, and what comes after it.
+/// The row at an address: its addresses, where rows without a gap around it begin, and what comes
+/// after it.
 #[derive(Clone, Copy)]
 struct Place {
     begin: u64,

@@ -10,7 +10,8 @@ use dw_symbols::Image;
 use dw_units::{OpenUnit, Sections, Units};
 use std::alloc::{AllocError, Global};
 
-/// What is read of a file beside its image. Every call that gives it a unit gives it one of the same file.
+/// What is read of a file beside its image. Every call that gives it a unit gives it one of the
+/// same file.
 #[derive(Drop)]
 pub(crate) struct Scene<'b, 'a> {
     pub(crate) alloc: Global,

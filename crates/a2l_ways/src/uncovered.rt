@@ -79,7 +79,8 @@ fn tell_near<'a>(
 
 /// What to do about an address that no section holds.
 const ELSEWHERE: &str =
-    "take away from the address where the program or library was loaded, as the first line of /proc/PID/maps for the file says it";
+    "take away from the address where the program or library was loaded, as the first line of /proc/PID/maps \
+     for the file says it";
 
 /// What to do about an address in a section.
 const NO_UNIT: &str =

@@ -149,7 +149,8 @@ fn steps_through<'a>(
 
 /// The way of an address, by the unit that the image's index finds.
 fn way_of<'a>(scene: &Scene<'_, 'a>, address: u64) -> Result<Way<'a>, AllocError>
-    ensures { IfOk result (λ way. option_and_then (slice_get (cut.units (sections scene.now.image.now).info)) (place_of way) ≡ model.unit_of (sections scene.now.image.now) address) }
+    ensures { IfOk result (λ way. option_and_then (slice_get (cut.units (sections scene.now.image.now).info))
+        (place_of way) ≡ model.unit_of (sections scene.now.image.now) address) }
 {
     let Some(found) = scene.image.unit_place(address) else {
         let why = uncovered_note(scene, address)?;
@@ -160,8 +161,8 @@ fn way_of<'a>(scene: &Scene<'_, 'a>, address: u64) -> Result<Way<'a>, AllocError
     Ok(Way::Through { unit, steps })
 }
 
-/// An address with its way. The answer at its end is the file's, and the way is uncovered exactly where no unit answers
-/// the address.
+/// An address with its way. The answer at its end is the file's, and the way is uncovered exactly
+/// where no unit answers the address.
 pub(crate) fn explain<'a>(
     scene: &Scene<'_, 'a>,
     context: &mut Context<'_, 'a>,
@@ -170,7 +171,8 @@ pub(crate) fn explain<'a>(
     requires same { context.old.file ≡ scene.now.image.now }
     ensures address { IfOk result (λ told. told.address ≡ address) }
     ensures answer { IfOk result (λ told. answer_shown told.answer ≡ model.answer scene.now.image.now address) }
-    ensures way { IfOk result (λ told. option_and_then (slice_get (cut.units (sections scene.now.image.now).info)) (place_of told.way) ≡ model.unit_of (sections scene.now.image.now) address) }
+    ensures way { IfOk result (λ told. option_and_then (slice_get (cut.units (sections scene.now.image.now).info))
+        (place_of told.way) ≡ model.unit_of (sections scene.now.image.now) address) }
     ensures file { context.new.file ≡ context.old.file }
 {
     let answer = context.find_frames(address)?;

@@ -1,0 +1,99 @@
+//! The command line.
+
+use clap::error::ErrorKind;
+use clap::{Arg, ArgAction, ArgMatches, Command};
+use std::alloc::{AllocError, AllocFailed, Global};
+use std::convert::AsStr;
+use thiserror::Error;
+
+/// The line that says how the program is called.
+pub const USAGE: &str = "usage: a2l_why -e FILE [--json] [ADDRESS..]\n";
+
+/// What the program is to do.
+#[derive(Debug, Drop)]
+pub struct Job<'a> {
+    /// The path of the file.
+    pub file: &'a str,
+    /// `--json`: one document is written, and no page.
+    pub json: bool,
+    /// The addresses, as they were written. None: the file is looked at.
+    pub words: Vec<&'a str>,
+}
+
+/// Why a command line gives no job.
+#[derive(Clone, Copy, Debug, PartialEq, Eq, Error)]
+pub enum ParseFault {
+    /// It isn't of the form that the usage line shows.
+    #[error("the command line is refused")]
+    Refused,
+    #[error("out of memory")]
+    Memory,
+}
+
+impl From<AllocError> for ParseFault {
+    fn from(_error: AllocError) -> Self {
+        ParseFault::Memory
+    }
+}
+
+impl<T: Drop> From<AllocFailed<T>> for ParseFault {
+    fn from(_error: AllocFailed<T>) -> Self {
+        ParseFault::Memory
+    }
+}
+
+impl From<clap::Error> for ParseFault {
+    fn from(error: clap::Error) -> Self {
+        match error.kind() {
+            ErrorKind::OutOfMemory => ParseFault::Memory,
+            _ => ParseFault::Refused,
+        }
+    }
+}
+
+/// The command line, as `clap` reads it.
+fn command<'a>(alloc: Global) -> Result<Command<'a>, AllocError> {
+    Command::new(alloc, "a2l_why")
+        .no_binary_name(true)
+        .disable_help_flag(true)
+        .disable_version_flag(true)
+        .arg(
+            Arg::new(alloc, "file")
+                .action(ArgAction::Set)
+                .short('e')
+                .required(true),
+        )?
+        .arg(
+            Arg::new(alloc, "json")
+                .action(ArgAction::SetTrue)
+                .long("json"),
+        )?
+        .arg(
+            Arg::new(alloc, "words")
+                .action(ArgAction::Append)
+                .num_args(0..),
+        )
+}
+
+/// The words that are no option and no flag.
+fn words_of<'a>(alloc: Global, matches: &ArgMatches<'a>) -> Result<Vec<&'a str>, AllocError> {
+    let Some(words) = matches.get_strs("words") else {
+        return Ok(Vec::new(alloc));
+    };
+    Vec::from_slice(alloc, words)
+}
+
+/// Reads a command line, whose words are without the program's own name.
+pub fn parse<'a, S: AsStr>(alloc: Global, words: &'a [S]) -> Result<Job<'a>, ParseFault> {
+    let command = command(alloc)?;
+    let matches = command.try_get_matches_from(words)?;
+    let Some(file) = matches.get_str("file") else {
+        return Err(ParseFault::Refused);
+    };
+    let json = match matches.get_str("json") {
+        Some(text) => text == "true",
+        None => false,
+    };
+    let words = words_of(alloc, &matches)?;
+    Ok(Job { file, json, words })
+}
