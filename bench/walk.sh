@@ -1,6 +1,6 @@
 #!/usr/bin/env bash
 # How long the functions of all units of a program are read (`Tree::read`), beside walks over the same entries:
-# this project's, which keeps functions alone, one that reads all values of each entry, and those of the Rust crate
+# this project's, which passes over all values, one that reads all values of each entry, and those of the Rust crate
 # gimli with and without values, all in one run. The first word is as for bench.sh. Each walk goes over the program
 # once, in a process of its own, as a user's does, and is run as often as the second word says (15 without); the least
 # time counts, without that of a run which opens the file alone. gimli is built from Debian's packages (librust-gimli-dev,
@@ -29,20 +29,19 @@ use std::io::Write;
 use std::process::ExitCode;
 use std::{env, fs, io};
 
-/// Walks over the entries of a unit, of which only functions are read; how many entries there are.
-fn functions(rt: &HostRuntime, units: &Units<'_>, i: usize) -> Option<usize>
+/// Walks over the entries of a unit; how many entries there are.
+fn functions(units: &Units<'_>, i: usize) -> Option<usize>
     requires within { i < length (cut.units units.now.info) }
 {
-    let mut kept = Entry::unread(rt.alloc());
     let mut entries = units.entries(i)?;
     let mut count: usize = 0;
     for _ in 0..u64::MAX {
         if entries.is_done() {
             break;
         }
-        let next = entries.next_function(&mut kept).ok()?;
-        if next != Next::Null {
-            count = count.wrapping_add(1);
+        match entries.next_function().ok()? {
+            Next::Null => {}
+            _ => count = count.wrapping_add(1),
         }
     }
     Some(count)
@@ -73,7 +72,7 @@ fn one(rt: &HostRuntime, how: &str, units: &Units<'_>, i: usize) -> Option<usize
     requires within { i < length (cut.units units.now.info) }
 {
     match how {
-        "functions" => functions(rt, units, i),
+        "functions" => functions(units, i),
         "entries" => entries(rt, units, i),
         "trees" => {
             if units.unit(i).kind.is_skipped() {
@@ -192,7 +191,7 @@ show() {
 echo "$((info / 1000000)) MB of .debug_info; the least of $times times"
 printf '%-58s %8s %8s\n' what seconds ratio
 show 'the functions of all units read' walk.trees
-show 'a walk over all entries that reads functions alone' walk.functions
+show 'a walk over all entries' walk.functions
 show 'each entry read with all its values' walk.entries
 if [ ${#tools[@]} -gt 1 ]; then
     show 'gimli: a walk over all entries' gimli.entries

@@ -49,7 +49,7 @@ def calls_of(text):
             public_block = line.startswith('pub trait')
         elif line.startswith('}'):
             owner, of_trait, public_block = '', False, False
-        start = re.match(r'\s*(pub )?(?:pub\(crate\) )?(?:const )?fn (\w+)', line)
+        start = re.match(r'\s*(pub )?(?:pub\(crate\) )?(?:const )?(?:extern "C" )?fn (\w+)', line)
         if start:
             name = f'{owner}::{start[2]}' if owner else start[2]
             call = [name, (bool(start[1]) or public_block) and not of_trait, []]
