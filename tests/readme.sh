@@ -13,7 +13,7 @@ import sys
 
 text = open('README.md', encoding='utf-8').read()
 wrong = []
-blocks = [re.sub('^    ', '', block, flags=re.M) for block in re.findall(r'(?:^    .*\n(?:\n(?=    ))?)+', text, re.M)]
+blocks = [re.sub('^    ', '', block, flags=re.M) for block in re.findall(r'(?:^    .*\n)+', text, re.M)]
 shown = 0
 for block in blocks:
     first, _, rest = block.partition('\n')
