@@ -33,6 +33,14 @@ fn read_first(alloc: Global, file: &[u8]) -> Result<Result<(), TreeFault>, Fail>
     }
 }
 
+/// Two names, or none, are the same.
+fn is_same(found: Option<&[u8]>, wanted: Option<&[u8]>) -> bool {
+    match (found, wanted) {
+        (Some(found), Some(wanted)) => found == wanted,
+        (found, wanted) => found.is_none() && wanted.is_none(),
+    }
+}
+
 /// The name of the entry at an offset of the first unit of these sections is the one wanted.
 fn expect_name<A: Abort>(
     rt: &A,
@@ -46,7 +54,7 @@ fn expect_name<A: Abort>(
     let units = units_of(alloc, &file)?;
     let tree = tree_at(alloc, &units, 0)??;
     let id = EntryId { unit: 0, offset };
-    assert_eq!(rt; tree.name(id), wanted, "name at {offset:#x}");
+    assert!(rt; is_same(tree.name(id), wanted), "name at {offset:#x}");
     Ok(())
 }
 
@@ -267,8 +275,9 @@ fn each_allocation_refused(rt: HostRuntime) -> Result<(), Fail> {
     let Ok(units) = units_of(alloc, &file) else {
         return Ok(());
     };
-    let tree = match tree_at(alloc, &units, 0)? {
-        Err(TreeFault::Memory) => tree_at(alloc, &units, 0)??,
+    let units = &units;
+    let tree = match tree_at(alloc, units, 0)? {
+        Err(TreeFault::Memory) => tree_at(alloc, units, 0)??,
         read => read?,
     };
     let chain = match tree.chain(alloc, 0x40_1004) {
