@@ -228,3 +228,25 @@ build_peer() {
     cat > "$1/src/main.rs"
     (cd "$1" && cargo build --release --offline) > log 2>&1 || { echo "skipped, it can't be built here: $what"; tail -3 log; return 1; }
 }
+
+# Builds the sample programs with each compiler that is here, without optimization and with it; their names are `programs`.
+build_levels() {
+    local level cc
+    programs=()
+    for level in 0 2; do
+        for cc in gcc clang; do
+            has "programs of $cc" $cc || continue
+            $cc -g -gdwarf-5 -O$level calls.c other.c -o $cc-O$level
+            programs+=($cc-O$level)
+        done
+        for cc in g++ clang++; do
+            has "programs of $cc" $cc || continue
+            $cc -g -gdwarf-5 -O$level sizes.cc -o $cc-O$level
+            programs+=($cc-O$level)
+        done
+        if has "programs of rustc" rustc; then
+            rustc -g -C dwarf-version=5 -C opt-level=$level words.rs -o rustc-O$level
+            programs+=(rustc-O$level)
+        fi
+    done
+}

@@ -10,23 +10,7 @@ need_a2l
 write_sources
 count=${1:-200}
 shift || true
-programs=()
-for level in 0 2; do
-    for cc in gcc clang; do
-        has "programs of $cc" $cc || continue
-        $cc -g -gdwarf-5 -O$level calls.c other.c -o $cc-O$level
-        programs+=($cc-O$level)
-    done
-    for cc in g++ clang++; do
-        has "programs of $cc" $cc || continue
-        $cc -g -gdwarf-5 -O$level sizes.cc -o $cc-O$level
-        programs+=($cc-O$level)
-    done
-    if has "programs of rustc" rustc; then
-        rustc -g -C dwarf-version=5 -C opt-level=$level words.rs -o rustc-O$level
-        programs+=(rustc-O$level)
-    fi
-done
+build_levels
 
 cat > compare.py <<'END_PY'
 import collections, os, random, re, sys

@@ -32,12 +32,12 @@ subject_of (Root offset) = at_offset offset
 subject_of (RootRanges offset) = at_offset offset
 subject_of Memory = []
 
--- the line that tells a refused file
+-- the line that reports a refused file
 abbrev pub refusal_line : OpenFault → List ℕ
 refusal_line fault =
     codes "a2l: file refused: " ++ (decimal (number_of fault) ++ (codes " " ++ (name_of fault ++ (subject_of fault ++ codes "\n"))))
 
--- the line that tells a fault
+-- the line that reports a fault
 abbrev pub line_of : Fault → List ℕ
 line_of faults.CommandLine = usage_line
 line_of faults.File = codes "a2l: cannot read file\n"
@@ -61,7 +61,7 @@ pub record Tells (fault : Fault) (old new : Option (List ℕ)) (failures_before 
   pub beginning : WritesBeginning old new (line_of fault)
   pub whole : failures_after ≡ failures_before → new ≡ append_known old (line_of fault)
 
--- a fault is reported by its line and status, or want of memory by its own, where the line couldn't
+-- a fault is reported by its line and status, or out of memory by its own, where the line couldn't
 -- be made
 abbrev pub Reports : Fault → ℕ → Option (List ℕ) → Option (List ℕ) → ℕ → ℕ → Type 0
 Reports fault status old new before after =

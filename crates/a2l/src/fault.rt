@@ -133,7 +133,7 @@ fn subject(alloc: Global, fault: &OpenFault) -> Result<String, AllocError>
     }
 }
 
-/// The line that tells a refused file.
+/// The line that reports a refused file.
 fn refusal_line(alloc: Global, fault: &OpenFault) -> Result<String, AllocError>
     ensures { IfOk result (λ line. string_bytes line ≡ refusal_line fault.now) }
 {
@@ -143,7 +143,7 @@ fn refusal_line(alloc: Global, fault: &OpenFault) -> Result<String, AllocError>
     format!(in alloc; "a2l: file refused: {number} {name}{subject}\n")
 }
 
-/// The text that tells a fault, and the fault that it tells: out of memory, where the text itself
+/// The text that reports a fault, and the fault that it reports: out of memory, where the text itself
 /// couldn't be made.
 fn told(alloc: Global, fault: Fault) -> (Fault, CowStr<'static>)
     ensures line { cow_str_bytes result.1 ≡ line_of result.0 }

@@ -26,6 +26,6 @@ Stays old new = (session : SessionState) → Holds old session → Holds new ses
 abbrev pub Answers : (List ℕ → List Answer) → CHandle → CHandle → Type 0
 Answers meaning old new = (session : SessionState) → Holds old session → Holds new (record { file = session.file; answers = meaning session.file })
 
--- a file is refused, and a struct tells why
+-- a file is refused, and a struct reports why
 abbrev pub TellsRefusal : Option Refusal → CRefusal → Type 0
 TellsRefusal refusal told = (fault : OpenFault) × (IsSome refusal × (refusal_of fault ≡ refusal)) × IsReason fault told

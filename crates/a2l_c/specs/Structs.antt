@@ -1,4 +1,4 @@
--- What the structs of the header tell.
+-- What the structs of the header report.
 use Rattle.std.specs.Prelude.{◌≡◌, ℕ, List, [], Bool, Option, Some, None, if◌then◌else◌, length, take, ◌<◌, MatchOption}
 use Rattle.dw_model.specs.Answer.{Answer, Location, Frame, Piece, Code, tree_fault, line_fault, not_covered, fault, found, located}
 use Rattle.dw_model.specs.Faults.{entry_fault, depth_fault, ranges_fault}
@@ -40,7 +40,7 @@ offset_in (Root offset) = offset
 offset_in (RootRanges offset) = offset
 offset_in Memory = 0
 
--- a struct tells a reason
+-- a struct reports a reason
 pub record IsReason (fault : OpenFault) (told : CRefusal) : Type 0 where
   pub number : told.number ≡ number_of fault
   pub name : told.name.now ≡ name_of fault
@@ -87,7 +87,7 @@ code_number (tree_fault depth_fault) = 2
 code_number (tree_fault ranges_fault) = 3
 code_number line_fault = 4
 
--- what a struct tells of an answer
+-- what a struct reports of an answer
 abbrev pub answer_told : Answer → CAnswer
 answer_told not_covered = record { kind = 0; fault = 0; unit = 0; count = 0 }
 answer_told (found unit frames) = record { kind = 1; fault = 0; unit = unit; count = length frames }

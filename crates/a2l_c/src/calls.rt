@@ -5,7 +5,8 @@
 //! bytes of a file stay until the last handle over it is closed. Numbers of `Status` are what the
 //! calls return.
 
-ghost use Rattle.std.specs.Prelude.{◌≡◌, ◌⊎◌, ◌≢◌, ◌<◌, [], ◌∷◌, true, false, None, Some, length, map, option_map};
+ghost use Rattle.std.specs.Prelude.{◌≡◌, ◌⊎◌, ◌≢◌, ◌<◌, [], ◌∷◌, true, false, None, Some, length, map};
+ghost use Rattle.std.specs.Prelude.{option_map};
 ghost use Rattle.std.specs.Prelude.{slice_get, MatchOption};
 ghost use Rattle.dw_model.specs.Answer.{answer, location};
 ghost use Rattle.dw_model.specs.Pieces.{pieces};
@@ -253,7 +254,8 @@ pub extern "C" fn a2l_frame_at(
     ensures outside { result ≡ 6 → (session : SessionState) → Holds handle.old session
         → frame_in session.answers i j ≡ None }
     ensures short { result ≡ 7 → (session : SessionState) → Holds handle.old session
-        → MatchOption (frame_in session.answers i j) ⊥ (λ frame. TellsFrameLength told.new frame (length path.old)) }
+        → MatchOption (frame_in session.answers i j) ⊥
+        (λ frame. TellsFrameLength told.new frame (length path.old)) }
     ensures stays { Stays handle.old handle.new }
     ensures closed { result ≡ 4 → handle.old.open ≡ false }
     ensures ends { (result ≡ 0) ⊎ ((result ≡ 4) ⊎ ((result ≡ 6) ⊎ (result ≡ 7))) }

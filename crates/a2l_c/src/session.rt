@@ -1,6 +1,7 @@
 //! What is after a handle: an open file, and what was asked of it last.
 
-ghost use Rattle.std.specs.Prelude.{◌≡◌, [], ◌∷◌, None, Some, OnOk, IfOk, IfErr, IfSome, IsNone, map, option_map};
+ghost use Rattle.std.specs.Prelude.{◌≡◌, [], ◌∷◌, None, Some, OnOk, IfOk, IfErr, IfSome, IsNone, map};
+ghost use Rattle.std.specs.Prelude.{option_map};
 ghost use Rattle.std.specs.Prelude.{slice_get};
 ghost use Rattle.dw_model.specs.Answer as model;
 ghost use Rattle.dw_model.specs.Pieces.{pieces};
@@ -62,7 +63,8 @@ fn locations_of(
     capacity: NonZeroUsize,
     addresses: &[u64],
 ) -> Result<Vec<Answer<'static>>, AllocError>
-    ensures { IfOk result (λ answers. map answer_shown answers.items ≡ map (model.location image.now) addresses.now) }
+    ensures { IfOk result (λ answers. map answer_shown answers.items
+        ≡ map (model.location image.now) addresses.now) }
 {
     let mut context = Context::new(alloc, image, capacity)?;
     let mut answers = Vec::new(alloc);

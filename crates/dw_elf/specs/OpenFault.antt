@@ -6,7 +6,7 @@ use Rattle.dw_elf.specs.declared.fault.OpenFault.{OpenFault}
 use Rattle.dw_elf.specs.declared.fault.OpenFault.TheVariants.{NotElf, NotElf64Little, Relocatable, SectionTable, SectionRange, Compressed, UnitHeader, AddressSize, Root, RootRanges, Memory}
 use Rattle.dw_elf.specs.Name.{text_of}
 
--- the refusal that an error tells: want of memory tells none
+-- the refusal that an error reports: out of memory is none
 abbrev pub refusal_of : OpenFault → Option Refusal
 refusal_of NotElf = Some model.not_elf
 refusal_of NotElf64Little = Some model.not_elf64_little

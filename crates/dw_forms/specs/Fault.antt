@@ -6,7 +6,7 @@ use Rattle.dw_model.specs.Answers.{Tells}
 use Rattle.dw_forms.specs.declared.fault.FormFault.{FormFault}
 use Rattle.dw_forms.specs.declared.fault.FormFault.TheVariants.{End, Form, Wide, Memory, Code}
 
--- the fault that an error tells: want of memory tells none
+-- the fault that an error reports: out of memory is none
 abbrev pub form_fault : FormFault → Option model.Fault
 form_fault End = Some model.ends_early
 form_fault Form = Some model.unknown_form

@@ -4,7 +4,7 @@ use Rattle.dw_model.specs.Faults as model
 use Rattle.dw_frames.specs.declared.fault.TreeFault.{TreeFault}
 use Rattle.dw_frames.specs.declared.fault.TreeFault.TheVariants.{Entry, Depth, Ranges, Memory}
 
--- the fault that an error tells: want of memory tells none
+-- the fault that an error reports: out of memory is none
 abbrev pub tree_fault : TreeFault → Option model.TreeFault
 tree_fault Entry = Some model.entry_fault
 tree_fault Depth = Some model.depth_fault

@@ -4,7 +4,7 @@ use Rattle.dw_model.specs.Faults as model
 use Rattle.dw_line.specs.declared.fault.LineFault.{LineFault}
 use Rattle.dw_line.specs.declared.fault.LineFault.TheVariants.{Bad, Memory}
 
--- the fault that an error tells: want of memory tells none
+-- the fault that an error reports: out of memory is none
 abbrev pub line_fault : LineFault → Option model.Bad
 line_fault Bad = Some model.bad
 line_fault Memory = None

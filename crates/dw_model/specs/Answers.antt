@@ -8,7 +8,7 @@ abbrev pub Reads : {X Y : Type 0} → (X → Y) → Option X → Option (Y × Pl
 Reads view None found old new = (found ≡ None) × (new ≡ old)
 Reads view (Some x) found old new = found ≡ Some (view x, new)
 
--- the definition gives just this fault; want of memory, which is no fault of a file, isn't one
+-- the definition gives just this fault; out of memory, which is no fault of a file, isn't one
 abbrev pub Tells : {Y F : Type 0} → Option F → Result Y F → Type 0
 Tells None given = ⊥
 Tells (Some fault) given = given ≡ Err fault

@@ -4,7 +4,7 @@ use Rattle.dw_model.specs.Faults as model
 use Rattle.dw_ranges.specs.declared.fault.RangeFault.{RangeFault}
 use Rattle.dw_ranges.specs.declared.fault.RangeFault.TheVariants.{Bad, Memory}
 
--- the fault that an error tells: want of memory tells none
+-- the fault that an error reports: out of memory is none
 abbrev pub range_fault : RangeFault → Option model.Bad
 range_fault Bad = Some model.bad
 range_fault Memory = None

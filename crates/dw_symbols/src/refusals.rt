@@ -1,4 +1,4 @@
-//! How often memory was wanting: a count that only contracts see.
+//! How often a context was out of memory: a count that only contracts see.
 
 ghost use Rattle.std.specs.Prelude.{◌≡◌, ◌+◌, ℕ};
 ghost use Rattle.std.specs.Borrow.{ftrue};

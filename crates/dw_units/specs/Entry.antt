@@ -16,7 +16,7 @@ entry_shown entry = record {
   attributes = map attribute_shown entry.attrs;
 }
 
--- The entry is found as the definition has it, with the offset just past it; want of memory may be
+-- The entry is found as the definition has it, with the offset just past it; out of memory may be
 -- told in place of it.
 abbrev pub FindsEntry : Result (Option Entry) FormFault → Result (Option model.Entry × Place) Fault → Type 0
 FindsEntry (Ok found) given = (past : Place) × (given ≡ Ok (option_map entry_shown found, past)) × IfSome found (λ entry. entry.next ≡ past.at)

@@ -24,7 +24,7 @@ AreAnswers shown meaning key queries answers = map shown answers ≡ map (meanin
 abbrev pub PoolFits : Shape → ℕ → Type 0
 PoolFits shape queries = Fits shape × (queries ≤ shape.senders * shape.most)
 
--- a shape that doesn't fit is told as that, and want of memory only of one that does
+-- a shape that doesn't fit is told as that, and out of memory only of one that does
 abbrev pub RefusesPool : PoolFault → Shape → ℕ → Type 0
 RefusesPool BadShape shape queries = ¬ PoolFits shape queries
 RefusesPool Memory shape queries = PoolFits shape queries

@@ -25,7 +25,7 @@ pub trait Solver {
     /// The key that a solver answers by.
     ghost key: { Self → List ℕ };
 
-    /// How often it answered that memory was wanting.
+    /// How often it was out of memory.
     ghost refused: { Self → ℕ };
 
     /// The key: for a file's meaning, its bytes.

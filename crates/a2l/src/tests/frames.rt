@@ -59,7 +59,7 @@ fn frames_of_samples(rt: HostRuntime) -> Result<(), Fail> {
 }
 
 /// Bytes that are put into the sample at a place, what is asked of it then, and how that ends: the
-/// status, the lines that answer, and the line that tells an error.
+/// status, the lines that answer, and the line that reports an error.
 type Damaged = (
     usize,
     &'static [u8],

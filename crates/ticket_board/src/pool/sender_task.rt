@@ -134,8 +134,8 @@ fn ask_all<S: Solver, R: Wait>(
     unreachable!()
 }
 
-/// What a sender's thread does: it asks its queries and gives the answers in their order. Where
-/// memory is wanting, it stops the pool. The error says so, or that the pool was stopped before.
+/// What a sender's thread does: it asks its queries and gives the answers in their order. Where it
+/// is out of memory, it stops the pool. The error says so, or that the pool was stopped before.
 pub fn send<S: Solver, R: Wait>(
     rt: &R,
     alloc: Global,

@@ -130,8 +130,8 @@ pub struct Serving<'p, 'a, S: Solver, M, G> {
     pub stop: &'p Stop,
 }
 
-/// What a worker's thread does: it makes its solver, and takes turns until the pool stops. Where
-/// memory is wanting, it stops the pool.
+/// What a worker's thread does: it makes its solver, and takes turns until the pool stops. Where it
+/// is out of memory, it stops the pool.
 pub fn serve<S: Solver + Drop, R: Wait, M: Maker<S>, G: Gate>(
     rt: &R,
     alloc: Global,
