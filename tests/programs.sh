@@ -14,6 +14,15 @@ need_a2l() {
     [ -x "$a2l" ] || { echo "build the program first: cd crates/a2l && rt run"; exit 1; }
 }
 
+# Builds the targets of the Makefile that the words name. Where they aren't built yet, all that they stand on is proved.
+need_library() {
+    timeout 900 make -s -C "$here" "$@" > make.log 2>&1 || {
+        [ $? = 124 ] && { echo "skipped, the library is not built within 15 minutes"; exit 0; }
+        cat make.log
+        exit 1
+    }
+}
+
 # Whether all commands are there; else says what is skipped for want of which.
 has() {
     local what=$1 command
