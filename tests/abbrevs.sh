@@ -72,11 +72,14 @@ fn differs(alloc: Global, section: &[u8], rows: &[Row]) -> Option<(u64, u64)> {
         let Some(found) = declarations.get(*code) else {
             return Some((*offset, *code));
         };
-        let specs = found.specs.as_slice();
+        let mut specs = found.specs.fork();
         if found.children != *children || (*tag != 0 && found.tag != *tag) || specs.len() != pairs.len() {
             return Some((*offset, *code));
         }
-        for (spec, (name, form, number)) in specs.iter().zip(pairs.iter()) {
+        for (name, form, number) in pairs.iter() {
+            let Some(spec) = specs.take_first() else {
+                return Some((*offset, *code));
+            };
             if (*name != 0 && spec.name != *name) || spec.form != *form || spec.implicit != *number {
                 return Some((*offset, *code));
             }

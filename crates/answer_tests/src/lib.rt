@@ -16,6 +16,10 @@ mod library;
 #[cfg(test)]
 mod pools;
 #[cfg(test)]
+mod shared_lists;
+#[cfg(test)]
+mod shared_tables;
+#[cfg(test)]
 mod spans;
 #[cfg(test)]
 mod texts;

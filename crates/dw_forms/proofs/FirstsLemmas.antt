@@ -5,29 +5,34 @@ use Rattle.std.specs.Map.{lookup}
 use Rattle.std.proofs.lemmas.Bool.{eq-eqb, ne_eqb, eqb-true, le-ltb, lt-ltb}
 use Rattle.std.proofs.lemmas.Option.{same_Some}
 use Rattle.dw_forms.specs.declared.declaration.Spec.{Spec}
-use Rattle.dw_forms.specs.Firsts.{before, Known, function_names, in_byte, all_known, place_in, AreFirsts, AreAllFirsts}
+use Rattle.dw_forms.specs.Spec.{spec_shown}
+use Rattle.dw_forms.specs.Firsts.{before, names_of, Known, function_names, in_byte, all_known, place_in, AreFirsts, AreAllFirsts}
 
-abbrev pub names_of : List Spec → List ℕ
-names_of specs = map (λ spec. spec.name) specs
+abbrev pub names_in : List Spec → List ℕ
+names_in specs = map (λ spec. spec.name) specs
 
-pub before-here : (name i : ℕ) (specs : List Spec) (spec : Spec) → i < length specs → (get_or specs i spec).name ≡ name → before name (names_of (drop i specs)) ≡ 0
+pub shown-names : (specs : List Spec) → names_of (map spec_shown specs) ≡ names_in specs
+shown-names [] = refl
+shown-names (x ∷ specs) = ap (λ (names : List ℕ). x.name ∷ names) (shown-names specs)
+
+pub before-here : (name i : ℕ) (specs : List Spec) (spec : Spec) → i < length specs → (get_or specs i spec).name ≡ name → before name (names_in (drop i specs)) ≡ 0
 unfolding before
 before-here name i [] spec h e = absurd (omega arith)
 before-here name zero (x ∷ specs) spec h e = rw (eq-eqb x.name name e) refl
 before-here name (suc i) (x ∷ specs) spec h e = before-here name i specs spec (omega arith) e
 
-later : (name i : ℕ) (specs : List Spec) (spec : Spec) → i < length specs → ((get_or specs i spec).name ≡ name → ⊥) → before name (names_of (drop i specs)) ≡ suc (before name (names_of (drop (suc i) specs)))
+later : (name i : ℕ) (specs : List Spec) (spec : Spec) → i < length specs → ((get_or specs i spec).name ≡ name → ⊥) → before name (names_in (drop i specs)) ≡ suc (before name (names_in (drop (suc i) specs)))
 unfolding before
 later name i [] spec h e = absurd (omega arith)
 later name zero (x ∷ specs) spec h e = rw (ne_eqb x.name name e) refl
 later name (suc i) (x ∷ specs) spec h e = later name i specs spec (omega arith) e
 
-pub before-later : (name i : ℕ) (specs : List Spec) (spec : Spec) → i < length specs → ((get_or specs i spec).name ≡ name → ⊥) → before name (names_of (drop i specs)) ≡ suc (before name (names_of (drop (i + 1) specs)))
+pub before-later : (name i : ℕ) (specs : List Spec) (spec : Spec) → i < length specs → ((get_or specs i spec).name ≡ name → ⊥) → before name (names_in (drop i specs)) ≡ suc (before name (names_in (drop (i + 1) specs)))
 before-later name i specs spec h e =
     let same : suc i ≡ i + 1 = omega arith in
-    subst (λ (j : ℕ). before name (names_of (drop i specs)) ≡ suc (before name (names_of (drop j specs)))) same (later name i specs spec h e)
+    subst (λ (j : ℕ). before name (names_in (drop i specs)) ≡ suc (before name (names_in (drop j specs)))) same (later name i specs spec h e)
 
-pub before-end : (name i : ℕ) (specs : List Spec) → length specs ≤ i → before name (names_of (drop i specs)) ≡ 0
+pub before-end : (name i : ℕ) (specs : List Spec) → length specs ≤ i → before name (names_in (drop i specs)) ≡ 0
 unfolding before
 before-end name zero [] h = refl
 before-end name (suc i) [] h = refl

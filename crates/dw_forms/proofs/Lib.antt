@@ -1,7 +1,10 @@
 pub mod IndirectLemmas
-pub mod FindLemmas
 pub mod SizeLemmas
+pub mod StoreLemmas
 pub mod TextLemmas
 pub mod FirstsLemmas
+pub mod OntoLemmas
+pub mod PairsLemmas
 pub mod PassLemmas
 pub mod RangedLemmas
+pub mod RunLemmas

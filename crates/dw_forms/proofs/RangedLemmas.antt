@@ -19,7 +19,7 @@ use Rattle.dw_model.proofs.StepLemmas.{bind_ok, bind_some, ok_is}
 use Rattle.dw_model.proofs.ValueLemmas.{value-spans}
 use Rattle.dw_forms.specs.declared.declaration.Spec.{Spec}
 use Rattle.dw_forms.specs.Declaration.{spec_shown}
-use Rattle.dw_forms.specs.Ranged.{may_be_range_list, may_be_address, is_constant_form, is_declared, may_have_ranges, names_ranges, NamesNone}
+use Rattle.dw_forms.specs.Ranged.{may_be_range_list, may_be_address, is_constant_form, is_declared, may_have_ranges, NamesNone}
 
 -- ---- the classes of forms
 

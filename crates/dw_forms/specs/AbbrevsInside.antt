@@ -1,16 +1,11 @@
--- What a table is seen as, and what its index says.
-use Rattle.std.specs.Prelude.{◌≡◌, ◌≤◌, ◌<◌, ◌+◌, ℕ, List, Some, map, length}
-use Rattle.std.specs.Ordering.{nat_cmp}
-use Rattle.std.specs.BTreeMap as tree
+-- What one table is seen as.
+use Rattle.std.specs.Prelude.{List}
 use Rattle.dw_model.specs.Abbrev.{Declaration}
 use Rattle.dw_forms.specs.declared.abbrevs.Abbrevs.TheInside.{Inside}
-use Rattle.dw_forms.specs.Declaration.{declaration_shown}
-use Rattle.dw_forms.specs.Abbrevs.{code_at, IsFirst}
+use Rattle.dw_forms.specs.Store.{table_from, IsWithin}
 
 abbrev pub declarations_in : Inside → List Declaration
-declarations_in table = map declaration_shown table.declarations.items
+declarations_in table = table_from table.store table.start
 
-pub record IsIndexed (table : Inside) : Type 0 where
-  pub within : table.in_order ≤ length table.declarations.items
-  pub in_order : (k : ℕ) → k < table.in_order → code_at table.declarations.items k ≡ Some (k + 1)
-  pub others : (code : ℕ) → IsFirst table.in_order (length table.declarations.items) table.declarations.items code (tree.get nat_cmp table.others code)
+abbrev pub BeginsWithin : Inside → Type 0
+BeginsWithin table = IsWithin table.store table.start

@@ -1,5 +1,4 @@
 -- Declarations as the definitions have them.
-use Rattle.std.specs.Prelude.{map}
 use Rattle.dw_model.specs.Abbrev as model
 use Rattle.dw_forms.specs.declared.declaration.Decl.{Decl}
 pub use Rattle.dw_forms.specs.Spec.{spec_shown}
@@ -9,5 +8,5 @@ declaration_shown declaration = record {
   code = declaration.code;
   tag = declaration.tag;
   children = declaration.children;
-  specifications = map spec_shown declaration.specs.items;
+  specifications = declaration.specs;
 }

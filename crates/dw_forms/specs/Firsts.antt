@@ -2,7 +2,12 @@
 use Rattle.std.specs.Prelude.{◌≡◌, ℕ, suc, cond, List, [], ◌∷◌, Option, Some, None, map, option_and_then, nat_eq, nat_lt, ◌==◌}
 use Rattle.std.specs.Map.{lookup}
 use Rattle.dw_model.specs.declared.dwarf.TheConstants.{DW_AT_abstract_origin, DW_AT_call_column, DW_AT_call_file, DW_AT_call_line, DW_AT_high_pc, DW_AT_linkage_name, DW_AT_low_pc, DW_AT_name, DW_AT_ranges, DW_AT_specification}
+use Rattle.dw_model.specs.Abbrev.{Specification}
 use Rattle.dw_forms.specs.declared.firsts.Firsts.{Firsts}
+
+-- the names of attributes for which a declaration asks
+abbrev pub names_of : List Specification → List ℕ
+names_of specifications = map (λ specification. specification.name) specifications
 
 -- how many names are before the first that is this one, or in all
 unfoldable pub before : ℕ → List ℕ → ℕ

@@ -1,17 +1,16 @@
 //! What abbreviations stand for, by section 7.5.3 of DWARF 5.
 
-ghost use Rattle.std.specs.Prelude.{◌≡◌, map};
+ghost use Rattle.std.specs.Prelude.{◌≡◌};
 ghost use Rattle.dw_model.specs.declared.dwarf.TheConstants.{OFFSET_SIZE_32, OFFSET_SIZE_64};
-ghost use Rattle.dw_forms.specs.Spec.{spec_shown};
 ghost use Rattle.dw_forms.specs.Size.{size_in};
-ghost use Rattle.dw_forms.specs.Firsts.{known_of, AreAllFirsts};
+ghost use Rattle.dw_forms.specs.Firsts.{known_of, names_of, AreAllFirsts};
 ghost use Rattle.dw_forms.specs.Ranged.{may_have_ranges};
 
 mod reading;
 
 use crate::firsts::Firsts;
+use crate::pairs::Specs;
 pub(crate) use reading::{next_decl, next_spec};
-use smallvec::SmallVec;
 
 /// An attribute's name and form, and its number where that is in the declaration.
 #[derive(Clone, Copy, Debug, Default, PartialEq, Eq)]
@@ -27,23 +26,25 @@ pub struct Spec {
 /// What an abbreviation stands for: an entry's tag, whether a list of children follows it, and its
 /// attributes in order.
 #[derive(Drop)]
-pub struct Decl {
+pub struct Decl<'a> {
+    /// Where it begins in .debug_abbrev.
+    pub(crate) offset: usize,
     /// The abbreviation, which isn't 0.
     pub code: u64,
     /// A DW_TAG code.
     pub tag: u64,
     pub children: bool,
-    pub specs: SmallVec<Spec, 8>,
+    pub specs: Specs<'a>,
     /// How many bytes the values of an entry take in the 32-bit format, where the forms tell it.
     size_32: Option<usize>,
-    ghost size_32_is: { size_32 ≡ size_in OFFSET_SIZE_32 (map spec_shown specs.items) },
+    ghost size_32_is: { size_32 ≡ size_in OFFSET_SIZE_32 specs },
     /// The same in the 64-bit format.
     size_64: Option<usize>,
-    ghost size_64_is: { size_64 ≡ size_in OFFSET_SIZE_64 (map spec_shown specs.items) },
+    ghost size_64_is: { size_64 ≡ size_in OFFSET_SIZE_64 specs },
     /// Its entries may have ranges.
     ranged: bool,
-    ghost ranged_is: { ranged ≡ may_have_ranges (map spec_shown specs.items) },
+    ghost ranged_is: { ranged ≡ may_have_ranges specs },
     /// Where the first attribute of each name that tells of a function is.
     firsts: Firsts,
-    ghost firsts_are: { AreAllFirsts (known_of firsts) (map (λ spec. spec.name) specs.items) },
+    ghost firsts_are: { AreAllFirsts (known_of firsts) (names_of specs) },
 }

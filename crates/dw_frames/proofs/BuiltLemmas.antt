@@ -1,18 +1,16 @@
 -- A tree that was built of what was kept of a unit's functions is the unit's.
-use Rattle.std.proofs.Common.{◌≡◌, ◌⊎◌, inl, inr, ℕ, zero, suc, ◌<◌, ◌≤◌, Bool, true, false, cond, List, [], ◌∷◌, ◌++◌, length, map, reverse, Option, Some, None, Ok, refl, sym, ap, subst, ◌∙◌, arith}
-use Rattle.std.specs.Prelude.{option_map, slice_get, find, not, ◌==◌, ◌&&◌}
-use Rattle.std.specs.Option.{option_or}
+use Rattle.std.proofs.Common.{◌≡◌, ◌⊎◌, inl, inr, ℕ, zero, suc, ◌<◌, ◌≤◌, Bool, true, false, cond, List, [], ◌∷◌, ◌++◌, length, map, reverse, Option, Some, None, Ok, refl, sym, ap, ◌∙◌, arith}
+use Rattle.std.specs.Prelude.{slice_get, find, not, ◌==◌, ◌&&◌}
 use Rattle.std.proofs.lemmas.List.{length-map}
 use Rattle.std.proofs.lemmas.List.Folds.{find-append}
 use Rattle.std.proofs.lemmas.Bool.{and_parts, and_left, and_right, or_parts, eq-eqb, ne_eqb, eqb-true, cases_lt}
-use Rattle.std.proofs.lemmas.Option.{same_Some, slice_get_within, slice_get_past}
+use Rattle.std.proofs.lemmas.Option.{same_Some, slice_get_past}
 use Rattle.dw_model.specs.Entry.{Entry}
 use Rattle.dw_model.specs.Ranges.{Range, covers}
 use Rattle.dw_model.specs.Tree.{Node, is_function, is_subprogram, is_inlined, enclosing, chain, chain_in, holds_address}
 use Rattle.dw_model.specs.Tree as model
 use Rattle.dw_index.specs.Owners.{least_owner}
 use Rattle.dw_index.specs.Segments.{owner_at}
-use Rattle.dw_frames.specs.declared.function.EntryId.{EntryId}
 use Rattle.dw_frames.specs.declared.chains.Chains.{Chains}
 use Rattle.dw_frames.specs.Inlined.{InlinedRange, inlined_in}
 use Rattle.dw_frames.specs.Drafts.{Drafts, known_ranges, is_idle, is_kept}

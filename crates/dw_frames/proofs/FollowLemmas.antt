@@ -15,13 +15,13 @@ use Rattle.dw_index.specs.Owners.{least_owner}
 use Rattle.dw_frames.specs.Rising.{Rises}
 use Rattle.dw_frames.specs.Inlined.{InlinedRange, inlined_in, all_in_some}
 use Rattle.dw_frames.specs.Drafts.{Drafts, innermost, owned, with_list, with_function, with_ranges, without_last, without_list, known_ranges, is_idle, is_kept, behind_function}
-use Rattle.dw_frames.specs.Placed.{Placed, placed, offset_of, near, first, is_outermost, lies_in, Names, Falls, Follows}
+use Rattle.dw_frames.specs.Placed.{Placed, placed, offset_of, near, first, is_outermost, lies_in, Names, Follows}
 use Rattle.dw_frames.proofs.NearLemmas.{enclosing-one, falls-on, near-below}
 use Rattle.dw_frames.proofs.GetLemmas.{get-kept, get-last, get-pushed, get-there, get-mapped, get-unmapped, rises-once, rises-order, rises-push}
 use Rattle.dw_frames.proofs.FirstLemmas.{first-push, first-is, first-within, owner-push}
 use Rattle.dw_frames.proofs.InlinedLemmas.{inlined-here, inlined-elsewhere}
 
-same_or_apart : (m k : ℕ) → (m ≡ k) ⊎ (m ≡ k → ⊥)
+pub same_or_apart : (m k : ℕ) → (m ≡ k) ⊎ (m ≡ k → ⊥)
 same_or_apart m k = elim (cases_order m k) [
   | inl same ↦ inl same
   | inr order ↦ elim order [

@@ -7,6 +7,7 @@ pub mod NameLemmas
 pub mod DraftLemmas
 pub mod ReaderLemmas
 pub mod FollowLemmas
+pub mod KnownLemmas
 pub mod MoveLemmas
 pub mod WalkLemmas
 pub mod TreeLemmas

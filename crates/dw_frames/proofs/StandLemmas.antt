@@ -1,5 +1,5 @@
 -- Each node of a unit's tree is the entry that is at its offset.
-use Rattle.std.proofs.Common.{◌≡◌, ◌∙◌, ℕ, zero, suc, ◌+◌, ◌-◌, ◌<◌, ◌≤◌, Bool, true, false, cond, List, [], ◌∷◌, length, map, length-drop, take, drop, Option, Some, None, Result, Ok, Err, refl, sym, ap, subst, arith}
+use Rattle.std.proofs.Common.{◌≡◌, ◌∙◌, ℕ, zero, suc, ◌+◌, ◌≤◌, Bool, true, false, cond, List, [], ◌∷◌, length, map, length-drop, take, drop, Option, Some, None, Result, Ok, Err, refl, sym, ap, subst, arith}
 use Rattle.std.specs.Prelude.{All, IsSome, find, filter_map, option_map, option_and_then, ◌&&◌, ◌||◌, ◌==◌}
 use Rattle.std.specs.List.{AllByRecursion}
 use Rattle.std.specs.Option.{option_map_or}
@@ -8,7 +8,7 @@ use Rattle.std.proofs.lemmas.List.{drop-drop}
 use Rattle.std.proofs.lemmas.Option.{same_Some}
 use Rattle.dw_model.specs.Results.{◌>>=◌, or_fault}
 use Rattle.dw_model.specs.Reading.{Place, items, AreItems}
-use Rattle.dw_model.specs.Faults.{Fault, TreeFault, entry_fault, Bad}
+use Rattle.dw_model.specs.Faults.{TreeFault, entry_fault, Bad}
 use Rattle.dw_model.specs.Abbrev.{Declaration, abbreviations}
 use Rattle.dw_model.specs.Entry.{Entry, entry_at}
 use Rattle.dw_model.specs.Ranges.{Range}

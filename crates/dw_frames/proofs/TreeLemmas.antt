@@ -1,5 +1,5 @@
 -- The tree of a unit: its first entry, and those below it.
-use Rattle.std.proofs.Common.{◌≡◌, ℕ, Bool, true, false, cond, List, [], ◌∷◌, ◌++◌, length, reverse, Option, Some, None, Result, Ok, Err, refl, sym, ap, ◌∙◌}
+use Rattle.std.proofs.Common.{◌≡◌, ℕ, Bool, true, false, cond, List, [], ◌∷◌, ◌++◌, length, reverse, Option, Some, None, Result, Ok, Err, refl, sym, ap, subst, ◌∙◌}
 use Rattle.std.specs.Prelude.{MatchOption, option_map}
 use Rattle.dw_model.specs.Answers.{Tells}
 use Rattle.dw_model.specs.Faults.{Fault, TreeFault, entry_fault}
@@ -18,8 +18,10 @@ use Rattle.dw_units.specs.Entries.{Walk, IsNext}
 use Rattle.dw_units.specs.declared.entries.Next.{Next}
 use Rattle.dw_units.specs.declared.entries.Next.TheVariants.{Null, Function, Unranged, Passed}
 use Rattle.dw_frames.specs.Drafts.{Drafts, no_drafts, behind}
+use Rattle.dw_frames.specs.Known.{Same}
 use Rattle.dw_frames.specs.Placed.{placed, first, Follows}
 use Rattle.dw_frames.specs.Reader.{can_be_used, nodes_on}
+use Rattle.dw_frames.proofs.KnownLemmas.{follows-same}
 use Rattle.dw_frames.proofs.WalkLemmas.{next, state, behind-depth, next-ended, follows-entry}
 
 pub found-some : (ranged : Bool) (next : Next) (found : Option Entry) → IsNext ranged next found → (next ≡ Null → ⊥) → (entry : Entry) × (found ≡ Some entry)
@@ -100,18 +102,18 @@ module _ (s : Sections) (unit : DwarfUnit) (walk : Walk) (size : walk.offset_siz
     pub follows : Follows s unit (record { depth = 0; entry = entry } ∷ []) new_drafts new.place.at
 
   pub began : (drafts new_drafts : Drafts) (found : Option Entry) (entry : Entry) (new : Walk) → drafts ≡ no_drafts → new.declarations ≡ walk.declarations → new.offset_size ≡ walk.offset_size → entry_at walk.offset_size walk.declarations walk.place ≡ Ok (found, new.place) → found ≡ Some entry
-      → can_be_used s unit (length drafts.lists) found ≡ Ok tt → new_drafts ≡ behind s unit found drafts → Began drafts new_drafts new
+      → can_be_used s unit (length drafts.lists) found ≡ Ok tt → Same (behind s unit found drafts) new_drafts → Began drafts new_drafts new
   began drafts new_drafts found entry new is kept sized e some used same =
       let read : entry_at walk.offset_size walk.declarations walk.place ≡ Ok (Some entry, new.place) = e ∙ ap (λ (found : Option Entry). Ok (found, new.place)) some in
       let fits : can_be_used s unit 0 (Some entry) ≡ Ok tt = ap (can_be_used s unit 0) (sym some) ∙ ap (λ (drafts : Drafts). can_be_used s unit (length drafts.lists) found) (sym is) ∙ used in
-      let behind_is : new_drafts ≡ behind s unit (Some entry) no_drafts = same ∙ ap (λ (found : Option Entry). behind s unit found drafts) some ∙ ap (behind s unit (Some entry)) is in
-      let depth : length new_drafts.lists ≡ depth_behind 0 (Some entry) = ap (λ (drafts : Drafts). length drafts.lists) behind_is ∙ behind-depth s unit (Some entry) no_drafts in
+      let behind_is : Same (behind s unit (Some entry) no_drafts) new_drafts = subst (λ (full : Drafts). Same full new_drafts) (ap (λ (found : Option Entry). behind s unit found drafts) some ∙ ap (behind s unit (Some entry)) is) same in
+      let depth : length new_drafts.lists ≡ depth_behind 0 (Some entry) = ap (λ (lists : List (Option ℕ)). length lists) behind_is.lists ∙ behind-depth s unit (Some entry) no_drafts in
       let at : new ≡ record { declarations = walk.declarations; offset_size = walk.offset_size; place = new.place } =
       ap (λ (ds : List Declaration). record { declarations = ds; offset_size = new.offset_size; place = new.place }) kept ∙ ap (λ (n : ℕ). record { declarations = walk.declarations; offset_size = n; place = new.place }) sized in
       record {
         entry = entry;
         nodes = tree-is ∙ below entry new.place read fits ∙ sym (ap (λ (new : Walk). nodes_on s unit new (length new_drafts.lists) >>= λ others. Ok (record { depth = 0; entry = entry } ∷ others)) at ∙ ap (λ (depth : ℕ). nodes_on s unit (record { declarations = walk.declarations; offset_size = walk.offset_size; place = new.place }) depth >>= λ others. Ok (record { depth = 0; entry = entry } ∷ others)) depth);
-        follows = rw behind_is (follows-entry s unit [] no_drafts walk.offset_size walk.declarations walk.place (Some entry, new.place) read (follows-none s unit walk.place.at));
+        follows = follows-same s unit (record { depth = 0; entry = entry } ∷ []) (behind s unit (Some entry) no_drafts) new_drafts new.place.at behind_is (follows-entry s unit [] no_drafts walk.offset_size walk.declarations walk.place (Some entry, new.place) read (follows-none s unit walk.place.at));
       }
 
   pub below-faults : (drafts new_drafts : Drafts) (new : Walk) (told : Option TreeFault) → Began drafts new_drafts new → MatchOption told (Unit {0}) (λ told. nodes_on s unit new (length new_drafts.lists) ≡ Err told) → MatchOption told (Unit {0}) (λ told. tree s unit ≡ Err told)

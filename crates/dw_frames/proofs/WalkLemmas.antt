@@ -15,11 +15,13 @@ use Rattle.dw_model.proofs.ItemsLemmas.{with_front, with_front-nil, loop_more, l
 use Rattle.dw_model.proofs.AdvanceLemmas.{nodes_advance}
 use Rattle.dw_units.specs.Entries.{Walk}
 use Rattle.dw_frames.specs.Drafts.{Drafts, behind, behind_function, is_idle, with_list, innermost, without_last}
+use Rattle.dw_frames.specs.Known.{Same}
 use Rattle.dw_frames.specs.Placed.{Follows}
 use Rattle.dw_frames.specs.Reader.{can_be_used, nodes_on}
 use Rattle.dw_frames.proofs.PlacedLemmas.{reverse-cons}
 use Rattle.dw_frames.proofs.MoveLemmas.{entry-moves}
 use Rattle.dw_frames.proofs.FollowLemmas.{follows-null, follows-other, follows-function}
+use Rattle.dw_frames.proofs.KnownLemmas.{follows-same}
 
 abbrev pub Nodes : Type 0
 Nodes = Result (List (Option Node) × Reading) TreeFault
@@ -135,7 +137,7 @@ module _ (s : Sections) (unit : DwarfUnit) where
       ∙ ap (λ (nodes : List Node). reverse before ++ nodes) (sym (filter_map-append (λ node. node) front (Some node ∷ [])))
 
   pub goes-on : (before : List Node) (start : Walk) (depth : ℕ) (drafts new_drafts : Drafts) (walk new : Walk) (found : Option Entry) → (length drafts.lists == 0 || length walk.place.left == 0) ≡ false
-      → new.declarations ≡ walk.declarations → new.offset_size ≡ walk.offset_size → entry_at walk.offset_size walk.declarations walk.place ≡ Ok (found, new.place) → can_be_used s unit (length drafts.lists) found ≡ Ok tt → new_drafts ≡ behind s unit found drafts → SoFar before start depth drafts walk → SoFar before start depth new_drafts new
+      → new.declarations ≡ walk.declarations → new.offset_size ≡ walk.offset_size → entry_at walk.offset_size walk.declarations walk.place ≡ Ok (found, new.place) → can_be_used s unit (length drafts.lists) found ≡ Ok tt → Same (behind s unit found drafts) new_drafts → SoFar before start depth drafts walk → SoFar before start depth new_drafts new
   goes-on before start depth drafts new_drafts walk new found more kept sized e used is h =
       let read : entry_at start.offset_size start.declarations walk.place ≡ Ok (found, new.place) = same-entry start walk h.same h.size ∙ e in
       let step = next-entry start.offset_size start.declarations walk.place (length drafts.lists) found new.place more read used in
@@ -145,9 +147,9 @@ module _ (s : Sections) (unit : DwarfUnit) where
         size = sized ∙ h.size;
         front = h.front ++ node_at (length drafts.lists) found ∷ [];
         after = after_entry (length drafts.lists) found h.after;
-        so_far = rw (is, behind-depth found drafts) on;
+        so_far = rw (is.lists, behind-depth found drafts) on;
         order = order-on before h.after h.front (length drafts.lists) found h.order;
-        follows = rw is (follows-entry h.after drafts walk.offset_size walk.declarations walk.place (found, new.place) e h.follows);
+        follows = follows-same s unit (after_entry (length drafts.lists) found h.after) (behind s unit found drafts) new_drafts new.place.at is (follows-entry h.after drafts walk.offset_size walk.declarations walk.place (found, new.place) e h.follows);
       }
 
   pub ends : (before : List Node) (start : Walk) (depth : ℕ) (drafts : Drafts) (walk : Walk) → (length drafts.lists == 0 || length walk.place.left == 0) ≡ true → SoFar before start depth drafts walk

@@ -4,6 +4,7 @@ pub mod DraftsInside
 pub mod Fault
 pub mod Inlined
 pub mod InlinedInside
+pub mod Known
 pub mod LinksInside
 pub mod Name
 pub mod Placed

@@ -14,22 +14,24 @@ use Rattle.dw_frames.specs.declared.fault.TreeFault.{TreeFault}
 use Rattle.dw_frames.specs.Fault.{tree_fault}
 use Rattle.dw_frames.specs.Placed.{Follows}
 use Rattle.dw_frames.specs.Drafts.{Drafts, behind, behind_function}
+use Rattle.dw_frames.specs.Known.{Same}
 
 -- what is asked of an entry at a depth; nothing of a null entry
 abbrev pub can_be_used : Sections → DwarfUnit → ℕ → Option Entry → Result (Unit {0}) faults.TreeFault
 can_be_used sections unit depth found = option_map_or (checked (entry_ranges_in sections unit) depth) found (Ok tt)
 
--- An entry is kept where it is a function, or can't be used.
+-- An entry is kept where it is a function, or can't be used. Ranges that own no address may be left
+-- out.
 abbrev pub Keeps : Sections → DwarfUnit → Option Entry → Result (Unit {0}) TreeFault → Drafts → Drafts → Type 0
 Keeps sections unit found (Ok done) drafts new_drafts =
-    (can_be_used sections unit (length drafts.lists) found ≡ Ok tt) × (new_drafts ≡ behind sections unit found drafts)
+    (can_be_used sections unit (length drafts.lists) found ≡ Ok tt) × Same (behind sections unit found drafts) new_drafts
 Keeps sections unit found (Err fault) drafts new_drafts =
     MatchOption (tree_fault fault) (Unit {0}) (λ told. can_be_used sections unit (length drafts.lists) found ≡ Err told)
 
 -- A function is kept, or its ranges can't be read.
 abbrev pub AddsFunction : Sections → DwarfUnit → Entry → Result (Unit {0}) TreeFault → Drafts → Drafts → Type 0
 AddsFunction sections unit entry (Ok done) drafts new_drafts =
-    (is_err (entry_ranges_in sections unit entry) ≡ false) × (new_drafts ≡ behind_function sections unit entry drafts)
+    (is_err (entry_ranges_in sections unit entry) ≡ false) × Same (behind_function sections unit entry drafts) new_drafts
 AddsFunction sections unit entry (Err fault) drafts new_drafts =
     MatchOption (tree_fault fault) (Unit {0}) (λ told. (told ≡ ranges_fault) × (is_err (entry_ranges_in sections unit entry) ≡ true))
 

@@ -6,4 +6,11 @@ use Rattle.dw_frames.specs.UnitIn.{unit_in}
 use Rattle.dw_frames.specs.declared.reader.Reader.TheInside.{Inside}
 
 abbrev pub reading_of : Inside → Reading
-reading_of reader = record { of = unit_in reader.unit; ranges = map range_shown reader.ranges.items }
+reading_of reader = record {
+  of = unit_in reader.unit;
+  ranges = map range_shown reader.ranges.items;
+  idle = reader.idle;
+  outermost = reader.outermost;
+  inlined = reader.inlined;
+  loose = reader.loose;
+}

@@ -124,6 +124,8 @@ impl Drafts {
     }
 
     /// Keeps the ranges of a function.
+    // With two callers the compiler leaves it a call.
+    #[inline(always)]
     pub(crate) fn push_ranges(
         &mut self,
         is_subprogram: bool,

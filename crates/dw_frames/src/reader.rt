@@ -1,22 +1,29 @@
 //! Entries of a unit, read one after the other, of which the functions are kept.
 
-ghost use Rattle.std.specs.Prelude.{◌≡◌, Bool, Option, nat_lt};
+ghost use Rattle.std.specs.Prelude.{◌≡◌, ◌++◌, Bool, Option, Some, None, true, OnOk, length, map, nat_lt};
 ghost use Rattle.dw_model.specs.Results.{refuse_if};
 ghost use Rattle.dw_model.specs.Faults.{depth_fault};
-ghost use Rattle.dw_model.specs.Tree.{most_depth, entry_ranges_in};
-ghost use Rattle.dw_model.specs.Answers.{Gives, GivesUnlessMemory};
-ghost use Rattle.dw_ranges.specs.Fault.{range_fault};
+ghost use Rattle.dw_model.specs.Tree.{most_depth, entry_ranges_in, is_subprogram};
+ghost use Rattle.dw_model.specs.Answers.{Gives};
+ghost use Rattle.dw_index.specs.Range.{range_shown};
+ghost use Rattle.dw_ranges.specs.Lists.{ranges_of_list};
+ghost use Rattle.dw_ranges.specs.ReadLists.{Has};
 ghost use Rattle.dw_model.specs.Entry.{Entry as ModelEntry};
 ghost use Rattle.dw_units.specs.Entries.{IsNext};
+ghost use Rattle.dw_units.specs.NamedRanges.{IsNamed};
 ghost use Rattle.dw_frames.specs.Fault.{tree_fault};
 ghost use Rattle.dw_frames.specs.Drafts as model;
+ghost use Rattle.dw_frames.specs.Drafts.{owned};
+ghost use Rattle.dw_frames.specs.Known.{IsKnown, Knows, for_inlined, for_loose, for_subprogram};
+ghost use Rattle.dw_frames.specs.UnitIn.{unit_in};
 ghost use Rattle.dw_frames.specs.Reader.{AddsFunction, Keeps};
 
 use crate::drafts::Drafts;
 use crate::fault::TreeFault;
 use dw_model::dwarf::DW_TAG_subprogram;
-use dw_ranges::{Range, RangeFault, read_ranges};
-use dw_units::{EntryView, Next, OpenUnit};
+use dw_ranges::{Range, RangeList, ReadLists, list_of, read_list, read_ranges};
+use dw_units::{EntryView, NamedRanges, Next, OpenUnit};
+use std::alloc::{AllocError, Global};
 use std::marker::Model;
 
 /// Below how many entries one may be.
@@ -28,6 +35,18 @@ pub(crate) struct Reader<'b, 'a> {
     pub(crate) unit: OpenUnit<'b, 'a>,
     /// The ranges of the function that was read last.
     pub(crate) ranges: Vec<Range>,
+    /// How many bytes of lists may still be read before lists are noted: as many as .debug_rnglists has in all, so
+    /// that no look-up is paid for where few functions name one list, as in what compilers write.
+    pub(crate) left: usize,
+    /// The lists without ranges that were read.
+    pub(crate) idle: ReadLists,
+    /// The lists of subprograms that were read.
+    pub(crate) outermost: ReadLists,
+    /// The lists that were read of functions that are inlined in others, each with the number of that in which
+    /// its function lies.
+    pub(crate) inlined: ReadLists,
+    /// The lists that were read of functions that are inlined in none that is kept.
+    pub(crate) loose: ReadLists,
 }
 
 impl<'b, 'a> Model for Reader<'b, 'a> {
@@ -51,17 +70,161 @@ fn check_depth(depth: usize) -> Result<(), TreeFault>
     Ok(())
 }
 
+/// Leaves out a function without ranges. What lies in it lies in no function.
+fn leave_out(drafts: &mut Drafts, entry: &EntryView<'_, '_>) -> Result<(), AllocError>
+    ensures { OnOk result (drafts.new ≡ model.with_list entry.now.children None drafts.old) }
+{
+    drafts.begin_list(entry.children(), None)
+}
+
+/// Adds a function that is seen to have ranges, but owns no address: those are all an earlier one's. What lies in
+/// it lies in a function all the same.
+#[inline(always)]
+fn pass_function(drafts: &mut Drafts, entry: &EntryView<'_, '_>) -> Result<(), AllocError>
+    ensures { OnOk result (drafts.new ≡ model.with_list entry.now.children (Some (length drafts.old.functions))
+        (model.with_function entry.now.offset drafts.old)) }
+{
+    let number = drafts.count();
+    drafts.push_function(entry.offset())?;
+    drafts.begin_list(entry.children(), Some(number))
+}
+
+/// Adds a function with its ranges.
+#[inline(always)]
+fn keep_function(
+    drafts: &mut Drafts,
+    entry: &EntryView<'_, '_>,
+    ranges: &[Range],
+) -> Result<(), AllocError>
+    ensures { OnOk result (drafts.new ≡ model.with_list entry.now.children (Some (length drafts.old.functions))
+        (model.with_function entry.now.offset (model.with_ranges (is_subprogram entry.now)
+        (owned (map range_shown ranges.now) (length drafts.old.functions)) drafts.old))) }
+{
+    let number = drafts.count();
+    drafts.push_ranges(entry.tag() == DW_TAG_subprogram, ranges, number)?;
+    pass_function(drafts, entry)
+}
+
 impl<'b, 'a> Reader<'b, 'a> {
-    /// Reads the ranges of an entry.
-    fn read_ranges(&mut self, entry: &EntryView<'b, 'a>) -> Result<(), RangeFault>
+    /// No function of a unit was read yet.
+    pub(crate) fn new(alloc: Global, unit: OpenUnit<'b, 'a>) -> Self
+        ensures of { result.of ≡ unit_in unit.entry }
+        ensures knows { Knows result model.no_drafts }
+    {
+        Reader {
+            unit,
+            ranges: Vec::new(alloc),
+            left: unit.units().tables().rnglists.len(),
+            idle: ReadLists::new(alloc),
+            outermost: ReadLists::new(alloc),
+            inlined: ReadLists::new(alloc),
+            loose: ReadLists::new(alloc),
+        }
+    }
+
+    /// An earlier function owns each address of a list: a subprogram, or else one that is inlined in the same
+    /// function. Or the list is that of an earlier function that is inlined, as this one, in none that is kept.
+    fn is_known(&self, is_subprogram: bool, outer: Option<usize>, list: RangeList) -> bool
+        ensures { result ≡ true → IsKnown self.now is_subprogram outer list }
+    {
+        if is_subprogram {
+            return self.outermost.has(list, 0);
+        }
+        let Some(number) = outer else {
+            return self.loose.has(list, 0);
+        };
+        self.inlined.has(list, number)
+    }
+
+    /// Notes the list of a function that is kept, once lists are noted.
+    fn note(
+        &mut self,
+        is_subprogram: bool,
+        outer: Option<usize>,
+        list: RangeList,
+    ) -> Result<(), AllocError>
         ensures same { self.new.of ≡ self.old.of }
-        ensures ranges { GivesUnlessMemory
-            (λ _. self.new.ranges) range_fault result
-            (entry_ranges_in self.old.of.sections self.old.of.unit entry.now) }
+        ensures idle { self.new.idle ≡ self.old.idle }
+        ensures outermost { OnOk result ((known : _) → Has self.new.outermost known
+            → Has (for_subprogram is_subprogram list ++ self.old.outermost) known) }
+        ensures inlined { OnOk result ((known : _) → Has self.new.inlined known
+            → Has (for_inlined is_subprogram outer list ++ self.old.inlined) known) }
+        ensures loose { OnOk result ((known : _) → Has self.new.loose known
+            → Has (for_loose is_subprogram outer list ++ self.old.loose) known) }
+    {
+        if self.left > 0 {
+            return Ok(());
+        }
+        if is_subprogram {
+            return self.outermost.note(list, 0);
+        }
+        let Some(number) = outer else {
+            return self.loose.note(list, 0);
+        };
+        self.inlined.note(list, number)
+    }
+
+    /// Keeps a function that names a range list, where the list has ranges. A list is read once for all subprograms,
+    /// and once for all that are inlined in one function: of those the first owns all its addresses.
+    fn add_listed(
+        &mut self,
+        drafts: &mut Drafts,
+        entry: &EntryView<'b, 'a>,
+        list: RangeList,
+    ) -> Result<(), TreeFault>
+        ensures same { self.new.of ≡ self.old.of }
+        ensures function { Knows self.old drafts.old
+            → entry_ranges_in self.old.of.sections self.old.of.unit entry.now
+            ≡ ranges_of_list self.old.of.sections.tables list
+            → AddsFunction self.old.of.sections self.old.of.unit entry.now result drafts.old drafts.new }
+        ensures known { Knows self.old drafts.old
+            → entry_ranges_in self.old.of.sections self.old.of.unit entry.now
+            ≡ ranges_of_list self.old.of.sections.tables list → OnOk result (Knows self.new drafts.new) }
+    {
+        if self.idle.has(list, 0) {
+            leave_out(drafts, entry)?;
+            return Ok(());
+        }
+        let is_subprogram = entry.tag() == DW_TAG_subprogram;
+        let outer = drafts.innermost();
+        if self.is_known(is_subprogram, outer, list) {
+            pass_function(drafts, entry)?;
+            return Ok(());
+        }
+        let unit = self.unit;
+        let size = read_list(&mut self.ranges, list, unit.units().tables())?;
+        self.left = self.left.saturating_sub(size);
+        if self.ranges.is_empty() {
+            self.idle.note(list, 0)?;
+            leave_out(drafts, entry)?;
+            return Ok(());
+        }
+        keep_function(drafts, entry, &self.ranges)?;
+        self.note(is_subprogram, outer, list)?;
+        Ok(())
+    }
+
+    /// Keeps a function that names no list that can be found, where it has ranges.
+    fn add_bounded(
+        &mut self,
+        drafts: &mut Drafts,
+        entry: &EntryView<'b, 'a>,
+        named: &NamedRanges<'a>,
+    ) -> Result<(), TreeFault>
+        ensures same { self.new.of ≡ self.old.of }
+        ensures function { Knows self.old drafts.old → IsNamed named.now entry.now
+            → AddsFunction self.old.of.sections self.old.of.unit entry.now result drafts.old drafts.new }
+        ensures known { Knows self.old drafts.old → IsNamed named.now entry.now
+            → OnOk result (Knows self.new drafts.new) }
     {
         let unit = self.unit;
-        let named = entry.named_ranges();
-        read_ranges(&mut self.ranges, &named, unit.unit(), unit.units().tables())
+        read_ranges(&mut self.ranges, named, unit.unit(), unit.units().tables())?;
+        if self.ranges.is_empty() {
+            leave_out(drafts, entry)?;
+            return Ok(());
+        }
+        keep_function(drafts, entry, &self.ranges)?;
+        Ok(())
     }
 
     /// Keeps a function, where it has ranges. The error is `Ranges` where they can't be read, or
@@ -74,26 +237,26 @@ impl<'b, 'a> Reader<'b, 'a> {
         entry: &EntryView<'b, 'a>,
     ) -> Result<(), TreeFault>
         ensures same { self.new.of ≡ self.old.of }
-        ensures function { AddsFunction self.old.of.sections self.old.of.unit entry.now result drafts.old drafts.new }
+        ensures function { Knows self.old drafts.old
+            → AddsFunction self.old.of.sections self.old.of.unit entry.now result drafts.old drafts.new }
+        ensures known { Knows self.old drafts.old → OnOk result (Knows self.new drafts.new) }
     {
-        self.read_ranges(entry)?;
-        if self.ranges.is_empty() {
-            drafts.begin_list(entry.children(), None)?;
-            return Ok(());
-        }
-        let number = drafts.count();
-        drafts.push_ranges(entry.tag() == DW_TAG_subprogram, &self.ranges, number)?;
-        drafts.push_function(entry.offset())?;
-        drafts.begin_list(entry.children(), Some(number))?;
-        Ok(())
+        let unit = self.unit;
+        let named = entry.named_ranges();
+        let Some(list) = list_of(&named, unit.unit(), unit.units().tables()) else {
+            return self.add_bounded(drafts, entry, &named);
+        };
+        self.add_listed(drafts, entry, list)
     }
 
     /// Keeps the next entry, where it is a function that has ranges. The error is `Depth` where it is too deep,
     /// `Ranges` where it is a function whose ranges can't be read, or `Memory`.
     pub(crate) fn keep(&mut self, next: Next<'b, 'a>, drafts: &mut Drafts) -> Result<(), TreeFault>
         ensures same { self.new.of ≡ self.old.of }
-        ensures entry { (ranged : Bool) (found : Option ModelEntry) → IsNext ranged next.entry found
+        ensures entry { Knows self.old drafts.old → (ranged : Bool) (found : Option ModelEntry)
+            → IsNext ranged next.entry found
             → Keeps self.old.of.sections self.old.of.unit found result drafts.old drafts.new }
+        ensures known { Knows self.old drafts.old → OnOk result (Knows self.new drafts.new) }
     {
         let depth = drafts.depth();
         match next {

@@ -4,6 +4,7 @@ ghost use Rattle.std.specs.Prelude.{◌≡◌, List, false, length};
 ghost use Rattle.dw_model.specs.Unit.{is_skipped};
 ghost use Rattle.dw_model.specs.Tree.{Node};
 ghost use Rattle.dw_units.specs.OpenUnit.{sections_of, unit_of};
+ghost use Rattle.dw_frames.specs.Known.{Knows};
 ghost use Rattle.dw_frames.specs.Placed.{Follows};
 ghost use Rattle.dw_frames.specs.Reader.{nodes_on, FollowsOn, FollowsAll};
 
@@ -19,8 +20,9 @@ fn read_below<'b, 'a>(
     entries: &mut Entries<'b, 'a>,
     drafts: &mut Drafts,
 ) -> Result<(), TreeFault>
-    ensures { (before : List Node) → Follows reader.old.of.sections reader.old.of.unit before drafts.old
-        entries.old.place.at → FollowsOn reader.old.of.sections reader.old.of.unit before
+    ensures { Knows reader.old drafts.old → (before : List Node)
+        → Follows reader.old.of.sections reader.old.of.unit before drafts.old entries.old.place.at
+        → FollowsOn reader.old.of.sections reader.old.of.unit before
         (nodes_on reader.old.of.sections reader.old.of.unit entries.old (length drafts.old.lists)) result drafts.new }
 {
     while drafts.depth() > 0 && !entries.is_done() {
@@ -38,10 +40,7 @@ pub(crate) fn read_all<'a>(alloc: Global, unit: OpenUnit<'_, 'a>) -> Result<Draf
     let Some(mut entries) = unit.entries() else {
         return Err(TreeFault::Entry);
     };
-    let mut reader = Reader {
-        unit,
-        ranges: Vec::new(alloc),
-    };
+    let mut reader = Reader::new(alloc, unit);
     let mut drafts = Drafts::new(alloc);
     let first = entries.next_function()?;
     if let Next::Null = first {

@@ -1,21 +1,14 @@
 -- A table that is read, and its rows.
 use Rattle.std.proofs.Common.{◌≡◌, ℕ, ◌<◌, ◌≤◌, length, get_or, List, [], Option, Some, None, Result, Ok, Err, refl, sym, subst, ap, ◌∙◌, arith}
-use Rattle.std.specs.Prelude.{Bool, true, false, cond, ◌==◌, IfSome, option_map, option_and_then, slice_get}
+use Rattle.std.specs.Prelude.{Bool, true, false, cond, ◌==◌, IfSome, option_map, slice_get}
 use Rattle.std.specs.Result.{result_unwrap_or}
 use Rattle.std.proofs.lemmas.Bool.{eqb-true}
 use Rattle.std.proofs.lemmas.Option.{same_Some, slice_get_read, slice_get_past}
-use Rattle.dw_model.specs.Results.{◌>>=◌}
 use Rattle.dw_model.specs.Faults.{Bad, bad}
-use Rattle.dw_model.specs.Text.{Tables, Bases, text}
+use Rattle.dw_model.specs.Text.{Tables, Bases}
 use Rattle.dw_model.specs.LineHeader.{LineHeader, line_header}
 use Rattle.dw_model.specs.Instruction.{Instruction, instructions}
 use Rattle.dw_model.specs.Matrix.{Row, matrix, row_in, row_of, is_used, first_address, last_address}
-use Rattle.dw_model.specs.Answer.{lines_at}
-use Rattle.dw_model.specs.declared.dwarf.TheConstants.{DW_AT_comp_dir}
-use Rattle.dw_model.specs.Section.{Sections}
-use Rattle.dw_model.specs.Unit.{DwarfUnit}
-use Rattle.dw_model.specs.Root.{bases}
-use Rattle.dw_model.specs.Entry.{Entry, attribute}
 use Rattle.dw_line.specs.declared.checkpoints.Checkpoint.{Checkpoint}
 use Rattle.dw_line.specs.declared.checkpoints.Sequence.{Sequence}
 use Rattle.dw_line.specs.declared.checkpoints.Checkpoints.{Checkpoints}
@@ -24,9 +17,11 @@ use Rattle.dw_line.specs.declared.search.Last.{Last}
 use Rattle.dw_line.specs.Search.{row_told}
 use Rattle.dw_line.specs.Reached.{told_of, last_in, IsReached, IsLast, FindsIn, FindsRow, Stays}
 use Rattle.dw_line.specs.Machine.{beginning, rows_on}
+use Rattle.dw_line.specs.Header.{without_lists}
 use Rattle.dw_line.specs.Lines.{lines_of, matrix_of}
 use Rattle.dw_line.specs.Program.{IsRecorded}
 use Rattle.dw_line.specs.Sequences.{used_sequences, number_among, number_of, IsSequence, AreKept}
+use Rattle.dw_line.proofs.HeaderLemmas.{same-instructions, same-matrix}
 use Rattle.dw_line.proofs.MachineLemmas.{matrix_rows, program_bad}
 use Rattle.dw_line.proofs.SearchLemmas.{never_falls_used, has_row, row_on}
 use Rattle.dw_line.proofs.SequenceLemmas.{number-by_rows, held, kept_at, is-there}
@@ -37,10 +32,10 @@ pub header_bad : (tables : Tables) (bases : Bases) (section : List ℕ) (comp_di
 unfolding lines_of
 header_bad tables bases section comp_dir offset e = rw e refl
 
-pub run_bad : (tables : Tables) (bases : Bases) (section : List ℕ) (comp_dir : Option (List ℕ)) (offset : ℕ) (header : LineHeader) → line_header tables bases section offset ≡ Ok header → rows_on header (beginning header) ≡ Err bad → lines_of tables bases section comp_dir offset ≡ Err bad
+pub run_bad : (tables : Tables) (bases : Bases) (section : List ℕ) (comp_dir : Option (List ℕ)) (offset : ℕ) (header : LineHeader) → line_header tables bases section offset ≡ Ok header → rows_on (without_lists header) (beginning (without_lists header)) ≡ Err bad → lines_of tables bases section comp_dir offset ≡ Err bad
 unfolding lines_of
 run_bad tables bases section comp_dir offset header e f =
-    let program : instructions header ≡ Err bad = program_bad header f in
+    let program : instructions header ≡ Err bad = same-instructions header ∙ program_bad (without_lists header) f in
     rw (e, program) refl
 
 -- the rows that were recorded are those of the matrix
@@ -49,13 +44,13 @@ matrix_is header recorded is =
     let whole = matrix_rows header is.rows is.run in
     whole.2 ∙ sym (ap (λ (program : Result (List Instruction) Bad). matrix header (result_unwrap_or program [])) whole.1)
 
-pub lines_are : (tables : Tables) (bases : Bases) (section : List ℕ) (comp_dir : Option (List ℕ)) (offset : ℕ) (header : LineHeader) (recorded : Checkpoints) → line_header tables bases section offset ≡ Ok header → IsRecorded header recorded
-    → lines_of tables bases section comp_dir offset ≡ Ok (record { header = header; rows = matrix_of header; comp_dir = comp_dir })
+pub lines_are : (tables : Tables) (bases : Bases) (section : List ℕ) (comp_dir : Option (List ℕ)) (offset : ℕ) (header : LineHeader) (recorded : Checkpoints) → line_header tables bases section offset ≡ Ok header → IsRecorded (without_lists header) recorded
+    → lines_of tables bases section comp_dir offset ≡ Ok (record { section = section; offset = offset; header = header; rows = matrix_of (without_lists header); comp_dir = comp_dir })
 unfolding lines_of
 lines_are tables bases section comp_dir offset header recorded e is =
-    let whole = matrix_rows header is.rows is.run in
-    let program : instructions header ≡ Ok whole.0 = whole.1 in
-    rw (e, program) refl
+    let whole = matrix_rows (without_lists header) is.rows is.run in
+    let program : instructions header ≡ Ok whole.0 = same-instructions header ∙ whole.1 in
+    rw (e, program, whole.1) (λ i. Ok (record { section = section; offset = offset; header = header; rows = same-matrix header whole.0 i; comp_dir = comp_dir }))
 
 pub kept_of : (header : LineHeader) (recorded : Checkpoints) → IsRecorded header recorded → AreKept header recorded.checkpoints.items recorded.sequences.items (used_sequences (matrix_of header))
 kept_of header recorded is =
@@ -64,11 +59,6 @@ kept_of header recorded is =
 -- the number by the bounds that are kept is that by the rows
 pub number_is : (header : LineHeader) (checkpoints : List Checkpoint) (kept : List Sequence) (used : List (List Row)) (a : ℕ) → AreKept header checkpoints kept used → number_of kept a ≡ number_among used a
 number_is header checkpoints kept used a are = sym (number-by_rows header checkpoints _ a 0 kept used are.each)
-
--- the table that a unit names is read so
-pub of_a_unit : (sections : Sections) (unit : DwarfUnit) (root : Entry) (offset : ℕ) → lines_at sections unit root offset ≡ lines_of sections.tables (bases sections unit) sections.line (option_and_then (text sections.tables (bases sections unit)) (attribute DW_AT_comp_dir root)) offset
-unfolding lines_at lines_of
-of_a_unit sections unit root offset = refl
 
 -- ---- the row of an address
 

@@ -1,5 +1,5 @@
 -- The header that was read, as the definitions have it.
-use Rattle.std.specs.Prelude.{ℕ, List, Option, map, option_map, option_and_then, Result, Ok, nat_eq}
+use Rattle.std.specs.Prelude.{ℕ, List, [], Option, map, option_map, option_and_then, Result, Ok, nat_eq}
 use Rattle.std.specs.Option.{option_or}
 use Rattle.std.specs.Map.{lookup}
 use Rattle.dw_model.specs.declared.dwarf.TheConstants.{DW_LNCT_path, DW_LNCT_directory_index}
@@ -10,7 +10,6 @@ use Rattle.dw_model.specs.Form.{Value}
 use Rattle.dw_model.specs.Text.{Tables, Bases, text}
 use Rattle.dw_model.specs.LineHeader as model
 use Rattle.dw_forms.specs.Value.{value_shown}
-use Rattle.dw_forms.specs.Tables.{tables_shown, bases_shown}
 use Rattle.dw_line.specs.declared.entries.Format.{Format}
 use Rattle.dw_line.specs.declared.entries.Contents.{Contents}
 use Rattle.dw_line.specs.declared.entries.LineEntry.{LineEntry}
@@ -47,6 +46,33 @@ entry_shown tables bases entry = record {
   directory = entry.directory;
 }
 
+-- the header as a unit sees it, whose texts stand there
+abbrev pub header_in : Tables → Bases → Header → model.LineHeader
+header_in tables bases header = record {
+  minimum_instruction_length = header.minimum_instruction_length;
+  line_base = header.line_base;
+  line_range = header.line_range;
+  opcode_base = header.opcode_base;
+  standard_opcode_lengths = header.standard_opcode_lengths.now;
+  directories = map (entry_shown tables bases) header.directories.items;
+  files = map (entry_shown tables bases) header.files.items;
+  program = header.program.now;
+}
+
+-- a header without its lists: its program's rows depend on nothing else
+abbrev pub without_lists : model.LineHeader → model.LineHeader
+without_lists header = record {
+  minimum_instruction_length = header.minimum_instruction_length;
+  line_base = header.line_base;
+  line_range = header.line_range;
+  opcode_base = header.opcode_base;
+  standard_opcode_lengths = header.standard_opcode_lengths;
+  directories = [];
+  files = [];
+  program = header.program;
+}
+
+-- what the program of a header runs by
 abbrev pub header_shown : Header → model.LineHeader
 header_shown header = record {
   minimum_instruction_length = header.minimum_instruction_length;
@@ -54,7 +80,7 @@ header_shown header = record {
   line_range = header.line_range;
   opcode_base = header.opcode_base;
   standard_opcode_lengths = header.standard_opcode_lengths.now;
-  directories = map (entry_shown (tables_shown header.tables) (bases_shown header.bases)) header.directories.items;
-  files = map (entry_shown (tables_shown header.tables) (bases_shown header.bases)) header.files.items;
+  directories = [];
+  files = [];
   program = header.program.now;
 }

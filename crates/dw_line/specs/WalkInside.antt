@@ -1,5 +1,6 @@
 -- What a walk is seen as.
 use Rattle.dw_line.specs.declared.walk.Walk.TheInside.{Inside}
+use Rattle.dw_line.specs.Header.{without_lists}
 use Rattle.dw_line.specs.Reached.{IsLast}
 use Rattle.dw_line.specs.Sequences.{used_sequences, IsOwner}
 use Rattle.dw_line.specs.Walked.{Walked}
@@ -11,4 +12,4 @@ walk_shown walk = record { table = walk.lines.now; at = walk.at; high = walk.hig
 -- found last is one of the table's.
 pub record IsWalk (walk : Inside) : Type 0 where
   pub owner : IsOwner walk.lines.now.rows walk.owner.number walk.at walk.owner.until
-  pub last : IsLast walk.lines.now.header (used_sequences walk.lines.now.rows) walk.last
+  pub last : IsLast (without_lists walk.lines.now.header) (used_sequences walk.lines.now.rows) walk.last

@@ -1,13 +1,13 @@
 -- Going through a span of addresses, from one stretch to the next.
 use Rattle.std.specs.Prelude.{◌≡◌, ◌≤◌, ◌<◌, ℕ, List}
 use Rattle.dw_model.specs.Matrix.{Row}
-use Rattle.dw_model.specs.Answer.{Lines}
 use Rattle.dw_line.specs.declared.walk.Stretch.{Stretch}
+use Rattle.dw_line.specs.Lines.{Table}
 use Rattle.dw_line.specs.Search.{told_at}
 
 -- how far a walk has come: its table, the address that comes next, and the end of the span
 pub record Walked : Type 0 where
-  pub table : Lines
+  pub table : Table
   pub at : ℕ
   pub high : ℕ
 

@@ -3,18 +3,14 @@
 ghost use Rattle.std.specs.Prelude.{◌<◌};
 
 use crate::entries::LineEntry;
-use dw_forms::{Bases, Tables};
 
 mod parser;
 
 pub(crate) use parser::header_at;
 
-/// The fields of a header that are used, the sections to which its paths lead, and the program
-/// after it.
+/// The fields of a header that are used, and the program after it.
 #[derive(Drop)]
 pub(crate) struct Header<'a> {
-    pub(crate) tables: Tables<'a>,
-    pub(crate) bases: Bases,
     /// The size of the smallest instruction of the machine, in bytes.
     pub(crate) minimum_instruction_length: u8,
     /// What a special opcode adds to the line register at least.

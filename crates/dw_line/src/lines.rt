@@ -1,13 +1,14 @@
 //! A line table: the row of an address, and the path of a file.
 
-ghost use Rattle.std.specs.Prelude.{◌≡◌, ◌≤◌, ◌<◌, ◌+◌, ℕ, Some, IfOk, option_map};
+ghost use Rattle.std.specs.Prelude.{◌≡◌, ◌≤◌, ◌<◌, ◌+◌, ℕ, Ok, Some, IfOk, IfErr, option_map};
 ghost use Rattle.dw_model.specs.Answers.{GivesUnlessMemory};
 ghost use Rattle.dw_model.specs.Matrix.{row_of};
 ghost use Rattle.dw_model.specs.Path.{path};
 ghost use Rattle.dw_model.specs.Steady.{IsSteady, last_address};
 ghost use Rattle.dw_forms.specs.Tables.{tables_shown, bases_shown};
 ghost use Rattle.dw_line.specs.Fault.{line_fault};
-ghost use Rattle.dw_line.specs.Lines.{lines_of};
+ghost use Rattle.dw_line.specs.Header.{without_lists};
+ghost use Rattle.dw_line.specs.Lines.{lines_of, TellsEach};
 ghost use Rattle.dw_line.specs.Reached.{IsLast, FindsRow, Stays};
 ghost use Rattle.dw_line.specs.Search.{row_told, told_at};
 ghost use Rattle.dw_line.specs.Sequences.{used_sequences, number_among, most_checkpoints, IsOwner};
@@ -15,7 +16,7 @@ ghost use Rattle.dw_line.specs.Sequences.{used_sequences, number_among, most_che
 use crate::checkpoints::{Checkpoint, Checkpoints, Sequence};
 use crate::fault::LineFault;
 use crate::header::{Header, header_at};
-use crate::path::{join, join_some};
+use crate::path::{AskingUnit, join, join_some};
 use crate::program::run_program;
 use crate::rows::Row;
 use crate::search::{Last, last_in, row_onward};
@@ -28,8 +29,9 @@ use std::alloc::{AllocError, Global};
 use std::marker::{Brand, Model};
 use std::sync::ledger::{Blank, Ledger};
 
-/// A line table. Contracts see its header, the rows of its program's matrix, and the directory in
-/// which its unit was compiled.
+/// A line table, for one unit after the other of those that name it. Contracts see where it begins,
+/// its header with the unit's texts, the rows of its program's matrix, and the directory in which the
+/// unit was compiled.
 #[derive(Drop)]
 pub struct Lines<'a> {
     header: Header<'a>,
@@ -40,11 +42,15 @@ pub struct Lines<'a> {
     index: Index,
     /// The row that `row_in_order` found last.
     last: Option<Last>,
-    comp_dir: Option<&'a [u8]>,
+    /// The unit that asks for paths.
+    unit: AskingUnit<'a>,
+    /// .debug_line, and where the table begins there.
+    section: &'a [u8],
+    offset: u64,
 }
 
 impl<'a> Model for Lines<'a> {
-    ghost use Rattle.dw_model.specs.Answer.{Lines as Table};
+    ghost use Rattle.dw_line.specs.Lines.{Table};
     ghost use Rattle.dw_line.specs.LinesInside.{lines_in, AreRead};
 
     ghost Value = { Table };
@@ -84,11 +90,13 @@ impl<'a> Lines<'a> {
         comp_dir: Option<&'a [u8]>,
         offset: u64,
     ) -> Result<Self, LineFault>
-        ensures { GivesUnlessMemory (λ lines. lines) line_fault result
+        ensures table { GivesUnlessMemory (λ lines. lines) line_fault result
             (lines_of (tables_shown tables.now) (bases_shown bases.now) line_section.now
             (option_map (λ directory. directory.now) comp_dir.entry) offset) }
+        ensures place { IfOk result (λ lines. (lines.section ≡ line_section.now) × (lines.offset ≡ offset)) }
+        ensures fault { IfErr result (TellsEach line_section.now offset) }
     {
-        let header = header_at(alloc, line_section, tables, bases, offset)?;
+        let header = header_at(alloc, line_section, offset)?;
         let recorded = run_program(alloc, &header)?;
         let Checkpoints {
             checkpoints,
@@ -102,8 +110,28 @@ impl<'a> Lines<'a> {
             sequences,
             index,
             last: None,
-            comp_dir,
+            unit: AskingUnit {
+                tables: *tables,
+                bases: *bases,
+                comp_dir,
+            },
+            section: line_section,
+            offset,
         })
+    }
+
+    /// Turns to another unit that names the table, with these bases and the directory in which it was
+    /// compiled: paths are then those that this unit's table would have. The rows are the same.
+    pub fn turn_to(&mut self, tables: &Tables<'a>, bases: &Bases, comp_dir: Option<&'a [u8]>)
+        ensures table { lines_of (tables_shown tables.now) (bases_shown bases.now) self.old.section
+            (option_map (λ directory. directory.now) comp_dir.entry) self.old.offset ≡ Ok self.new }
+        ensures place { (self.new.section ≡ self.old.section) × (self.new.offset ≡ self.old.offset) }
+    {
+        self.unit = AskingUnit {
+            tables: *tables,
+            bases: *bases,
+            comp_dir,
+        };
     }
 
     /// The row of an address: in the first used sequence, in program order, from whose first
@@ -182,8 +210,8 @@ impl<'a> Lines<'a> {
         address: u64,
         steps: &mut Steps<L>,
     ) -> Option<Last>
-        requires { IsLast self.now.header (used_sequences self.now.rows) last }
-        ensures row { FindsRow self.now.header self.now.rows address result }
+        requires { IsLast (without_lists self.now.header) (used_sequences self.now.rows) last }
+        ensures row { FindsRow (without_lists self.now.header) self.now.rows address result }
         ensures counted { steps.new ≤ steps.old + 64 }
     {
         let Some(number) = self.index.find(address) else {
@@ -202,8 +230,8 @@ impl<'a> Lines<'a> {
         steps: &mut Steps<L>,
     ) -> Last
         requires number { number_among (used_sequences self.now.rows) address ≡ Some number }
-        requires last { IsLast self.now.header (used_sequences self.now.rows) last }
-        ensures row { FindsRow self.now.header self.now.rows address (Some result) }
+        requires last { IsLast (without_lists self.now.header) (used_sequences self.now.rows) last }
+        ensures row { FindsRow (without_lists self.now.header) self.now.rows address (Some result) }
         ensures stays { Stays self.now.rows number address result }
         ensures counted { steps.new ≤ steps.old + 64 }
     {
@@ -278,11 +306,11 @@ impl<'a> Lines<'a> {
         let Some(file) = self.header.files.get(n as usize) else {
             return Ok(None);
         };
-        let Some(name) = self.header.text_of(file) else {
+        let Some(name) = self.unit.text_of(file) else {
             return Ok(None);
         };
-        let top = self.header.top(self.comp_dir);
-        let directory = self.header.file_directory(file);
+        let top = self.unit.top(&self.header);
+        let directory = self.unit.file_directory(&self.header, file);
         let mut path = Vec::with_capacity(alloc, room_for(top, directory, name))?;
         path.extend_from_slice(top)?;
         join_some(&mut path, directory)?;

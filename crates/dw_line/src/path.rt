@@ -7,11 +7,11 @@ ghost use Rattle.dw_model.specs.Path as model;
 ghost use Rattle.dw_model.specs.Text.{text};
 ghost use Rattle.dw_forms.specs.Tables.{tables_shown, bases_shown};
 ghost use Rattle.dw_forms.specs.Value.{value_shown};
-ghost use Rattle.dw_line.specs.Header.{header_shown};
-ghost use Rattle.dw_line.specs.Path.{joined_some, file_directory};
+ghost use Rattle.dw_line.specs.Path.{joined_some, header_for, file_directory};
 
 use crate::entries::LineEntry;
 use crate::header::Header;
+use dw_forms::{Bases, Tables};
 use std::alloc::AllocError;
 
 /// The path ends in a slash.
@@ -48,7 +48,16 @@ pub(crate) fn join_some(path: &mut Vec<u8>, part: Option<&[u8]>) -> Result<(), A
     }
 }
 
-impl<'a> Header<'a> {
+/// What the unit that asks for a path says of it: where its texts are, and the directory in which it
+/// was compiled.
+#[derive(Clone, Copy, Debug)]
+pub(crate) struct AskingUnit<'a> {
+    pub(crate) tables: Tables<'a>,
+    pub(crate) bases: Bases,
+    pub(crate) comp_dir: Option<&'a [u8]>,
+}
+
+impl<'a> AskingUnit<'a> {
     /// The text to which an entry's path leads.
     pub(crate) fn text_of(&self, entry: &LineEntry<'a>) -> Option<&'a [u8]>
         ensures { option_map (λ text. text.now) result
@@ -60,35 +69,40 @@ impl<'a> Header<'a> {
     }
 
     /// The path of a numbered directory, from 0 on, where it is there and can be read.
-    fn directory_path(&self, n: u64) -> Option<&'a [u8]>
-        ensures { option_map (λ text. text.now) result ≡ model.directory_path (header_shown self.now) n }
+    fn directory_path(&self, header: &Header<'a>, n: u64) -> Option<&'a [u8]>
+        ensures { option_map (λ text. text.now) result ≡ model.directory_path (header_for self.now header.now) n }
     {
-        let directory = self.directories.get(n as usize)?;
+        let directory = header.directories.get(n as usize)?;
         self.text_of(directory)
     }
 
     /// Where relative paths begin: at directory 0, else at the directory in which the unit was
     /// compiled, else nowhere.
-    pub(crate) fn top(&self, comp_dir: Option<&'a [u8]>) -> &'a [u8]
-        ensures { result.now ≡ unwrap_or (option_or (model.directory_path (header_shown self.now) 0)
-            (option_map (λ text. text.now) comp_dir.entry)) [] }
+    pub(crate) fn top(&self, header: &Header<'a>) -> &'a [u8]
+        ensures { result.now ≡ unwrap_or (option_or (model.directory_path (header_for self.now header.now) 0)
+            (option_map (λ text. text.now) self.now.comp_dir)) [] }
     {
-        if let Some(directory) = self.directory_path(0) {
+        if let Some(directory) = self.directory_path(header, 0) {
             return directory;
         }
-        match comp_dir {
+        match self.comp_dir {
             Some(directory) => directory,
             None => &[],
         }
     }
 
     /// The directory of a file, unless it is directory 0.
-    pub(crate) fn file_directory(&self, file: &LineEntry<'a>) -> Option<&'a [u8]>
-        ensures { option_map (λ text. text.now) result ≡ file_directory (header_shown self.now) file.now.directory }
+    pub(crate) fn file_directory(
+        &self,
+        header: &Header<'a>,
+        file: &LineEntry<'a>,
+    ) -> Option<&'a [u8]>
+        ensures { option_map (λ text. text.now) result
+            ≡ file_directory (header_for self.now header.now) file.now.directory }
     {
         if file.directory == 0 {
             return None;
         }
-        self.directory_path(file.directory)
+        self.directory_path(header, file.directory)
     }
 }

@@ -2,6 +2,7 @@
 
 ghost use Rattle.std.specs.Prelude.{◌≡◌, ◌≤◌, ◌<◌, ℕ, None, IfSome};
 ghost use Rattle.dw_model.specs.Steady.{last_address};
+ghost use Rattle.dw_line.specs.Header.{without_lists};
 ghost use Rattle.dw_line.specs.Reached.{IsLast};
 ghost use Rattle.dw_line.specs.Sequences.{used_sequences, IsOwner};
 ghost use Rattle.dw_line.specs.Walked.{IsStretch, walked_to};
@@ -84,9 +85,9 @@ fn stretch_from<L: Ledger>(
     requires some { 0 < L.parts }
     requires order { begin < end }
     requires owner { IsOwner lines.now.rows number begin end }
-    requires last { IsLast lines.now.header (used_sequences lines.now.rows) last }
+    requires last { IsLast (without_lists lines.now.header) (used_sequences lines.now.rows) last }
     ensures stretch { IsStretch lines.now.rows begin end result.0 }
-    ensures last { IsLast lines.now.header (used_sequences lines.now.rows) result.1 }
+    ensures last { IsLast (without_lists lines.now.header) (used_sequences lines.now.rows) result.1 }
 {
     let Some(number) = number else {
         let row = None;

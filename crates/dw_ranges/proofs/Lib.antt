@@ -1,2 +1,5 @@
 pub mod ListLemmas
 pub mod NamedLemmas
+pub mod OnlyAddr
+pub mod ReadLemmas
+pub mod OwnedLemmas

@@ -3,3 +3,7 @@ pub mod RangeEntry
 pub mod Step
 pub mod OutcomeShown
 pub mod Named
+pub mod Lists
+pub mod ReadLists
+pub mod ReadListsInside
+pub mod Owned

@@ -5,9 +5,13 @@
 mod fault;
 mod list;
 mod range_entry;
+mod range_list;
 mod ranges;
+mod read_lists;
 mod step;
 
 pub use dw_index::{Index, Range, law_of_least_owner};
 pub use fault::RangeFault;
+pub use range_list::{RangeList, list_of, read_list};
 pub use ranges::{ranges_of, read_ranges};
+pub use read_lists::ReadLists;

@@ -33,7 +33,7 @@ fn offset_at(section: &[u8], base: u64, index: u64, width: Width) -> Option<u64>
 }
 
 /// The place at an offset of .debug_rnglists.
-fn place_at<'a>(section: &'a [u8], offset: u64) -> Result<Cursor<'a>, RangeFault>
+pub(crate) fn place_at<'a>(section: &'a [u8], offset: u64) -> Result<Cursor<'a>, RangeFault>
     ensures { Gives (λ cursor. cursor) range_fault result (place_at section.now offset) }
 {
     if offset > section.len() as u64 {
@@ -46,7 +46,7 @@ fn place_at<'a>(section: &'a [u8], offset: u64) -> Result<Cursor<'a>, RangeFault
 
 /// The place where the list begins that a value names, an offset of .debug_rnglists.
 #[tactic(auto, unfolding(dw_model::specs::Ranges::list_offset))]
-fn list_place<'a>(
+pub(crate) fn list_place<'a>(
     tables: &Tables<'a>,
     bases: &Bases,
     value: &Value<'a>,
@@ -82,7 +82,7 @@ fn push_some(ranges: &mut Vec<Range>, range: Option<Range>) -> Result<(), AllocE
 
 /// Reads those ranges that count of the list at the cursor, in place of those that were kept, where
 /// the base before any entry is this one.
-fn ranges_at(
+pub(crate) fn ranges_at(
     ranges: &mut Vec<Range>,
     tables: &Tables<'_>,
     bases: &Bases,

@@ -34,6 +34,7 @@ pub(crate) enum RangeEntry {
 }
 
 /// An operand that is an unsigned LEB128 number.
+#[inline(always)]
 fn leb(cursor: &mut Cursor<'_>) -> Result<u64, RangeFault>
     ensures { ReadsOn (λ x. x) range_fault result (model.leb cursor.old) cursor.new }
 {

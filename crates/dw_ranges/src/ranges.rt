@@ -67,7 +67,11 @@ fn pc_range<'a>(
 
 /// The base of a unit's lists before any entry sets one: the address of its first entry, else 0;
 /// `None` where that address can't be read.
-fn first_base<'a>(tables: &Tables<'a>, bases: &Bases, root: Option<&Entry<'a>>) -> Option<u64>
+pub(crate) fn first_base<'a>(
+    tables: &Tables<'a>,
+    bases: &Bases,
+    root: Option<&Entry<'a>>,
+) -> Option<u64>
     ensures { base_shown result ≡ first_base (tables_shown tables.now) (bases_shown bases.now)
         (option_map (λ first. entry_shown first.now) root.entry) }
 {

@@ -79,9 +79,6 @@ shown-append : (front back : List (CodeRange × ℕ)) → map pair_shown (front 
 shown-append [] back = refl
 shown-append (pair ∷ front) back = ap (λ (pairs : List (Range × ℕ)). pair_shown pair ∷ pairs) (shown-append front back)
 
-pub pushed : (s : Sections) (front new : List (CodeRange × ℕ)) (ranges : List CodeRange) (i : ℕ) (unit : DwarfUnit) → slice_get (model.units s.info) i ≡ Some unit → checked_ranges s unit ≡ Ok (map range_shown ranges) → new ≡ front ++ map (λ range. (range, i)) ranges
-    → SoFar s (map pair_shown front) i → SoFar s (map pair_shown new) (i + 1)
-pushed s front new ranges i unit at e same so_far =
-    let shown : map pair_shown new ≡ map pair_shown front ++ map (λ range. (range, i)) (map range_shown ranges) =
-    ap (λ (pairs : List (CodeRange × ℕ)). map pair_shown pairs) same ∙ shown-append front (map (λ range. (range, i)) ranges) ∙ ap (λ (pairs : List (Range × ℕ)). map pair_shown front ++ pairs) (owned ranges i) in
-    rw shown (goes_on s (map pair_shown front) i unit (map range_shown ranges) at e so_far)
+pub shown-pairs : (front new : List (CodeRange × ℕ)) (ranges : List CodeRange) (i : ℕ) → new ≡ front ++ map (λ range. (range, i)) ranges → map pair_shown new ≡ map pair_shown front ++ map (λ range. (range, i)) (map range_shown ranges)
+shown-pairs front new ranges i same =
+    ap (λ (pairs : List (CodeRange × ℕ)). map pair_shown pairs) same ∙ shown-append front (map (λ range. (range, i)) ranges) ∙ ap (λ (pairs : List (Range × ℕ)). map pair_shown front ++ pairs) (owned ranges i)

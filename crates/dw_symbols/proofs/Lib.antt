@@ -1,8 +1,10 @@
 pub mod CountSteps
 pub mod CoverLemmas
+pub mod PairsLemmas
 pub mod OwnerLemmas
 pub mod ImageLemmas
 pub mod KeptLemmas
+pub mod LineLemmas
 pub mod LocationLemmas
 pub mod FrameLemmas
 pub mod TreeLemmas

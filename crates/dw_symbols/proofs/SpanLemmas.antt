@@ -1,6 +1,6 @@
 -- The pieces of a span by line tables.
-use Rattle.std.proofs.Common.{◌≡◌, ◌≤◌, ◌<◌, ℕ, List, [], ◌∷◌, ◌++◌, map, Option, Some, None, Bool, true, false, Result, Ok, Err, length, ◌-◌, ◌+◌, refl, sym, subst, ap, ◌∙◌, arith}
-use Rattle.std.specs.Prelude.{IfSome, IfOk, slice_get, ◌↔◌, option_map, ◌&&◌, ◌==◌, if◌then◌else◌}
+use Rattle.std.proofs.Common.{◌≡◌, ◌≤◌, ◌<◌, ℕ, List, [], ◌∷◌, ◌++◌, map, Option, Some, None, true, false, Result, Ok, Err, length, ◌-◌, ◌+◌, refl, sym, subst, ap, ◌∙◌, arith}
+use Rattle.std.specs.Prelude.{IfSome, slice_get, ◌↔◌, option_map}
 use Rattle.dw_model.specs.Answer as model
 use Rattle.dw_model.specs.Answer.{Lines, Code, line_fault, unit_of, lines, row_at, row_location}
 use Rattle.dw_model.specs.Pieces.{UnitFault, ArePieces, IsFirstFault, HaveLocation, joins, with_piece, unit_place, place, pieces_from, as_answer, pieces_in}
@@ -21,8 +21,8 @@ use Rattle.dw_line.specs.Search.{row_told}
 use Rattle.dw_symbols.specs.declared.answer.UnitFault.{UnitFault as CodeFault}
 use Rattle.dw_symbols.specs.declared.span.Span.{Span}
 use Rattle.dw_symbols.specs.Answer.{code_shown}
-use Rattle.dw_symbols.specs.Decoded.{HasLines, Holds}
-use Rattle.dw_symbols.specs.declared.unit_parts.Decoded.{Decoded}
+use Rattle.dw_line.specs.Lines.{Table, lines_shown}
+use Rattle.dw_symbols.specs.UnitParts.{HasLines}
 use Rattle.dw_symbols.specs.Span.{IsUnitOf, AddsUnit, AddsSpan}
 use Rattle.dw_symbols.proofs.CoverLemmas.{some-at, known}
 
@@ -130,24 +130,17 @@ same_place : (table : Lines) (found : Option ModelRow) → option_map (row_place
 same_place table None = refl
 same_place table (Some row) = refl
 
-pub unit_adds : (s : Sections) (unit : DwarfUnit) (span : Span) (table : Lines) (old new : List model.Piece) → HasLines s unit (Some (Ok (Some table))) → AddsRows table span.low span.high old new → AddsUnit s unit span None old new
+pub unit_adds : (s : Sections) (unit : DwarfUnit) (span : Span) (table : Table) (old new : List model.Piece) → HasLines s unit (Ok (Some table)) → AddsRows (lines_shown table) span.low span.high old new → AddsUnit s unit span None old new
 unit_adds s unit span table old new has adds = λ from order same are.
     adds (place s) from order are
-    (λ a above below. same a above below ∙ place_ok s unit (Some table) a has ∙ ap Ok (sym (same_place table (row_of table.rows a))))
+    (λ a above below. same a above below ∙ place_ok s unit (Some (lines_shown table)) a has ∙ ap Ok (sym (same_place (lines_shown table) (row_of table.rows a))))
 
-pub unit_adds_none : (s : Sections) (unit : DwarfUnit) (span : Span) (old : List model.Piece) → span.low ≤ span.high → HasLines s unit (Some (Ok None)) → NoneMore → AddsUnit s unit span None old old
+pub unit_adds_none : (s : Sections) (unit : DwarfUnit) (span : Span) (old : List model.Piece) → span.low ≤ span.high → HasLines s unit (Ok None) → NoneMore → AddsUnit s unit span None old old
 unit_adds_none s unit span old rises has law = λ from order same are.
     law (place s) from span.low span.high old are rises (λ a above below. same a above below ∙ place_ok s unit None a has)
 
-pub unit_fault : (s : Sections) (unit : DwarfUnit) (span : Span) (code : CodeFault) (old new : List model.Piece) → HasLines s unit (Some (Err code)) → AddsUnit s unit span (Some code) old new
+pub unit_fault : (s : Sections) (unit : DwarfUnit) (span : Span) (code : CodeFault) (old new : List model.Piece) → HasLines s unit (Err code) → AddsUnit s unit span (Some code) old new
 unit_fault s unit span code old new has = λ a. place_fault s unit code a has
-
--- by what is kept of the unit
-pub unit_known : {E : Type 0} (s : Sections) (found : Option DwarfUnit) (decoded : Decoded) (read : Result (Option Lines) CodeFault) (span : Span) (result : Result (Option CodeFault) E) (old new : List model.Piece) → IfSome found (λ unit. Holds s unit decoded) → decoded.lines ≡ Some read
-    → IfOk result (λ fault. (s : Sections) (unit : DwarfUnit) → HasLines s unit (Some read) → AddsUnit s unit span fault old new) → IfOk result (λ fault. IfSome found (λ unit. AddsUnit s unit span fault old new))
-unit_known s found decoded read span (Err e) old new holds same adds = tt
-unit_known s None decoded read span (Ok fault) old new holds same adds = tt
-unit_known s (Some unit) decoded read span (Ok fault) old new holds same adds = adds s unit (subst (HasLines s unit) same holds.lines)
 
 -- ---- the addresses of a span
 

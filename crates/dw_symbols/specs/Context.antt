@@ -2,11 +2,12 @@
 use Rattle.dw_model.specs.Section.{sections}
 use Rattle.dw_symbols.specs.declared.context.Context.TheInside.{Inside}
 use Rattle.dw_symbols.specs.ContextState.{ContextState}
-use Rattle.dw_symbols.specs.Kept.{AreOf}
+use Rattle.dw_symbols.specs.Kept.{AreTrees, AreTables}
 
 abbrev pub state_of : Inside → ContextState
 state_of context = record { file = context.image.now; refused = context.refusals.count }
 
--- the units that are kept are the file's
-abbrev pub IsKept : Inside → Type 0
-IsKept context = AreOf (sections context.image.now) context.units.entries
+-- what is kept of units and of line tables is the file's
+pub record IsKept (context : Inside) : Type 0 where
+  pub trees : AreTrees (sections context.image.now) context.trees.entries
+  pub tables : AreTables (sections context.image.now) context.tables.entries

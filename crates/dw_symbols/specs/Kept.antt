@@ -1,14 +1,24 @@
--- The units that are kept.
-use Rattle.std.specs.Prelude.{ℕ, List, IfSome, Contains, slice_get}
+-- What is kept, by keys.
+use Rattle.std.specs.Prelude.{ℕ, List, IfSome, Contains, slice_get, Option, Result}
 use Rattle.dw_model.specs.Section.{Sections}
 use Rattle.dw_model.specs.Unit.{units}
-use Rattle.dw_symbols.specs.declared.unit_parts.Decoded.{Decoded}
-use Rattle.dw_symbols.specs.Decoded.{Holds}
+use Rattle.dw_line.specs.Lines.{Table}
+use Rattle.dw_frames.specs.UnitIn.{UnitIn}
+use Rattle.dw_symbols.specs.declared.answer.UnitFault.{UnitFault}
+use Rattle.dw_symbols.specs.UnitParts.{HasTree, IsTableAt}
 
--- what is kept of the unit at a place is the unit's
-abbrev pub IsOf : Sections → ℕ → Decoded → Type 0
-IsOf sections i decoded = IfSome (slice_get (units sections.info) i) (λ unit. Holds sections unit decoded)
+-- each value that is kept is that of its key
+abbrev pub AreOf : {V : Type 0} → (ℕ → V → Type 0) → List (ℕ × V) → Type 0
+AreOf {V} Is entries = (k : ℕ) (v : V) → Contains entries (k, v) → Is k v
 
--- each unit that is kept is kept at its place
-abbrev pub AreOf : Sections → List (ℕ × Decoded) → Type 0
-AreOf sections entries = (i : ℕ) (decoded : Decoded) → Contains entries (i, decoded) → IsOf sections i decoded
+-- the functions of the unit at a place
+abbrev pub IsTreeAt : Sections → ℕ → Result UnitIn UnitFault → Type 0
+IsTreeAt sections i read = IfSome (slice_get (units sections.info) i) (λ unit. HasTree sections unit read)
+
+-- the functions of units, by their places
+abbrev pub AreTrees : Sections → List (ℕ × Result UnitIn UnitFault) → Type 0
+AreTrees sections entries = AreOf (IsTreeAt sections) entries
+
+-- line tables, by their offsets
+abbrev pub AreTables : Sections → List (ℕ × Result (Option Table) UnitFault) → Type 0
+AreTables sections entries = AreOf (IsTableAt sections) entries

@@ -5,7 +5,8 @@ pub mod Codes
 pub mod ContextState
 pub mod Context
 pub mod Told
+pub mod UnitParts
 pub mod Kept
 pub mod Cover
-pub mod Decoded
+pub mod Pairs
 pub mod Image

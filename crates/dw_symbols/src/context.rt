@@ -1,4 +1,4 @@
-//! Answers the addresses of a file, and keeps the units that were used last.
+//! Answers the addresses of a file, and keeps the units and the line tables that were used last.
 
 ghost use Rattle.std.specs.Prelude.{◌≡◌, ◌+◌, ◌<◌, ◌≤◌, ℕ, IfOk, IfSome, is_ok, length, map, slice_get, if◌then◌else◌};
 ghost use Rattle.dw_model.specs.Answer as model;
@@ -13,8 +13,11 @@ use crate::answer::{Answer, Piece, UnitFault};
 use crate::image::Image;
 use crate::refusals::Refusals;
 use crate::span::Span;
-use crate::unit_cache::{Kept, keep, kept_answer, kept_location, kept_pieces};
-use crate::unit_parts::Decoded;
+use crate::unit_answers::{location_by, push_pieces_by};
+use crate::unit_cache::{
+    Tables, Trees, keep_lines, keep_tree, kept_answer, kept_location, kept_pieces, tree_answer,
+};
+use crate::unit_parts::{read_lines, read_tree};
 use dw_model::laws::{law_of_more_pieces, law_of_pieces};
 use lru::LruCache;
 use std::alloc::{AllocError, Global};
@@ -29,8 +32,10 @@ use ticket_core::{Query, QueryKind};
 pub struct Context<'b, 'a> {
     image: &'b Image<'a>,
     alloc: Global,
-    /// The units that were used last, by their places.
-    units: Kept<'b, 'a>,
+    /// The functions of the units that were used last.
+    trees: Trees<'b, 'a>,
+    /// The line tables that were used last. Units may name one table, which is kept once.
+    tables: Tables<'a>,
     refusals: Refusals,
 }
 
@@ -65,7 +70,8 @@ fn lesser(a: u64, b: u64) -> u64
 }
 
 impl<'b, 'a> Context<'b, 'a> {
-    /// A context that keeps so many units. Nothing of them is read yet.
+    /// A context that keeps the functions of so many units, and as many line tables. Nothing of them
+    /// is read yet.
     pub fn new(
         alloc: Global,
         image: &'b Image<'a>,
@@ -74,11 +80,13 @@ impl<'b, 'a> Context<'b, 'a> {
         ensures file { IfOk result (λ context. context.file ≡ image.now) }
         ensures refused { IfOk result (λ context. context.refused ≡ 0) }
     {
-        let units = LruCache::sparse(alloc, capacity)?;
+        let trees = LruCache::sparse(alloc, capacity)?;
+        let tables = LruCache::sparse(alloc, capacity)?;
         Ok(Context {
             image,
             alloc,
-            units,
+            trees,
+            tables,
             refusals: Refusals::new(),
         })
     }
@@ -98,12 +106,12 @@ impl<'b, 'a> Context<'b, 'a> {
         let Some(i) = self.image.unit_at(a) else {
             return Ok(Answer::NotCovered);
         };
-        if let Some(answer) = kept_location(&mut self.units, self.alloc, self.image, i, a) {
+        if let Some(answer) = kept_location(&mut self.tables, self.alloc, self.image, i, a) {
             return answer;
         }
-        let mut unit = Decoded::new();
-        let answer = unit.location(self.alloc, self.image, i, a)?;
-        keep(&mut self.units, i, unit);
+        let mut lines = read_lines(self.alloc, self.image, i)?;
+        let answer = location_by(&mut lines, self.alloc, self.image, i, a)?;
+        keep_lines(&mut self.tables, self.image, i, lines);
         Ok(answer)
     }
 
@@ -122,12 +130,19 @@ impl<'b, 'a> Context<'b, 'a> {
             (map piece_shown pieces.new.items))) }
         ensures state { self.new ≡ self.old }
     {
-        if let Some(added) = kept_pieces(&mut self.units, self.alloc, self.image, i, span, pieces) {
+        if let Some(added) = kept_pieces(
+            &mut self.tables,
+            self.alloc,
+            self.image,
+            i,
+            span,
+            pieces,
+        ) {
             return added;
         }
-        let mut unit = Decoded::new();
-        let added = unit.push_pieces(self.alloc, self.image, i, span, pieces)?;
-        keep(&mut self.units, i, unit);
+        let mut lines = read_lines(self.alloc, self.image, i)?;
+        let added = push_pieces_by(&mut lines, self.alloc, self.image, i, span, pieces)?;
+        keep_lines(&mut self.tables, self.image, i, lines);
         Ok(added)
     }
 
@@ -192,12 +207,13 @@ impl<'b, 'a> Context<'b, 'a> {
         let Some(i) = self.image.unit_at(a) else {
             return Ok(Answer::NotCovered);
         };
-        if let Some(answer) = kept_answer(&mut self.units, self.alloc, self.image, i, a) {
+        let (alloc, image) = (self.alloc, self.image);
+        if let Some(answer) = kept_answer(&mut self.trees, &mut self.tables, alloc, image, i, a) {
             return answer;
         }
-        let mut unit = Decoded::new();
-        let answer = unit.answer(self.alloc, self.image, i, a)?;
-        keep(&mut self.units, i, unit);
+        let tree = read_tree(alloc, image, i)?;
+        let answer = tree_answer(&mut self.tables, &tree, alloc, image, i, a)?;
+        keep_tree(&mut self.trees, i, tree);
         Ok(answer)
     }
 

@@ -1,6 +1,6 @@
 //! The frames at an address, from the functions at it.
 
-ghost use Rattle.std.specs.Prelude.{◌≡◌, List, IfOk, map};
+ghost use Rattle.std.specs.Prelude.{◌≡◌, List, IfOk, map, option_map};
 ghost use Rattle.dw_model.specs.Section.{Sections};
 ghost use Rattle.dw_model.specs.Unit.{DwarfUnit};
 ghost use Rattle.dw_model.specs.Tree.{Node, chain};
@@ -8,8 +8,9 @@ ghost use Rattle.dw_model.specs.Name.{name};
 ghost use Rattle.dw_model.specs.Answer as model;
 ghost use Rattle.dw_frames.specs.Told.{described_shown, told_of};
 ghost use Rattle.dw_frames.specs.Tree.{nodes_of};
+ghost use Rattle.dw_line.specs.Lines.{lines_shown};
 ghost use Rattle.dw_symbols.specs.Answer.{location_shown, frame_shown, answer_shown};
-ghost use Rattle.dw_symbols.specs.Decoded.{IsTreeOf};
+ghost use Rattle.dw_symbols.specs.UnitParts.{IsTreeOf};
 
 use crate::answer::{Answer, Frame, Location};
 use crate::location::call_location;
@@ -29,7 +30,8 @@ pub(crate) fn frames_of<'a>(
     ensures { IfOk result (λ frames. (s : Sections) (unit : DwarfUnit) (nodes : List Node)
         → map described_shown functions.now ≡ map (λ node. told_of s unit node.entry) nodes
         → map frame_shown frames.items ≡ model.frames
-        (λ entry. name s (record { unit = unit; entry = entry })) lines.now (location_shown location) nodes) }
+        (λ entry. name s (record { unit = unit; entry = entry })) (option_map lines_shown lines.now)
+        (location_shown location) nodes) }
 {
     if functions.len() == 0 {
         let frames = vec![in alloc;
@@ -65,8 +67,8 @@ pub(crate) fn answer_of<'a>(
 ) -> Result<Answer<'a>, AllocError>
     ensures { IfOk result (λ answer. (s : Sections) (of : DwarfUnit) → IsTreeOf s of tree.now
         → answer_shown answer ≡ model.found unit
-        (model.frames (λ entry. name s (record { unit = of; entry = entry })) lines.now (location_shown location)
-        (chain s of (nodes_of s of) a))) }
+        (model.frames (λ entry. name s (record { unit = of; entry = entry })) (option_map lines_shown lines.now)
+        (location_shown location) (chain s of (nodes_of s of) a))) }
 {
     let functions = tree.functions(alloc, a)?;
     let frames = frames_of(alloc, lines, &functions, location)?;

@@ -10,6 +10,7 @@ mod pieces;
 mod refusals;
 mod solver;
 mod span;
+mod unit_answers;
 mod unit_cache;
 mod unit_parts;
 mod unit_place;

@@ -1,46 +1,13 @@
 //! Where in the source an address comes from.
 
-ghost use Rattle.std.specs.Prelude.{◌≡◌, ◌<◌, IfOk, IfSome, length, None, option_and_then, option_map, slice_get};
-ghost use Rattle.dw_model.specs.Unit as model_unit;
+ghost use Rattle.std.specs.Prelude.{◌≡◌, IfOk, None, option_and_then, option_map};
 ghost use Rattle.dw_model.specs.Answer as model;
-ghost use Rattle.dw_model.specs.Answers.{GivesUnlessMemory};
-ghost use Rattle.dw_line.specs.Fault.{line_fault};
+ghost use Rattle.dw_line.specs.Lines.{lines_shown};
 ghost use Rattle.dw_symbols.specs.Answer.{location_shown};
 
 use crate::answer::Location;
-use dw_forms::Value;
-use dw_line::{LineFault, Lines};
-use dw_model::dwarf::{DW_AT_comp_dir, DW_AT_stmt_list};
-use dw_units::Units;
+use dw_line::Lines;
 use std::alloc::{AllocError, Global};
-
-/// The line table that a unit's first entry names, where it names one; .debug_line is handed in.
-#[tactic(auto, unfolding(dw_model::specs::Answer::lines, dw_model::specs::Answer::lines_at, dw_line::specs::Lines::lines_of))]
-pub(crate) fn lines_of<'a>(
-    alloc: Global,
-    units: &Units<'a>,
-    line: &'a [u8],
-    i: usize,
-) -> Result<Option<Lines<'a>>, LineFault>
-    requires unit { i < length (model_unit.units units.now.info) }
-    requires line { line.now ≡ units.now.line }
-    ensures { IfSome (slice_get (model_unit.units units.now.info) i)
-        (λ unit. GivesUnlessMemory (λ lines. lines) line_fault result (model.lines units.now unit)) }
-{
-    let unit = units.unit(i);
-    let Some(root) = &unit.root else {
-        return Ok(None);
-    };
-    let Some(Value::SectionOffset(offset)) = root.attr(DW_AT_stmt_list) else {
-        return Ok(None);
-    };
-    let comp_dir = match root.attr(DW_AT_comp_dir) {
-        Some(value) => units.tables().text(value, &unit.bases),
-        None => None,
-    };
-    let lines = Lines::read(alloc, line, units.tables(), &unit.bases, comp_dir, *offset)?;
-    Ok(Some(lines))
-}
 
 /// A location of which nothing is known.
 fn nowhere() -> Location
@@ -77,7 +44,8 @@ fn file_path(
     lines: &Option<Lines<'_>>,
     n: u64,
 ) -> Result<Option<Vec<u8>>, AllocError>
-    ensures { IfOk result (λ found. option_map (λ path. path.items) found ≡ model.file_path lines.now n) }
+    ensures { IfOk result (λ found. option_map (λ path. path.items) found
+        ≡ model.file_path (option_map lines_shown lines.now) n) }
 {
     match lines {
         Some(table) => table.path(alloc, n),
@@ -93,7 +61,7 @@ pub(crate) fn row_location(
     a: u64,
 ) -> Result<Location, AllocError>
     ensures location { IfOk result (λ location. location_shown location
-        ≡ model.row_location lines.old (model.row_at lines.old a)) }
+        ≡ model.row_location (option_map lines_shown lines.old) (model.row_at (option_map lines_shown lines.old) a)) }
     ensures table { lines.new ≡ lines.old }
 {
     let Some(table) = lines else {
@@ -115,7 +83,7 @@ pub(crate) fn call_location(
     column: Option<u64>,
 ) -> Result<Location, AllocError>
     ensures { IfOk result (λ location. location_shown location
-        ≡ model.location_at (option_and_then (model.file_path lines.now) file) line column) }
+        ≡ model.location_at (option_and_then (model.file_path (option_map lines_shown lines.now)) file) line column) }
 {
     let path = match file {
         Some(n) => file_path(alloc, lines, n)?,

@@ -3,6 +3,7 @@
 ghost use Rattle.std.specs.Prelude.{◌≡◌, ◌≤◌, OnOk, map};
 ghost use Rattle.dw_model.specs.Pieces.{is_same, joins, with_piece};
 ghost use Rattle.dw_symbols.specs.Answer.{location_shown, piece_shown};
+ghost use Rattle.dw_line.specs.Lines.{lines_shown};
 ghost use Rattle.dw_symbols.specs.Pieces.{AddsStretch, AddsRows};
 
 use crate::answer::{Location, Piece};
@@ -55,7 +56,7 @@ fn push_stretch(
     stretch: Stretch,
     pieces: &mut Vec<Piece>,
 ) -> Result<(), AllocError>
-    ensures { OnOk result (AddsStretch lines.now stretch (map piece_shown pieces.old.items)
+    ensures { OnOk result (AddsStretch (lines_shown lines.now) stretch (map piece_shown pieces.old.items)
         (map piece_shown pieces.new.items)) }
 {
     law_of_more_pieces();
@@ -82,7 +83,7 @@ pub(crate) fn push_rows(
     pieces: &mut Vec<Piece>,
 ) -> Result<(), AllocError>
     requires { low ≤ high }
-    ensures { OnOk result (AddsRows lines.now low high (map piece_shown pieces.old.items)
+    ensures { OnOk result (AddsRows (lines_shown lines.now) low high (map piece_shown pieces.old.items)
         (map piece_shown pieces.new.items)) }
 {
     let mut walk = lines.walk(low, high);

@@ -1,92 +1,189 @@
-//! The units that were used last, and what they answer.
+//! The functions of units and the line tables that were used last, and what they answer.
 
 ghost use Rattle.std.specs.Prelude.{◌≡◌, ◌<◌, ◌≤◌, map, false, IfSome, IfNone, IfOk, length, slice_get};
 ghost use Rattle.dw_model.specs.Section.{Sections, sections};
 ghost use Rattle.dw_model.specs.Unit.{is_skipped, units};
 ghost use Rattle.dw_model.specs.Answer.{as_answer, unit_answer, unit_location};
 ghost use Rattle.dw_symbols.specs.Answer.{answer_shown, piece_shown};
-ghost use Rattle.dw_symbols.specs.Kept.{IsOf, AreOf};
+ghost use Rattle.dw_symbols.specs.Kept.{AreTrees, AreTables, IsTreeAt};
+ghost use Rattle.dw_symbols.specs.UnitParts.{HasTree, IsNamed, IsTableAt, IsTreeOf};
 ghost use Rattle.dw_symbols.specs.Span.{AddsUnit};
 
 use crate::answer::{Answer, Piece, UnitFault};
 use crate::image::Image;
 use crate::span::Span;
-use crate::unit_parts::Decoded;
+use crate::unit_answers::{frames_by, location_by, push_pieces_by};
+use crate::unit_parts::{UnitLines, UnitTree, read_lines, table_offset};
+use dw_frames::Tree;
 use lru::LruCache;
 use std::alloc::{AllocError, Global};
 
-/// Units by their places, the last used first.
-pub(crate) type Kept<'b, 'a> = LruCache<usize, Decoded<'b, 'a>>;
+/// The functions of units by their places, the last used first.
+pub(crate) type Trees<'b, 'a> = LruCache<usize, UnitTree<'b, 'a>>;
 
-/// Keeps a unit. One for which there is no memory is read again when it is asked for.
-pub(crate) fn keep<'b, 'a>(kept: &mut Kept<'b, 'a>, i: usize, unit: Decoded<'b, 'a>)
-    ensures { (s : Sections) → AreOf s kept.old.entries → IsOf s i unit.entry → AreOf s kept.new.entries }
+/// Line tables by their offsets in .debug_line, the last used first.
+pub(crate) type Tables<'a> = LruCache<u64, UnitLines<'a>>;
+
+/// Keeps the functions of a unit. Those for which there is no memory are read again when they are
+/// asked for.
+pub(crate) fn keep_tree<'b, 'a>(kept: &mut Trees<'b, 'a>, i: usize, tree: UnitTree<'b, 'a>)
+    ensures { (s : Sections) → AreTrees s kept.old.entries → IsTreeAt s i tree.entry → AreTrees s kept.new.entries }
 {
-    match kept.put(i, unit) {
+    match kept.put(i, tree) {
         Ok(_) => {}
         Err(_) => {}
     }
 }
 
-/// Where an address comes from, by a unit that is kept; `None` where it isn't.
-pub(crate) fn kept_location<'b, 'a>(
-    kept: &mut Kept<'b, 'a>,
+/// Keeps a line table in the same way.
+fn put_table<'a>(kept: &mut Tables<'a>, offset: u64, lines: UnitLines<'a>)
+    ensures { (s : Sections) → AreTables s kept.old.entries → IsTableAt s offset lines.entry
+        → AreTables s kept.new.entries }
+{
+    match kept.put(offset, lines) {
+        Ok(_) => {}
+        Err(_) => {}
+    }
+}
+
+/// Keeps the line table that a unit names.
+pub(crate) fn keep_lines<'a>(
+    kept: &mut Tables<'a>,
+    image: &Image<'a>,
+    i: usize,
+    lines: UnitLines<'a>,
+)
+    requires unit { i < length (units (sections image.now).info) }
+    requires named { IfSome (slice_get (units (sections image.now).info) i)
+        (λ unit. IsNamed (sections image.now) unit lines) }
+    requires kept { AreTables (sections image.now) kept.old.entries }
+    ensures { AreTables (sections image.now) kept.new.entries }
+{
+    let Some(offset) = table_offset(image.units(), i) else {
+        return;
+    };
+    put_table(kept, offset, lines);
+}
+
+/// Where an address comes from, by a line table that is kept; `None` where it isn't.
+pub(crate) fn kept_location<'a>(
+    kept: &mut Tables<'a>,
     alloc: Global,
-    image: &'b Image<'a>,
+    image: &Image<'a>,
     i: usize,
     a: u64,
 ) -> Option<Result<Answer<'a>, AllocError>>
     requires unit { i < length (units (sections image.now).info) }
-    requires kept { AreOf (sections image.now) kept.old.entries }
-    ensures kept { AreOf (sections image.now) kept.new.entries }
+    requires kept { AreTables (sections image.now) kept.old.entries }
+    ensures kept { AreTables (sections image.now) kept.new.entries }
     ensures answer { IfSome result (λ result. IfOk result
         (λ answer. IfSome (slice_get (units (sections image.now).info) i)
         (λ unit. answer_shown answer ≡ as_answer unit.offset (unit_location (sections image.now) unit a)))) }
 {
-    let unit = kept.get_mut(&i)?;
-    Some(unit.location(alloc, image, i, a))
+    let offset = table_offset(image.units(), i)?;
+    let lines = kept.get_mut(&offset)?;
+    Some(location_by(lines, alloc, image, i, a))
 }
 
-/// What an address means, by a unit that is kept; `None` where it isn't.
-pub(crate) fn kept_answer<'b, 'a>(
-    kept: &mut Kept<'b, 'a>,
+/// Adds the pieces of a span, of which a unit answers all addresses by a line table that is kept, or
+/// returns why it can't answer them; `None` where it isn't kept.
+pub(crate) fn kept_pieces<'a>(
+    kept: &mut Tables<'a>,
     alloc: Global,
-    image: &'b Image<'a>,
-    i: usize,
-    a: u64,
-) -> Option<Result<Answer<'a>, AllocError>>
-    requires unit { i < length (units (sections image.now).info) }
-    requires answers { IfSome (slice_get (units (sections image.now).info) i) (λ unit. is_skipped unit.kind ≡ false) }
-    requires kept { AreOf (sections image.now) kept.old.entries }
-    ensures kept { AreOf (sections image.now) kept.new.entries }
-    ensures answer { IfSome result (λ result. IfOk result
-        (λ answer. IfSome (slice_get (units (sections image.now).info) i)
-        (λ unit. answer_shown answer ≡ as_answer unit.offset (unit_answer (sections image.now) unit a)))) }
-{
-    let unit = kept.get_mut(&i)?;
-    Some(unit.answer(alloc, image, i, a))
-}
-
-/// Adds the pieces of a span, of which a unit that is kept answers all addresses, or returns why it can't answer them;
-/// `None` where it isn't kept.
-pub(crate) fn kept_pieces<'b, 'a>(
-    kept: &mut Kept<'b, 'a>,
-    alloc: Global,
-    image: &'b Image<'a>,
+    image: &Image<'a>,
     i: usize,
     span: Span,
     pieces: &mut Vec<Piece>,
 ) -> Option<Result<Option<UnitFault>, AllocError>>
     requires unit { i < length (units (sections image.now).info) }
-    requires kept { AreOf (sections image.now) kept.old.entries }
+    requires kept { AreTables (sections image.now) kept.old.entries }
     requires order { span.low ≤ span.high }
-    ensures kept { AreOf (sections image.now) kept.new.entries }
+    ensures kept { AreTables (sections image.now) kept.new.entries }
     ensures pieces { IfSome result (λ result. IfOk result
         (λ fault. IfSome (slice_get (units (sections image.now).info) i)
         (λ unit. AddsUnit (sections image.now) unit span fault (map piece_shown pieces.old.items)
         (map piece_shown pieces.new.items)))) }
     ensures none { IfNone result (pieces.new ≡ pieces.old) }
 {
-    let unit = kept.get_mut(&i)?;
-    Some(unit.push_pieces(alloc, image, i, span, pieces))
+    let offset = table_offset(image.units(), i)?;
+    let lines = kept.get_mut(&offset)?;
+    Some(push_pieces_by(lines, alloc, image, i, span, pieces))
+}
+
+/// What an address means, by the functions of its unit and a line table that is kept; `None` where
+/// it isn't.
+fn kept_frames<'a>(
+    kept: &mut Tables<'a>,
+    tree: &Tree<'_, 'a>,
+    alloc: Global,
+    image: &Image<'a>,
+    i: usize,
+    a: u64,
+) -> Option<Result<Answer<'a>, AllocError>>
+    requires unit { i < length (units (sections image.now).info) }
+    requires tree { IfSome (slice_get (units (sections image.now).info) i)
+        (λ unit. IsTreeOf (sections image.now) unit tree.now) }
+    requires kept { AreTables (sections image.now) kept.old.entries }
+    ensures kept { AreTables (sections image.now) kept.new.entries }
+    ensures answer { IfSome result (λ result. IfOk result
+        (λ answer. IfSome (slice_get (units (sections image.now).info) i)
+        (λ unit. answer_shown answer ≡ as_answer unit.offset (unit_answer (sections image.now) unit a)))) }
+{
+    let offset = table_offset(image.units(), i)?;
+    let lines = kept.get_mut(&offset)?;
+    Some(frames_by(lines, tree, alloc, image, i, a))
+}
+
+/// What an address means, by the functions of its unit.
+pub(crate) fn tree_answer<'a>(
+    tables: &mut Tables<'a>,
+    tree: &UnitTree<'_, 'a>,
+    alloc: Global,
+    image: &Image<'a>,
+    i: usize,
+    a: u64,
+) -> Result<Answer<'a>, AllocError>
+    requires unit { i < length (units (sections image.now).info) }
+    requires tree { IfSome (slice_get (units (sections image.now).info) i)
+        (λ unit. HasTree (sections image.now) unit tree.now) }
+    requires kept { AreTables (sections image.now) tables.old.entries }
+    ensures kept { AreTables (sections image.now) tables.new.entries }
+    ensures answer { IfOk result (λ answer. IfSome (slice_get (units (sections image.now).info) i)
+        (λ unit. answer_shown answer ≡ as_answer unit.offset (unit_answer (sections image.now) unit a))) }
+{
+    let unit = image.units().unit(i).offset;
+    let tree = match tree {
+        Ok(tree) => tree,
+        Err(code) => return Ok(Answer::Fault { unit, code: *code }),
+    };
+    if let Some(answer) = kept_frames(tables, tree, alloc, image, i, a) {
+        return answer;
+    }
+    let mut lines = read_lines(alloc, image, i)?;
+    let answer = frames_by(&mut lines, tree, alloc, image, i, a)?;
+    keep_lines(tables, image, i, lines);
+    Ok(answer)
+}
+
+/// What an address means, by the functions of its unit where they are kept; `None` where they
+/// aren't.
+pub(crate) fn kept_answer<'b, 'a>(
+    trees: &mut Trees<'b, 'a>,
+    tables: &mut Tables<'a>,
+    alloc: Global,
+    image: &'b Image<'a>,
+    i: usize,
+    a: u64,
+) -> Option<Result<Answer<'a>, AllocError>>
+    requires unit { i < length (units (sections image.now).info) }
+    requires trees { AreTrees (sections image.now) trees.old.entries }
+    requires tables { AreTables (sections image.now) tables.old.entries }
+    ensures trees { AreTrees (sections image.now) trees.new.entries }
+    ensures tables { AreTables (sections image.now) tables.new.entries }
+    ensures answer { IfSome result (λ result. IfOk result
+        (λ answer. IfSome (slice_get (units (sections image.now).info) i)
+        (λ unit. answer_shown answer ≡ as_answer unit.offset (unit_answer (sections image.now) unit a)))) }
+{
+    let tree = trees.get_mut(&i)?;
+    Some(tree_answer(tables, tree, alloc, image, i, a))
 }

@@ -1,61 +1,38 @@
-//! What is kept of a unit: each part is read when it is first asked for.
+//! What is read of a unit: its functions, and the line table that it names.
 
-ghost use Rattle.std.specs.Prelude.{◌≡◌, ◌<◌, ◌≤◌, map, false, Some, None, OnOk, IfOk, IfSome, IsSome, length};
-ghost use Rattle.std.specs.Prelude.{slice_get};
-ghost use Rattle.dw_model.specs.Section.{Sections, sections};
-ghost use Rattle.dw_model.specs.Unit.{DwarfUnit, is_skipped, units};
-ghost use Rattle.dw_model.specs.Answer.{as_answer, unit_answer, unit_location};
-ghost use Rattle.dw_symbols.specs.Answer.{answer_shown, piece_shown};
-ghost use Rattle.dw_symbols.specs.Decoded.{HasLines, HasTree, Holds};
-ghost use Rattle.dw_symbols.specs.Span.{AddsUnit};
+ghost use Rattle.std.specs.Prelude.{◌≡◌, ◌<◌, false, Some, Ok, IfOk, IfSome, length, slice_get, option_map};
+ghost use Rattle.dw_model.specs.Section.{sections};
+ghost use Rattle.dw_model.specs.Unit.{DwarfUnit, is_skipped};
+ghost use Rattle.dw_model.specs.Unit as model;
+ghost use Rattle.dw_symbols.specs.UnitParts.{HasTree, HasLines, IsNamed, IsTurned, AreTurned};
+ghost use Rattle.dw_symbols.specs.UnitParts.{named_table, directory_of};
 
-use crate::answer::{Answer, Frame, Piece, UnitFault};
-use crate::frames::answer_of;
+use crate::answer::UnitFault;
 use crate::image::Image;
-use crate::location::{lines_of, row_location};
-use crate::pieces::push_rows;
-use crate::span::Span;
+use dw_forms::Value;
 use dw_frames::{Tree, TreeFault};
 use dw_line::{LineFault, Lines};
-use dw_model::laws::law_of_more_pieces;
+use dw_model::dwarf::{DW_AT_comp_dir, DW_AT_stmt_list};
+use dw_units::Units;
 use std::alloc::{AllocError, Global};
 
-/// The parts of a unit that were read.
-#[derive(Drop)]
-pub(crate) struct Decoded<'b, 'a> {
-    /// The functions, or why they can't be read.
-    pub(crate) tree: Option<Result<Tree<'b, 'a>, UnitFault>>,
-    /// The line table, where the unit names one, or why it can't be read.
-    pub(crate) lines: Option<Result<Option<Lines<'a>>, UnitFault>>,
-}
+/// The functions of a unit, or why they can't be read.
+pub(crate) type UnitTree<'b, 'a> = Result<Tree<'b, 'a>, UnitFault>;
 
-/// The line table of a unit, where it names one, or why it can't be read.
-fn read_lines<'a>(
-    alloc: Global,
-    image: &Image<'a>,
-    i: usize,
-) -> Result<Result<Option<Lines<'a>>, UnitFault>, AllocError>
-    requires { i < length (units (sections image.now).info) }
-    ensures { IfOk result (λ read. IfSome (slice_get (units (sections image.now).info) i)
-        (λ unit. HasLines (sections image.now) unit (Some read))) }
-{
-    match lines_of(alloc, image.units(), image.line(), i) {
-        Ok(lines) => Ok(Ok(lines)),
-        Err(LineFault::Bad) => Ok(Err(UnitFault::Line)),
-        Err(LineFault::Memory) => Err(AllocError),
-    }
-}
+/// The line table of a unit, where the unit names one, or why it can't be read.
+pub(crate) type UnitLines<'a> = Result<Option<Lines<'a>>, UnitFault>;
 
 /// The functions of a unit that isn't skipped, or why they can't be read.
-fn read_tree<'b, 'a>(
+pub(crate) fn read_tree<'b, 'a>(
     alloc: Global,
     image: &'b Image<'a>,
     i: usize,
-) -> Result<Result<Tree<'b, 'a>, UnitFault>, AllocError>
-    requires unit { i < length (units (sections image.now).info) }
-    requires answers { IfSome (slice_get (units (sections image.now).info) i) (λ unit. is_skipped unit.kind ≡ false) }
-    ensures { IfOk result (λ read. (unit : DwarfUnit) → slice_get (units (sections image.now).info) i ≡ Some unit
-        → HasTree (sections image.now) unit (Some read)) }
+) -> Result<UnitTree<'b, 'a>, AllocError>
+    requires unit { i < length (model.units (sections image.now).info) }
+    requires answers { IfSome (slice_get (model.units (sections image.now).info) i)
+        (λ unit. is_skipped unit.kind ≡ false) }
+    ensures { IfOk result (λ read. (unit : DwarfUnit)
+        → slice_get (model.units (sections image.now).info) i ≡ Some unit → HasTree (sections image.now) unit read) }
 {
     match Tree::read(alloc, image.units(), i) {
         Ok(tree) => Ok(Ok(tree)),
@@ -66,168 +43,92 @@ fn read_tree<'b, 'a>(
     }
 }
 
-/// Adds the pieces of a span by the line table of the unit that answers all of its addresses; or
-/// returns why that can't be read.
-fn push_lines(
-    alloc: Global,
-    lines: &Result<Option<Lines<'_>>, UnitFault>,
-    span: Span,
-    pieces: &mut Vec<Piece>,
-) -> Result<Option<UnitFault>, AllocError>
-    requires { span.low ≤ span.high }
-    ensures { IfOk result (λ fault. (s : Sections) (unit : DwarfUnit) → HasLines s unit (Some lines.now)
-        → AddsUnit s unit span fault (map piece_shown pieces.old.items) (map piece_shown pieces.new.items)) }
+/// Where the line table begins in .debug_line that a unit's first entry names, if it names one.
+pub(crate) fn table_offset(units: &Units<'_>, i: usize) -> Option<u64>
+    requires { i < length (model.units units.now.info) }
+    ensures { IfSome (slice_get (model.units units.now.info) i) (λ unit. result ≡ named_table units.now unit) }
 {
-    law_of_more_pieces();
-    let table = match lines {
-        Ok(table) => table,
-        Err(code) => return Ok(Some(*code)),
+    let Some(root) = &units.unit(i).root else {
+        return None;
     };
-    let Some(table) = table else {
-        return Ok(None);
-    };
-    push_rows(alloc, table, span.low, span.high, pieces)?;
-    Ok(None)
+    match root.attr(DW_AT_stmt_list) {
+        Some(Value::SectionOffset(offset)) => Some(*offset),
+        _ => None,
+    }
 }
 
-impl<'b, 'a> Decoded<'b, 'a> {
-    /// Nothing was read yet.
-    pub(crate) fn new() -> Self
-        ensures tree { result.tree ≡ None }
-        ensures lines { result.lines ≡ None }
-    {
-        Decoded {
-            tree: None,
-            lines: None,
-        }
+/// The directory in which a unit was compiled, where its first entry tells it.
+fn directory<'a>(units: &Units<'a>, i: usize) -> Option<&'a [u8]>
+    requires { i < length (model.units units.now.info) }
+    ensures { IfSome (slice_get (model.units units.now.info) i)
+        (λ unit. option_map (λ text. text.now) result ≡ directory_of units.now unit) }
+{
+    let unit = units.unit(i);
+    let Some(root) = &unit.root else {
+        return None;
+    };
+    match root.attr(DW_AT_comp_dir) {
+        Some(value) => units.tables().text(value, &unit.bases),
+        None => None,
     }
+}
 
-    /// Reads the functions where they weren't yet.
-    fn fill_tree(&mut self, alloc: Global, image: &'b Image<'a>, i: usize) -> Result<(), AllocError>
-        requires unit { i < length (units (sections image.now).info) }
-        requires answers { IfSome (slice_get (units (sections image.now).info) i)
-            (λ unit. is_skipped unit.kind ≡ false) }
-        requires kept { IfSome (slice_get (units (sections image.now).info) i)
-            (λ unit. Holds (sections image.now) unit self.old) }
-        ensures kept { IfSome (slice_get (units (sections image.now).info) i)
-            (λ unit. Holds (sections image.now) unit self.new) }
-        ensures filled { OnOk result (IsSome self.new.tree) }
-    {
-        let None = &self.tree else {
-            return Ok(());
-        };
-        self.tree = Some(read_tree(alloc, image, i)?);
-        Ok(())
+/// The line table that a unit names, as some unit that names it sees it.
+pub(crate) fn read_lines<'a>(
+    alloc: Global,
+    image: &Image<'a>,
+    i: usize,
+) -> Result<UnitLines<'a>, AllocError>
+    requires { i < length (model.units (sections image.now).info) }
+    ensures { IfOk result (λ read. IfSome (slice_get (model.units (sections image.now).info) i)
+        (λ unit. IsNamed (sections image.now) unit read)) }
+{
+    let units = image.units();
+    let Some(offset) = table_offset(units, i) else {
+        return Ok(Ok(None));
+    };
+    let bases = &units.unit(i).bases;
+    match Lines::read(alloc, image.line(), units.tables(), bases, None, offset) {
+        Ok(lines) => Ok(Ok(Some(lines))),
+        Err(LineFault::Bad) => Ok(Err(UnitFault::Line)),
+        Err(LineFault::Memory) => Err(AllocError),
     }
+}
 
-    /// Reads the line table where it wasn't yet.
-    fn fill_lines(&mut self, alloc: Global, image: &Image<'a>, i: usize) -> Result<(), AllocError>
-        requires unit { i < length (units (sections image.now).info) }
-        requires kept { IfSome (slice_get (units (sections image.now).info) i)
-            (λ unit. Holds (sections image.now) unit self.old) }
-        ensures kept { IfSome (slice_get (units (sections image.now).info) i)
-            (λ unit. Holds (sections image.now) unit self.new) }
-        ensures filled { OnOk result (IsSome self.new.lines) }
-        ensures tree { self.new.tree ≡ self.old.tree }
-    {
-        let None = &self.lines else {
-            return Ok(());
-        };
-        self.lines = Some(read_lines(alloc, image, i)?);
-        Ok(())
+/// Turns a line table to a unit.
+fn turn_lines<'a>(lines: &mut Lines<'a>, units: &Units<'a>, i: usize)
+    requires { i < length (model.units units.now.info) }
+    ensures { IfSome (slice_get (model.units units.now.info) i)
+        (λ unit. IsTurned units.now unit lines.old lines.new) }
+{
+    let directory = directory(units, i);
+    lines.turn_to(units.tables(), &units.unit(i).bases, directory);
+}
+
+/// The same where there is one.
+fn turn_table<'a>(table: &mut Option<Lines<'a>>, units: &Units<'a>, i: usize)
+    requires { i < length (model.units units.now.info) }
+    ensures { IfSome (slice_get (model.units units.now.info) i)
+        (λ unit. AreTurned units.now unit table.old table.new) }
+{
+    match table {
+        Some(lines) => turn_lines(lines, units, i),
+        None => {}
     }
+}
 
-    /// Where an address comes from, by the line table alone: one frame without a name.
-    pub(crate) fn location(
-        &mut self,
-        alloc: Global,
-        image: &Image<'a>,
-        i: usize,
-        a: u64,
-    ) -> Result<Answer<'a>, AllocError>
-        requires unit { i < length (units (sections image.now).info) }
-        requires kept { IfSome (slice_get (units (sections image.now).info) i)
-            (λ unit. Holds (sections image.now) unit self.old) }
-        ensures kept { IfSome (slice_get (units (sections image.now).info) i)
-            (λ unit. Holds (sections image.now) unit self.new) }
-        ensures answer { IfOk result (λ answer. IfSome (slice_get (units (sections image.now).info) i)
-            (λ unit. answer_shown answer ≡ as_answer unit.offset (unit_location (sections image.now) unit a))) }
-    {
-        self.fill_lines(alloc, image, i)?;
-        let unit = image.units().unit(i).offset;
-        let location = match &mut self.lines {
-            Some(Ok(lines)) => row_location(alloc, lines, a)?,
-            Some(Err(code)) => return Ok(Answer::Fault { unit, code: *code }),
-            None => unreachable!(),
-        };
-        let frames = vec![in alloc;
-            Frame {
-                name: None,
-                location
-            },
-        ]?;
-        Ok(Answer::Found { unit, frames })
-    }
-
-    /// What an address means in the unit.
-    pub(crate) fn answer(
-        &mut self,
-        alloc: Global,
-        image: &'b Image<'a>,
-        i: usize,
-        a: u64,
-    ) -> Result<Answer<'a>, AllocError>
-        requires unit { i < length (units (sections image.now).info) }
-        requires answers { IfSome (slice_get (units (sections image.now).info) i)
-            (λ unit. is_skipped unit.kind ≡ false) }
-        requires kept { IfSome (slice_get (units (sections image.now).info) i)
-            (λ unit. Holds (sections image.now) unit self.old) }
-        ensures kept { IfSome (slice_get (units (sections image.now).info) i)
-            (λ unit. Holds (sections image.now) unit self.new) }
-        ensures answer { IfOk result (λ answer. IfSome (slice_get (units (sections image.now).info) i)
-            (λ unit. answer_shown answer ≡ as_answer unit.offset (unit_answer (sections image.now) unit a))) }
-    {
-        self.fill_tree(alloc, image, i)?;
-        let unit = image.units().unit(i).offset;
-        if let Some(Err(code)) = &self.tree {
-            return Ok(Answer::Fault { unit, code: *code });
-        }
-        self.fill_lines(alloc, image, i)?;
-        let location = match &mut self.lines {
-            Some(Ok(lines)) => row_location(alloc, lines, a)?,
-            Some(Err(code)) => return Ok(Answer::Fault { unit, code: *code }),
-            None => unreachable!(),
-        };
-        let (Some(Ok(tree)), Some(Ok(lines))) = (&self.tree, &self.lines) else {
-            unreachable!()
-        };
-        answer_of(alloc, unit, tree, lines, location, a)
-    }
-
-    /// Adds the pieces of a span, of which the unit answers all addresses; or returns why it can't
-    /// answer them.
-    pub(crate) fn push_pieces(
-        &mut self,
-        alloc: Global,
-        image: &Image<'a>,
-        i: usize,
-        span: Span,
-        pieces: &mut Vec<Piece>,
-    ) -> Result<Option<UnitFault>, AllocError>
-        requires unit { i < length (units (sections image.now).info) }
-        requires kept { IfSome (slice_get (units (sections image.now).info) i)
-            (λ unit. Holds (sections image.now) unit self.old) }
-        requires order { span.low ≤ span.high }
-        ensures kept { IfSome (slice_get (units (sections image.now).info) i)
-            (λ unit. Holds (sections image.now) unit self.new) }
-        ensures pieces { IfOk result (λ fault. IfSome (slice_get (units (sections image.now).info) i)
-            (λ unit. AddsUnit (sections image.now) unit span fault (map piece_shown pieces.old.items)
-            (map piece_shown pieces.new.items))) }
-    {
-        self.fill_lines(alloc, image, i)?;
-        let Some(lines) = &self.lines else {
-            unreachable!()
-        };
-        push_lines(alloc, lines, span, pieces)
+/// Turns the line table that a unit names to that unit, which sees its paths in its own way.
+pub(crate) fn turn<'a>(read: &mut UnitLines<'a>, image: &Image<'a>, i: usize)
+    requires unit { i < length (model.units (sections image.now).info) }
+    requires named { IfSome (slice_get (model.units (sections image.now).info) i)
+        (λ unit. IsNamed (sections image.now) unit read.old) }
+    ensures named { IfSome (slice_get (model.units (sections image.now).info) i)
+        (λ unit. IsNamed (sections image.now) unit read.new) }
+    ensures lines { IfSome (slice_get (model.units (sections image.now).info) i)
+        (λ unit. HasLines (sections image.now) unit read.new) }
+{
+    match read {
+        Ok(table) => turn_table(table, image.units(), i),
+        Err(_) => {}
     }
 }

@@ -15,7 +15,8 @@ use Rattle.dw_model.specs.Unit.{DwarfUnit, Test, untested, piece_at, cut_from, c
 use Rattle.dw_model.specs.Root.{has_root, unit_refusal}
 use Rattle.dw_model.proofs.UnitLemmas.{with_piece, cut-piece, cut-fault, cut-end, tested, piece_at-tested}
 use Rattle.dw_units.specs.declared.unit.Unit.{Unit as CodeUnit}
-use Rattle.dw_units.specs.Shared.{Read, HasTable, IsKept}
+use Rattle.dw_forms.specs.declared.run.Start.{Start}
+use Rattle.dw_forms.specs.Store.{Read, table_from, HasTable, IsKept}
 use Rattle.dw_units.specs.Unit.{unit_shown, HasEntries, IsOpened}
 
 more-eqb : (n : ℕ) → 0 < n → (n == 0) ≡ false
@@ -57,14 +58,16 @@ is_done test front p whole ended so_far = sym so_far ∙ rw (cut-end test p (eq-
 
 -- ---- opened units
 
-same-tables : (old new : Read) (offset place : ℕ) → new.section ≡ old.section → IsKept old new → HasTable old offset place → HasTable new offset place
-same-tables old new offset place same kept h =
-    let there : abbreviations new.section offset ≡ Ok h.0 = ap (λ (section : List ℕ). abbreviations section offset) same ∙ h.2 in
-    (h.0, kept place h.0 h.1, there)
+same-tables : (old new : Read) (offset : ℕ) (start : Start) → new.section ≡ old.section → IsKept old new → HasTable old offset start → HasTable new offset start
+same-tables old new offset start same kept h =
+    let still = kept start h.0 in
+    let size = still.1 in
+    let there : abbreviations new.section offset ≡ Ok (table_from new start) = ap (λ (section : List ℕ). abbreviations section offset) same ∙ h.2 ∙ ap Ok (sym still.2) in
+    (still.0, omega (arith, h.1, size), there)
 
-still-placed : (s : Sections) (old new : Read) (unit : DwarfUnit) (place : Option ℕ) → new.section ≡ old.section → IsKept old new → HasEntries s old unit place → HasEntries s new unit place
+still-placed : (s : Sections) (old new : Read) (unit : DwarfUnit) (start : Option Start) → new.section ≡ old.section → IsKept old new → HasEntries s old unit start → HasEntries s new unit start
 still-placed s old new unit None same kept h = h
-still-placed s old new unit (Some place) same kept h = (same-tables old new unit.debug_abbrev_offset place same kept h.0, h.1, h.2)
+still-placed s old new unit (Some start) same kept h = (same-tables old new unit.debug_abbrev_offset start same kept h.0, h.1, h.2)
 
 still-opened : (s : Sections) (old new : Read) (unit : CodeUnit) → new.section ≡ old.section → IsKept old new → IsOpened s old unit → IsOpened s new unit
 still-opened s old new unit same kept h = record {

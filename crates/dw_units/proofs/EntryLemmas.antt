@@ -1,7 +1,7 @@
 -- Reading the attributes of an entry one by one, as a loop does.
-use Rattle.std.proofs.Common.{◌≡◌, ℕ, ◌+◌, ◌<◌, ◌≤◌, List, [], ◌∷◌, ◌++◌, length, drop, get_or, map, Option, Some, None, Result, Ok, Err, refl, subst, sym, ap, ◌∙◌, append_assoc}
+use Rattle.std.proofs.Common.{◌≡◌, ℕ, suc, ◌<◌, List, [], ◌∷◌, ◌++◌, length, map, Option, Some, None, Result, Ok, Err, refl, subst, sym, ap, ◌∙◌, append_assoc, arith}
 use Rattle.std.specs.Prelude.{MatchOption}
-use Rattle.std.proofs.lemmas.List.{append-nil, map_push, drop_more, drop_all}
+use Rattle.std.proofs.lemmas.List.{append-nil, map_push}
 use Rattle.dw_model.specs.Results.{◌>>=◌}
 use Rattle.dw_model.specs.Reading.{Place}
 use Rattle.dw_model.specs.Faults.{Fault}
@@ -20,36 +20,39 @@ Read = Result (List Attribute × Place) Fault
 abbrev with_front : List Attribute → Read → Read
 with_front front read = read >>= λ x. Ok (front ++ x.0, x.1)
 
+-- fewer are left once the first was taken away
+pub fewer : (left rest : List Specification) (spec : Spec) → left ≡ spec_shown spec ∷ rest → length rest < length left
+fewer left rest spec first =
+    let counted : length left ≡ suc (length rest) = ap (λ (specs : List Specification). length specs) first in
+    omega (arith, counted)
+
 module _ (size : ℕ) where
-  -- what was read so far, and then what the specifications from a place on ask for, is all
-  abbrev pub SoFar : List CodeAttribute → List Spec → ℕ → Place → Read → Type 0
-  SoFar front specs i p all =
-      with_front (map attribute_shown front) (attributes_at size (map spec_shown (drop i specs)) p) ≡ all
+  -- what was read so far, and then what the specifications that are left ask for, is all
+  abbrev pub SoFar : List CodeAttribute → List Specification → Place → Read → Type 0
+  SoFar front left p all = with_front (map attribute_shown front) (attributes_at size left p) ≡ all
 
   onto : (front : List Attribute) (item : Attribute) (others : Read) → with_front front (others >>= λ x. Ok (item ∷ x.0, x.1)) ≡ with_front (front ++ item ∷ []) others
   onto front item (Ok x) = ap (λ (xs : List Attribute). Ok (xs, x.1)) (sym (append_assoc front (item ∷ []) x.0))
   onto front item (Err e) = refl
 
-  pub starts : (specs : List Spec) (p : Place) → SoFar [] specs 0 p (attributes_at size (map spec_shown specs) p)
-  starts specs p = nil (attributes_at size (map spec_shown specs) p)
+  pub starts : (left specs : List Specification) (p : Place) → left ≡ specs → SoFar [] left p (attributes_at size specs p)
+  starts left specs p same = nil (attributes_at size left p) ∙ ap (λ (specs : List Specification). attributes_at size specs p) same
     where
       nil : (read : Read) → with_front [] read ≡ read
       nil (Ok x) = refl
       nil (Err e) = refl
 
-  next : (front : List CodeAttribute) (specs : List Spec) (i : ℕ) (d spec : Spec) (p : Place) (all : Read) → i < length specs → get_or specs i d ≡ spec → SoFar front specs i p all
-      → with_front (map attribute_shown front) (attributes_at size (spec_shown spec ∷ map spec_shown (drop (i + 1) specs)) p) ≡ all
-  next front specs i d spec p all within is so_far =
-      let step : drop i specs ≡ spec ∷ drop (i + 1) specs = drop_more specs i d within ∙ ap (λ (s : Spec). s ∷ drop (i + 1) specs) is in
-      sym (ap (λ (specs : List Spec). with_front (map attribute_shown front) (attributes_at size (map spec_shown specs) p)) step) ∙ so_far
+  -- the first of those that are left
+  next : (front : List CodeAttribute) (left rest : List Specification) (spec : Spec) (p : Place) (all : Read) → left ≡ spec_shown spec ∷ rest → SoFar front left p all → SoFar front (spec_shown spec ∷ rest) p all
+  next front left rest spec p all first so_far = subst (λ (left : List Specification). SoFar front left p all) first so_far
 
-  pub goes_on : (front : List CodeAttribute) (specs : List Spec) (i : ℕ) (d spec : Spec) (attribute : CodeAttribute) (v : Value) (p q : Place) (all : Read) → i < length specs → get_or specs i d ≡ spec
-      → value_at size spec.form spec.implicit p ≡ Ok (v, q) → attribute_shown attribute ≡ record { name = spec.name; value = v } → SoFar front specs i p all → SoFar (front ++ attribute ∷ []) specs (i + 1) q all
+  pub goes_on : (front : List CodeAttribute) (left rest : List Specification) (spec : Spec) (attribute : CodeAttribute) (v : Value) (p q : Place) (all : Read) → left ≡ spec_shown spec ∷ rest → value_at size spec.form spec.implicit p ≡ Ok (v, q)
+      → attribute_shown attribute ≡ record { name = spec.name; value = v } → SoFar front left p all → SoFar (front ++ attribute ∷ []) rest q all
   unfolding attributes_at
-  goes_on front specs i d spec attribute v p q all within is e shown so_far =
-      let whole = next front specs i d spec p all within is so_far in
-      let others = attributes_at size (map spec_shown (drop (i + 1) specs)) q in
-      let read : attributes_at size (spec_shown spec ∷ map spec_shown (drop (i + 1) specs)) p ≡ (others >>= λ x. Ok (record { name = spec.name; value = v } ∷ x.0, x.1)) = rw e refl in
+  goes_on front left rest spec attribute v p q all first e shown so_far =
+      let whole = next front left rest spec p all first so_far in
+      let others = attributes_at size rest q in
+      let read : attributes_at size (spec_shown spec ∷ rest) p ≡ (others >>= λ x. Ok (record { name = spec.name; value = v } ∷ x.0, x.1)) = rw e refl in
       rw (map_push attribute_shown front attribute, shown) (sym (onto (map attribute_shown front) (record { name = spec.name; value = v }) others) ∙ ap (with_front (map attribute_shown front)) (sym read) ∙ whole)
 
   by_told : (front : List CodeAttribute) (spec : Spec) (others : List Specification) (p : Place) (all : Read) (told : Option Fault) → Tells told (value_at size spec.form spec.implicit p)
@@ -60,22 +63,21 @@ module _ (size : ℕ) where
       let read : attributes_at size (spec_shown spec ∷ others) p ≡ Err fault = rw f refl in
       sym e ∙ rw read refl
 
-  pub stops : (front : List CodeAttribute) (specs : List Spec) (i : ℕ) (d spec : Spec) (p : Place) (all : Read) (told own : Option Fault) → own ≡ told → i < length specs → get_or specs i d ≡ spec
-      → Tells told (value_at size spec.form spec.implicit p) → SoFar front specs i p all → MatchOption own (Unit {0}) (λ fault. all ≡ Err fault)
-  stops front specs i d spec p all told own same within is fault so_far =
-      let read = by_told front spec (map spec_shown (drop (i + 1) specs)) p all told fault (next front specs i d spec p all within is so_far) in
+  pub stops : (front : List CodeAttribute) (left rest : List Specification) (spec : Spec) (p : Place) (all : Read) (told own : Option Fault) → own ≡ told → left ≡ spec_shown spec ∷ rest → Tells told (value_at size spec.form spec.implicit p) → SoFar front left p all
+      → MatchOption own (Unit {0}) (λ fault. all ≡ Err fault)
+  stops front left rest spec p all told own same first fault so_far =
+      let read = by_told front spec rest p all told fault (next front left rest spec p all first so_far) in
       subst (λ told. MatchOption told (Unit {0}) (λ fault. all ≡ Err fault)) (sym same) read
 
   -- the same where no memory was taken
-  pub stops-exactly : (front : List CodeAttribute) (specs : List Spec) (i : ℕ) (d spec : Spec) (p : Place) (all : Read) (told own : Option Fault) → own ≡ told → i < length specs → get_or specs i d ≡ spec
-      → Tells told (value_at size spec.form spec.implicit p) → SoFar front specs i p all → Tells own all
-  stops-exactly front specs i d spec p all None own same within is fault so_far = absurd fault
-  stops-exactly front specs i d spec p all (Some told) own same within is fault so_far =
-      subst (λ told. Tells told all) (sym same) (stops front specs i d spec p all (Some told) (Some told) refl within is fault so_far)
+  pub stops-exactly : (front : List CodeAttribute) (left rest : List Specification) (spec : Spec) (p : Place) (all : Read) (told own : Option Fault) → own ≡ told → left ≡ spec_shown spec ∷ rest → Tells told (value_at size spec.form spec.implicit p) → SoFar front left p all
+      → Tells own all
+  stops-exactly front left rest spec p all None own same first fault so_far = absurd fault
+  stops-exactly front left rest spec p all (Some told) own same first fault so_far =
+      subst (λ told. Tells told all) (sym same) (stops front left rest spec p all (Some told) (Some told) refl first fault so_far)
 
-  pub ends : (front : List CodeAttribute) (specs : List Spec) (i : ℕ) (p : Place) (all : Read) → length specs ≤ i → SoFar front specs i p all → all ≡ Ok (map attribute_shown front, p)
+  pub ends : (front : List CodeAttribute) (left : List Specification) (p : Place) (all : Read) → left ≡ [] → SoFar front left p all → all ≡ Ok (map attribute_shown front, p)
   unfolding attributes_at
-  ends front specs i p all past so_far =
-      let none : drop i specs ≡ [] = drop_all i specs past in
-      let last : with_front (map attribute_shown front) (attributes_at size (map spec_shown (drop i specs)) p) ≡ Ok (map attribute_shown front, p) = rw none (ap (λ (xs : List Attribute). Ok (xs, p)) (append-nil (map attribute_shown front))) in
+  ends front left p all none so_far =
+      let last : with_front (map attribute_shown front) (attributes_at size left p) ≡ Ok (map attribute_shown front, p) = rw none (ap (λ (xs : List Attribute). Ok (xs, p)) (append-nil (map attribute_shown front))) in
       sym so_far ∙ last

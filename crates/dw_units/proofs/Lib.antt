@@ -6,7 +6,6 @@ pub mod UnitsLemmas
 mod ViewLemmas
 pub mod HeaderLemmas
 pub mod AttrLemmas
-pub mod SharedLemmas
 pub mod PlaceLemmas
 pub mod SkipLemmas
 pub mod PlaceOfLemmas

@@ -19,7 +19,8 @@ use Rattle.dw_units.specs.declared.unit.Unit.{Unit as CodeUnit}
 use Rattle.dw_units.specs.declared.entry.Entry.{Entry as CodeEntry}
 use Rattle.dw_units.specs.Header.{header_shown}
 use Rattle.dw_units.specs.Entry.{entry_shown, FindsEntry, IsFound}
-use Rattle.dw_units.specs.Shared.{Read}
+use Rattle.dw_forms.specs.declared.run.Start.{Start}
+use Rattle.dw_forms.specs.Store.{Read}
 use Rattle.dw_units.specs.Unit.{unit_shown, HasEntries, IsOpened}
 use Rattle.dw_units.proofs.PlaceLemmas.{outside-all}
 
@@ -105,7 +106,7 @@ found-first found first given h is =
     let here = subst (λ found. FindsEntry (Ok found) given) is h in
     (first, here.0, refl, here.1, here.2)
 
-pub opened : (s : Sections) (read : Read) (header : Header) (unit : CodeUnit) (found : Option CodeEntry) (table : Option ℕ) → unit_shown unit ≡ header_shown header → bases_shown unit.bases ≡ bases_in (size_of header.width) (option_map entry_shown found) → unit.root ≡ found → unit.table ≡ table
+pub opened : (s : Sections) (read : Read) (header : Header) (unit : CodeUnit) (found : Option CodeEntry) (table : Option Start) → unit_shown unit ≡ header_shown header → bases_shown unit.bases ≡ bases_in (size_of header.width) (option_map entry_shown found) → unit.root ≡ found → unit.table ≡ table
     → root s (header_shown header) ≡ option_map entry_shown found → (is_skipped (header_shown header).kind ≡ false → IsFound found (entry s (header_shown header) header.first_entry)) → HasEntries s read (header_shown header) table → IsOpened s read unit
 opened s read header unit found table same bases first placed is here h = record {
   root = ap (option_map entry_shown) first ∙ sym is ∙ ap (root s) (sym same);

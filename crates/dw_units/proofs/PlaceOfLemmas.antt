@@ -9,9 +9,7 @@ use Rattle.dw_model.specs.Form.{Value, value_at}
 use Rattle.dw_model.specs.Abbrev.{Specification}
 use Rattle.dw_model.specs.Entry.{Attribute, attributes_at}
 use Rattle.dw_model.proofs.StepLemmas.{bind_ok, ok_is}
-use Rattle.dw_forms.specs.declared.declaration.Spec.{Spec}
-use Rattle.dw_forms.specs.Declaration.{spec_shown}
-use Rattle.dw_forms.specs.Firsts.{before}
+use Rattle.dw_forms.specs.Firsts.{before, names_of}
 use Rattle.dw_units.specs.declared.attributes.Attribute.{Attribute as CodeAttribute}
 use Rattle.dw_units.specs.Attribute.{attribute_shown}
 
@@ -48,10 +46,6 @@ shown-names : (attributes : List CodeAttribute) → names_in attributes ≡ map 
 shown-names [] = refl
 shown-names (x ∷ attributes) = ap (λ (names : List ℕ). x.name ∷ names) (shown-names attributes)
 
-pub spec-names : (specs : List Spec) → map (λ (s : Specification). s.name) (map spec_shown specs) ≡ map (λ (s : Spec). s.name) specs
-spec-names [] = refl
-spec-names (x ∷ specs) = ap (λ (names : List ℕ). x.name ∷ names) (spec-names specs)
-
-pub same-names : (size : ℕ) (attributes : List CodeAttribute) (specs : List Spec) (p q : Place) → attributes_at size (map spec_shown specs) p ≡ Ok (map attribute_shown attributes, q) → map (λ (s : Spec). s.name) specs ≡ names_in attributes
+pub same-names : (size : ℕ) (attributes : List CodeAttribute) (specs : List Specification) (p q : Place) → attributes_at size specs p ≡ Ok (map attribute_shown attributes, q) → names_of specs ≡ names_in attributes
 same-names size attributes specs p q e =
-    sym (shown-names attributes ∙ names-read size (map spec_shown specs) p (map attribute_shown attributes, q) e ∙ spec-names specs)
+    sym (shown-names attributes ∙ names-read size specs p (map attribute_shown attributes, q) e)

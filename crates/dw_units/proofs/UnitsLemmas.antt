@@ -11,7 +11,8 @@ use Rattle.dw_model.specs.Unit.{DwarfUnit, cut}
 use Rattle.dw_model.specs.Unit as model
 use Rattle.dw_model.specs.Root.{entry}
 use Rattle.dw_units.specs.declared.unit.Unit.{Unit as CodeUnit}
-use Rattle.dw_units.specs.Shared.{Read, HasTable}
+use Rattle.dw_forms.specs.declared.run.Start.{Start}
+use Rattle.dw_forms.specs.Store.{Read, HasTable}
 use Rattle.dw_units.specs.Unit.{unit_shown, HasEntries, IsOpened}
 use Rattle.dw_units.proofs.PlaceLemmas.{outside-all}
 
@@ -42,7 +43,7 @@ no-entry s read unit offset opened none =
     let skipped = subst (HasEntries s read (unit_shown unit)) none opened.table in
     outside-all s (unit_shown unit) offset skipped.1
 
-pub its-table : (s : Sections) (read : Read) (unit : CodeUnit) (table : ℕ) → IsOpened s read unit → unit.table ≡ Some table → HasTable read unit.debug_abbrev_offset table
+pub its-table : (s : Sections) (read : Read) (unit : CodeUnit) (table : Start) → IsOpened s read unit → unit.table ≡ Some table → HasTable read unit.debug_abbrev_offset table
 its-table s read unit table opened is =
     let placed = subst (HasEntries s read (unit_shown unit)) is opened.table in
     placed.0

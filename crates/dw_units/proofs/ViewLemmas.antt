@@ -1,8 +1,8 @@
 -- The first value of a name, read one by one among those of an entry that can be read.
-use Rattle.std.proofs.Common.{◌≡◌, ◌∙◌, ℕ, suc, ◌+◌, ◌<◌, ◌≤◌, Bool, true, false, cond, List, [], ◌∷◌, length, drop, get_or, map, Option, Some, None, Result, Ok, Err, refl, sym, ap, arith}
-use Rattle.std.specs.Prelude.{find, option_map, ◌==◌}
+use Rattle.std.proofs.Common.{◌≡◌, ◌∙◌, ℕ, suc, ◌≤◌, Bool, true, false, cond, List, [], ◌∷◌, length, map, Option, Some, None, Result, Ok, refl, sym, ap, arith}
+use Rattle.std.specs.Prelude.{find, ◌==◌}
 use Rattle.std.proofs.lemmas.Bool.{eq-eqb, ne_eqb}
-use Rattle.std.proofs.lemmas.List.{drop_more, drop_all, length-map}
+use Rattle.std.proofs.lemmas.List.{length-map}
 use Rattle.dw_model.specs.Answers.{Tells}
 use Rattle.dw_model.specs.Results.{◌>>=◌}
 use Rattle.dw_model.specs.Reading.{Place}
@@ -13,9 +13,9 @@ use Rattle.dw_model.specs.Entry.{Attribute, attributes_at}
 use Rattle.dw_model.proofs.StepLemmas.{bind_ok, ok_is, ok-err}
 use Rattle.dw_forms.specs.declared.declaration.Spec.{Spec}
 use Rattle.dw_forms.specs.Declaration.{spec_shown}
-use Rattle.dw_forms.specs.Firsts.{before}
+use Rattle.dw_forms.specs.Firsts.{before, names_of}
 use Rattle.dw_units.proofs.AttrLemmas.{value_of}
-use Rattle.dw_units.proofs.PlaceOfLemmas.{names-read, spec-names}
+use Rattle.dw_units.proofs.PlaceOfLemmas.{names-read}
 
 abbrev pub Read : Type 0
 Read = Result (List Attribute × Place) Fault
@@ -31,16 +31,19 @@ first-read size one others p found e =
     (value.0, value.1, rest.0, rest.1, ap (λ (x : List Attribute × Place). x.0) (sym (ok_is (record { name = one.name; value = value.0.0 } ∷ rest.0.0, rest.0.1) found rest.2)))
 
 module _ (size name : ℕ) where
-  -- what is found among the values from a place on is what is found among all
-  abbrev pub SoFar : List Spec → ℕ → Place → Read → Type 0
-  SoFar specs i p all =
-      (found : List Attribute × Place) → all ≡ Ok found → (rest : List Attribute × Place) × (attributes_at size (map spec_shown (drop i specs)) p ≡ Ok rest) × (value_of name rest.0 ≡ value_of name found.0)
+  -- what is found among the values that are left is what is found among all
+  abbrev pub SoFar : List Specification → Place → Read → Type 0
+  SoFar left p all =
+      (found : List Attribute × Place) → all ≡ Ok found → (rest : List Attribute × Place) × (attributes_at size left p ≡ Ok rest) × (value_of name rest.0 ≡ value_of name found.0)
 
-  next : (specs : List Spec) (i : ℕ) (d spec : Spec) (p : Place) (rest : List Attribute × Place) → i < length specs → get_or specs i d ≡ spec → attributes_at size (map spec_shown (drop i specs)) p ≡ Ok rest
-      → attributes_at size (spec_shown spec ∷ map spec_shown (drop (i + 1) specs)) p ≡ Ok rest
-  next specs i d spec p rest within is e =
-      let step : drop i specs ≡ spec ∷ drop (i + 1) specs = drop_more specs i d within ∙ ap (λ (s : Spec). s ∷ drop (i + 1) specs) is in
-      sym (ap (λ (specs : List Spec). attributes_at size (map spec_shown specs) p) step) ∙ e
+  pub starts : (left specs : List Specification) (p : Place) → left ≡ specs → SoFar left p (attributes_at size specs p)
+  starts left specs p same found whole =
+      (found, ap (λ (specs : List Specification). attributes_at size specs p) same ∙ whole, refl)
+
+  -- the first of those that are left
+  next : (left others : List Specification) (spec : Spec) (p : Place) (rest : List Attribute × Place) → left ≡ spec_shown spec ∷ others → attributes_at size left p ≡ Ok rest → attributes_at size (spec_shown spec ∷ others) p ≡ Ok rest
+  next left others spec p rest first e =
+      sym (ap (λ (specs : List Specification). attributes_at size specs p) first) ∙ e
 
   found-later : (value : Value) (other : ℕ) (rest : List Attribute) → (other ≡ name → ⊥) → value_of name (record { name = other; value = value } ∷ rest) ≡ value_of name rest
   found-later value other rest apart = rw (ne_eqb other name apart) refl
@@ -48,19 +51,18 @@ module _ (size name : ℕ) where
   found-here : (value : Value) (other : ℕ) (rest : List Attribute) → other ≡ name → value_of name (record { name = other; value = value } ∷ rest) ≡ Some value
   found-here value other rest same = rw (eq-eqb other name same) refl
 
-  pub goes-on : (specs : List Spec) (i : ℕ) (d spec : Spec) (v : Value) (p q : Place) (all : Read) → i < length specs → get_or specs i d ≡ spec → value_at size spec.form spec.implicit p ≡ Ok (v, q) → (spec.name ≡ name → ⊥)
-      → SoFar specs i p all → SoFar specs (i + 1) q all
-  goes-on specs i d spec v p q all within is e apart so_far found whole =
+  pub goes-on : (left others : List Specification) (spec : Spec) (v : Value) (p q : Place) (all : Read) → left ≡ spec_shown spec ∷ others → value_at size spec.form spec.implicit p ≡ Ok (v, q) → (spec.name ≡ name → ⊥) → SoFar left p all → SoFar others q all
+  goes-on left others spec v p q all first e apart so_far found whole =
       let here = so_far found whole in
-      let step = first-read size (spec_shown spec) (map spec_shown (drop (i + 1) specs)) p here.0 (next specs i d spec p here.0 within is here.1) in
+      let step = first-read size (spec_shown spec) others p here.0 (next left others spec p here.0 first here.1) in
       let same : step.0 ≡ (v, q) = ok_is step.0 (v, q) (sym step.1 ∙ e) in
-      (step.2, ap (attributes_at size (map spec_shown (drop (i + 1) specs))) (ap (λ (x : Value × Place). x.1) (sym same)) ∙ step.3, sym (ap (value_of name) step.4 ∙ found-later step.0.0 spec.name step.2.0 apart) ∙ here.2)
+      (step.2, ap (attributes_at size others) (ap (λ (x : Value × Place). x.1) (sym same)) ∙ step.3, sym (ap (value_of name) step.4 ∙ found-later step.0.0 spec.name step.2.0 apart) ∙ here.2)
 
-  pub ends-here : (specs : List Spec) (i : ℕ) (d spec : Spec) (v : Value) (p q : Place) (all : Read) → i < length specs → get_or specs i d ≡ spec → value_at size spec.form spec.implicit p ≡ Ok (v, q) → spec.name ≡ name
-      → SoFar specs i p all → (found : List Attribute × Place) → all ≡ Ok found → Some v ≡ value_of name found.0
-  ends-here specs i d spec v p q all within is e same so_far found whole =
+  pub ends-here : (left others : List Specification) (spec : Spec) (v : Value) (p q : Place) (all : Read) → left ≡ spec_shown spec ∷ others → value_at size spec.form spec.implicit p ≡ Ok (v, q) → spec.name ≡ name → SoFar left p all
+      → (found : List Attribute × Place) → all ≡ Ok found → Some v ≡ value_of name found.0
+  ends-here left others spec v p q all first e same so_far found whole =
       let here = so_far found whole in
-      let step = first-read size (spec_shown spec) (map spec_shown (drop (i + 1) specs)) p here.0 (next specs i d spec p here.0 within is here.1) in
+      let step = first-read size (spec_shown spec) others p here.0 (next left others spec p here.0 first here.1) in
       let value : step.0 ≡ (v, q) = ok_is step.0 (v, q) (sym step.1 ∙ e) in
       ap Some (ap (λ (x : Value × Place). x.0) (sym value)) ∙ sym (ap (value_of name) step.4 ∙ found-here step.0.0 spec.name step.2.0 same) ∙ here.2
 
@@ -68,19 +70,17 @@ module _ (size name : ℕ) where
   by-told read None x fault e = fault
   by-told read (Some f) x fault e = ok-err x f (sym e ∙ fault)
 
-  pub fails-never : (specs : List Spec) (i : ℕ) (d spec : Spec) (p : Place) (all : Read) (told : Option Fault) → i < length specs → get_or specs i d ≡ spec → Tells told (value_at size spec.form spec.implicit p)
-      → SoFar specs i p all → (found : List Attribute × Place) → all ≡ Ok found → ⊥
-  fails-never specs i d spec p all told within is fault so_far found whole =
+  pub fails-never : (left others : List Specification) (spec : Spec) (p : Place) (all : Read) (told : Option Fault) → left ≡ spec_shown spec ∷ others → Tells told (value_at size spec.form spec.implicit p) → SoFar left p all → (found : List Attribute × Place) → all ≡ Ok found → ⊥
+  fails-never left others spec p all told first fault so_far found whole =
       let here = so_far found whole in
-      let step = first-read size (spec_shown spec) (map spec_shown (drop (i + 1) specs)) p here.0 (next specs i d spec p here.0 within is here.1) in
+      let step = first-read size (spec_shown spec) others p here.0 (next left others spec p here.0 first here.1) in
       by-told (value_at size spec.form spec.implicit p) told step.0 fault step.1
 
-  pub ends : (specs : List Spec) (i : ℕ) (p : Place) (all : Read) → length specs ≤ i → SoFar specs i p all → (found : List Attribute × Place) → all ≡ Ok found → None ≡ value_of name found.0
+  pub ends : (left : List Specification) (p : Place) (all : Read) → left ≡ [] → SoFar left p all → (found : List Attribute × Place) → all ≡ Ok found → None ≡ value_of name found.0
   unfolding attributes_at
-  ends specs i p all past so_far found whole =
+  ends left p all none so_far found whole =
       let here = so_far found whole in
-      let none : drop i specs ≡ [] = drop_all i specs past in
-      let last : ◌≡◌ {A = Read} (Ok ([], p)) (Ok here.0) = sym (ap (λ (specs : List Spec). attributes_at size (map spec_shown specs) p) none) ∙ here.1 in
+      let last : ◌≡◌ {A = Read} (Ok ([], p)) (Ok here.0) = sym (ap (λ (specs : List Specification). attributes_at size specs p) none) ∙ here.1 in
       ap (λ (x : List Attribute × Place). value_of name x.0) (ok_is ([], p) here.0 last) ∙ here.2
 
 -- ---- a name that isn't declared
@@ -95,9 +95,9 @@ none-behind name (x ∷ attributes) h = by_test (λ h. none-behind name attribut
     by_test rest true h = absurd (omega (arith, h))
     by_test rest false h = rest (omega (arith, h))
 
-pub undeclared : (size name : ℕ) (specs : List Spec) (p : Place) (found : List Attribute × Place) → attributes_at size (map spec_shown specs) p ≡ Ok found → length specs ≤ before name (map (λ (s : Spec). s.name) specs) → find (λ (first : Attribute). first.name == name) found.0 ≡ None
+pub undeclared : (size name : ℕ) (specs : List Specification) (p : Place) (found : List Attribute × Place) → attributes_at size specs p ≡ Ok found → length specs ≤ before name (names_of specs) → find (λ (first : Attribute). first.name == name) found.0 ≡ None
 undeclared size name specs p found e past =
-    let names : map (λ (a : Attribute). a.name) found.0 ≡ map (λ (s : Spec). s.name) specs = names-read size (map spec_shown specs) p found e ∙ spec-names specs in
-    let sizes : length found.0 ≡ length specs = sym (length-map found.0 (λ (a : Attribute). a.name)) ∙ ap (λ (names : List ℕ). length names) names ∙ length-map specs (λ (s : Spec). s.name) in
-    let behind : before name (map (λ (a : Attribute). a.name) found.0) ≡ before name (map (λ (s : Spec). s.name) specs) = ap (before name) names in
+    let names : map (λ (a : Attribute). a.name) found.0 ≡ names_of specs = names-read size specs p found e in
+    let sizes : length found.0 ≡ length specs = sym (length-map found.0 (λ (a : Attribute). a.name)) ∙ ap (λ (names : List ℕ). length names) names ∙ length-map specs (λ (s : Specification). s.name) in
+    let behind : before name (map (λ (a : Attribute). a.name) found.0) ≡ before name (names_of specs) = ap (before name) names in
     none-behind name found.0 (omega (arith, sizes, behind, past))

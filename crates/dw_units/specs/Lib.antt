@@ -7,8 +7,6 @@ pub mod NamedRanges
 pub mod Null
 pub mod OpenUnit
 pub mod Sections
-pub mod Shared
-pub mod SharedInside
 pub mod Unit
 pub mod UnitAt
 pub mod Units

@@ -1,5 +1,5 @@
 -- What a unit stands for.
-use Rattle.std.specs.Prelude.{◌≡◌, ◌≤◌, ℕ, true, false, length, take, Option, Some, None, option_map, IsOk, MatchOption}
+use Rattle.std.specs.Prelude.{◌≡◌, ◌≤◌, true, false, length, take, Option, Some, None, option_map, IsOk, MatchOption}
 use Rattle.dw_model.specs.Unit.{DwarfUnit, is_skipped}
 use Rattle.dw_model.specs.Section.{Sections}
 use Rattle.dw_model.specs.Abbrev.{abbreviations}
@@ -11,7 +11,8 @@ use Rattle.dw_forms.specs.Tables.{bases_shown}
 use Rattle.dw_units.specs.declared.unit.Unit.{Unit}
 use Rattle.dw_units.specs.Header.{kind_shown}
 use Rattle.dw_units.specs.Entry.{entry_shown, IsFound}
-use Rattle.dw_units.specs.Shared.{Read, HasTable}
+use Rattle.dw_forms.specs.declared.run.Start.{Start}
+use Rattle.dw_forms.specs.Store.{Read, HasTable}
 
 abbrev pub unit_shown : Unit → DwarfUnit
 unit_shown unit = record {
@@ -24,12 +25,12 @@ unit_shown unit = record {
   first_entry = unit.first_entry;
 }
 
--- a unit that isn't skipped has the table of its declarations at this place, and its first entry in
+-- a unit that isn't skipped has the table of its declarations at this start, and its first entry in
 -- the section
-abbrev pub HasEntries : Sections → Read → DwarfUnit → Option ℕ → Type 0
+abbrev pub HasEntries : Sections → Read → DwarfUnit → Option Start → Type 0
 HasEntries sections read unit None = (is_skipped unit.kind ≡ true) × (unit.first_entry ≡ unit.end)
-HasEntries sections read unit (Some place) =
-    HasTable read unit.debug_abbrev_offset place × (unit.first_entry ≤ length (take unit.end sections.info)) × (is_skipped unit.kind ≡ false)
+HasEntries sections read unit (Some start) =
+    HasTable read unit.debug_abbrev_offset start × (unit.first_entry ≤ length (take unit.end sections.info)) × (is_skipped unit.kind ≡ false)
 
 -- a unit that isn't skipped has its first entry, with the offset just past it
 abbrev pub HasFirst : Sections → Unit → Type 0

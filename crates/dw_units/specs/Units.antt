@@ -13,6 +13,6 @@ sections_in units = sections_shown units.sections
 
 -- The units are the cut of .debug_info, each opened.
 pub record AreUnits (units : Inside) : Type 0 where
-  pub section : units.shared.section ≡ units.sections.abbrevs.now
+  pub section : units.abbrevs.section ≡ units.sections.abbrevs.now
   pub cut : cut units.sections.info.now ≡ Ok (map unit_shown units.units.items)
-  pub opened : AllByRecursion (IsOpened (sections_in units) units.shared) units.units.items
+  pub opened : AllByRecursion (IsOpened (sections_in units) units.abbrevs) units.units.items

@@ -1,16 +1,15 @@
 -- What an entry is seen as whose values are read when they are asked for.
-use Rattle.std.specs.Prelude.{◌≡◌, List, Result, Ok, map}
+use Rattle.std.specs.Prelude.{◌≡◌, List, Result, Ok}
 use Rattle.dw_model.specs.Reading.{Place}
 use Rattle.dw_model.specs.Faults.{Fault}
 use Rattle.dw_model.specs.Entry as model
 use Rattle.dw_model.specs.Entry.{Attribute, attributes_at}
 use Rattle.dw_bytes.specs.Width.{size_of}
-use Rattle.dw_forms.specs.Declaration.{spec_shown}
 use Rattle.dw_units.specs.View.{attributes_in}
 use Rattle.dw_units.specs.declared.view.EntryView.TheInside.{Inside}
 
 abbrev pub read_of : Inside → Result (List Attribute × Place) Fault
-read_of view = attributes_at (size_of view.width) (map spec_shown view.declaration.now.specs.items) view.values
+read_of view = attributes_at (size_of view.width) view.declaration.now.specs view.values
 
 abbrev pub entry_in : Inside → model.Entry
 entry_in view = record {

@@ -5,11 +5,10 @@ ghost use Rattle.dw_model.specs.Entry.{attributes_at};
 ghost use Rattle.dw_model.specs.Answers.{ReadsUnlessMemory};
 ghost use Rattle.dw_bytes.specs.Width.{size_of};
 ghost use Rattle.dw_forms.specs.Fault.{form_fault, HidesNoFault, Passes};
-ghost use Rattle.dw_forms.specs.Declaration.{spec_shown};
 ghost use Rattle.dw_units.specs.Attribute.{attribute_shown};
 
 use dw_bytes::{Cursor, Width};
-use dw_forms::{Decl, Firsts, FormFault, Spec, Value, read_value};
+use dw_forms::{Decl, Firsts, FormFault, Specs, Value, read_value};
 use std::alloc::Global;
 use std::marker::Model;
 
@@ -43,12 +42,13 @@ impl<'a> Model for Attributes<'a> {
 /// Passes over the values that a declaration asks for, where offsets have a width.
 pub(crate) fn pass_attributes(
     cursor: &mut Cursor<'_>,
-    specs: &[Spec],
+    specs: &Specs<'_>,
     width: Width,
 ) -> Result<(), FormFault>
-    ensures { Passes result (attributes_at (size_of width) (map spec_shown specs.now) cursor.old) cursor.new }
+    ensures { Passes result (attributes_at (size_of width) specs.now cursor.old) cursor.new }
 {
-    for spec in specs {
+    let mut left = specs.fork();
+    while let Some(spec) = left.take_first() {
         read_value(cursor, spec.form, spec.implicit, width)?;
     }
     Ok(())
@@ -58,14 +58,14 @@ pub(crate) fn pass_attributes(
 #[inline(always)]
 pub(crate) fn pass_values(
     cursor: &mut Cursor<'_>,
-    declaration: &Decl,
+    declaration: &Decl<'_>,
     width: Width,
 ) -> Result<(), FormFault>
-    ensures { Passes result (attributes_at (size_of width) (map spec_shown declaration.now.specs.items) cursor.old)
+    ensures { Passes result (attributes_at (size_of width) declaration.now.specs cursor.old)
         cursor.new }
 {
     let Some(size) = declaration.size(width) else {
-        return pass_attributes(cursor, declaration.specs.as_slice(), width);
+        return pass_attributes(cursor, &declaration.specs, width);
     };
     let _values = cursor.take(size).ok_or(FormFault::End)?;
     Ok(())
@@ -73,10 +73,10 @@ pub(crate) fn pass_values(
 
 /// Why values can't be read where memory was refused: their first fault, or `Memory` where they
 /// have none.
-fn fault_in_values(cursor: &mut Cursor<'_>, specs: &[Spec], width: Width) -> FormFault
+fn fault_in_values(cursor: &mut Cursor<'_>, specs: &Specs<'_>, width: Width) -> FormFault
     ensures fault { MatchOption (form_fault result) (Unit {0})
-        (λ told. attributes_at (size_of width) (map spec_shown specs.now) cursor.old ≡ Err told) }
-    ensures memory { HidesNoFault result (attributes_at (size_of width) (map spec_shown specs.now) cursor.old) }
+        (λ told. attributes_at (size_of width) specs.now cursor.old ≡ Err told) }
+    ensures memory { HidesNoFault result (attributes_at (size_of width) specs.now cursor.old) }
 {
     match pass_attributes(cursor, specs, width) {
         Ok(()) => FormFault::Memory,
@@ -89,18 +89,19 @@ fn fault_in_values(cursor: &mut Cursor<'_>, specs: &[Spec], width: Width) -> For
 fn read_attributes<'a>(
     attributes: &mut Vec<Attribute<'a>>,
     cursor: &mut Cursor<'a>,
-    specs: &[Spec],
+    specs: &Specs<'_>,
     width: Width,
 ) -> Result<(), FormFault>
     ensures read { ReadsUnlessMemory (λ _. map attribute_shown attributes.new.items) form_fault result
-        (attributes_at (size_of width) (map spec_shown specs.now) cursor.old) cursor.new }
+        (attributes_at (size_of width) specs.now cursor.old) cursor.new }
     ensures memory { IfErr result (λ fault. HidesNoFault fault
-        (attributes_at (size_of width) (map spec_shown specs.now) cursor.old)) }
+        (attributes_at (size_of width) specs.now cursor.old)) }
 {
     attributes.clear();
     // A cursor of its own stays in registers.
     let mut place = cursor.fork();
-    for spec in specs {
+    let mut left = specs.fork();
+    while let Some(spec) = left.take_first() {
         let value = read_value(&mut place, spec.form, spec.implicit, width)?;
         let name = spec.name;
         let Ok(()) = attributes.push(Attribute { name, value }) else {
@@ -166,16 +167,16 @@ impl<'a> Attributes<'a> {
     pub(crate) fn read(
         &mut self,
         cursor: &mut Cursor<'a>,
-        declaration: &Decl,
+        declaration: &Decl<'_>,
         width: Width,
     ) -> Result<(), FormFault>
         ensures read { ReadsUnlessMemory (λ _. map attribute_shown self.new) form_fault result
-            (attributes_at (size_of width) (map spec_shown declaration.now.specs.items) cursor.old) cursor.new }
+            (attributes_at (size_of width) declaration.now.specs cursor.old) cursor.new }
         ensures memory { IfErr result (λ fault. HidesNoFault fault
-            (attributes_at (size_of width) (map spec_shown declaration.now.specs.items) cursor.old)) }
+            (attributes_at (size_of width) declaration.now.specs cursor.old)) }
     {
         self.firsts = Firsts::unknown();
-        read_attributes(&mut self.list, cursor, declaration.specs.as_slice(), width)?;
+        read_attributes(&mut self.list, cursor, &declaration.specs, width)?;
         self.firsts = declaration.firsts();
         Ok(())
     }

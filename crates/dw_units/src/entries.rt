@@ -3,12 +3,13 @@
 ghost use Rattle.std.specs.Prelude.{◌≡◌, ◌==◌, ◌||◌, length, OnErr};
 ghost use Rattle.dw_model.specs.Entry.{entry_at};
 ghost use Rattle.dw_bytes.specs.Width.{size_of};
+ghost use Rattle.dw_forms.specs.Table.{declarations_of};
 ghost use Rattle.dw_units.specs.Entries.{ReadsNext, ranged_at};
 
 use crate::attributes::pass_values;
 use crate::view::EntryView;
 use dw_bytes::{Cursor, Width};
-use dw_forms::{Abbrevs, FormFault};
+use dw_forms::{AbbrevTable, FormFault};
 use dw_model::dwarf::{DW_TAG_inlined_subroutine, DW_TAG_subprogram};
 use std::marker::Model;
 
@@ -36,19 +37,20 @@ pub enum Next<'b, 'a> {
 /// .debug_info.
 #[derive(Drop)]
 pub struct Entries<'b, 'a> {
-    abbrevs: &'b Abbrevs,
+    abbrevs: AbbrevTable<'b, 'a>,
     width: Width,
     cursor: Cursor<'a>,
 }
 
 impl<'b, 'a> Model for Entries<'b, 'a> {
     ghost use Rattle.dw_bytes.specs.Width.{size_of};
+    ghost use Rattle.dw_forms.specs.Table.{declarations_of};
     ghost use Rattle.dw_units.specs.Entries.{Walk};
 
     ghost Value = { Walk };
 
     ghost view = { λ entries. record {
-      declarations = entries.abbrevs.now;
+      declarations = declarations_of entries.abbrevs;
       offset_size = size_of entries.width;
       place = entries.cursor;
     } };
@@ -68,11 +70,11 @@ fn is_function(tag: u64) -> bool
 #[inline(always)]
 fn next_of<'b, 'a>(
     cursor: &mut Cursor<'a>,
-    abbrevs: &'b Abbrevs,
+    abbrevs: AbbrevTable<'b, 'a>,
     width: Width,
 ) -> Result<Next<'b, 'a>, FormFault>
-    ensures { ReadsNext (ranged_at abbrevs.now cursor.old) result
-        (entry_at (size_of width) abbrevs.now cursor.old) cursor.new }
+    ensures { ReadsNext (ranged_at (declarations_of abbrevs.entry) cursor.old) result
+        (entry_at (size_of width) (declarations_of abbrevs.entry) cursor.old) cursor.new }
 {
     let offset = cursor.at() as u64;
     let code = cursor.uleb()?;
@@ -99,8 +101,8 @@ fn next_of<'b, 'a>(
 
 impl<'b, 'a> Entries<'b, 'a> {
     /// A walk that begins at a cursor, in a unit of a width.
-    pub(crate) fn new(abbrevs: &'b Abbrevs, width: Width, cursor: Cursor<'a>) -> Self
-        ensures declarations { result.declarations ≡ abbrevs.now }
+    pub(crate) fn new(abbrevs: AbbrevTable<'b, 'a>, width: Width, cursor: Cursor<'a>) -> Self
+        ensures declarations { result.declarations ≡ declarations_of abbrevs.entry }
         ensures offset_size { result.offset_size ≡ size_of width }
         ensures place { result.place ≡ cursor.entry }
     {

@@ -8,6 +8,7 @@ ghost use Rattle.dw_model.specs.Root.{place_in, entry};
 ghost use Rattle.dw_model.specs.Answers.{ReadsUnlessMemory};
 ghost use Rattle.dw_bytes.specs.Width.{size_of};
 ghost use Rattle.dw_forms.specs.Fault.{form_fault, HidesNoFault};
+ghost use Rattle.dw_forms.specs.Table.{declarations_of};
 ghost use Rattle.dw_forms.specs.Value.{value_shown};
 ghost use Rattle.dw_units.specs.Entry.{entry_shown, shown_where, unread, FindsEntry, ReadsEntry};
 ghost use Rattle.dw_units.specs.Header.{header_shown};
@@ -19,7 +20,7 @@ use crate::class::counts;
 use crate::header::Header;
 use crate::sections::Sections;
 use dw_bytes::{Cursor, Width};
-use dw_forms::{Abbrevs, FormFault, Value};
+use dw_forms::{AbbrevTable, FormFault, Value};
 use std::alloc::Global;
 
 /// An entry. Offsets count from the first byte of .debug_info.
@@ -42,14 +43,15 @@ pub struct Entry<'a> {
 pub(crate) fn read_entry<'a>(
     kept: &mut Entry<'a>,
     cursor: &mut Cursor<'a>,
-    abbrevs: &Abbrevs,
+    abbrevs: AbbrevTable<'_, '_>,
     width: Width,
 ) -> Result<bool, FormFault>
     ensures entry { ReadsUnlessMemory (λ found. shown_where found kept.new) form_fault result
-        (entry_at (size_of width) abbrevs.now cursor.old) cursor.new }
+        (entry_at (size_of width) (declarations_of abbrevs.entry) cursor.old) cursor.new }
     ensures next { IfOk result (λ found. found ≡ true → kept.new.next ≡ cursor.new.at) }
     ensures stays { IfOk result (λ found. found ≡ false → kept.new ≡ kept.old) }
-    ensures memory { IfErr result (λ fault. HidesNoFault fault (entry_at (size_of width) abbrevs.now cursor.old)) }
+    ensures memory { IfErr result (λ fault. HidesNoFault fault
+        (entry_at (size_of width) (declarations_of abbrevs.entry) cursor.old)) }
 {
     let offset = cursor.at() as u64;
     let code = cursor.uleb()?;
@@ -125,10 +127,10 @@ pub(crate) fn read_in<'a>(
     kept: &mut Entry<'a>,
     sections: &Sections<'a>,
     unit: &Header,
-    abbrevs: &Abbrevs,
+    abbrevs: AbbrevTable<'_, '_>,
     offset: u64,
 ) -> Result<bool, FormFault>
-    requires { abbreviations sections.now.abbrevs.now unit.now.debug_abbrev_offset ≡ Ok abbrevs.now }
+    requires { abbreviations sections.now.abbrevs.now unit.now.debug_abbrev_offset ≡ Ok (declarations_of abbrevs) }
     ensures entry { ReadsEntry result kept.new (entry (sections_shown sections.now) (header_shown unit.now) offset) }
     ensures stays { IfOk result (λ found. found ≡ false → kept.new ≡ kept.old) }
     ensures memory { IfErr result (λ fault. HidesNoFault fault
@@ -149,10 +151,10 @@ pub(crate) fn entry_in<'a>(
     alloc: Global,
     sections: &Sections<'a>,
     unit: &Header,
-    abbrevs: &Abbrevs,
+    abbrevs: AbbrevTable<'_, '_>,
     offset: u64,
 ) -> Result<Option<Entry<'a>>, FormFault>
-    requires { abbreviations sections.now.abbrevs.now unit.now.debug_abbrev_offset ≡ Ok abbrevs.now }
+    requires { abbreviations sections.now.abbrevs.now unit.now.debug_abbrev_offset ≡ Ok (declarations_of abbrevs) }
     ensures entry { FindsEntry result (entry (sections_shown sections.now) (header_shown unit.now) offset) }
     ensures memory { IfErr result (λ fault. HidesNoFault fault
         (entry (sections_shown sections.now) (header_shown unit.now) offset)) }

@@ -10,7 +10,6 @@ mod header;
 mod named_ranges;
 mod open_unit;
 mod sections;
-mod shared;
 mod unit;
 mod units;
 mod view;

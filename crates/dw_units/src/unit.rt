@@ -8,21 +8,20 @@ ghost use Rattle.dw_model.specs.Answers.{GivesUnlessMemory};
 ghost use Rattle.dw_bytes.specs.Width.{size_of};
 ghost use Rattle.dw_elf.specs.OpenFault.{refusal_of};
 ghost use Rattle.dw_forms.specs.Fault.{form_fault};
+ghost use Rattle.dw_forms.specs.Store.{IsKept};
 ghost use Rattle.dw_forms.specs.Tables.{bases_shown};
 ghost use Rattle.dw_units.specs.Entry.{entry_shown};
 ghost use Rattle.dw_units.specs.Header.{header_shown, IsWhole};
 ghost use Rattle.dw_units.specs.Sections.{sections_shown};
-ghost use Rattle.dw_units.specs.Shared.{IsKept};
 ghost use Rattle.dw_units.specs.Unit.{unit_shown, IsOpened, HidesNoTable};
 
 use crate::bases::bases_of;
 use crate::entry::{Entry, entry_in};
 use crate::header::{Header, Kind};
 use crate::sections::Sections;
-use crate::shared::Shared;
 use dw_bytes::Width;
 use dw_elf::OpenFault;
-use dw_forms::{Bases, FormFault};
+use dw_forms::{AbbrevStore, Bases, FormFault, Start};
 use std::alloc::Global;
 
 /// A unit of .debug_info. Offsets count from the first byte of the section.
@@ -45,13 +44,13 @@ pub struct Unit<'a> {
     pub bases: Bases,
     /// Its first entry; `None` in a skipped unit, and in no other.
     pub root: Option<Entry<'a>>,
-    /// The place of its declarations among the tables that were read; `None` in a skipped unit.
-    pub(crate) table: Option<usize>,
+    /// Where the table of its declarations begins; `None` in a skipped unit.
+    pub(crate) table: Option<Start>,
 }
 
 impl<'a> Unit<'a> {
     /// The unit of this header and this first entry.
-    fn new(header: Header, table: Option<usize>, root: Option<Entry<'a>>) -> Self
+    fn new(header: Header, table: Option<Start>, root: Option<Entry<'a>>) -> Self
         ensures header { unit_shown result ≡ header_shown header }
         ensures bases { bases_shown result.bases ≡ bases_in (size_of header.width) (option_map entry_shown root.entry) }
         ensures root { result.root ≡ root.entry }
@@ -106,15 +105,15 @@ fn root_fault(offset: u64, fault: FormFault) -> OpenFault
 pub(crate) fn open_unit<'a>(
     alloc: Global,
     sections: &Sections<'a>,
-    shared: &mut Shared<'a>,
+    abbrevs: &mut AbbrevStore<'a>,
     header: Header,
 ) -> Result<Unit<'a>, OpenFault>
-    requires section { shared.old.section ≡ sections.now.abbrevs.now }
+    requires section { abbrevs.old.section ≡ sections.now.abbrevs.now }
     requires whole { IsWhole header }
-    ensures section { shared.new.section ≡ shared.old.section }
-    ensures kept { IsKept shared.old shared.new }
+    ensures section { abbrevs.new.section ≡ abbrevs.old.section }
+    ensures kept { IsKept abbrevs.old abbrevs.new }
     ensures header { IfOk result (λ unit. unit_shown unit ≡ header_shown header) }
-    ensures opened { IfOk result (λ unit. IsOpened (sections_shown sections.now) shared.new unit) }
+    ensures opened { IfOk result (λ unit. IsOpened (sections_shown sections.now) abbrevs.new unit) }
     ensures root { GivesUnlessMemory (λ _. tt) refusal_of result
         (has_root (sections_shown sections.now) (header_shown header)) }
     ensures memory { IfErr result (λ fault. HidesNoTable fault (sections_shown sections.now) (header_shown header)) }
@@ -122,12 +121,12 @@ pub(crate) fn open_unit<'a>(
     if header.kind.is_skipped() {
         return Ok(Unit::new(header, None, None));
     }
-    let table = match shared.place(alloc, header.debug_abbrev_offset) {
+    let table = match abbrevs.start(alloc, header.debug_abbrev_offset) {
         Ok(table) => table,
         Err(fault) => return Err(root_fault(header.offset, fault)),
     };
-    let abbrevs = shared.get(table);
-    let found = match entry_in(alloc, sections, &header, abbrevs, header.first_entry) {
+    let declared = abbrevs.table(table);
+    let found = match entry_in(alloc, sections, &header, declared, header.first_entry) {
         Ok(found) => found,
         Err(fault) => return Err(root_fault(header.offset, fault)),
     };

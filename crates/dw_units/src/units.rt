@@ -9,6 +9,7 @@ ghost use Rattle.dw_model.specs.Name.{holding};
 ghost use Rattle.dw_model.specs.Root as model;
 ghost use Rattle.dw_elf.specs.OpenFault.{RefusesUnlessMemory};
 ghost use Rattle.dw_forms.specs.Fault.{HidesNoFault};
+ghost use Rattle.dw_forms.specs.Table.{declarations_of};
 ghost use Rattle.dw_forms.specs.Tables.{bases_shown, tables_shown};
 ghost use Rattle.dw_units.specs.Entry.{entry_shown, FindsEntry, ReadsEntry};
 ghost use Rattle.dw_units.specs.Entries.{WalksFrom};
@@ -21,11 +22,10 @@ use crate::entries::Entries;
 use crate::entry::Entry;
 use crate::header::piece;
 use crate::sections::Sections;
-use crate::shared::Shared;
 use crate::unit::{Unit, open_unit};
 use dw_bytes::Cursor;
 use dw_elf::{Elf, OpenFault};
-use dw_forms::{Abbrevs, FormFault, Tables};
+use dw_forms::{AbbrevStore, AbbrevTable, FormFault, Tables};
 use std::alloc::Global;
 use std::marker::Model;
 
@@ -34,7 +34,7 @@ use std::marker::Model;
 pub struct Units<'a> {
     sections: Sections<'a>,
     units: Vec<Unit<'a>>,
-    shared: Shared<'a>,
+    abbrevs: AbbrevStore<'a>,
 }
 
 impl<'a> Model for Units<'a> {
@@ -71,20 +71,20 @@ impl<'a> Units<'a> {
             (model.unit_refusal (model_sections.sections elf.now))) }
     {
         let sections = Sections::of(elf);
-        let mut shared = Shared::new(alloc, sections.abbrevs);
+        let mut abbrevs = AbbrevStore::new(alloc, sections.abbrevs);
         let mut units = Vec::new(alloc);
         let mut cursor = Cursor::new(sections.info);
         while cursor.left() > 0 {
             let Some(header) = piece(&mut cursor)? else {
                 continue;
             };
-            let unit = open_unit(alloc, &sections, &mut shared, header)?;
+            let unit = open_unit(alloc, &sections, &mut abbrevs, header)?;
             units.push(unit)?;
         }
         Ok(Units {
             sections,
             units,
-            shared,
+            abbrevs,
         })
     }
 
@@ -141,13 +141,13 @@ impl<'a> Units<'a> {
     /// The declarations of the unit at an index; `None` just for a skipped unit, which has no
     /// entry.
     #[inline(always)]
-    pub(crate) fn abbrevs(&self, index: usize) -> Option<&Abbrevs>
+    pub(crate) fn abbrevs(&self, index: usize) -> Option<AbbrevTable<'_, 'a>>
         requires { index < length (units self.now.info) }
         ensures { MatchOption result (HasNoEntry (unit_at self.now index))
-            (λ abbrevs. HasEntriesBy self.now (unit_at self.now index) abbrevs.now) }
+            (λ table. HasEntriesBy self.now (unit_at self.now index) (declarations_of table)) }
     {
         let table = self.units[index].table?;
-        Some(self.shared.get(table))
+        Some(self.abbrevs.table(table))
     }
 
     /// The entry at an offset of .debug_info, in the unit at a place; `None` for a null entry,

@@ -8,8 +8,8 @@ ghost use Rattle.dw_model.specs.Entry as model;
 ghost use Rattle.dw_model.specs.Reading.{Place};
 ghost use Rattle.dw_model.specs.Root.{entry};
 ghost use Rattle.dw_bytes.specs.Width.{size_of};
-ghost use Rattle.dw_forms.specs.Declaration.{spec_shown};
 ghost use Rattle.dw_forms.specs.Fault.{form_fault};
+ghost use Rattle.dw_forms.specs.Table.{declarations_of};
 ghost use Rattle.dw_forms.specs.Value.{value_shown};
 ghost use Rattle.dw_units.specs.Header.{header_shown};
 ghost use Rattle.dw_units.specs.Sections.{sections_shown};
@@ -21,14 +21,14 @@ use crate::entry::cursor_at;
 use crate::header::Header;
 use crate::sections::Sections;
 use dw_bytes::{Cursor, Width};
-use dw_forms::{Abbrevs, Decl, FormFault, Spec, Value, read_value};
+use dw_forms::{AbbrevTable, Decl, FormFault, Specs, Value, read_value};
 use std::marker::Model;
 
 /// An entry that can be read, of which each value is read when it is asked for: so it takes no
 /// memory. Contracts see the entry.
 #[derive(Drop)]
 pub struct EntryView<'b, 'a> {
-    pub(crate) declaration: &'b Decl,
+    pub(crate) declaration: &'b Decl<'a>,
     /// How many bytes the offsets of its unit have.
     pub(crate) width: Width,
     /// Its offset, which counts from the first byte of .debug_info.
@@ -52,16 +52,17 @@ impl<'b, 'a> Model for EntryView<'b, 'a> {
 /// read.
 fn first_value<'a>(
     values: &mut Cursor<'a>,
-    specs: &[Spec],
+    specs: &Specs<'_>,
     width: Width,
     name: u64,
 ) -> Option<Value<'a>>
     ensures { (found : List Attribute × Place)
-        → attributes_at (size_of width) (map spec_shown specs.now) values.old ≡ Ok found
+        → attributes_at (size_of width) specs.now values.old ≡ Ok found
         → option_map value_shown result ≡ option_map
         (λ first. first.value) (find (λ first. first.name == name) found.0) }
 {
-    for spec in specs {
+    let mut left = specs.fork();
+    while let Some(spec) = left.take_first() {
         let Ok(value) = read_value(values, spec.form, spec.implicit, width) else {
             return None;
         };
@@ -113,7 +114,7 @@ impl<'b, 'a> EntryView<'b, 'a> {
         if self.lacks(name) {
             return None;
         }
-        let specs = self.declaration.specs.as_slice();
+        let specs = &self.declaration.specs;
         let value = first_value(&mut self.values.fork(), specs, self.width, name)?;
         if !counts(name, &value) {
             return None;
@@ -127,10 +128,11 @@ impl<'b, 'a> EntryView<'b, 'a> {
 #[tactic(auto, unfolding(dw_model::specs::Entry::entry_at))]
 fn view_at<'b, 'a>(
     cursor: &mut Cursor<'a>,
-    abbrevs: &'b Abbrevs,
+    abbrevs: AbbrevTable<'b, 'a>,
     width: Width,
 ) -> Result<Option<EntryView<'b, 'a>>, FormFault>
-    ensures { ReadsOn (λ found. found) form_fault result (entry_at (size_of width) abbrevs.now cursor.old) cursor.new }
+    ensures { ReadsOn (λ found. found) form_fault result
+        (entry_at (size_of width) (declarations_of abbrevs.entry) cursor.old) cursor.new }
 {
     let offset = cursor.at() as u64;
     let code = cursor.uleb()?;
@@ -154,10 +156,10 @@ fn view_at<'b, 'a>(
 pub(crate) fn view_in<'b, 'a>(
     sections: &Sections<'a>,
     unit: &Header,
-    abbrevs: &'b Abbrevs,
+    abbrevs: AbbrevTable<'b, 'a>,
     offset: u64,
 ) -> Option<EntryView<'b, 'a>>
-    requires { abbreviations sections.now.abbrevs.now unit.now.debug_abbrev_offset ≡ Ok abbrevs.now }
+    requires { abbreviations sections.now.abbrevs.now unit.now.debug_abbrev_offset ≡ Ok (declarations_of abbrevs) }
     ensures { result ≡ found_in (entry (sections_shown sections.now) (header_shown unit.now) offset) }
 {
     if offset < unit.first_entry || offset >= unit.end {

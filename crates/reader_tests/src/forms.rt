@@ -1,7 +1,7 @@
 //! Values, declarations, texts and addresses, worked out by hand from the standard's tables.
 
 use dw_bytes::{Cursor, Width};
-use dw_forms::{Abbrevs, Bases, FormFault, Tables, Value, read_value};
+use dw_forms::{AbbrevStore, Abbrevs, Bases, Decl, FormFault, Spec, Tables, Value, read_value};
 use dw_model::dwarf::{
     DW_AT_high_pc, DW_AT_low_pc, DW_AT_name, DW_FORM_GNU_ref_alt, DW_FORM_GNU_strp_alt,
     DW_FORM_addr, DW_FORM_addrx, DW_FORM_addrx1, DW_FORM_addrx2, DW_FORM_addrx3, DW_FORM_addrx4,
@@ -13,6 +13,7 @@ use dw_model::dwarf::{
     DW_FORM_sdata, DW_FORM_sec_offset, DW_FORM_string, DW_FORM_strp, DW_FORM_strp_sup,
     DW_FORM_strx, DW_FORM_strx1, DW_FORM_strx2, DW_FORM_strx3, DW_FORM_strx4, DW_FORM_udata,
 };
+use std::alloc::{AllocError, Global};
 use std::test::Fail;
 
 /// The value of each form, of bytes that are one spelling of it.
@@ -188,6 +189,19 @@ const TABLE: &[u8] = &[
     0, 0, 0, 9, 2, 0, 0, 0, 0,
 ];
 
+/// The attributes of a declaration.
+fn pairs_of(alloc: Global, declaration: &Decl<'_>) -> Result<Vec<Spec>, AllocError> {
+    let mut left = declaration.specs.fork();
+    let mut pairs = Vec::new(alloc);
+    for _ in 0..declaration.specs.len() {
+        let Some(spec) = left.take_first() else {
+            break;
+        };
+        pairs.push(spec)?;
+    }
+    Ok(pairs)
+}
+
 #[test]
 fn tables_of_declarations(rt: HostRuntime) -> Result<(), Fail> {
     let table = Abbrevs::read(rt.alloc(), TABLE, 1)?;
@@ -198,7 +212,9 @@ fn tables_of_declarations(rt: HostRuntime) -> Result<(), Fail> {
         (function.tag, function.children, function.specs.len()),
         (0x2e, false, 1)
     );
-    assert_eq!(rt; function.specs.as_slice()[0].implicit, Some(-1));
+    let pairs = pairs_of(rt.alloc(), function)?;
+    assert_eq!(rt; pairs.len(), 1);
+    assert_eq!(rt; pairs.first().map(|spec| spec.implicit), Some(Some(-1)));
     let variable = table.get(9).ok_or("a variable")?;
     assert_eq!(rt; (variable.tag, variable.children), (0x34, true));
     assert!(rt; table.get(0).is_none() && table.get(3).is_none() && table.get(u64::MAX).is_none());
@@ -273,6 +289,63 @@ fn tables_that_end(rt: HostRuntime) {
     }
 }
 
+/// Declarations without pairs at 0, 5, 10 and 15, and the end of their table at 20. What begins at 1
+/// is a declaration with the pairs 0, 2 and 0x2e, 0, so it ends before the one at 10.
+const INSIDE: &[u8] = &[
+    1, 0x11, 0, 0, 0, 2, 0x2e, 0, 0, 0, 2, 0x34, 0, 0, 0, 7, 0x35, 0, 0, 0, 0,
+];
+
+/// The offset of a table, a code, and the tag of its first declaration there.
+const INSIDE_ROWS: [(u64, u64, Option<u64>); 17] = [
+    (0, 1, Some(0x11)),
+    (0, 2, Some(0x2e)),
+    (0, 7, Some(0x35)),
+    (0, 3, None),
+    (1, 0x11, Some(0)),
+    (1, 2, Some(0x34)),
+    (1, 7, Some(0x35)),
+    (1, 1, None),
+    (5, 2, Some(0x2e)),
+    (5, 7, Some(0x35)),
+    (5, 1, None),
+    (10, 2, Some(0x34)),
+    (10, 7, Some(0x35)),
+    (10, 1, None),
+    (15, 7, Some(0x35)),
+    (15, 2, None),
+    (20, 7, None),
+];
+
+/// In which order the tables are asked for.
+const ORDERS: [[u64; 6]; 4] = [
+    [0, 1, 5, 10, 15, 20],
+    [20, 15, 10, 5, 1, 0],
+    [10, 0, 20, 1, 15, 5],
+    [1, 15, 0, 5, 20, 10],
+];
+
+/// Tables that begin inside one another have what is declared from their beginning on, whichever
+/// was read first.
+#[test]
+fn tables_inside_one_another(rt: HostRuntime) -> Result<(), Fail> {
+    for offsets in &ORDERS {
+        let mut store = AbbrevStore::new(rt.alloc(), INSIDE);
+        for offset in offsets {
+            store.start(rt.alloc(), *offset)?;
+        }
+        for (offset, code, tag) in &INSIDE_ROWS {
+            let start = store.start(rt.alloc(), *offset)?;
+            let found = store.table(start).get(*code);
+            assert_eq!(rt;
+                found.map(|declaration| declaration.tag),
+                *tag,
+                "{code} at {offset}"
+            );
+        }
+    }
+    Ok(())
+}
+
 /// Texts and addresses that begin at 1 of the sections of their offsets and of addresses.
 const TABLES: Tables<'static> = Tables {
     str: b"ab\0c\0d",
@@ -339,7 +412,7 @@ fn texts_and_addresses(rt: HostRuntime) {
     assert_eq!(rt; TABLES.address(&Value::AddressIndex(0), &NO_BASES), None);
 }
 
-/// Codes in no order, one of which has more pairs than are kept in place.
+/// Codes in no order, one of which has more pairs than are gathered without an allocation.
 const MANY: &[u8] = &[
     9, 0x34, 0, 3, 8, 4, 8, 5, 8, 6, 8, 7, 8, 8, 8, 9, 8, 10, 8, 11, 8, 12, 8, 0, 0, 4, 0x35, 1, 0,
     0, 0,
@@ -354,8 +427,10 @@ fn each_allocation_refused(rt: HostRuntime) -> Result<(), Fail> {
         read => read?,
     };
     let first = table.get(9).ok_or("a variable")?;
-    assert_eq!(rt; first.specs.len(), 10);
-    assert_eq!(rt; first.specs.as_slice()[9].name, 12);
+    let pairs = pairs_of(rt.alloc(), first)?;
+    assert_eq!(rt; pairs.len(), 10);
+    assert_eq!(rt; pairs.first().map(|spec| spec.name), Some(3));
+    assert_eq!(rt; pairs.last().map(|spec| spec.name), Some(12));
     assert_eq!(rt; table.get(4).map(|found| found.tag), Some(0x35));
     Ok(())
 }

@@ -16,6 +16,7 @@ mod owners;
 #[cfg(test)]
 mod ranges;
 #[cfg(test)]
+mod shared_lists;
 #[cfg(test)]
 mod trees;
 #[cfg(test)]

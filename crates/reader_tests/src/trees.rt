@@ -10,7 +10,7 @@ use std::test::Fail;
 use test_inputs::files::{ABBREVS, INFO, file_of, poked, sample, unit_of};
 
 /// The functions of the unit at an index, which isn't skipped.
-fn tree_at<'b, 'a>(
+pub(crate) fn tree_at<'b, 'a>(
     alloc: Global,
     units: &'b Units<'a>,
     i: usize,
@@ -25,7 +25,7 @@ fn tree_at<'b, 'a>(
 }
 
 /// Reads the functions of the first unit of a file.
-fn read_first(alloc: Global, file: &[u8]) -> Result<Result<(), TreeFault>, Fail> {
+pub(crate) fn read_first(alloc: Global, file: &[u8]) -> Result<Result<(), TreeFault>, Fail> {
     let units = units_of(alloc, file)?;
     match tree_at(alloc, &units, 0)? {
         Ok(_tree) => Ok(Ok(())),
@@ -58,6 +58,22 @@ fn expect_name<A: Abort>(
     Ok(())
 }
 
+/// The functions at an address are those at these offsets of the first unit, innermost first.
+pub(crate) fn expect_chain<A: Abort>(
+    rt: &A,
+    alloc: Global,
+    tree: &Tree<'_, '_>,
+    a: u64,
+    wanted: &[u64],
+) -> Result<(), Fail> {
+    let chain = tree.chain(alloc, a)?;
+    assert_eq!(rt; chain.len(), wanted.len(), "functions at {a:#x}");
+    for (id, offset) in chain.iter().zip(wanted.iter()) {
+        assert_eq!(rt; (id.unit, id.offset), (0, *offset), "functions at {a:#x}");
+    }
+    Ok(())
+}
+
 /// The functions at addresses of the sample's first unit.
 const CHAINS: [(u64, &[u64]); 12] = [
     (0x40_0fff, &[]),
@@ -80,11 +96,7 @@ fn inlined_functions(rt: HostRuntime) -> Result<(), Fail> {
     let units = units_of(rt.alloc(), &file)?;
     let tree = tree_at(rt.alloc(), &units, 0)??;
     for (a, wanted) in CHAINS {
-        let chain = tree.chain(rt.alloc(), a)?;
-        assert_eq!(rt; chain.len(), wanted.len(), "functions at {a:#x}");
-        for (id, offset) in chain.iter().zip(wanted.iter()) {
-            assert_eq!(rt; (id.unit, id.offset), (0, *offset), "functions at {a:#x}");
-        }
+        expect_chain(&rt, rt.alloc(), &tree, a, wanted)?;
     }
     Ok(())
 }

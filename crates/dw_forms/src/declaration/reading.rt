@@ -1,6 +1,6 @@
 //! Abbreviation declarations are read, by section 7.5.3 of DWARF 5.
 
-ghost use Rattle.std.specs.Prelude.{◌≡◌, IfSome, false, map, option_map};
+ghost use Rattle.std.specs.Prelude.{◌≡◌, IfOk, IfSome, false, map, option_map};
 ghost use Rattle.dw_model.specs.Entry.{attributes_at};
 ghost use Rattle.dw_model.specs.Reading.{items};
 ghost use Rattle.dw_model.specs.Abbrev.{next_specification, declaration_behind, next_declaration};
@@ -9,12 +9,13 @@ ghost use Rattle.dw_bytes.specs.Width.{size_of};
 ghost use Rattle.dw_forms.specs.Fault.{form_fault};
 ghost use Rattle.dw_forms.specs.Declaration.{spec_shown, declaration_shown};
 ghost use Rattle.dw_forms.specs.Size.{size_in, Skips};
-ghost use Rattle.dw_forms.specs.Firsts.{known_of, AreAllFirsts, AreFirsts};
+ghost use Rattle.dw_forms.specs.Firsts.{known_of, names_of, AreAllFirsts, AreFirsts};
 ghost use Rattle.dw_forms.specs.Ranged.{may_have_ranges, NamesNone};
 
 use crate::declaration::{Decl, Spec};
 use crate::fault::FormFault;
 use crate::firsts::Firsts;
+use crate::pairs::Specs;
 use crate::ranged::may_have_ranges;
 use crate::size::size_of_all;
 use dw_bytes::{Cursor, Width};
@@ -22,14 +23,14 @@ use dw_model::dwarf::DW_FORM_implicit_const;
 use smallvec::SmallVec;
 use std::alloc::Global;
 
-impl Decl {
+impl<'a> Decl<'a> {
     /// How many bytes the values of an entry take in a unit whose offsets have a width, where the
     /// form of each has one size: then each entry is read over in one step. `None` where a form has
     /// no one size, or the sum doesn't fit 64 bits.
     pub fn size(&self, width: Width) -> Option<usize>
-        ensures size { result ≡ size_in (size_of width) (map spec_shown self.now.specs.items) }
+        ensures size { result ≡ size_in (size_of width) self.now.specs }
         ensures skips { IfSome result (λ n. Skips n
-            (attributes_at (size_of width) (map spec_shown self.now.specs.items))) }
+            (attributes_at (size_of width) self.now.specs)) }
     {
         match width {
             Width::Four => self.size_32,
@@ -39,8 +40,8 @@ impl Decl {
 
     /// Where the first attribute of each name that tells of a function is, where a byte holds that.
     pub fn firsts(&self) -> Firsts
-        ensures told { AreAllFirsts (known_of result) (map (λ spec. spec.name) self.now.specs.items) }
-        ensures right { AreFirsts (known_of result) (map (λ spec. spec.name) self.now.specs.items) }
+        ensures told { AreAllFirsts (known_of result) (names_of self.now.specs) }
+        ensures right { AreFirsts (known_of result) (names_of self.now.specs) }
     {
         self.firsts
     }
@@ -50,8 +51,8 @@ impl Decl {
     /// may be of any kind.
     #[inline(always)]
     pub fn may_have_ranges(&self) -> bool
-        ensures told { result ≡ may_have_ranges (map spec_shown self.now.specs.items) }
-        ensures right { result ≡ false → NamesNone (map spec_shown self.now.specs.items) }
+        ensures told { result ≡ may_have_ranges self.now.specs }
+        ensures right { result ≡ false → NamesNone self.now.specs }
     {
         self.ranged
     }
@@ -96,23 +97,32 @@ fn specs_of(alloc: Global, cursor: &mut Cursor<'_>) -> Result<SmallVec<Spec, 8>,
     }
 }
 
-/// The declaration of a code.
+/// The declaration of a code, which begins at an offset of .debug_abbrev.
 #[tactic(auto, unfolding(dw_model::specs::Abbrev::declaration_behind))]
-fn declaration_of(alloc: Global, cursor: &mut Cursor<'_>, code: u64) -> Result<Decl, FormFault>
-    ensures { ReadsUnlessMemory declaration_shown form_fault result (declaration_behind code cursor.old) cursor.new }
+fn declaration_of<'a>(
+    alloc: Global,
+    cursor: &mut Cursor<'a>,
+    offset: usize,
+    code: u64,
+) -> Result<Decl<'a>, FormFault>
+    ensures read { ReadsUnlessMemory declaration_shown form_fault result
+        (declaration_behind code cursor.old) cursor.new }
+    ensures offset { IfOk result (λ declaration. declaration.offset ≡ offset) }
 {
     let tag = cursor.uleb()?;
     let children = cursor.u8().ok_or(FormFault::End)?;
+    let pairs = cursor.fork();
     let specs = specs_of(alloc, cursor)?;
     let size_32 = size_of_all(specs.as_slice(), Width::Four);
     let size_64 = size_of_all(specs.as_slice(), Width::Eight);
     let ranged = may_have_ranges(specs.as_slice());
     let firsts = Firsts::of(specs.as_slice());
     Ok(Decl {
+        offset,
         code,
         tag,
         children: children != 0,
-        specs,
+        specs: Specs::new(pairs, specs.len()),
         size_32,
         size_64,
         ranged,
@@ -122,17 +132,22 @@ fn declaration_of(alloc: Global, cursor: &mut Cursor<'_>, code: u64) -> Result<D
 
 /// The next declaration of a table; `None` at the code 0 and at the section's end, which end it.
 #[tactic(auto, unfolding(dw_model::specs::Abbrev::next_declaration))]
-pub(crate) fn next_decl(alloc: Global, cursor: &mut Cursor<'_>) -> Result<Option<Decl>, FormFault>
-    ensures { ReadsUnlessMemory (option_map declaration_shown) form_fault result
+pub(crate) fn next_decl<'a>(
+    alloc: Global,
+    cursor: &mut Cursor<'a>,
+) -> Result<Option<Decl<'a>>, FormFault>
+    ensures read { ReadsUnlessMemory (option_map declaration_shown) form_fault result
         (next_declaration cursor.old) cursor.new }
+    ensures offset { IfOk result (λ found. IfSome found (λ declaration. declaration.offset ≡ cursor.old.at)) }
 {
     if cursor.left() == 0 {
         return Ok(None);
     }
+    let offset = cursor.at();
     let code = cursor.uleb()?;
     if code == 0 {
         return Ok(None);
     }
-    let declaration = declaration_of(alloc, cursor, code)?;
+    let declaration = declaration_of(alloc, cursor, offset, code)?;
     Ok(Some(declaration))
 }

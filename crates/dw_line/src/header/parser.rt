@@ -2,17 +2,16 @@
 
 ghost use Rattle.std.specs.Prelude.{◌<◌};
 ghost use Rattle.dw_model.specs.LineHeader.{fields_at, table_behind, line_header};
+ghost use Rattle.dw_model.specs.Text as model;
 ghost use Rattle.dw_model.specs.Answers.{GivesUnlessMemory};
 ghost use Rattle.dw_bytes.specs.Width.{size_of};
-ghost use Rattle.dw_forms.specs.Tables.{tables_shown, bases_shown};
 ghost use Rattle.dw_line.specs.Fault.{line_fault};
-ghost use Rattle.dw_line.specs.Header.{header_shown};
+ghost use Rattle.dw_line.specs.Header.{header_in};
 
 use crate::entries::entry_list_of;
 use crate::fault::LineFault;
 use crate::header::Header;
 use dw_bytes::{Cursor, Initial, Width};
-use dw_forms::{Bases, Tables};
 use dw_model::dwarf::{ADDRESS_SIZE, DWARF_VERSION};
 use std::alloc::Global;
 
@@ -21,14 +20,13 @@ use std::alloc::Global;
 #[tactic(auto, unfolding(dw_model::specs::LineHeader::fields_at))]
 fn fields_of<'a>(
     alloc: Global,
-    tables: &Tables<'a>,
-    bases: &Bases,
     program: &'a [u8],
     cursor: &mut Cursor<'a>,
     width: Width,
 ) -> Result<Header<'a>, LineFault>
-    ensures { GivesUnlessMemory header_shown line_fault result
-        (fields_at (tables_shown tables.now) (bases_shown bases.now) (size_of width) program.now cursor.old) }
+    ensures { (tables : model.Tables) (bases : model.Bases)
+        → GivesUnlessMemory (header_in tables bases) line_fault result
+        (fields_at tables bases (size_of width) program.now cursor.old) }
 {
     let minimum_instruction_length = cursor.u8().ok_or(LineFault::Bad)?;
     let maximum_operations_per_instruction = cursor.u8().ok_or(LineFault::Bad)?;
@@ -47,8 +45,6 @@ fn fields_of<'a>(
     let directories = entry_list_of(alloc, cursor, width)?;
     let files = entry_list_of(alloc, cursor, width)?;
     Ok(Header {
-        tables: *tables,
-        bases: *bases,
         minimum_instruction_length,
         line_base,
         line_range,
@@ -64,13 +60,12 @@ fn fields_of<'a>(
 #[tactic(auto, unfolding(dw_model::specs::LineHeader::table_behind))]
 fn table_of<'a>(
     alloc: Global,
-    tables: &Tables<'a>,
-    bases: &Bases,
     cursor: &mut Cursor<'a>,
     width: Width,
 ) -> Result<Header<'a>, LineFault>
-    ensures { GivesUnlessMemory header_shown line_fault result
-        (table_behind (tables_shown tables.now) (bases_shown bases.now) (size_of width) cursor.old) }
+    ensures { (tables : model.Tables) (bases : model.Bases)
+        → GivesUnlessMemory (header_in tables bases) line_fault result
+        (table_behind tables bases (size_of width) cursor.old) }
 {
     let version = cursor.u16().ok_or(LineFault::Bad)?;
     let address_size = cursor.u8().ok_or(LineFault::Bad)?;
@@ -87,7 +82,7 @@ fn table_of<'a>(
         return Err(LineFault::Bad);
     };
     let mut fields = Cursor::new(header);
-    fields_of(alloc, tables, bases, program, &mut fields, width)
+    fields_of(alloc, program, &mut fields, width)
 }
 
 /// The header of the table at an offset of .debug_line, in the format of the table's own length.
@@ -95,12 +90,11 @@ fn table_of<'a>(
 pub(crate) fn header_at<'a>(
     alloc: Global,
     section: &'a [u8],
-    tables: &Tables<'a>,
-    bases: &Bases,
     offset: u64,
 ) -> Result<Header<'a>, LineFault>
-    ensures { GivesUnlessMemory header_shown line_fault result
-        (line_header (tables_shown tables.now) (bases_shown bases.now) section.now offset) }
+    ensures { (tables : model.Tables) (bases : model.Bases)
+        → GivesUnlessMemory (header_in tables bases) line_fault result
+        (line_header tables bases section.now offset) }
 {
     if offset > section.len() as u64 {
         return Err(LineFault::Bad);
@@ -114,5 +108,5 @@ pub(crate) fn header_at<'a>(
         return Err(LineFault::Bad);
     };
     let table = cursor.take(unit_length as usize).ok_or(LineFault::Bad)?;
-    table_of(alloc, tables, bases, &mut Cursor::new(table), width)
+    table_of(alloc, &mut Cursor::new(table), width)
 }

@@ -1,5 +1,6 @@
 use Rattle.std.proofs.Common.{◌≡◌, List, length}
 use Rattle.dw_model.specs.Tree.{Node}
+use Rattle.dw_frames.specs.Known.{Knows}
 use Rattle.dw_frames.specs.Placed.{Follows}
 use Rattle.dw_frames.proofs.WalkLemmas.{SoFar}
 use Rattle.dw_frames.proofs.walk.read_below.Given as goal
@@ -7,8 +8,8 @@ use Rattle.dw_frames.proofs.walk.read_below.Given as goal
 abbrev pub invariant-loop-entries : goal.invariant-loop-entries
 invariant-loop-entries l =
     (l.reader.of ≡ l.initial.reader.of)
-    × ((before : List Node) → Follows l.initial.reader.of.sections l.initial.reader.of.unit before l.initial.drafts l.initial.entries.place.at
-    → SoFar l.initial.reader.of.sections l.initial.reader.of.unit before l.initial.entries (length l.initial.drafts.lists) l.drafts l.entries)
+    × (Knows l.initial.reader l.initial.drafts → Knows l.reader l.drafts × ((before : List Node) → Follows l.initial.reader.of.sections l.initial.reader.of.unit before l.initial.drafts l.initial.entries.place.at
+    → SoFar l.initial.reader.of.sections l.initial.reader.of.unit before l.initial.entries (length l.initial.drafts.lists) l.drafts l.entries))
 
 abbrev pub decreases-loop-entries : goal.decreases-loop-entries
 decreases-loop-entries l = length l.entries.place.left

@@ -1,5 +1,5 @@
 use Rattle.std.proofs.Common.{◌≡◌, ◌≤◌, ◌∙◌, ℕ, map, refl, subst, sym, ap, arith}
-use Rattle.dw_model.specs.Answer.{Lines}
+use Rattle.dw_line.specs.Lines.{Table, lines_shown}
 use Rattle.dw_line.specs.Walked.{Walked, IsStretch}
 use Rattle.dw_symbols.specs.Answer.{piece_shown}
 use Rattle.dw_symbols.proofs.SpanLemmas.{AddedTo, stretch_added, all_added}
@@ -8,7 +8,7 @@ use Rattle.dw_symbols.proofs.pieces.push_rows.Goals as goal
 pub returns-in_default : goal.returns-in_default
 returns-in_default c =
     let ended : c.args.high ≤ c.loop-stretch.walk.at = omega (arith, c.in_default.ensures.ended refl, c.loop-stretch.invariant.high) in
-    all_added c.args.lines.now c.args.low c.args.high c.loop-stretch.walk.at (map piece_shown c.args.pieces.now.items) (map piece_shown c.loop-stretch.pieces.items) c.loop-stretch.invariant.within ended c.loop-stretch.invariant.added
+    all_added (lines_shown c.args.lines.now) c.args.low c.args.high c.loop-stretch.walk.at (map piece_shown c.args.pieces.now.items) (map piece_shown c.loop-stretch.pieces.items) c.loop-stretch.invariant.within ended c.loop-stretch.invariant.added
 
 pub loop-stretch-preserved : goal.loop-stretch-preserved
 loop-stretch-preserved c =
@@ -18,13 +18,13 @@ loop-stretch-preserved c =
     let old = map piece_shown c.args.pieces.now.items in
     let moved = c.in-Some.ensures.moved in
     let at : c.next.new.self.at ≡ stretch.end = ap (λ (walk : Walked). walk.at) moved in
-    let of_table = subst (λ (table : Lines). IsStretch table.rows walk.at walk.high stretch) c.loop-stretch.invariant.table c.in-Some.ensures.stretch in
+    let of_table = subst (λ (table : Table). IsStretch table.rows walk.at walk.high stretch) c.loop-stretch.invariant.table c.in-Some.ensures.stretch in
     let is = subst (λ (high : ℕ). IsStretch table.rows walk.at high stretch) c.loop-stretch.invariant.high of_table in
-    let added = stretch_added table c.args.low c.args.high walk.at stretch old (map piece_shown c.loop-stretch.pieces.items) (map piece_shown c.push_stretch.new.pieces.items) c.loop-stretch.invariant.above is c.loop-stretch.invariant.added c.in_ok-push_stretch.ensures in
+    let added = stretch_added (lines_shown table) c.args.low c.args.high walk.at stretch old (map piece_shown c.loop-stretch.pieces.items) (map piece_shown c.push_stretch.new.pieces.items) c.loop-stretch.invariant.above is c.loop-stretch.invariant.added c.in_ok-push_stretch.ensures in
     record {
       table = ap (λ (walk : Walked). walk.table) moved ∙ c.loop-stretch.invariant.table;
       high = ap (λ (walk : Walked). walk.high) moved ∙ c.loop-stretch.invariant.high;
       above = omega (arith, c.loop-stretch.invariant.above, is.rises, at);
       within = omega (arith, is.within, at);
-      added = subst (λ (n : ℕ). AddedTo table c.args.low c.args.high n old (map piece_shown c.push_stretch.new.pieces.items)) (sym at) added;
+      added = subst (λ (n : ℕ). AddedTo (lines_shown table) c.args.low c.args.high n old (map piece_shown c.push_stretch.new.pieces.items)) (sym at) added;
     }

@@ -1,4 +1,5 @@
 use Rattle.std.proofs.Common.{◌≡◌, ◌≤◌, ◌-◌, map}
+use Rattle.dw_line.specs.Lines.{lines_shown}
 use Rattle.dw_symbols.specs.Answer.{piece_shown}
 use Rattle.dw_symbols.proofs.SpanLemmas.{AddedTo}
 use Rattle.dw_symbols.proofs.pieces.push_rows.Given as goal
@@ -9,7 +10,7 @@ invariant-loop-stretch l = record {
   high : l.walk.high ≡ l.high;
   above : l.low ≤ l.walk.at;
   within : l.walk.at ≤ l.high;
-  added : AddedTo l.lines l.low l.high l.walk.at (map piece_shown l.fn.pieces.items) (map piece_shown l.pieces.items);
+  added : AddedTo (lines_shown l.lines) l.low l.high l.walk.at (map piece_shown l.fn.pieces.items) (map piece_shown l.pieces.items);
 }
 
 abbrev pub decreases-loop-stretch : goal.decreases-loop-stretch

@@ -1,5 +1,6 @@
 use Rattle.std.proofs.Common.{◌≡◌, ◌∙◌, ℕ, map, List, Option, Some, sym, subst, ap}
 use Rattle.dw_model.specs.Answer as model
+use Rattle.dw_line.specs.Lines.{lines_shown}
 use Rattle.dw_symbols.specs.Answer.{location_shown, piece_shown}
 use Rattle.dw_symbols.specs.Pieces.{row_place, AddsStretch}
 use Rattle.dw_symbols.proofs.SpanLemmas.{adds_none, adds_one}
@@ -7,11 +8,11 @@ use Rattle.dw_symbols.proofs.pieces.push_stretch.Goals as goal
 
 pub returns-in_default : goal.returns-in_default
 returns-in_default c =
-    adds_none c.args.lines.now c.args.stretch (map piece_shown c.args.pieces.now.items) c.in_default.is c.law_of_more_pieces.ensures.none
+    adds_none (lines_shown c.args.lines.now) c.args.stretch (map piece_shown c.args.pieces.now.items) c.in_default.is c.law_of_more_pieces.ensures.none
 
 pub returns : goal.returns
 returns c =
-    let table = c.args.lines.now in
+    let table = lines_shown c.args.lines.now in
     let stretch = c.args.stretch in
     let row = c.in-Some.row in
     let old = map piece_shown c.args.pieces.now.items in

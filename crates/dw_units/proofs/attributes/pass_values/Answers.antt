@@ -1,9 +1,8 @@
-use Rattle.std.proofs.Common.{◌≡◌, Some, map, subst}
+use Rattle.std.proofs.Common.{◌≡◌, Some, subst}
 use Rattle.dw_model.specs.Reading.{bytes_at}
 use Rattle.dw_model.specs.Entry.{attributes_at}
 use Rattle.dw_model.specs.Answers.{Reads}
 use Rattle.dw_bytes.specs.Width.{size_of}
-use Rattle.dw_forms.specs.Declaration.{spec_shown}
 use Rattle.dw_units.proofs.SkipLemmas.{passed}
 use Rattle.dw_units.proofs.attributes.pass_values.Goals as goal
 
@@ -11,4 +10,4 @@ pub returns : goal.returns
 returns c =
     let taken : c.take.result ≡ Some c.in_ok-_values._values = c.in_ok-_values.ensures.ok_part in
     let read = subst (λ found. Reads (λ bytes. bytes.now) found (bytes_at c.in-Some.size c.args.cursor.now) c.args.cursor.now c.take.new.self) taken c.take.ensures in
-    passed c.in-Some.size (attributes_at (size_of c.args.width) (map spec_shown c.args.declaration.now.specs.items)) c.args.cursor.now c.take.new.self c.in_ok-_values._values.now c.in-Some.ensures.skips read
+    passed c.in-Some.size (attributes_at (size_of c.args.width) c.args.declaration.now.specs) c.args.cursor.now c.take.new.self c.in_ok-_values._values.now c.in-Some.ensures.skips read

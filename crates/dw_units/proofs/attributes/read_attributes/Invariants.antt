@@ -1,10 +1,12 @@
-use Rattle.std.proofs.Common.{map}
+use Rattle.std.proofs.Common.{length}
 use Rattle.dw_model.specs.Entry.{attributes_at}
 use Rattle.dw_bytes.specs.Width.{size_of}
-use Rattle.dw_forms.specs.Declaration.{spec_shown}
 use Rattle.dw_units.proofs.EntryLemmas.{SoFar}
 use Rattle.dw_units.proofs.attributes.read_attributes.Given as goal
 
 abbrev pub invariant-loop-spec : goal.invariant-loop-spec
 invariant-loop-spec l =
-    SoFar (size_of l.fn.width) l.attributes.items l.specs l.spec-index l.place (attributes_at (size_of l.fn.width) (map spec_shown l.specs) l.fn.cursor)
+    SoFar (size_of l.fn.width) l.attributes.items l.left l.place (attributes_at (size_of l.fn.width) l.specs l.fn.cursor)
+
+abbrev pub decreases-loop-spec : goal.decreases-loop-spec
+decreases-loop-spec l = length l.left

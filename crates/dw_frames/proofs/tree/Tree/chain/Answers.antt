@@ -1,4 +1,4 @@
-use Rattle.std.proofs.Common.{◌≡◌, ◌∙◌, map, reverse, ap, subst}
+use Rattle.std.proofs.Common.{◌≡◌, map, reverse, subst}
 use Rattle.std.specs.Prelude.{All, IsSome}
 use Rattle.dw_model.specs.Tree.{Node}
 use Rattle.dw_frames.specs.Told.{told_of}

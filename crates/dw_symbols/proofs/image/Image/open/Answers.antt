@@ -18,7 +18,7 @@ returns-in_err-pairs-clause-refused c =
     let s = c.in_ok-units.units in
     let same : s ≡ sections c.args.file.now = c.in_ok-units.ensures.sections ∙ ap sections c.in_ok-elf.ensures.file in
     let units : unit_refusal s ≡ None = ap unit_refusal c.in_ok-units.ensures.sections ∙ c.in_ok-units.ensures.accepted in
-    let told = told-by-ranges c.args.file.now s (refusal_of c.in_err-pairs.field-0.0) same c.in_ok-elf.ensures.accepted units (told-bad s 0 (model.units s.info) (refusal_of c.in_err-pairs.field-0.0) c.in_err-pairs.ensures) in
+    let told = told-by-ranges c.args.file.now s (refusal_of c.in_err-pairs.field-0.0) same c.in_ok-elf.ensures.accepted units (told-bad s 0 (model.units s.info) (refusal_of c.in_err-pairs.field-0.0) c.in_err-pairs.ensures.refused) in
     let p = err_from_is_err_and c.from_residual-in_err-pairs.result c.from_residual-in_err-pairs.ensures.1 in
     rw (p.1, p.2) told
 
@@ -27,8 +27,8 @@ invariant_of-result c =
     let s = c.in_ok-units.units in
     let same : s ≡ sections c.args.file.now = c.in_ok-units.ensures.sections ∙ ap sections c.in_ok-elf.ensures.file in
     let law = c.law_of_least_owner.ensures.first in
-    let pairs = map pair_shown c.in_ok-pairs.pairs.items in
-    let owner = λ (a : ℕ). index-unit s (sections c.args.file.now) pairs (owner_at c.in_ok-index.index a) a same law c.in_ok-pairs.ensures (c.in_ok-index.ensures.owners a ∙ ap (λ pairs. least_owner (map pair_shown pairs) a) c.deref.ensures.value) in
+    let owns = c.in_ok-pairs.ensures.owns in
+    let owner = λ (a : ℕ). index-unit s (sections c.args.file.now) owns.0 (owner_at c.in_ok-index.index a) a same law owns.1 (c.in_ok-index.ensures.owners a ∙ ap (λ pairs. least_owner (map pair_shown pairs) a) c.deref.ensures.value ∙ owns.2 a) in
     record {
       units = same;
       line = c.section.ensures ∙ ap (λ file. (sections file).line) c.in_ok-elf.ensures.file;
@@ -41,5 +41,6 @@ returns-clause-accepted c =
     let s = c.in_ok-units.units in
     let same : s ≡ sections c.args.file.now = c.in_ok-units.ensures.sections ∙ ap sections c.in_ok-elf.ensures.file in
     let units : unit_refusal s ≡ None = ap unit_refusal c.in_ok-units.ensures.sections ∙ c.in_ok-units.ensures.accepted in
-    let none = none-bad s 0 (model.units s.info) (map pair_shown c.in_ok-pairs.pairs.items) c.in_ok-pairs.ensures in
+    let owns = c.in_ok-pairs.ensures.owns in
+    let none = none-bad s 0 (model.units s.info) owns.0 owns.1 in
     by-ranges c.args.file.now s None same c.in_ok-elf.ensures.accepted units (ap (option_map (λ unit. root_ranges unit.offset)) none)

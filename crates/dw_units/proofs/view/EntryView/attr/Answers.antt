@@ -1,8 +1,6 @@
-use Rattle.std.proofs.Common.{◌≡◌, ◌∙◌, List, map, sym, ap}
+use Rattle.std.proofs.Common.{◌∙◌, sym, ap}
 use Rattle.dw_model.specs.Entry.{Entry, attributes_at}
 use Rattle.dw_bytes.specs.Width.{size_of}
-use Rattle.dw_forms.specs.declared.declaration.Spec.{Spec}
-use Rattle.dw_forms.specs.Declaration.{spec_shown}
 use Rattle.dw_forms.specs.Value.{value_shown}
 use Rattle.dw_units.specs.View.{attributes_in}
 use Rattle.dw_units.proofs.AttrLemmas.{value_of, absent, not_counted, is_given}
@@ -12,7 +10,7 @@ pub returns-in_err-value : goal.returns-in_err-value
 returns-in_err-value c =
     let view = c.self.inside in
     let size = size_of view.width in
-    let read = ap (λ (specs : List Spec). attributes_at size (map spec_shown specs) c.fork.result) c.as_slice-specs.ensures ∙ ap (attributes_at size (map spec_shown view.declaration.now.specs.items)) c.fork.ensures ∙ c.self.invariant.1 in
+    let read = ap (attributes_at size view.declaration.now.specs) c.fork.ensures ∙ c.self.invariant.1 in
     let seen = ap (value_of c.args.name) (sym (ap attributes_in c.self.invariant.1) ∙ ap (λ (entry : Entry). entry.attributes) c.self.view_is) in
     rw (c.from_residual.ensures) (absent c.args.name c.args.self.now (c.in_err-value.ensures c.self.invariant.0 read ∙ seen))
 
@@ -20,7 +18,7 @@ pub returns-then-not-counts : goal.returns-then-not-counts
 returns-then-not-counts c =
     let view = c.self.inside in
     let size = size_of view.width in
-    let read = ap (λ (specs : List Spec). attributes_at size (map spec_shown specs) c.fork.result) c.as_slice-specs.ensures ∙ ap (attributes_at size (map spec_shown view.declaration.now.specs.items)) c.fork.ensures ∙ c.self.invariant.1 in
+    let read = ap (attributes_at size view.declaration.now.specs) c.fork.ensures ∙ c.self.invariant.1 in
     let seen = ap (value_of c.args.name) (sym (ap attributes_in c.self.invariant.1) ∙ ap (λ (entry : Entry). entry.attributes) c.self.view_is) in
     not_counted c.args.name c.args.self.now (value_shown c.in_ok-value.value) (c.in_ok-value.ensures c.self.invariant.0 read ∙ seen) (sym c.counts.ensures ∙ c.if-not-counts.true)
 
@@ -28,6 +26,6 @@ pub returns : goal.returns
 returns c =
     let view = c.self.inside in
     let size = size_of view.width in
-    let read = ap (λ (specs : List Spec). attributes_at size (map spec_shown specs) c.fork.result) c.as_slice-specs.ensures ∙ ap (attributes_at size (map spec_shown view.declaration.now.specs.items)) c.fork.ensures ∙ c.self.invariant.1 in
+    let read = ap (attributes_at size view.declaration.now.specs) c.fork.ensures ∙ c.self.invariant.1 in
     let seen = ap (value_of c.args.name) (sym (ap attributes_in c.self.invariant.1) ∙ ap (λ (entry : Entry). entry.attributes) c.self.view_is) in
     is_given c.args.name c.args.self.now (value_shown c.in_ok-value.value) (c.in_ok-value.ensures c.self.invariant.0 read ∙ seen) (sym c.counts.ensures ∙ c.if-not-counts.false)

@@ -1,0 +1,74 @@
+use Rattle.std.proofs.Common.{◌≡◌, ◌∙◌, ◌<◌, ◌≤◌, ◌++◌, ◌∷◌, [], get_or, length, Option, sym, ap, subst, arith}
+use Rattle.std.specs.Prelude.{IfSome}
+use Rattle.dw_model.specs.Abbrev.{abbreviations}
+use Rattle.dw_forms.specs.declared.run.Start.{Start}
+use Rattle.dw_forms.specs.Run.{ReadRun}
+use Rattle.dw_forms.specs.StoreInside.{sizes_of}
+use Rattle.dw_forms.proofs.StoreLemmas.{added-run, tabled-more, starts-more, first-of, leads, stands-taken, run-ends, readable, hides, stored}
+use Rattle.dw_forms.proofs.store.AbbrevStore.start.Goals as goal
+
+pub returns-in-Some-clause-found : goal.returns-in-Some-clause-found
+returns-in-Some-clause-found c =
+    rw (← c.self.view_is) (c.self.invariant.starts c.args.offset c.in-Some.start.now (sym c.in-Some.ensures.value))
+
+pub returns-in_err-read-clause-memory : goal.returns-in_err-read-clause-memory
+returns-in_err-read-clause-memory c =
+    let s = stands-taken c.self.inside.section.now c.in-Some-take.field-0.now c.args.offset c.new-cursor.result c.fork.result c.take.new.self c.new-cursor.ensures c.fork.ensures c.in-Some-take.ensures in
+    rw (← c.self.view_is) (hides c.from_residual.result (abbreviations c.self.inside.section.now c.args.offset) (readable c.self.inside.section.now c.self.inside.runs.items c.self.inside.starts c.fork.result c.in-Ok.declarations.items c.in-Ok.rest c.args.offset c.self.invariant.starts s c.in-Ok.ensures))
+
+pub invariant_of-self : goal.invariant_of-self
+invariant_of-self c =
+    stored _ c.self.inside.runs.items c.in_err-push.ensures.items c.self.invariant.tabled c.self.invariant.starts
+
+pub returns-in_err-push-clause-memory : goal.returns-in_err-push-clause-memory
+returns-in_err-push-clause-memory c =
+    let s = stands-taken c.self.inside.section.now c.in-Some-take.field-0.now c.args.offset c.new-cursor.result c.fork.result c.take.new.self c.new-cursor.ensures c.fork.ensures c.in-Some-take.ensures in
+    rw (← c.self.view_is) (hides c.from_residual-in_err-push.result (abbreviations c.self.inside.section.now c.args.offset) (readable c.self.inside.section.now c.self.inside.runs.items c.self.inside.starts c.fork.result c.in-Ok.declarations.items c.in-Ok.rest c.args.offset c.self.invariant.starts s c.in-Ok.ensures))
+
+pub invariant_of-self-in_err-add_starts : goal.invariant_of-self-in_err-add_starts
+invariant_of-self-in_err-add_starts c =
+    let section = c.self.inside.section.now in
+    let runs = c.self.inside.runs.items in
+    let run = c.in_ok-read.read in
+    let count = c.self.invariant.tabled.count in
+    let s = stands-taken c.self.inside.section.now c.in-Some-take.field-0.now c.args.offset c.new-cursor.result c.fork.result c.take.new.self c.new-cursor.ensures c.fork.ensures c.in-Some-take.ensures in
+    let h = c.in-Ok.ensures in
+    let last : c.len-run.result ≡ length runs = omega (arith, c.len-run.ensures) in
+    let end = run-ends section runs c.self.inside.starts c.fork.result c.in-Ok.declarations.items c.in-Ok.rest run.rest c.self.invariant.starts s.0 c.in_ok-read.ensures.rest h in
+    let on = subst (λ (rest : Option Start). IfSome rest (λ start. (start.run < length runs) × (start.index ≤ get_or (sizes_of runs) start.run 0))) (sym c.in_ok-read.ensures.rest) (leads section runs c.self.inside.starts h.0 c.in-Ok.rest count c.self.invariant.starts h.2) in
+    let added = added-run section runs run count c.push.new.self.items c.len-run.result c.index.result.now c.in_ok-push.ensures.items last c.index.ensures in
+    let offsets = ap (λ (run : ReadRun). run.offsets) added ∙ c.in_ok-read.ensures.offsets in
+    stored _ (c.self.inside.runs.items ++ c.in_ok-read.read ∷ []) c.in_ok-push.ensures.items (tabled-more section runs run count c.self.invariant.tabled on)
+    (starts-more section runs run count c.fork.result h.0 end.0 c.in-Ok.declarations.items c.len-run.result c.index.result.now.offsets c.self.inside.starts c.add_starts.new.starts c.in_ok-read.ensures.declarations last offsets s.0 h.1 end.1 c.add_starts.ensures c.self.invariant.starts)
+
+pub returns-in_err-add_starts-clause-memory : goal.returns-in_err-add_starts-clause-memory
+returns-in_err-add_starts-clause-memory c =
+    let s = stands-taken c.self.inside.section.now c.in-Some-take.field-0.now c.args.offset c.new-cursor.result c.fork.result c.take.new.self c.new-cursor.ensures c.fork.ensures c.in-Some-take.ensures in
+    rw (← c.self.view_is) (hides c.from_residual-in_err-add_starts.result (abbreviations c.self.inside.section.now c.args.offset) (readable c.self.inside.section.now c.self.inside.runs.items c.self.inside.starts c.fork.result c.in-Ok.declarations.items c.in-Ok.rest c.args.offset c.self.invariant.starts s c.in-Ok.ensures))
+
+pub invariant_of-self-2 : goal.invariant_of-self-2
+invariant_of-self-2 c =
+    let section = c.self.inside.section.now in
+    let runs = c.self.inside.runs.items in
+    let run = c.in_ok-read.read in
+    let count = c.self.invariant.tabled.count in
+    let s = stands-taken c.self.inside.section.now c.in-Some-take.field-0.now c.args.offset c.new-cursor.result c.fork.result c.take.new.self c.new-cursor.ensures c.fork.ensures c.in-Some-take.ensures in
+    let h = c.in-Ok.ensures in
+    let last : c.len-run.result ≡ length runs = omega (arith, c.len-run.ensures) in
+    let end = run-ends section runs c.self.inside.starts c.fork.result c.in-Ok.declarations.items c.in-Ok.rest run.rest c.self.invariant.starts s.0 c.in_ok-read.ensures.rest h in
+    let on = subst (λ (rest : Option Start). IfSome rest (λ start. (start.run < length runs) × (start.index ≤ get_or (sizes_of runs) start.run 0))) (sym c.in_ok-read.ensures.rest) (leads section runs c.self.inside.starts h.0 c.in-Ok.rest count c.self.invariant.starts h.2) in
+    let added = added-run section runs run count c.push.new.self.items c.len-run.result c.index.result.now c.in_ok-push.ensures.items last c.index.ensures in
+    let offsets = ap (λ (run : ReadRun). run.offsets) added ∙ c.in_ok-read.ensures.offsets in
+    stored _ (c.self.inside.runs.items ++ c.in_ok-read.read ∷ []) c.in_ok-push.ensures.items (tabled-more section runs run count c.self.invariant.tabled on)
+    (starts-more section runs run count c.fork.result h.0 end.0 c.in-Ok.declarations.items c.len-run.result c.index.result.now.offsets c.self.inside.starts c.add_starts.new.starts c.in_ok-read.ensures.declarations last offsets s.0 h.1 end.1 c.add_starts.ensures c.self.invariant.starts)
+
+pub returns-clause-found : goal.returns-clause-found
+returns-clause-found c =
+    let section = c.self.inside.section.now in
+    let runs = c.self.inside.runs.items in
+    let run = c.in_ok-read.read in
+    let s = stands-taken c.self.inside.section.now c.in-Some-take.field-0.now c.args.offset c.new-cursor.result c.fork.result c.take.new.self c.new-cursor.ensures c.fork.ensures c.in-Some-take.ensures in
+    let h = c.in-Ok.ensures in
+    let last : c.len-run.result ≡ length runs = omega (arith, c.len-run.ensures) in
+    let end = run-ends section runs c.self.inside.starts c.fork.result c.in-Ok.declarations.items c.in-Ok.rest run.rest c.self.invariant.starts s.0 c.in_ok-read.ensures.rest h in
+    first-of section runs run c.self.invariant.tabled.count c.push.new.self.items c.len-run.result c.args.offset c.fork.result h.0 end.0 c.in-Ok.declarations.items c.in_ok-push.ensures.items last c.in_ok-read.ensures.declarations s h.1 end.1

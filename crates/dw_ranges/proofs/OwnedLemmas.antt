@@ -1,0 +1,58 @@
+-- A later owner whose ranges all have owners already owns no address.
+use Rattle.std.proofs.Common.{◌≡◌, ◌∙◌, ℕ, ◌<◌, ◌≤◌, min, Bool, true, false, cond, List, [], ◌∷◌, ◌++◌, map, Option, Some, None, refl, ap, arith}
+use Rattle.std.specs.Prelude.{◌||◌}
+use Rattle.dw_model.specs.Ranges.{Range, holds, covers}
+use Rattle.dw_index.specs.Owners.{least, least_owner}
+use Rattle.dw_index.proofs.OwnerLemmas.{least_owner-append, least-none}
+use Rattle.dw_ranges.specs.Owned.{AreOwned}
+
+abbrev pub owned_by : List Range → ℕ → List (Range × ℕ)
+owned_by ranges owner = map (λ range. (range, owner)) ranges
+
+least-same : (test : Bool) (n : ℕ) → least (Some n) (cond test (Some n) None) ≡ Some n
+least-same true n = ap Some (omega arith)
+least-same false n = refl
+
+of-ranges : (ranges : List Range) (owner a : ℕ) → least_owner (owned_by ranges owner) a ≡ cond (covers a ranges) (Some owner) None
+unfolding least_owner
+of-ranges [] owner a = refl
+of-ranges (range ∷ ranges) owner a = rw (of-ranges ranges owner a) (by_test (holds a range))
+  where
+    by_test : (test : Bool) → least (cond test (Some owner) None) (cond (covers a ranges) (Some owner) None) ≡ cond (test || covers a ranges) (Some owner) None
+    by_test true = least-same (covers a ranges) owner
+    by_test false = refl
+
+-- the lesser of two owners is at most the first
+least-low : (owner bound : ℕ) (other : Option ℕ) → owner < bound → (found : ℕ) × (least (Some owner) other ≡ Some found) × (found < bound)
+least-low owner bound None h = (owner, refl, h)
+least-low owner bound (Some k) h = (min owner k, refl, omega (arith, h))
+
+-- what has owners still has them where more are added, and the bound rises
+pub still-owned : (pairs more : List (Range × ℕ)) (bound next : ℕ) (ranges : List Range) → bound ≤ next → AreOwned pairs bound ranges → AreOwned (pairs ++ more) next ranges
+still-owned pairs more bound next ranges up h = λ a held.
+    let old = h a held in
+    let below = old.2 in
+    let low = least-low old.0 next (least_owner more a) (omega (arith, below, up)) in
+    (low.0, least_owner-append pairs more a ∙ rw (old.1) (low.1), low.2)
+
+-- ranges that are added have an owner
+pub now-owned : (pairs : List (Range × ℕ)) (ranges : List Range) (owner next : ℕ) → owner < next → AreOwned (pairs ++ owned_by ranges owner) next ranges
+now-owned pairs ranges owner next up = λ a held.
+    let here : least_owner (owned_by ranges owner) a ≡ Some owner = of-ranges ranges owner a ∙ rw held refl in
+    by_pairs a (least_owner pairs a) refl here
+  where
+    by_pairs : (a : ℕ) (found : Option ℕ) → least_owner pairs a ≡ found → least_owner (owned_by ranges owner) a ≡ Some owner → (k : ℕ) × (least_owner (pairs ++ owned_by ranges owner) a ≡ Some k) × (k < next)
+    by_pairs a None e here = (owner, least_owner-append pairs (owned_by ranges owner) a ∙ rw (e, here) refl, up)
+    by_pairs a (Some k) e here = (min k owner, least_owner-append pairs (owned_by ranges owner) a ∙ rw (e, here) refl, omega (arith, up))
+
+-- a later owner of ranges that all have owners changes no least owner
+pub passed-over : (pairs : List (Range × ℕ)) (ranges : List Range) (owner : ℕ) → AreOwned pairs owner ranges → (a : ℕ) → least_owner (pairs ++ owned_by ranges owner) a ≡ least_owner pairs a
+passed-over pairs ranges owner h a =
+    least_owner-append pairs (owned_by ranges owner) a ∙ ap (least (least_owner pairs a)) (of-ranges ranges owner a) ∙ by_test (λ held. h a held) (covers a ranges) refl
+  where
+    least-first : (k : ℕ) → k < owner → least (Some k) (Some owner) ≡ Some k
+    least-first k below = ap Some (omega (arith, below))
+
+    by_test : (covers a ranges ≡ true → (k : ℕ) × (least_owner pairs a ≡ Some k) × (k < owner)) → (test : Bool) → covers a ranges ≡ test → least (least_owner pairs a) (cond test (Some owner) None) ≡ least_owner pairs a
+    by_test owned false e = least-none (least_owner pairs a)
+    by_test owned true e = let old = owned e in rw (old.1) (least-first old.0 old.2)

@@ -1,0 +1,9 @@
+-- Ranges whose addresses have owners.
+use Rattle.std.specs.Prelude.{◌≡◌, ◌<◌, ℕ, true, List, Some}
+use Rattle.dw_model.specs.Ranges.{Range, covers}
+use Rattle.dw_index.specs.Owners.{least_owner}
+
+-- each address of the ranges has an owner below a number
+abbrev pub AreOwned : List (Range × ℕ) → ℕ → List Range → Type 0
+AreOwned pairs bound ranges =
+    (a : ℕ) → covers a ranges ≡ true → (owner : ℕ) × (least_owner pairs a ≡ Some owner) × (owner < bound)

@@ -1,0 +1,80 @@
+-- What is read of a unit.
+use Rattle.std.specs.Prelude.{◌≡◌, ℕ, List, Option, Some, None, option_map, option_and_then, Result, Ok, Err}
+use Rattle.dw_model.specs.declared.dwarf.TheConstants.{DW_AT_stmt_list, DW_AT_comp_dir}
+use Rattle.dw_model.specs.Results.{with_code}
+use Rattle.dw_model.specs.Faults.{bad}
+use Rattle.dw_model.specs.Text.{Tables, Bases, text}
+use Rattle.dw_model.specs.Section.{Sections}
+use Rattle.dw_model.specs.Unit.{DwarfUnit}
+use Rattle.dw_model.specs.Entry.{attribute, as_section_offset}
+use Rattle.dw_model.specs.Root.{root, bases}
+use Rattle.dw_model.specs.Answer.{Lines, Code, tree_fault, line_fault, lines}
+use Rattle.dw_model.specs.Tree.{tree as model_tree}
+use Rattle.dw_line.specs.Lines.{Table, lines_shown, lines_of}
+use Rattle.dw_frames.specs.Tree.{nodes_of}
+use Rattle.dw_frames.specs.UnitIn.{UnitIn}
+use Rattle.dw_symbols.specs.declared.answer.UnitFault.{UnitFault}
+use Rattle.dw_symbols.specs.declared.answer.UnitFault.TheVariants.{Line}
+use Rattle.dw_symbols.specs.Answer.{code_shown}
+
+-- ---- functions
+
+-- the tree is that of a unit, whose entries can be read
+pub record IsTreeOf (sections : Sections) (unit : DwarfUnit) (tree : UnitIn) : Type 0 where
+  pub file : tree.sections ≡ sections
+  pub of : tree.unit ≡ unit
+  pub read : model_tree sections unit ≡ Ok (nodes_of sections unit)
+
+-- the tree is the unit's, or the fault tells why it has none
+abbrev pub HasTree : Sections → DwarfUnit → Result UnitIn UnitFault → Type 0
+HasTree sections unit (Ok tree) = IsTreeOf sections unit tree
+HasTree sections unit (Err fault) = with_code tree_fault (model_tree sections unit) ≡ Err (code_shown fault)
+
+-- ---- lines
+
+-- where the line table begins that a unit names
+abbrev pub named_table : Sections → DwarfUnit → Option ℕ
+named_table sections unit =
+    option_and_then (λ first. option_and_then as_section_offset (attribute DW_AT_stmt_list first)) (root sections unit)
+
+-- the directory in which a unit was compiled
+abbrev pub directory_of : Sections → DwarfUnit → Option (List ℕ)
+directory_of sections unit =
+    option_and_then (λ first. option_and_then (text sections.tables (bases sections unit)) (attribute DW_AT_comp_dir first)) (root sections unit)
+
+-- It is the line table at an offset, as any unit sees it; or no unit can read the table there.
+abbrev pub IsTableAt : Sections → ℕ → Result (Option Table) UnitFault → Type 0
+IsTableAt sections offset (Ok (Some table)) = (table.section ≡ sections.line) × (table.offset ≡ offset)
+IsTableAt sections offset (Ok None) = ⊥
+IsTableAt sections offset (Err fault) =
+    (fault ≡ Line) × ((tables : Tables) (bases : Bases) (comp_dir : Option (List ℕ)) → lines_of tables bases sections.line comp_dir offset ≡ Err bad)
+
+-- the same where there is an offset, and no table where there is none
+abbrev pub IsTableOf : Sections → Option ℕ → Result (Option Table) UnitFault → Type 0
+IsTableOf sections None read = read ≡ Ok None
+IsTableOf sections (Some offset) read = IsTableAt sections offset read
+
+-- it is the table that a unit names, as any unit sees it
+abbrev pub IsNamed : Sections → DwarfUnit → Result (Option Table) UnitFault → Type 0
+IsNamed sections unit read = IsTableOf sections (named_table sections unit) read
+
+-- a line table that was turned to a unit
+pub record IsTurned (sections : Sections) (unit : DwarfUnit) (old new : Table) : Type 0 where
+  pub lines : lines_of sections.tables (bases sections unit) old.section (directory_of sections unit) old.offset ≡ Ok new
+  pub section : new.section ≡ old.section
+  pub offset : new.offset ≡ old.offset
+
+-- the same where there is one
+abbrev pub AreTurned : Sections → DwarfUnit → (old new : Option Table) → Type 0
+AreTurned sections unit None None = Unit {0}
+AreTurned sections unit (Some old) (Some new) = IsTurned sections unit old new
+AreTurned sections unit _ _ = ⊥
+
+-- a line table without its place, or why there is none
+abbrev pub read_shown : Result (Option Table) UnitFault → Result (Option Lines) Code
+read_shown (Ok table) = Ok (option_map lines_shown table)
+read_shown (Err fault) = Err (code_shown fault)
+
+-- it is the line table that a unit names, as the unit sees it
+abbrev pub HasLines : Sections → DwarfUnit → Result (Option Table) UnitFault → Type 0
+HasLines sections unit read = read_shown read ≡ with_code (λ _. line_fault) (lines sections unit)
