@@ -1,6 +1,6 @@
 #!/usr/bin/env bash
 # The README says what is: each command that it shows with a `$` writes what stands below it, the usage line is the
-# program's, the lines of the library's example stand in the test that runs them, each file that it names is there, and
+# program's, the lines of the library's examples stand in the tests that run them, each file that it names is there, and
 # it has at most 8 KB. Run it after `rt run` in crates/a2l has built the program. It needs python3.
 set -euo pipefail
 cd "$(dirname "$0")/.."
@@ -35,7 +35,12 @@ for block in blocks:
         shown += 1
         if block not in open('crates/answer_tests/src/library.rt', encoding='utf-8').read():
             wrong.append('the example of the library is not that of crates/answer_tests/src/library.rt')
-for path in re.findall(r'\b(?:docs|tests|bench|examples|include|samples)/[\w./]+\w', text):
+    elif first.startswith('with a2l.open'):
+        shown += 1
+        doctest = re.sub(r'^(>>> |\.\.\. ?)', '', open('python/a2l.py', encoding='utf-8').read(), flags=re.M)
+        if block not in doctest:
+            wrong.append('the example for Python is not one of python/a2l.py')
+for path in re.findall(r'\b(?:docs|tests|bench|examples|include|python|samples)/[\w./]+\w', text):
     if not os.path.exists(path):
         wrong.append(f'{path} is not there')
 if len(text.encode()) > 8192:

@@ -4,8 +4,8 @@ use Rattle.dw_elf.specs.declared.fault.OpenFault.TheVariants.{NotElf, NotElf64Li
 use Rattle.dw_elf.specs.declared.fault.OpenFault.TheVariants as open_faults
 use Rattle.a2l.specs.declared.command.ParseFault.{ParseFault}
 use Rattle.a2l.specs.declared.command.ParseFault.TheVariants as parse_faults
-use Rattle.a2l.specs.declared.load.LoadFault.{LoadFault}
-use Rattle.a2l.specs.declared.load.LoadFault.TheVariants as load_faults
+use Rattle.a2l_lines.specs.declared.file.LoadFault.{LoadFault}
+use Rattle.a2l_lines.specs.declared.file.LoadFault.TheVariants as load_faults
 use Rattle.a2l_lines.specs.declared.fault.RunFault.{RunFault}
 use Rattle.a2l_lines.specs.declared.fault.RunFault.TheVariants as run_faults
 use Rattle.a2l.specs.declared.fault.Fault.{Fault}

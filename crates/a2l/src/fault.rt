@@ -5,8 +5,7 @@ ghost use Rattle.std.specs.Cow.{cow_str_bytes};
 ghost use Rattle.a2l.specs.Fault.{subject_of, refusal_line, line_of, status_of, Tells, Reports};
 
 use crate::command::{ParseFault, USAGE};
-use crate::load::LoadFault;
-use a2l_lines::{RunFault, Sink, write_all};
+use a2l_lines::{LoadFault, RunFault, Sink, write_all};
 use dw_elf::OpenFault;
 use std::alloc::{AllocError, Global};
 use std::borrow::CowStr;

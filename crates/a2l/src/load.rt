@@ -2,17 +2,7 @@
 
 ghost use Rattle.std.specs.Prelude.{◌≡◌, List, Option, ℕ, IfOk, IfSome};
 
-use thiserror::Error;
-
-/// Why a file couldn't be loaded.
-#[derive(Clone, Copy, Debug, PartialEq, Eq, Error)]
-pub enum LoadFault {
-    /// The file isn't there, or a read of it failed.
-    #[error("the file can't be read")]
-    Device,
-    #[error("out of memory")]
-    Memory,
-}
+use a2l_lines::LoadFault;
 
 /// What gives the bytes of a file by its path.
 pub trait Load {

@@ -2,9 +2,8 @@
 
 ghost use Rattle.std.specs.Prelude.{◌≤◌, length, None, IfOk};
 
-use crate::load::{Load, LoadFault};
-use a2l_lines::{Count, Failed, Sink, Source};
-use std::fs;
+use crate::load::Load;
+use a2l_lines::{Count, Failed, LoadFault, Sink, Source, read_file};
 use std::io::{self, ErrorKind, Read, Write};
 use std::rt::Files;
 use std::sync::ledger::Ledger;
@@ -19,11 +18,7 @@ impl<R: Files + AllocGlobal> Load for Disk<'_, R> {
     ghost known = { λ _ _. None };
 
     fn load(&mut self, path: &str) -> Result<Vec<u8>, LoadFault> {
-        match fs::read(self.rt, path) {
-            Ok(bytes) => Ok(bytes),
-            Err(error) if error.kind() == ErrorKind::OutOfMemory => Err(LoadFault::Memory),
-            Err(_) => Err(LoadFault::Device),
-        }
+        read_file(self.rt, self.rt.alloc(), path)
     }
 }
 

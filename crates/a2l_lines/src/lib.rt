@@ -5,6 +5,7 @@
 mod blocks;
 mod count;
 mod fault;
+mod file;
 mod input;
 mod input_bytes;
 mod listing;
@@ -23,6 +24,7 @@ mod turns;
 
 pub use count::Count;
 pub use fault::RunFault;
+pub use file::{LoadFault, read_file};
 pub use input::Input;
 pub use listing::list_units;
 pub use options::Options;

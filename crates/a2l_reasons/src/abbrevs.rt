@@ -1,7 +1,7 @@
 //! Why a table of abbreviations can't be read, by section 7.5.3 of DWARF 5.
 
 use crate::fields::Fields;
-use crate::reason::{Stop, stop_at};
+use crate::reason::{Stop, check_offset};
 use crate::spot::Spot;
 use dw_bytes::Cursor;
 use dw_model::dwarf::{
@@ -88,18 +88,14 @@ pub(crate) fn abbrevs_reason(
     unit: u64,
     offset: u64,
 ) -> Result<(), Stop> {
-    let len = section.len();
-    if offset > len as u64 {
-        let found = format!(in alloc; "0x{offset:x}")?;
-        let wanted = format!(in alloc; "at most 0x{len:x}, the length of .debug_abbrev")?;
-        return Err(stop_at(
-            alloc,
-            Spot::unit(unit),
-            "debug_abbrev_offset",
-            found,
-            wanted,
-        ));
-    }
+    check_offset(
+        alloc,
+        Spot::unit(unit),
+        "debug_abbrev_offset",
+        offset,
+        section,
+        ".debug_abbrev",
+    )?;
     let mut at = offset;
     for _ in 0..section.len() {
         let spot = Spot::At {

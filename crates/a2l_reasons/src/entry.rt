@@ -33,7 +33,11 @@ fn value_stop(alloc: Global, fields: &Fields<'_>, name: u64, form: u64, fault: F
 }
 
 /// The declaration of a code.
-fn declared<'b>(fields: &Fields<'_>, abbrevs: &'b Abbrevs, code: u64) -> Result<&'b Decl, Stop> {
+fn declared<'b, 'a>(
+    fields: &Fields<'_>,
+    abbrevs: &'b Abbrevs<'a>,
+    code: u64,
+) -> Result<&'b Decl<'a>, Stop> {
     match abbrevs.get(code) {
         Some(declaration) => Ok(declaration),
         None => Err(fields.refuse_number(
@@ -50,7 +54,7 @@ pub fn entry_at<'a>(
     alloc: Global,
     info: &'a [u8],
     unit: &UnitHeader,
-    abbrevs: &Abbrevs,
+    abbrevs: &Abbrevs<'_>,
     offset: u64,
     attributes: &mut Vec<Attribute<'a>>,
 ) -> Result<Passed, Stop> {
@@ -66,7 +70,11 @@ pub fn entry_at<'a>(
         });
     }
     let declaration = declared(&fields, abbrevs, code)?;
-    for spec in declaration.specs.as_slice() {
+    let mut left = declaration.specs.fork();
+    for _ in 0..declaration.specs.len() {
+        let Some(spec) = left.take_first() else {
+            break;
+        };
         let name = spec.name;
         match fields.value(spec.form, spec.implicit, unit.width) {
             Ok(value) => attributes.push(Attribute { name, value })?,
@@ -85,7 +93,7 @@ pub(crate) fn root_reason(
     alloc: Global,
     info: &[u8],
     unit: &UnitHeader,
-    abbrevs: &Abbrevs,
+    abbrevs: &Abbrevs<'_>,
 ) -> Result<(), Stop> {
     let mut attributes = Vec::new(alloc);
     match entry_at(

@@ -2,6 +2,7 @@
 
 use crate::reason::{Stop, stop_at, stop_for};
 use crate::spot::Spot;
+use crate::texts::{decimal, hexadecimal, joined};
 use dw_bytes::{Cursor, Initial, Leb, Width};
 use dw_forms::{FormFault, Value, read_value};
 use std::alloc::{AllocError, Global};
@@ -63,26 +64,35 @@ impl<'a> Fields<'a> {
 
     /// The same with a number.
     pub(crate) fn refuse_number(&self, field: &str, found: u64, wanted: &str) -> Stop {
-        match format!(in self.alloc; "{found}") {
+        match decimal(self.alloc, found) {
             Ok(found) => self.refuse(field, found, wanted),
             Err(_) => Stop::Memory,
         }
     }
 
+    /// Where the next field is, in words.
+    fn place(&self) -> Result<String, AllocError> {
+        let at = hexadecimal(self.alloc, self.at())?;
+        joined(self.alloc, &["at ", &at, " of ", self.section])
+    }
+
+    /// How a field of so many bytes isn't all there.
+    fn cut_stop(&self, field: &str, size: u64) -> Result<Stop, AllocError> {
+        let alloc = self.alloc;
+        let left = decimal(alloc, self.left())?;
+        let place = self.place()?;
+        let found = joined(alloc, &["cut: ", &left, " bytes are left ", &place])?;
+        let size = decimal(alloc, size)?;
+        let wanted = joined(alloc, &[&size, " bytes"])?;
+        Ok(stop_at(alloc, self.spot, field, found, wanted))
+    }
+
     /// A stop at a field of so many bytes that isn't all there.
     fn too_short(&self, field: &str, size: u64) -> Stop {
-        let alloc = self.alloc;
-        let left = self.left();
-        let at = self.at();
-        let section = self.section;
-        let Ok(found) = format!(in alloc; "cut: {left} bytes are left at 0x{at:x} of {section}")
-        else {
-            return Stop::Memory;
-        };
-        let Ok(wanted) = format!(in alloc; "{size} bytes") else {
-            return Stop::Memory;
-        };
-        stop_at(alloc, self.spot, field, found, wanted)
+        match self.cut_stop(field, size) {
+            Ok(stop) => stop,
+            Err(AllocError) => Stop::Memory,
+        }
     }
 
     /// A field that was read, or a stop at one that isn't all there.
@@ -131,23 +141,20 @@ impl<'a> Fields<'a> {
         }
     }
 
+    /// A stop at a field whose value can't be read, by what it is and what was wanted.
+    fn unreadable(&self, field: &str, what: &str, wanted: &str) -> Result<Stop, AllocError> {
+        let place = self.place()?;
+        let found = joined(self.alloc, &[what, ", ", &place])?;
+        Ok(self.refuse(field, found, wanted))
+    }
+
     /// A stop at a value, by the fault of its form.
     fn value_stop(&self, field: &str, fault: FormFault) -> Result<Stop, AllocError> {
-        let alloc = self.alloc;
-        let at = self.at();
-        let section = self.section;
         match fault {
-            FormFault::End => {
-                let found = format!(in alloc; "cut, at 0x{at:x} of {section}")?;
-                Ok(self.refuse(field, found, "a value that is all there"))
-            }
-            FormFault::Form => {
-                let found = format!(in alloc; "of an unknown form, at 0x{at:x} of {section}")?;
-                Ok(self.refuse(field, found, "a form of DWARF 5"))
-            }
+            FormFault::End => self.unreadable(field, "cut", "a value that is all there"),
+            FormFault::Form => self.unreadable(field, "of an unknown form", "a form of DWARF 5"),
             FormFault::Wide => {
-                let found = format!(in alloc; "above 64 bits, at 0x{at:x} of {section}")?;
-                Ok(self.refuse(field, found, "a number of at most 64 bits"))
+                self.unreadable(field, "above 64 bits", "a number of at most 64 bits")
             }
             FormFault::Memory | FormFault::Code => Ok(Stop::Memory),
         }
@@ -190,9 +197,18 @@ impl<'a> Fields<'a> {
         let left = self.left();
         if length > left {
             let alloc = self.alloc;
-            let found = format!(in alloc; "{length}")?;
-            let section = self.section;
-            let wanted = format!(in alloc; "at most {left}, the bytes that {section} has left")?;
+            let found = decimal(alloc, length)?;
+            let left = decimal(alloc, left)?;
+            let wanted = joined(
+                alloc,
+                &[
+                    "at most ",
+                    &left,
+                    ", the bytes that ",
+                    self.section,
+                    " has left",
+                ],
+            )?;
             return Err(stop_at(alloc, self.spot, "unit_length", found, wanted));
         }
         Ok((length, width))

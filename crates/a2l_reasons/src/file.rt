@@ -7,10 +7,11 @@ use crate::layout::{
 };
 use crate::reason::{Stop, stop_at, stop_for};
 use crate::spot::Spot;
+use crate::texts::{decimal, hexadecimal, joined};
 use dw_bytes::Cursor;
 use dw_elf::Name;
 use dw_model::elf::{ELFCLASS64, ELFDATA2LSB, ELFMAG, SHDR_SIZE, SHF_COMPRESSED};
-use std::alloc::Global;
+use std::alloc::{AllocError, Global};
 
 /// What a file that isn't ELF looks like by its first bytes.
 fn kind_of(file: &[u8]) -> &'static str {
@@ -93,13 +94,25 @@ pub(crate) fn type_reason(alloc: Global) -> Result<(), Stop> {
     ))
 }
 
+/// Where a piece of the file is, in words.
+fn text_of_piece(alloc: Global, offset: u64, size: u64) -> Result<String, AllocError> {
+    let offset = hexadecimal(alloc, offset)?;
+    let size = decimal(alloc, size)?;
+    joined(alloc, &[&offset, " with ", &size, " bytes after it"])
+}
+
+/// Where a piece of the file should be, in words.
+fn text_of_length(alloc: Global, file: &[u8]) -> Result<String, AllocError> {
+    let len = hexadecimal(alloc, file.len() as u64)?;
+    joined(alloc, &["within the file, which has ", &len, " bytes"])
+}
+
 /// A stop at an offset and a size that don't lie in a file.
 fn outside(alloc: Global, spot: Spot, field: &str, offset: u64, size: u64, file: &[u8]) -> Stop {
-    let len = file.len();
-    let Ok(found) = format!(in alloc; "0x{offset:x} with {size} bytes behind it") else {
+    let Ok(found) = text_of_piece(alloc, offset, size) else {
         return Stop::Memory;
     };
-    let Ok(wanted) = format!(in alloc; "within the file, which has 0x{len:x} bytes") else {
+    let Ok(wanted) = text_of_length(alloc, file) else {
         return Stop::Memory;
     };
     stop_at(alloc, spot, field, found, wanted)

@@ -19,6 +19,7 @@ mod ranges;
 mod reason;
 mod refused;
 mod spot;
+mod texts;
 mod tree;
 mod unit;
 

@@ -3,7 +3,7 @@
 use crate::fields::Fields;
 use crate::line_lists::{LineTable, list_of};
 use crate::line_program::program_reason;
-use crate::reason::{Stop, stop_at};
+use crate::reason::{Stop, check_offset};
 use crate::spot::Spot;
 use dw_bytes::Width;
 use dw_model::dwarf::{ADDRESS_SIZE, DWARF_VERSION};
@@ -99,12 +99,14 @@ pub fn line_table<'a>(
     section: &'a [u8],
     offset: u64,
 ) -> Result<LineTable<'a>, Stop> {
-    let len = section.len();
-    if offset > len as u64 {
-        let found = format!(in alloc; "0x{offset:x}")?;
-        let wanted = format!(in alloc; "at most 0x{len:x}, the length of .debug_line")?;
-        return Err(stop_at(alloc, table_spot(offset), "DW_AT_stmt_list", found, wanted));
-    }
+    check_offset(
+        alloc,
+        table_spot(offset),
+        "DW_AT_stmt_list",
+        offset,
+        section,
+        SECTION,
+    )?;
     let mut fields = Fields::new(alloc, table_spot(offset), SECTION, section, offset);
     let (length, _) = fields.length()?;
     let end = fields.at().saturating_add(length);

@@ -1,7 +1,7 @@
 //! Why the ranges of an entry can't be read, by sections 2.17, 7.25 and 7.28 of DWARF 5.
 
 use crate::fields::Fields;
-use crate::reason::{Stop, stop_at, stop_for};
+use crate::reason::{Stop, check_offset, stop_at, stop_for};
 use crate::spot::Spot;
 use dw_forms::{Bases, Tables, Value};
 use dw_model::dwarf::{
@@ -13,6 +13,8 @@ use dw_units::{Entry, Unit};
 use std::alloc::Global;
 
 const SECTION: &str = ".debug_rnglists";
+/// The first field of an entry of a list.
+const KIND: &str = "the kind of an entry of the list";
 
 /// What the ranges of entries are read by, of one unit.
 #[derive(Clone, Copy)]
@@ -49,83 +51,103 @@ fn check_address(
     Err(stop_at(alloc, spot, field, found, wanted))
 }
 
-/// The next entry of a list, at the fields; whether it isn't the last.
-fn check_entry(
-    reader: Reader<'_, '_>,
+/// A list that is gone through.
+#[derive(Drop)]
+struct List<'b, 'a> {
+    reader: Reader<'b, 'a>,
     spot: Spot,
-    fields: &mut Fields<'_>,
-    based: &mut bool,
-) -> Result<bool, Stop> {
-    match fields.u8("the kind of an entry of the list")? {
-        DW_RLE_end_of_list => return Ok(false),
-        DW_RLE_base_addressx => {
-            let index = fields.uleb("the index of the base")?;
-            check_address(
-                reader,
-                spot,
-                "the base of DW_RLE_base_addressx",
-                &Value::AddressIndex(index),
-            )?;
-            *based = true;
+    fields: Fields<'a>,
+    /// There is a base for offsets.
+    has_base: bool,
+}
+
+impl<'b, 'a> List<'b, 'a> {
+    /// An index has to lead to an address.
+    fn check_index(&self, field: &str, index: u64) -> Result<(), Stop> {
+        check_address(self.reader, self.spot, field, &Value::AddressIndex(index))
+    }
+
+    /// The base of what follows, by its index.
+    fn check_base_index(&mut self) -> Result<bool, Stop> {
+        let index = self.fields.uleb("the index of the base")?;
+        self.check_index("the base of DW_RLE_base_addressx", index)?;
+        self.has_base = true;
+        Ok(true)
+    }
+
+    /// A begin and an end by their indexes.
+    fn check_indexes(&mut self) -> Result<bool, Stop> {
+        let begin = self.fields.uleb("the index of the begin")?;
+        let end = self.fields.uleb("the index of the end")?;
+        self.check_index("the begin of DW_RLE_startx_endx", begin)?;
+        self.check_index("the end of DW_RLE_startx_endx", end)?;
+        Ok(true)
+    }
+
+    /// A begin by its index, and a length.
+    fn check_begin_index(&mut self) -> Result<bool, Stop> {
+        let begin = self.fields.uleb("the index of the begin")?;
+        let _ = self.fields.uleb("the length")?;
+        self.check_index("the begin of DW_RLE_startx_length", begin)?;
+        Ok(true)
+    }
+
+    /// A begin and an end as offsets from the base.
+    fn check_offsets(&mut self) -> Result<bool, Stop> {
+        let _ = self.fields.uleb("the offset of the begin")?;
+        let _ = self.fields.uleb("the offset of the end")?;
+        if self.has_base {
+            return Ok(true);
         }
-        DW_RLE_startx_endx => {
-            let start = fields.uleb("the index of the begin")?;
-            let end = fields.uleb("the index of the end")?;
-            check_address(
-                reader,
-                spot,
-                "the begin of DW_RLE_startx_endx",
-                &Value::AddressIndex(start),
-            )?;
-            check_address(
-                reader,
-                spot,
-                "the end of DW_RLE_startx_endx",
-                &Value::AddressIndex(end),
-            )?;
-        }
-        DW_RLE_startx_length => {
-            let start = fields.uleb("the index of the begin")?;
-            let _ = fields.uleb("the length")?;
-            check_address(
-                reader,
-                spot,
-                "the begin of DW_RLE_startx_length",
-                &Value::AddressIndex(start),
-            )?;
-        }
-        DW_RLE_offset_pair => {
-            let _ = fields.uleb("the offset of the begin")?;
-            let _ = fields.uleb("the offset of the end")?;
-            if !*based {
-                let found = String::from_str(
-                    reader.alloc,
-                    "an address that can't be read, DW_AT_low_pc of the unit",
-                )?;
-                return Err(fields.refuse("the base of DW_RLE_offset_pair", found, "an address"));
-            }
-        }
-        DW_RLE_base_address => {
-            let _ = fields.u64("the base")?;
-            *based = true;
-        }
-        DW_RLE_start_end => {
-            let _ = fields.u64("the begin")?;
-            let _ = fields.u64("the end")?;
-        }
-        DW_RLE_start_length => {
-            let _ = fields.u64("the begin")?;
-            let _ = fields.uleb("the length")?;
-        }
-        kind => {
-            return Err(fields.refuse_number(
-                "the kind of an entry of the list",
-                u64::from(kind),
-                "0 to 7, a DW_RLE code",
-            ));
+        let found = String::from_str(
+            self.reader.alloc,
+            "an address that can't be read, DW_AT_low_pc of the unit",
+        )?;
+        Err(
+            self.fields
+                .refuse("the base of DW_RLE_offset_pair", found, "an address"),
+        )
+    }
+
+    /// The base of what follows.
+    fn pass_base(&mut self) -> Result<bool, Stop> {
+        let _ = self.fields.u64("the base")?;
+        self.has_base = true;
+        Ok(true)
+    }
+
+    /// A begin and an end.
+    fn pass_addresses(&mut self) -> Result<bool, Stop> {
+        let _ = self.fields.u64("the begin")?;
+        let _ = self.fields.u64("the end")?;
+        Ok(true)
+    }
+
+    /// A begin and a length.
+    fn pass_length(&mut self) -> Result<bool, Stop> {
+        let _ = self.fields.u64("the begin")?;
+        let _ = self.fields.uleb("the length")?;
+        Ok(true)
+    }
+
+    /// The next entry; whether it isn't the last.
+    fn check_entry(&mut self) -> Result<bool, Stop> {
+        let kind = self.fields.u8(KIND)?;
+        match kind {
+            DW_RLE_end_of_list => Ok(false),
+            DW_RLE_base_addressx => self.check_base_index(),
+            DW_RLE_startx_endx => self.check_indexes(),
+            DW_RLE_startx_length => self.check_begin_index(),
+            DW_RLE_offset_pair => self.check_offsets(),
+            DW_RLE_base_address => self.pass_base(),
+            DW_RLE_start_end => self.pass_addresses(),
+            DW_RLE_start_length => self.pass_length(),
+            _ => Err(
+                self.fields
+                    .refuse_number(KIND, u64::from(kind), "0 to 7, a DW_RLE code"),
+            ),
         }
     }
-    Ok(true)
 }
 
 /// Why the list at an offset of .debug_rnglists can't be read.
@@ -135,15 +157,19 @@ fn check_list(reader: Reader<'_, '_>, offset: u64) -> Result<(), Stop> {
         section: SECTION,
         offset,
     };
-    let mut fields = Fields::new(reader.alloc, spot, SECTION, reader.tables.rnglists, offset);
-    let mut based = reader.has_base;
+    let mut list = List {
+        reader,
+        spot,
+        fields: Fields::new(reader.alloc, spot, SECTION, reader.tables.rnglists, offset),
+        has_base: reader.has_base,
+    };
     for _ in 0..reader.tables.rnglists.len() {
-        if !check_entry(reader, spot, &mut fields, &mut based)? {
+        if !list.check_entry()? {
             return Ok(());
         }
     }
     // No byte is left, so the list has no end.
-    let _ = fields.u8("the kind of an entry of the list")?;
+    let _ = list.fields.u8(KIND)?;
     Ok(())
 }
 
@@ -178,16 +204,17 @@ fn list_offset(reader: Reader<'_, '_>, spot: Spot, value: &Value<'_>) -> Result<
 
 /// Why the list that DW_AT_ranges names can't be read.
 fn check_ranges(reader: Reader<'_, '_>, spot: Spot, value: &Value<'_>) -> Result<(), Stop> {
-    let alloc = reader.alloc;
-    let len = reader.tables.rnglists.len();
     let Some(offset) = list_offset(reader, spot, value)? else {
         return Ok(());
     };
-    if offset > len as u64 {
-        let found = format!(in alloc; "0x{offset:x}")?;
-        let wanted = format!(in alloc; "at most 0x{len:x}, the length of .debug_rnglists")?;
-        return Err(stop_at(alloc, spot, "DW_AT_ranges", found, wanted));
-    }
+    check_offset(
+        reader.alloc,
+        spot,
+        "DW_AT_ranges",
+        offset,
+        reader.tables.rnglists,
+        SECTION,
+    )?;
     check_list(reader, offset)
 }
 

@@ -1,6 +1,7 @@
 //! Why something can't be read.
 
 use crate::spot::Spot;
+use crate::texts::{hexadecimal, joined};
 use std::alloc::{AllocError, AllocFailed, Global};
 
 /// A field that can't be taken: where it is, what it is, what it holds and what was wanted of it.
@@ -17,10 +18,18 @@ impl Reason {
     /// The reason in words, without an end.
     pub fn sentence(&self, alloc: Global) -> Result<String, AllocError> {
         let spot = self.spot.text(alloc)?;
-        let field = &self.field;
-        let found = &self.found;
-        let wanted = &self.wanted;
-        format!(in alloc; "{spot}: {field} is {found}, wanted {wanted}")
+        joined(
+            alloc,
+            &[
+                &spot,
+                ": ",
+                &self.field,
+                " is ",
+                &self.found,
+                ", wanted ",
+                &self.wanted,
+            ],
+        )
     }
 }
 
@@ -76,6 +85,24 @@ pub(crate) fn stop_for(
         Ok(wanted) => stop_at(alloc, spot, field, found, wanted),
         Err(AllocError) => Stop::Memory,
     }
+}
+
+/// Whether an offset that a field names lies in a section or at its end; a stop where it doesn't.
+pub(crate) fn check_offset(
+    alloc: Global,
+    spot: Spot,
+    field: &str,
+    offset: u64,
+    section: &[u8],
+    name: &str,
+) -> Result<(), Stop> {
+    if offset <= section.len() as u64 {
+        return Ok(());
+    }
+    let found = hexadecimal(alloc, offset)?;
+    let len = hexadecimal(alloc, section.len() as u64)?;
+    let wanted = joined(alloc, &["at most ", &len, ", the length of ", name])?;
+    Err(stop_at(alloc, spot, field, found, wanted))
 }
 
 /// The reason for which a reader stopped; `None` where it didn't.

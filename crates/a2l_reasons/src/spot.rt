@@ -1,5 +1,6 @@
 //! Where a field is.
 
+use crate::texts::{hexadecimal, joined};
 use std::alloc::{AllocError, Global};
 
 /// Where a field is that can't be taken. Offsets count from the first byte of the section.
@@ -43,12 +44,15 @@ impl Spot {
         match self {
             Spot::FileHeader => String::from_str(alloc, "file header"),
             Spot::SectionTable => String::from_str(alloc, "section header table"),
-            Spot::SectionHeader(name) => format!(in alloc; "section header of {name}"),
+            Spot::SectionHeader(name) => joined(alloc, &["section header of ", name]),
             Spot::At {
                 what,
                 section,
                 offset,
-            } => format!(in alloc; "{what} at 0x{offset:x} of {section}"),
+            } => {
+                let offset = hexadecimal(alloc, offset)?;
+                joined(alloc, &[what, " at ", &offset, " of ", section])
+            }
         }
     }
 }

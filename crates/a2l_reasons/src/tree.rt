@@ -13,11 +13,11 @@ use dw_units::{Attribute, OpenUnit, Sections};
 use std::alloc::Global;
 
 /// The abbreviations of a unit that is open, so that they can be read.
-pub(crate) fn abbrevs_at(
+pub(crate) fn abbrevs_at<'a>(
     alloc: Global,
-    section: &[u8],
+    section: &'a [u8],
     offset: u64,
-) -> Result<Option<Abbrevs>, Stop> {
+) -> Result<Option<Abbrevs<'a>>, Stop> {
     match Abbrevs::read(alloc, section, offset) {
         Ok(abbrevs) => Ok(Some(abbrevs)),
         Err(FormFault::Memory) => Err(Stop::Memory),

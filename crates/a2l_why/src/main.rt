@@ -2,12 +2,11 @@
 #![tactic(auto)]
 
 mod command;
-mod load;
 mod meter;
 
 use crate::command::{Job, ParseFault, USAGE, parse};
-use crate::load::{LoadFault, load};
 use crate::meter::Meter;
+use a2l_lines::{LoadFault, read_file};
 use a2l_ways::{Form, Outcome, Report, report_on_file, report_on_words};
 use std::alloc::{AllocError, AllocFailed};
 use std::io::{ErrorKind, Lock, Write};
@@ -110,7 +109,7 @@ fn run(rt: &HostRuntime) -> Result<u8, Fault> {
         return Ok(0);
     }
     let job = parse(rt.alloc(), words.as_slice())?;
-    let file = load(rt, rt.alloc(), job.file)?;
+    let file = read_file(rt, rt.alloc(), job.file)?;
     let report = report_on(rt, &job, &file)?;
     write(rt, &report.text)?;
     match report.outcome {

@@ -2,8 +2,8 @@
 
 ghost use Rattle.std.specs.Prelude.{Some, None, option_copied};
 
-use crate::load::{Load, LoadFault};
-use a2l_lines::{Count, Failed, Sink, Source};
+use crate::load::Load;
+use a2l_lines::{Count, Failed, LoadFault, Sink, Source};
 use std::alloc::{AllocError, Global};
 use std::sync::ledger::Ledger;
 

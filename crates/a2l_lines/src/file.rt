@@ -1,4 +1,4 @@
-//! The bytes of the file.
+//! The bytes of a file.
 
 use std::alloc::{AllocError, AllocFailed, Global};
 use std::fs::{File, OpenFile};
@@ -48,8 +48,9 @@ fn room_for(alloc: Global, size: u64) -> Result<Vec<u8>, AllocError> {
     Vec::with_capacity(alloc, size.saturating_add(SPARE))
 }
 
-/// All bytes of a file, in one block of its size.
-pub fn load<R: Files>(rt: &R, alloc: Global, path: &str) -> Result<Vec<u8>, LoadFault> {
+/// All bytes of a file, in one block of the size that the system tells of it: a list that grows
+/// would be copied again and again. The error is `Device`, also for a folder, or `Memory`.
+pub fn read_file<R: Files>(rt: &R, alloc: Global, path: &str) -> Result<Vec<u8>, LoadFault> {
     let mut file = File::open(rt, path)?;
     let size = file.metadata()?.len();
     let mut bytes = room_for(alloc, size)?;
