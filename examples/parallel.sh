@@ -8,7 +8,8 @@
 #
 # Further words go to parallel: `-j 8`, or `--sshlogin one,two,:` for other machines, which need rsync, a2l and the
 # programs under the same paths; blocks and answers are sent. The variable A2L names a2l, BLOCK says how many addresses
-# it gets at once (20,000). What failed is tried again twice. FOLDER/log is parallel's log, its status that of all.
+# it gets at once (20,000). What failed is tried again twice. FOLDER/log is parallel's log. The status is parallel's, or
+# 1 where answers of a block are missing all the same; then a line on standard error says which.
 set -euo pipefail
 [ $# -ge 2 ] || { sed -n '2s/^# //p' "$0" >&2; exit 2; }
 table=$1 folder=$2
@@ -28,11 +29,11 @@ awk -F, -v OFS='\t' -v bad="$folder/bad" '
     }
     { sub(/^0x/, "", $2); print $1, substr("000000000000000", 1, 16 - length($2)) tolower($2), $3 }' "$table" |
     sort -t "$(printf '\t')" -k 1,1 -k 2,2 |
-    awk -F '\t' -v OFS='\t' -v most="${BLOCK:-20000}" -v folder="$folder" '
+    awk -F '\t' -v OFS='\t' -v most="${BLOCK:-20000}" -v folder="$folder" -v name_of="a2l-$(uname -n)-$$-%06d" '
         function finish() { if (name != "") print address, sprintf("%.0f", count) > (block ".counts") }
         function next_block() {
             if (block != "") { close(block); close(block ".counts") }
-            file = sprintf("blocks/%06d", ++blocks); block = folder "/" file; written = 0
+            file = sprintf(name_of, ++blocks); block = folder "/blocks/" file; written = 0
             print file, name > (folder "/list")
         }
         # as texts: 1e2 and 100 are one number
@@ -45,15 +46,21 @@ awk -F, -v OFS='\t' -v bad="$folder/bad" '
 # a2l ends with 1 where a unit of an address cannot be read, with 2 where the program is refused: both are answers.
 status=0 sent=()
 case " $* " in
+# no folder is made on another machine: when one job's files are removed, so would be a folder that others share
 *' --sshlogin'* | *' -S'* | *' --slf '*) sent=(--transferfile {1} --return {1}.out --return {1}.err --cleanup) ;;
 esac
-[ ! -s "$folder/list" ] || (cd "$folder" && parallel --colsep '\t' --joblog log --retries 3 "${sent[@]}" "$@" \
-    "${A2L:-a2l}"' -e {2} -a -f -i --workers 1 < {1} > {1}.out 2> {1}.err || [ $? -le 2 ]' :::: list) || status=$?
+[ ! -s "$folder/list" ] || (cd "$folder/blocks" && parallel --colsep '\t' --joblog ../log --retries 3 "${sent[@]}" "$@" \
+    "${A2L:-a2l}"' -e {2} -a -f -i --workers 1 < {1} > {1}.out 2> {1}.err || [ $? -le 2 ]' :::: ../list) || status=$?
 
 # An answer begins with the address that is next.
 while IFS=$'\t' read -r block program; do
-    [ -f "$folder/$block.out" ] || continue
-    awk -F '\t' -v OFS='\t' -v program="$program" -v out="$folder/$block.out" '
+    block=$folder/blocks/$block
+    [ -f "$block.out" ] && [ -f "$block.err" ] || {
+        echo "$block: no answers for $program" >&2
+        [ "$status" != 0 ] || status=1
+        continue
+    }
+    awk -F '\t' -v OFS='\t' -v program="$program" -v out="$block.out" '
         FILENAME ~ /\.err$/ { refused = refused $0; next }
         { address[++n] = $1; count[n] = $2; sum += $2 }
         END {
@@ -64,6 +71,6 @@ while IFS=$'\t' read -r block program; do
             }
             if (i < n) { print out ": answers are missing" > "/dev/stderr"; exit 1 }
             for (i = 1; i <= n; i++) print row[i]
-        }' "$folder/$block.err" "$folder/$block.counts"
+        }' "$block.err" "$block.counts"
 done < "$folder/list" > "$folder/rows"
 exit "$status"

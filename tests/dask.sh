@@ -128,7 +128,9 @@ while [ "$1" != one ] && [ "$1" != two ]; do shift; done
 echo "$1" >> "$(dirname "$0")/machines"
 shift
 [ "$1" != -- ] || shift
-cd "$(dirname "$0")/elsewhere" && exec bash -c "$*"
+# as a server of ssh sets it
+export HOME=$(dirname "$0")/elsewhere SHELL=/bin/bash
+cd && exec bash -c "$*"
 END_SSH
         chmod +x ssh
         A2L=$a2l BLOCK=1000 "$here/examples/parallel.sh" paths.csv remote --ssh "$work/ssh" --sshlogin one,two 2> log ||
