@@ -3,6 +3,8 @@ pub mod SizeLemmas
 pub mod StoreLemmas
 pub mod TextLemmas
 pub mod FirstsLemmas
+pub mod FirstValueLemmas
+pub mod FixedLemmas
 pub mod OntoLemmas
 pub mod PairsLemmas
 pub mod PassLemmas

@@ -140,7 +140,7 @@ module _ (w : ℕ) where
       let here : value_at w form constant p ≡ spelled_at w spelling constant p = value-here w form constant p (has_spelling form spelling e) ∙ rw e refl in
       ap place_behind here ∙ of-spelling constant spelling n h p
 
-  value-skips : (one : Specification) (n : ℕ) → value_size w one ≡ Some n → Skips n (value_at w one.form one.constant)
+  pub value-skips : (one : Specification) (n : ℕ) → value_size w one ≡ Some n → Skips n (value_at w one.form one.constant)
   value-skips one n h = of-form one.form one.constant (lookup (nat_eq one.form) forms) n refl h
 
   -- the two parts of a sum

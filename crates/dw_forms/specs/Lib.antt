@@ -2,6 +2,7 @@ pub mod AbbrevsInside
 pub mod Declaration
 pub mod Fault
 pub mod Firsts
+pub mod Fixed
 pub mod Pairs
 pub mod PairsInside
 pub mod Ranged

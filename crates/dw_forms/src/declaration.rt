@@ -4,11 +4,15 @@ ghost use Rattle.std.specs.Prelude.{◌≡◌};
 ghost use Rattle.dw_model.specs.declared.dwarf.TheConstants.{OFFSET_SIZE_32, OFFSET_SIZE_64};
 ghost use Rattle.dw_forms.specs.Size.{size_in};
 ghost use Rattle.dw_forms.specs.Firsts.{known_of, names_of, AreAllFirsts};
+ghost use Rattle.dw_forms.specs.Fixed.{AreFixed};
+ghost use Rattle.dw_forms.specs.Fixed as fixed_values;
 ghost use Rattle.dw_forms.specs.Ranged.{may_have_ranges};
 
+mod first_value;
 mod reading;
 
 use crate::firsts::Firsts;
+use crate::fixed::FixedValues;
 use crate::pairs::Specs;
 pub(crate) use reading::{next_decl, next_spec};
 
@@ -47,4 +51,7 @@ pub struct Decl<'a> {
     /// Where the first attribute of each name that tells of a function is.
     firsts: Firsts,
     ghost firsts_are: { AreAllFirsts (known_of firsts) (names_of specs) },
+    /// The values of these names that are as far after the first one in every entry.
+    fixed: FixedValues,
+    ghost fixed_are: { AreFixed (fixed_values.known_of fixed) specs },
 }

@@ -5,6 +5,7 @@ mod abbrevs;
 mod declaration;
 mod fault;
 mod firsts;
+mod fixed;
 mod form;
 mod pairs;
 mod passing;

@@ -25,7 +25,7 @@ fn bytes_of(size: Size) -> usize
 
 /// How many bytes the values of an attribute take, where offsets have a width; `None` where they
 /// differ, or can't be read.
-fn size_of(spec: &Spec, width: Width) -> Option<usize>
+pub(crate) fn size_of(spec: &Spec, width: Width) -> Option<usize>
     ensures { result ≡ value_size (offset_size width) (spec_shown spec.now) }
 {
     match spelling_of(spec.form)? {

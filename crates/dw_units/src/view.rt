@@ -1,11 +1,10 @@
 //! Entries whose values are read when they are asked for, by sections 7.5.2 to 7.5.6 of DWARF 5.
 
-ghost use Rattle.std.specs.Prelude.{◌≡◌, ◌==◌, true, None, Ok, List, find, map, option_map};
+ghost use Rattle.std.specs.Prelude.{◌≡◌, Ok, option_map};
 ghost use Rattle.dw_model.specs.Abbrev.{abbreviations};
 ghost use Rattle.dw_model.specs.Answers.{ReadsOn};
-ghost use Rattle.dw_model.specs.Entry.{Attribute, attributes_at, entry_at};
+ghost use Rattle.dw_model.specs.Entry.{entry_at};
 ghost use Rattle.dw_model.specs.Entry as model;
-ghost use Rattle.dw_model.specs.Reading.{Place};
 ghost use Rattle.dw_model.specs.Root.{entry};
 ghost use Rattle.dw_bytes.specs.Width.{size_of};
 ghost use Rattle.dw_forms.specs.Fault.{form_fault};
@@ -21,7 +20,7 @@ use crate::entry::cursor_at;
 use crate::header::Header;
 use crate::sections::Sections;
 use dw_bytes::{Cursor, Width};
-use dw_forms::{AbbrevTable, Decl, FormFault, Specs, Value, read_value};
+use dw_forms::{AbbrevTable, Decl, FormFault, Value};
 use std::marker::Model;
 
 /// An entry that can be read, of which each value is read when it is asked for: so it takes no
@@ -48,31 +47,6 @@ impl<'b, 'a> Model for EntryView<'b, 'a> {
     ghost invariant = { IsReadable };
 }
 
-/// The first value of a name, among those that specifications ask for, where all of them can be
-/// read.
-fn first_value<'a>(
-    values: &mut Cursor<'a>,
-    specs: &Specs<'_>,
-    width: Width,
-    name: u64,
-) -> Option<Value<'a>>
-    ensures { (found : List Attribute × Place)
-        → attributes_at (size_of width) specs.now values.old ≡ Ok found
-        → option_map value_shown result ≡ option_map
-        (λ first. first.value) (find (λ first. first.name == name) found.0) }
-{
-    let mut left = specs.fork();
-    while let Some(spec) = left.take_first() {
-        let Ok(value) = read_value(values, spec.form, spec.implicit, width) else {
-            return None;
-        };
-        if spec.name == name {
-            return Some(value);
-        }
-    }
-    None
-}
-
 impl<'b, 'a> EntryView<'b, 'a> {
     /// Its offset, which counts from the first byte of .debug_info.
     pub fn offset(&self) -> u64
@@ -95,27 +69,13 @@ impl<'b, 'a> EntryView<'b, 'a> {
         self.declaration.tag
     }
 
-    /// No attribute of this name was declared, as far as its declaration tells that at once.
-    fn lacks(&self, name: u64) -> bool
-        ensures { result ≡ true → find (λ first. first.name == name) self.now.attributes ≡ None }
-    {
-        match self.declaration.firsts().place(name) {
-            Some(place) => place >= self.declaration.specs.len(),
-            None => false,
-        }
-    }
-
     /// The value of the first attribute of a name, where it is of a kind that counts for the name;
     /// else the attribute is absent.
     #[tactic(auto, unfolding(dw_model::specs::Entry::attribute))]
     pub fn attr(&self, name: u64) -> Option<Value<'a>>
         ensures { option_map value_shown result ≡ model.attribute name self.now }
     {
-        if self.lacks(name) {
-            return None;
-        }
-        let specs = &self.declaration.specs;
-        let value = first_value(&mut self.values.fork(), specs, self.width, name)?;
+        let value = self.declaration.first_value(name, &self.values, self.width)?;
         if !counts(name, &value) {
             return None;
         }

@@ -15,6 +15,7 @@ ghost use Rattle.dw_forms.specs.Ranged.{may_have_ranges, NamesNone};
 use crate::declaration::{Decl, Spec};
 use crate::fault::FormFault;
 use crate::firsts::Firsts;
+use crate::fixed::FixedValues;
 use crate::pairs::Specs;
 use crate::ranged::may_have_ranges;
 use crate::size::size_of_all;
@@ -117,6 +118,7 @@ fn declaration_of<'a>(
     let size_64 = size_of_all(specs.as_slice(), Width::Eight);
     let ranged = may_have_ranges(specs.as_slice());
     let firsts = Firsts::of(specs.as_slice());
+    let fixed = FixedValues::of(specs.as_slice());
     Ok(Decl {
         offset,
         code,
@@ -127,6 +129,7 @@ fn declaration_of<'a>(
         size_64,
         ranged,
         firsts,
+        fixed,
     })
 }
 

@@ -4,6 +4,8 @@ use Rattle.dw_forms.specs.declared.declaration.Spec.{Spec}
 use Rattle.dw_forms.specs.Declaration.{spec_shown}
 use Rattle.dw_forms.specs.Size.{size_in}
 use Rattle.dw_forms.specs.Firsts.{known_of, names_of, AreAllFirsts}
+use Rattle.dw_forms.specs.Fixed.{AreFixed}
+use Rattle.dw_forms.specs.Fixed as fixed
 use Rattle.dw_forms.specs.Pairs.{AreAt}
 use Rattle.dw_forms.specs.Ranged.{may_have_ranges}
 use Rattle.dw_forms.proofs.FirstsLemmas.{names_in, shown-names}
@@ -25,4 +27,5 @@ invariant_of-result c =
       size_64_is = c.size_of_all-size_64.ensures ∙ ap (λ (specs : List Spec). size_in OFFSET_SIZE_64 (map spec_shown specs)) c.as_slice-2.ensures ∙ ap (size_in OFFSET_SIZE_64) (sym same);
       ranged_is = c.may_have_ranges-ranged.ensures ∙ ap (λ (specs : List Spec). may_have_ranges (map spec_shown specs)) c.as_slice-3.ensures ∙ ap may_have_ranges (sym same);
       firsts_are = subst (AreAllFirsts (known_of c.of-firsts.result)) (sym (ap names_of same ∙ names)) (subst (λ (specs : List Spec). AreAllFirsts (known_of c.of-firsts.result) (names_in specs)) c.as_slice-4.ensures c.of-firsts.ensures);
+      fixed_are = subst (AreFixed (fixed.known_of c.of-fixed.result)) (sym same) (subst (λ (specs : List Spec). AreFixed (fixed.known_of c.of-fixed.result) (map spec_shown specs)) c.as_slice-5.ensures c.of-fixed.ensures);
     }

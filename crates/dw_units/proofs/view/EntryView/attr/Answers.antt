@@ -8,24 +8,15 @@ use Rattle.dw_units.proofs.view.EntryView.attr.Goals as goal
 
 pub returns-in_err-value : goal.returns-in_err-value
 returns-in_err-value c =
-    let view = c.self.inside in
-    let size = size_of view.width in
-    let read = ap (attributes_at size view.declaration.now.specs) c.fork.ensures ∙ c.self.invariant.1 in
     let seen = ap (value_of c.args.name) (sym (ap attributes_in c.self.invariant.1) ∙ ap (λ (entry : Entry). entry.attributes) c.self.view_is) in
-    rw (c.from_residual.ensures) (absent c.args.name c.args.self.now (c.in_err-value.ensures c.self.invariant.0 read ∙ seen))
+    rw (c.from_residual.ensures) (absent c.args.name c.args.self.now (c.in_err-value.ensures c.self.invariant.0 c.self.invariant.1 ∙ seen))
 
 pub returns-then-not-counts : goal.returns-then-not-counts
 returns-then-not-counts c =
-    let view = c.self.inside in
-    let size = size_of view.width in
-    let read = ap (attributes_at size view.declaration.now.specs) c.fork.ensures ∙ c.self.invariant.1 in
     let seen = ap (value_of c.args.name) (sym (ap attributes_in c.self.invariant.1) ∙ ap (λ (entry : Entry). entry.attributes) c.self.view_is) in
-    not_counted c.args.name c.args.self.now (value_shown c.in_ok-value.value) (c.in_ok-value.ensures c.self.invariant.0 read ∙ seen) (sym c.counts.ensures ∙ c.if-not-counts.true)
+    not_counted c.args.name c.args.self.now (value_shown c.in_ok-value.value) (c.in_ok-value.ensures c.self.invariant.0 c.self.invariant.1 ∙ seen) (sym c.counts.ensures ∙ c.if-not-counts.true)
 
 pub returns : goal.returns
 returns c =
-    let view = c.self.inside in
-    let size = size_of view.width in
-    let read = ap (attributes_at size view.declaration.now.specs) c.fork.ensures ∙ c.self.invariant.1 in
     let seen = ap (value_of c.args.name) (sym (ap attributes_in c.self.invariant.1) ∙ ap (λ (entry : Entry). entry.attributes) c.self.view_is) in
-    is_given c.args.name c.args.self.now (value_shown c.in_ok-value.value) (c.in_ok-value.ensures c.self.invariant.0 read ∙ seen) (sym c.counts.ensures ∙ c.if-not-counts.false)
+    is_given c.args.name c.args.self.now (value_shown c.in_ok-value.value) (c.in_ok-value.ensures c.self.invariant.0 c.self.invariant.1 ∙ seen) (sym c.counts.ensures ∙ c.if-not-counts.false)

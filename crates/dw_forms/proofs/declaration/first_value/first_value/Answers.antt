@@ -2,9 +2,8 @@ use Rattle.dw_model.specs.Entry.{attributes_at}
 use Rattle.dw_bytes.specs.Width.{size_of}
 use Rattle.dw_forms.specs.Fault.{form_fault}
 use Rattle.dw_forms.specs.Value.{value_shown}
-use Rattle.dw_units.proofs.EntryLemmas.{fewer}
-use Rattle.dw_units.proofs.ViewLemmas.{starts, goes-on, ends-here, fails-never, ends}
-use Rattle.dw_units.proofs.view.first_value.Goals as goal
+use Rattle.dw_forms.proofs.FirstValueLemmas.{fewer, starts, goes-on, ends-here, fails-never, ends}
+use Rattle.dw_forms.proofs.declaration.first_value.first_value.Goals as goal
 
 pub loop-spec-init : goal.loop-spec-init
 loop-spec-init c = starts (size_of c.args.width) c.args.name c.fork-left.result c.args.specs.now c.args.values.now c.fork-left.ensures

@@ -1,8 +1,8 @@
 use Rattle.std.proofs.Common.{length}
 use Rattle.dw_model.specs.Entry.{attributes_at}
 use Rattle.dw_bytes.specs.Width.{size_of}
-use Rattle.dw_units.proofs.ViewLemmas.{SoFar}
-use Rattle.dw_units.proofs.view.first_value.Given as goal
+use Rattle.dw_forms.proofs.FirstValueLemmas.{SoFar}
+use Rattle.dw_forms.proofs.declaration.first_value.first_value.Given as goal
 
 abbrev pub invariant-loop-spec : goal.invariant-loop-spec
 invariant-loop-spec l =

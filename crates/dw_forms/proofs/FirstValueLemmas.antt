@@ -1,5 +1,5 @@
 -- The first value of a name, read one by one among those of an entry that can be read.
-use Rattle.std.proofs.Common.{◌≡◌, ◌∙◌, ℕ, suc, ◌≤◌, Bool, true, false, cond, List, [], ◌∷◌, length, map, Option, Some, None, Result, Ok, refl, sym, ap, arith}
+use Rattle.std.proofs.Common.{◌≡◌, ◌∙◌, ℕ, suc, ◌≤◌, ◌<◌, Bool, true, false, cond, List, [], ◌∷◌, length, map, option_map, Option, Some, None, Result, Ok, refl, sym, ap, arith}
 use Rattle.std.specs.Prelude.{find, ◌==◌}
 use Rattle.std.proofs.lemmas.Bool.{eq-eqb, ne_eqb}
 use Rattle.std.proofs.lemmas.List.{length-map}
@@ -14,14 +14,22 @@ use Rattle.dw_model.proofs.StepLemmas.{bind_ok, ok_is, ok-err}
 use Rattle.dw_forms.specs.declared.declaration.Spec.{Spec}
 use Rattle.dw_forms.specs.Declaration.{spec_shown}
 use Rattle.dw_forms.specs.Firsts.{before, names_of}
-use Rattle.dw_units.proofs.AttrLemmas.{value_of}
-use Rattle.dw_units.proofs.PlaceOfLemmas.{names-read}
+
+-- the value of the first attribute of a name
+abbrev pub value_of : ℕ → List Attribute → Option Value
+value_of name attributes = option_map (λ (first : Attribute). first.value) (find (λ (first : Attribute). first.name == name) attributes)
 
 abbrev pub Read : Type 0
 Read = Result (List Attribute × Place) Fault
 
+-- fewer are left once the first was taken away
+pub fewer : (left rest : List Specification) (spec : Spec) → left ≡ spec_shown spec ∷ rest → length rest < length left
+fewer left rest spec first =
+    let counted : length left ≡ suc (length rest) = ap (λ (specs : List Specification). length specs) first in
+    omega (arith, counted)
+
 -- what the first specification asks for, where all can be read
-first-read : (size : ℕ) (one : Specification) (others : List Specification) (p : Place) (found : List Attribute × Place) → attributes_at size (one ∷ others) p ≡ Ok found
+pub first-read : (size : ℕ) (one : Specification) (others : List Specification) (p : Place) (found : List Attribute × Place) → attributes_at size (one ∷ others) p ≡ Ok found
     → (value : Value × Place) × (value_at size one.form one.constant p ≡ Ok value) × (rest : List Attribute × Place) × (attributes_at size others value.1 ≡ Ok rest) × (found.0 ≡ record { name = one.name; value = value.0 } ∷ rest.0)
 unfolding attributes_at
 first-read size one others p found e =
@@ -45,10 +53,10 @@ module _ (size name : ℕ) where
   next left others spec p rest first e =
       sym (ap (λ (specs : List Specification). attributes_at size specs p) first) ∙ e
 
-  found-later : (value : Value) (other : ℕ) (rest : List Attribute) → (other ≡ name → ⊥) → value_of name (record { name = other; value = value } ∷ rest) ≡ value_of name rest
+  pub found-later : (value : Value) (other : ℕ) (rest : List Attribute) → (other ≡ name → ⊥) → value_of name (record { name = other; value = value } ∷ rest) ≡ value_of name rest
   found-later value other rest apart = rw (ne_eqb other name apart) refl
 
-  found-here : (value : Value) (other : ℕ) (rest : List Attribute) → other ≡ name → value_of name (record { name = other; value = value } ∷ rest) ≡ Some value
+  pub found-here : (value : Value) (other : ℕ) (rest : List Attribute) → other ≡ name → value_of name (record { name = other; value = value } ∷ rest) ≡ Some value
   found-here value other rest same = rw (eq-eqb other name same) refl
 
   pub goes-on : (left others : List Specification) (spec : Spec) (v : Value) (p q : Place) (all : Read) → left ≡ spec_shown spec ∷ others → value_at size spec.form spec.implicit p ≡ Ok (v, q) → (spec.name ≡ name → ⊥) → SoFar left p all → SoFar others q all
@@ -66,7 +74,7 @@ module _ (size name : ℕ) where
       let value : step.0 ≡ (v, q) = ok_is step.0 (v, q) (sym step.1 ∙ e) in
       ap Some (ap (λ (x : Value × Place). x.0) (sym value)) ∙ sym (ap (value_of name) step.4 ∙ found-here step.0.0 spec.name step.2.0 same) ∙ here.2
 
-  by-told : {A : Type 0} (read : Result A Fault) (told : Option Fault) (x : A) → Tells told read → read ≡ Ok x → ⊥
+  pub by-told : {A : Type 0} (read : Result A Fault) (told : Option Fault) (x : A) → Tells told read → read ≡ Ok x → ⊥
   by-told read None x fault e = fault
   by-told read (Some f) x fault e = ok-err x f (sym e ∙ fault)
 
@@ -85,6 +93,14 @@ module _ (size name : ℕ) where
 
 -- ---- a name that isn't declared
 
+-- attributes that were read have the names that were asked for
+names-read : (size : ℕ) (specifications : List Specification) (p : Place) (x : List Attribute × Place) → attributes_at size specifications p ≡ Ok x → map (λ (a : Attribute). a.name) x.0 ≡ names_of specifications
+unfolding attributes_at
+names-read size [] p x e = ap (map (λ (a : Attribute). a.name)) (ap (λ (y : List Attribute × Place). y.0) (sym (ok_is ([], p) x e)))
+names-read size (one ∷ others) p x e =
+    let step = first-read size one others p x e in
+    ap (map (λ (a : Attribute). a.name)) step.4 ∙ ap (λ (names : List ℕ). one.name ∷ names) (names-read size others step.0.1 step.2 step.3)
+
 none-behind : (name : ℕ) (attributes : List Attribute) → length attributes ≤ before name (map (λ (a : Attribute). a.name) attributes) → find (λ (first : Attribute). first.name == name) attributes ≡ None
 unfolding before
 none-behind name [] h = refl
@@ -95,9 +111,9 @@ none-behind name (x ∷ attributes) h = by_test (λ h. none-behind name attribut
     by_test rest true h = absurd (omega (arith, h))
     by_test rest false h = rest (omega (arith, h))
 
-pub undeclared : (size name : ℕ) (specs : List Specification) (p : Place) (found : List Attribute × Place) → attributes_at size specs p ≡ Ok found → length specs ≤ before name (names_of specs) → find (λ (first : Attribute). first.name == name) found.0 ≡ None
+pub undeclared : (size name : ℕ) (specs : List Specification) (p : Place) (found : List Attribute × Place) → attributes_at size specs p ≡ Ok found → length specs ≤ before name (names_of specs) → None ≡ value_of name found.0
 undeclared size name specs p found e past =
     let names : map (λ (a : Attribute). a.name) found.0 ≡ names_of specs = names-read size specs p found e in
     let sizes : length found.0 ≡ length specs = sym (length-map found.0 (λ (a : Attribute). a.name)) ∙ ap (λ (names : List ℕ). length names) names ∙ length-map specs (λ (s : Specification). s.name) in
     let behind : before name (map (λ (a : Attribute). a.name) found.0) ≡ before name (names_of specs) = ap (before name) names in
-    none-behind name found.0 (omega (arith, sizes, behind, past))
+    sym (ap (option_map (λ (first : Attribute). first.value)) (none-behind name found.0 (omega (arith, sizes, behind, past))))
