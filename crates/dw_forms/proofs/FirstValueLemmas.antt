@@ -1,8 +1,7 @@
 -- The first value of a name, read one by one among those of an entry that can be read.
-use Rattle.std.proofs.Common.{◌≡◌, ◌∙◌, ℕ, suc, ◌≤◌, ◌<◌, Bool, true, false, cond, List, [], ◌∷◌, length, map, option_map, Option, Some, None, Result, Ok, refl, sym, ap, arith}
+use Rattle.std.proofs.Common.{◌≡◌, ◌∙◌, ℕ, suc, ◌<◌, Bool, true, false, cond, List, [], ◌∷◌, length, map, option_map, Option, Some, None, Result, Ok, refl, sym, ap, arith}
 use Rattle.std.specs.Prelude.{find, ◌==◌}
-use Rattle.std.proofs.lemmas.Bool.{eq-eqb, ne_eqb}
-use Rattle.std.proofs.lemmas.List.{length-map}
+use Rattle.std.proofs.lemmas.Bool.{eq-eqb, ne_eqb, eqb-false}
 use Rattle.dw_model.specs.Answers.{Tells}
 use Rattle.dw_model.specs.Results.{◌>>=◌}
 use Rattle.dw_model.specs.Reading.{Place}
@@ -13,7 +12,6 @@ use Rattle.dw_model.specs.Entry.{Attribute, attributes_at}
 use Rattle.dw_model.proofs.StepLemmas.{bind_ok, ok_is, ok-err}
 use Rattle.dw_forms.specs.declared.declaration.Spec.{Spec}
 use Rattle.dw_forms.specs.Declaration.{spec_shown}
-use Rattle.dw_forms.specs.Firsts.{before, names_of}
 
 -- the value of the first attribute of a name
 abbrev pub value_of : ℕ → List Attribute → Option Value
@@ -93,27 +91,16 @@ module _ (size name : ℕ) where
 
 -- ---- a name that isn't declared
 
--- attributes that were read have the names that were asked for
-names-read : (size : ℕ) (specifications : List Specification) (p : Place) (x : List Attribute × Place) → attributes_at size specifications p ≡ Ok x → map (λ (a : Attribute). a.name) x.0 ≡ names_of specifications
+pub undeclared : (size name : ℕ) (specs : List Specification) (p : Place) (found : List Attribute × Place) → attributes_at size specs p ≡ Ok found → find (λ (one : Specification). one.name == name) specs ≡ None → None ≡ value_of name found.0
 unfolding attributes_at
-names-read size [] p x e = ap (map (λ (a : Attribute). a.name)) (ap (λ (y : List Attribute × Place). y.0) (sym (ok_is ([], p) x e)))
-names-read size (one ∷ others) p x e =
-    let step = first-read size one others p x e in
-    ap (map (λ (a : Attribute). a.name)) step.4 ∙ ap (λ (names : List ℕ). one.name ∷ names) (names-read size others step.0.1 step.2 step.3)
-
-none-behind : (name : ℕ) (attributes : List Attribute) → length attributes ≤ before name (map (λ (a : Attribute). a.name) attributes) → find (λ (first : Attribute). first.name == name) attributes ≡ None
-unfolding before
-none-behind name [] h = refl
-none-behind name (x ∷ attributes) h = by_test (λ h. none-behind name attributes h) (x.name == name) h
+undeclared size name [] p found e none = ap (λ (x : List Attribute × Place). value_of name x.0) (ok_is ([], p) found e)
+undeclared size name (one ∷ others) p found e none =
+    by_test (one.name == name) refl none (undeclared size name others step.0.1 step.2 step.3)
   where
-    by_test : (length attributes ≤ before name (map (λ (a : Attribute). a.name) attributes) → find (λ (first : Attribute). first.name == name) attributes ≡ None) → (b : Bool)
-        → suc (length attributes) ≤ cond b 0 (suc (before name (map (λ (a : Attribute). a.name) attributes))) → cond b (Some x) (find (λ (first : Attribute). first.name == name) attributes) ≡ None
-    by_test rest true h = absurd (omega (arith, h))
-    by_test rest false h = rest (omega (arith, h))
+    step : (value : Value × Place) × (value_at size one.form one.constant p ≡ Ok value) × (rest : List Attribute × Place) × (attributes_at size others value.1 ≡ Ok rest) × (found.0 ≡ record { name = one.name; value = value.0 } ∷ rest.0)
+    step = first-read size one others p found e
 
-pub undeclared : (size name : ℕ) (specs : List Specification) (p : Place) (found : List Attribute × Place) → attributes_at size specs p ≡ Ok found → length specs ≤ before name (names_of specs) → None ≡ value_of name found.0
-undeclared size name specs p found e past =
-    let names : map (λ (a : Attribute). a.name) found.0 ≡ names_of specs = names-read size specs p found e in
-    let sizes : length found.0 ≡ length specs = sym (length-map found.0 (λ (a : Attribute). a.name)) ∙ ap (λ (names : List ℕ). length names) names ∙ length-map specs (λ (s : Specification). s.name) in
-    let behind : before name (map (λ (a : Attribute). a.name) found.0) ≡ before name (names_of specs) = ap (before name) names in
-    sym (ap (option_map (λ (first : Attribute). first.value)) (none-behind name found.0 (omega (arith, sizes, behind, past))))
+    by_test : (b : Bool) → (one.name == name) ≡ b → cond b (Some one) (find (λ (one : Specification). one.name == name) others) ≡ None → (find (λ (one : Specification). one.name == name) others ≡ None → None ≡ value_of name step.2.0) → None ≡ value_of name found.0
+    by_test true same none rest = absurd cc
+    by_test false other none rest =
+        rest none ∙ sym (found-later size name step.0.0 one.name step.2.0 (eqb-false one.name name other)) ∙ ap (value_of name) (sym step.4)

@@ -2,9 +2,8 @@ pub mod IndirectLemmas
 pub mod SizeLemmas
 pub mod StoreLemmas
 pub mod TextLemmas
-pub mod FirstsLemmas
 pub mod FirstValueLemmas
-pub mod FixedLemmas
+pub mod PositionLemmas
 pub mod OntoLemmas
 pub mod PairsLemmas
 pub mod PassLemmas

@@ -1,10 +1,9 @@
 pub mod AbbrevsInside
 pub mod Declaration
 pub mod Fault
-pub mod Firsts
-pub mod Fixed
 pub mod Pairs
 pub mod PairsInside
+pub mod Positions
 pub mod Ranged
 pub mod Run
 pub mod RunInside

@@ -3,17 +3,14 @@
 ghost use Rattle.std.specs.Prelude.{◌≡◌};
 ghost use Rattle.dw_model.specs.declared.dwarf.TheConstants.{OFFSET_SIZE_32, OFFSET_SIZE_64};
 ghost use Rattle.dw_forms.specs.Size.{size_in};
-ghost use Rattle.dw_forms.specs.Firsts.{known_of, names_of, AreAllFirsts};
-ghost use Rattle.dw_forms.specs.Fixed.{AreFixed};
-ghost use Rattle.dw_forms.specs.Fixed as fixed_values;
+ghost use Rattle.dw_forms.specs.Positions.{known_of, ArePositions};
 ghost use Rattle.dw_forms.specs.Ranged.{may_have_ranges};
 
 mod first_value;
 mod reading;
 
-use crate::firsts::Firsts;
-use crate::fixed::FixedValues;
 use crate::pairs::Specs;
+use crate::positions::Positions;
 pub(crate) use reading::{next_decl, next_spec};
 
 /// An attribute's name and form, and its number where that is in the declaration.
@@ -48,10 +45,7 @@ pub struct Decl<'a> {
     /// Its entries may have ranges.
     ranged: bool,
     ghost ranged_is: { ranged ≡ may_have_ranges specs },
-    /// Where the first attribute of each name that tells of a function is.
-    firsts: Firsts,
-    ghost firsts_are: { AreAllFirsts (known_of firsts) (names_of specs) },
-    /// The values of these names that are as far after the first one in every entry.
-    fixed: FixedValues,
-    ghost fixed_are: { AreFixed (fixed_values.known_of fixed) specs },
+    /// Where the values are that tell of a function.
+    positions: Positions,
+    ghost positions_are: { ArePositions (known_of positions) specs },
 }

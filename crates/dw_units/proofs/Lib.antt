@@ -8,5 +8,4 @@ pub mod HeaderLemmas
 pub mod AttrLemmas
 pub mod PlaceLemmas
 pub mod SkipLemmas
-pub mod PlaceOfLemmas
 pub mod WalkedLemmas

@@ -8,7 +8,7 @@ ghost use Rattle.dw_forms.specs.Fault.{form_fault, HidesNoFault, Passes};
 ghost use Rattle.dw_units.specs.Attribute.{attribute_shown};
 
 use dw_bytes::{Cursor, Width};
-use dw_forms::{Decl, Firsts, FormFault, Specs, Value, read_value};
+use dw_forms::{Decl, FormFault, Specs, Value, read_value};
 use std::alloc::Global;
 use std::marker::Model;
 
@@ -23,20 +23,18 @@ pub struct Attribute<'a> {
 #[derive(Drop)]
 pub struct Attributes<'a> {
     list: Vec<Attribute<'a>>,
-    /// Where the first one of each name is that tells of a function.
-    firsts: Firsts,
 }
 
 impl<'a> Model for Attributes<'a> {
     ghost use Rattle.std.specs.Prelude.{List};
     ghost use Rattle.dw_units.specs.declared.attributes.Attribute.{Attribute};
-    ghost use Rattle.dw_units.specs.AttributesInside.{attributes_in, ArePlaced};
+    ghost use Rattle.dw_units.specs.AttributesInside.{attributes_in};
 
     ghost Value = { List Attribute };
 
     ghost view = { attributes_in };
 
-    ghost invariant = { ArePlaced };
+    ghost invariant = { λ attributes. Unit {0} };
 }
 
 /// Passes over the values that a declaration asks for, where offsets have a width.
@@ -112,13 +110,6 @@ fn read_attributes<'a>(
     Ok(())
 }
 
-/// The first attribute of a name.
-fn first_of<'b, 'a>(attributes: &'b [Attribute<'a>], name: u64) -> Option<&'b Attribute<'a>>
-    ensures { option_map (λ found. found.now) result ≡ find (λ found. found.name == name) attributes.now }
-{
-    attributes.iter().find(|attribute| attribute.name == name)
-}
-
 impl<'a> Attributes<'a> {
     /// No attribute.
     pub fn new(alloc: Global) -> Self
@@ -126,7 +117,6 @@ impl<'a> Attributes<'a> {
     {
         Attributes {
             list: Vec::new(alloc),
-            firsts: Firsts::unknown(),
         }
     }
 
@@ -134,17 +124,14 @@ impl<'a> Attributes<'a> {
     pub fn from_vec(list: Vec<Attribute<'a>>) -> Self
         ensures { result ≡ list.entry.items }
     {
-        Attributes {
-            list,
-            firsts: Firsts::unknown(),
-        }
+        Attributes { list }
     }
 
     /// All of them, in order.
     pub fn into_vec(self) -> Vec<Attribute<'a>>
         ensures { result.items ≡ self.entry }
     {
-        let Attributes { list, .. } = self;
+        let Attributes { list } = self;
         list
     }
 
@@ -175,20 +162,13 @@ impl<'a> Attributes<'a> {
         ensures memory { IfErr result (λ fault. HidesNoFault fault
             (attributes_at (size_of width) declaration.now.specs cursor.old)) }
     {
-        self.firsts = Firsts::unknown();
-        read_attributes(&mut self.list, cursor, &declaration.specs, width)?;
-        self.firsts = declaration.firsts();
-        Ok(())
+        read_attributes(&mut self.list, cursor, &declaration.specs, width)
     }
 
-    /// The first one of a name. Its place is known where the declaration has told it.
-    #[inline(always)]
+    /// The first one of a name.
     pub fn first(&self, name: u64) -> Option<&Attribute<'a>>
         ensures { option_map (λ found. found.now) result ≡ find (λ found. found.name == name) self.now }
     {
-        if let Some(place) = self.firsts.place(name) {
-            return self.list.get(place);
-        }
-        first_of(self.list.as_slice(), name)
+        self.list.iter().find(|attribute| attribute.name == name)
     }
 }

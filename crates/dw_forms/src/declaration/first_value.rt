@@ -1,14 +1,14 @@
 //! The value of the first attribute of a name, in an entry of a declaration.
 
-ghost use Rattle.std.specs.Prelude.{◌≡◌, ◌==◌, ◌≤◌, true, Ok, List, find, length, option_map};
+ghost use Rattle.std.specs.Prelude.{◌≡◌, ◌==◌, Ok, List, find, option_map};
 ghost use Rattle.dw_model.specs.Entry.{Attribute, attributes_at};
 ghost use Rattle.dw_model.specs.Reading.{Place};
 ghost use Rattle.dw_bytes.specs.Width.{size_of};
-ghost use Rattle.dw_forms.specs.Firsts.{before, names_of};
 ghost use Rattle.dw_forms.specs.Value.{value_shown};
 
 use crate::declaration::Decl;
 use crate::pairs::Specs;
+use crate::positions::Position;
 use crate::value::{Value, read_value};
 use dw_bytes::{Cursor, Width};
 
@@ -38,17 +38,6 @@ fn first_value<'a>(
 }
 
 impl<'a> Decl<'a> {
-    /// No attribute of this name is declared, as far as that is told at once.
-    #[inline(always)]
-    fn lacks(&self, name: u64) -> bool
-        ensures { result ≡ true → length self.now.specs ≤ before name (names_of self.now.specs) }
-    {
-        match self.firsts().place(name) {
-            Some(place) => place >= self.specs.len(),
-            None => false,
-        }
-    }
-
     /// The value of the first attribute of a name in an entry whose values begin at a cursor, where
     /// all of them can be read; `None` where no attribute of this name is declared. This takes no
     /// memory.
@@ -63,14 +52,10 @@ impl<'a> Decl<'a> {
             → option_map value_shown result ≡ option_map
             (λ first. first.value) (find (λ first. first.name == name) found.0) }
     {
-        if self.lacks(name) {
-            return None;
+        match (self.positions.get(name), width) {
+            (Position::Absent, _) => None,
+            (Position::Fixed(fixed), Width::Four) => fixed.read(values),
+            _ => first_value(&mut values.fork(), &self.specs, width, name),
         }
-        if let Width::Four = width {
-            if let Some(fixed) = self.fixed.get(name) {
-                return fixed.read(values);
-            }
-        }
-        first_value(&mut values.fork(), &self.specs, width, name)
     }
 }

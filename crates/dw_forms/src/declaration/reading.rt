@@ -9,14 +9,12 @@ ghost use Rattle.dw_bytes.specs.Width.{size_of};
 ghost use Rattle.dw_forms.specs.Fault.{form_fault};
 ghost use Rattle.dw_forms.specs.Declaration.{spec_shown, declaration_shown};
 ghost use Rattle.dw_forms.specs.Size.{size_in, Skips};
-ghost use Rattle.dw_forms.specs.Firsts.{known_of, names_of, AreAllFirsts, AreFirsts};
 ghost use Rattle.dw_forms.specs.Ranged.{may_have_ranges, NamesNone};
 
 use crate::declaration::{Decl, Spec};
 use crate::fault::FormFault;
-use crate::firsts::Firsts;
-use crate::fixed::FixedValues;
 use crate::pairs::Specs;
+use crate::positions::Positions;
 use crate::ranged::may_have_ranges;
 use crate::size::size_of_all;
 use dw_bytes::{Cursor, Width};
@@ -37,14 +35,6 @@ impl<'a> Decl<'a> {
             Width::Four => self.size_32,
             Width::Eight => self.size_64,
         }
-    }
-
-    /// Where the first attribute of each name that tells of a function is, where a byte holds that.
-    pub fn firsts(&self) -> Firsts
-        ensures told { AreAllFirsts (known_of result) (names_of self.now.specs) }
-        ensures right { AreFirsts (known_of result) (names_of self.now.specs) }
-    {
-        self.firsts
     }
 
     /// Its entries may have ranges: it declares DW_AT_ranges, or both of DW_AT_low_pc and
@@ -117,8 +107,7 @@ fn declaration_of<'a>(
     let size_32 = size_of_all(specs.as_slice(), Width::Four);
     let size_64 = size_of_all(specs.as_slice(), Width::Eight);
     let ranged = may_have_ranges(specs.as_slice());
-    let firsts = Firsts::of(specs.as_slice());
-    let fixed = FixedValues::of(specs.as_slice());
+    let positions = Positions::of(specs.as_slice());
     Ok(Decl {
         offset,
         code,
@@ -128,8 +117,7 @@ fn declaration_of<'a>(
         size_32,
         size_64,
         ranged,
-        firsts,
-        fixed,
+        positions,
     })
 }
 

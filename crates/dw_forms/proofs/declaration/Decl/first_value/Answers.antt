@@ -4,16 +4,18 @@ use Rattle.dw_bytes.specs.Width.{size_of}
 use Rattle.dw_forms.proofs.FirstValueLemmas.{undeclared}
 use Rattle.dw_forms.proofs.declaration.Decl.first_value.Goals as goal
 
-pub returns-then-lacks : goal.returns-then-lacks
-returns-then-lacks c found e =
-    undeclared (size_of c.args.width) c.args.name c.args.self.now.specs c.args.values.now found e (c.lacks.ensures c.if-lacks.true)
+pub returns-in-Absent-default : goal.returns-in-Absent-default
+returns-in-Absent-default c found e =
+    let known = c.args.self.now.positions_are c.args.name in
+    undeclared (size_of c.args.width) c.args.name c.args.self.now.specs c.args.values.now found e (known.0 (sym c.get.ensures ∙ c.in-Absent-default.is-0))
 
-pub returns-in-Some : goal.returns-in-Some
-returns-in-Some c found e =
+pub returns-in-Fixed-Four : goal.returns-in-Fixed-Four
+returns-in-Fixed-Four c found e =
     let specs = c.args.self.now.specs in
-    let told = c.args.self.now.fixed_are c.args.name c.in-Some.fixed (sym c.get.ensures ∙ c.in-Some.is) in
-    c.read.ensures c.args.name specs found told (ap (λ width. attributes_at (size_of width) specs c.args.values.now) (sym c.in-Four.is) ∙ e)
+    let known = c.args.self.now.positions_are c.args.name in
+    let told = known.1 c.in-Fixed-Four.fixed (sym c.get.ensures ∙ c.in-Fixed-Four.is-0) in
+    c.read.ensures c.args.name specs found told (ap (λ width. attributes_at (size_of width) specs c.args.values.now) (sym c.in-Fixed-Four.is-1) ∙ e)
 
-pub returns : goal.returns
-returns c found e =
+pub returns-in_default : goal.returns-in_default
+returns-in_default c found e =
     c.first_value.ensures found (ap (attributes_at (size_of c.args.width) c.args.self.now.specs) c.fork.ensures ∙ e)

@@ -3,12 +3,9 @@ use Rattle.dw_model.specs.declared.dwarf.TheConstants.{OFFSET_SIZE_32, OFFSET_SI
 use Rattle.dw_forms.specs.declared.declaration.Spec.{Spec}
 use Rattle.dw_forms.specs.Declaration.{spec_shown}
 use Rattle.dw_forms.specs.Size.{size_in}
-use Rattle.dw_forms.specs.Firsts.{known_of, names_of, AreAllFirsts}
-use Rattle.dw_forms.specs.Fixed.{AreFixed}
-use Rattle.dw_forms.specs.Fixed as fixed
+use Rattle.dw_forms.specs.Positions.{known_of, ArePositions}
 use Rattle.dw_forms.specs.Pairs.{AreAt}
 use Rattle.dw_forms.specs.Ranged.{may_have_ranges}
-use Rattle.dw_forms.proofs.FirstsLemmas.{names_in, shown-names}
 use Rattle.dw_forms.proofs.PairsLemmas.{all_at, counted, those}
 use Rattle.dw_forms.proofs.declaration.reading.declaration_of.Goals as goal
 
@@ -21,11 +18,9 @@ pub invariant_of-result : goal.invariant_of-result
 invariant_of-result c =
     let read = ap all_at c.fork-pairs.ensures ∙ c.in_ok-specs.ensures in
     let same = c.new.ensures ∙ those c.in_ok-specs.specs.items c.fork-pairs.result c.specs_of.new.cursor read in
-    let names = shown-names c.in_ok-specs.specs.items in
     record {
       size_32_is = c.size_of_all-size_32.ensures ∙ ap (λ (specs : List Spec). size_in OFFSET_SIZE_32 (map spec_shown specs)) c.as_slice.ensures ∙ ap (size_in OFFSET_SIZE_32) (sym same);
       size_64_is = c.size_of_all-size_64.ensures ∙ ap (λ (specs : List Spec). size_in OFFSET_SIZE_64 (map spec_shown specs)) c.as_slice-2.ensures ∙ ap (size_in OFFSET_SIZE_64) (sym same);
       ranged_is = c.may_have_ranges-ranged.ensures ∙ ap (λ (specs : List Spec). may_have_ranges (map spec_shown specs)) c.as_slice-3.ensures ∙ ap may_have_ranges (sym same);
-      firsts_are = subst (AreAllFirsts (known_of c.of-firsts.result)) (sym (ap names_of same ∙ names)) (subst (λ (specs : List Spec). AreAllFirsts (known_of c.of-firsts.result) (names_in specs)) c.as_slice-4.ensures c.of-firsts.ensures);
-      fixed_are = subst (AreFixed (fixed.known_of c.of-fixed.result)) (sym same) (subst (λ (specs : List Spec). AreFixed (fixed.known_of c.of-fixed.result) (map spec_shown specs)) c.as_slice-5.ensures c.of-fixed.ensures);
+      positions_are = subst (ArePositions (known_of c.of-positions.result)) (sym same) (subst (λ (specs : List Spec). ArePositions (known_of c.of-positions.result) (map spec_shown specs)) c.as_slice-4.ensures c.of-positions.ensures);
     }

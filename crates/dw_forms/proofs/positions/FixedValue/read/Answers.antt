@@ -1,7 +1,7 @@
 use Rattle.dw_forms.specs.Fault.{form_fault}
 use Rattle.dw_forms.specs.Value.{value_shown}
-use Rattle.dw_forms.proofs.FixedLemmas.{read-fixed, taken-never, read-never, read-is}
-use Rattle.dw_forms.proofs.fixed.FixedValue.read.Goals as goal
+use Rattle.dw_forms.proofs.PositionLemmas.{read-fixed, taken-never, read-never, read-is}
+use Rattle.dw_forms.proofs.positions.FixedValue.read.Goals as goal
 
 pub returns-in_err-take : goal.returns-in_err-take
 returns-in_err-take c name specs found told e =

@@ -1,8 +1,8 @@
--- Values that are as far after the first one in every entry of a declaration.
+-- Where values are in the entries of a declaration.
 use Rattle.std.proofs.Common.{◌≡◌, ◌∙◌, ℕ, ℤ, ◌+◌, ◌-◌, ◌<◌, Bool, true, false, cond, List, [], ◌∷◌, length, map, take, drop, get_or, Option, Some, None, Result, Ok, Err, refl, sym, ap, subst, arith}
 use Rattle.std.specs.Prelude.{IfSome, nat_eq, nat_le, ok_or, option_map, option_and_then, ◌==◌}
 use Rattle.std.specs.Map.{lookup}
-use Rattle.std.specs.Option.{option_map_or}
+use Rattle.std.specs.Option.{option_map_or, SomeIff}
 use Rattle.std.proofs.lemmas.Bool.{eq-eqb, ne_eqb, eqb-true, eqb-false, leb-true, le-leb}
 use Rattle.std.proofs.lemmas.List.{drop-drop, length-drop, drop_more}
 use Rattle.std.proofs.lemmas.Option.{same_Some}
@@ -15,10 +15,12 @@ use Rattle.dw_model.specs.Answers.{Tells}
 use Rattle.dw_model.specs.Entry.{Attribute, attributes_at}
 use Rattle.dw_model.proofs.StepLemmas.{ok_is}
 use Rattle.dw_forms.specs.declared.declaration.Spec.{Spec}
-use Rattle.dw_forms.specs.declared.fixed.FixedValue.{FixedValue}
+use Rattle.dw_forms.specs.declared.positions.FixedValue.{FixedValue}
 use Rattle.dw_forms.specs.Spec.{spec_shown}
 use Rattle.dw_forms.specs.Size.{value_size, place_behind}
-use Rattle.dw_forms.specs.Fixed.{first_in, fixed_in, fixed_shown, Known, value_known, AreFixed}
+use Rattle.dw_forms.specs.declared.positions.Position.{Position}
+use Rattle.dw_forms.specs.declared.positions.Position.TheVariants.{Absent, Fixed, Unknown}
+use Rattle.dw_forms.specs.Positions.{first_in, fixed_in, fixed_shown, first_named, further, Known, position_in, ArePositions, IsPosition, IsPassed}
 use Rattle.dw_forms.proofs.SizeLemmas.{value-skips}
 use Rattle.dw_forms.proofs.FirstValueLemmas.{value_of, by-told, first-read, found-here, found-later}
 
@@ -45,10 +47,6 @@ is-first one (Some z) n form e told = absurd cc
 is-first one None n form e told =
     let same : (0, one.form) ≡ (n, form) = same_Some (0, one.form) (n, form) told in
     (e, sym (ap (λ (x : ℕ × ℕ). x.0) same), sym (ap (λ (x : ℕ × ℕ). x.1) same))
-
--- so many bytes further on
-abbrev pub further : ℕ → Option (ℕ × ℕ) → Option (ℕ × ℕ)
-further m rest = option_map {U = ℕ × ℕ} (λ (found : ℕ × ℕ). (m + found.0, found.1)) rest
 
 -- the value that is after another one
 abbrev Later : Option ℕ → Option (ℕ × ℕ) → ℕ → ℕ → Type 0
@@ -123,15 +121,14 @@ read-fixed name n form (one ∷ others) p found told e =
 
 -- ---- how it is told
 
--- what is before the values that are left, and then those
-abbrev pub Behind : ℕ → Option (ℕ × ℕ) → Option (ℕ × ℕ) → Type 0
-Behind offset left all = all ≡ further offset left
-
-pub behind-none : (all : Option (ℕ × ℕ)) → Behind 0 all all
-behind-none None = refl
-behind-none (Some (n, form)) =
-    let same : n ≡ 0 + n = omega arith in
-    ap (λ (m : ℕ). Some (m, form)) same
+pub passed-none : (name : ℕ) (specs : List Specification) → IsPassed name specs (Some 0) specs
+passed-none name specs = record { none = refl; known = same (fixed_in name specs) }
+  where
+    same : (found : Option (ℕ × ℕ)) → found ≡ further 0 found
+    same None = refl
+    same (Some (n, form)) =
+        let sum : n ≡ 0 + n = omega arith in
+        ap (λ (m : ℕ). Some (m, form)) sum
 
 twice : (offset m : ℕ) (rest : Option (ℕ × ℕ)) → further offset (further m rest) ≡ further (offset + m) rest
 twice offset m None = refl
@@ -139,37 +136,63 @@ twice offset m (Some found) =
     let sum : offset + (m + found.0) ≡ offset + m + found.0 = omega arith in
     ap (λ (n : ℕ). Some (n, found.1)) sum
 
-pub behind-more : (name offset m : ℕ) (one : Specification) (others : List Specification) (all : Option (ℕ × ℕ)) → (one.name ≡ name → ⊥) → value_size OFFSET_SIZE_32 one ≡ Some m → Behind offset (fixed_in name (one ∷ others)) all → Behind (offset + m) (fixed_in name others) all
+further-on : (name offset m : ℕ) (one : Specification) (others : List Specification) → (one.name ≡ name → ⊥) → value_size OFFSET_SIZE_32 one ≡ Some m → further offset (fixed_in name (one ∷ others)) ≡ further (offset + m) (fixed_in name others)
 unfolding fixed_in
-behind-more name offset m one others all apart e so_far =
+further-on name offset m one others apart e =
     let step : further offset (fixed_in name (one ∷ others)) ≡ further offset (further m (fixed_in name others)) = rw (ne_eqb one.name name apart, e) refl in
-    so_far ∙ step ∙ twice offset m (fixed_in name others)
+    step ∙ twice offset m (fixed_in name others)
 
-pub behind-here : (name offset : ℕ) (one : Specification) (others : List Specification) (all : Option (ℕ × ℕ)) → one.name ≡ name → one.constant ≡ None → Behind offset (fixed_in name (one ∷ others)) all → all ≡ Some (offset, one.form)
+other-first : (name : ℕ) (one : Specification) (others : List Specification) → (one.name ≡ name → ⊥) → first_named name (one ∷ others) ≡ first_named name others
+other-first name one others apart = rw (ne_eqb one.name name apart) refl
+
+-- how far it is isn't known
+pub passed-unknown : (name : ℕ) (offset : Option ℕ) (one : Specification) (specs others : List Specification) → (one.name ≡ name → ⊥) → IsPassed name specs offset (one ∷ others) → IsPassed name specs None others
+passed-unknown name offset one specs others apart passed = record { none = passed.none ∙ other-first name one others apart; known = tt }
+
+pub passed-on : (name offset m : ℕ) (sum : Option ℕ) (one : Specification) (specs others : List Specification) → value_size OFFSET_SIZE_32 one ≡ Some m → IfSome sum (λ n. n ≡ offset + m) → (one.name ≡ name → ⊥) → IsPassed name specs (Some offset) (one ∷ others)
+    → IsPassed name specs sum others
+passed-on name offset m None one specs others size sum apart passed = passed-unknown name (Some offset) one specs others apart passed
+passed-on name offset m (Some n) one specs others size sum apart passed = record {
+  none = passed.none ∙ other-first name one others apart;
+  known = passed.known ∙ further-on name offset m one others apart size ∙ ap (λ (n : ℕ). further n (fixed_in name others)) (sym sum);
+}
+
+pub is-fixed : (name offset : ℕ) (one : Specification) (specs others : List Specification) (fixed : FixedValue) → one.name ≡ name → fixed.form ≡ one.form → fixed.offset ≡ offset → one.constant ≡ None → IsPassed name specs (Some offset) (one ∷ others) → fixed_in name specs ≡ Some (fixed_shown fixed)
 unfolding fixed_in
-behind-here name offset one others all same none so_far =
+is-fixed name offset one specs others fixed same form at none passed =
     let sum : offset + 0 ≡ offset = omega arith in
     let step : further offset (fixed_in name (one ∷ others)) ≡ Some (offset + 0, one.form) = rw (eq-eqb one.name name same, none) refl in
-    so_far ∙ step ∙ ap (λ (n : ℕ). Some (n, one.form)) sum
+    let shown : ◌≡◌ {A = Option (ℕ × ℕ)} (Some (offset, one.form)) (Some (fixed_shown fixed)) = rw (at, form) refl in
+    passed.known ∙ step ∙ ap (λ (n : ℕ). Some (n, one.form)) sum ∙ shown
+
+-- the first of those that are left
+pub passed-split : (name i : ℕ) (offset : Option ℕ) (all : List Specification) (specs : List Spec) (spec : Spec) → i < length specs → IsPassed name all offset (map spec_shown (drop i specs)) → IsPassed name all offset (spec_shown (get_or specs i spec) ∷ map spec_shown (drop (i + 1) specs))
+passed-split name i offset all specs spec h passed =
+    subst (λ (left : List Spec). IsPassed name all offset (map spec_shown left)) (drop_more specs i spec h) passed
+
+-- none is left
+pub absent : (name i : ℕ) (offset : Option ℕ) (all : List Specification) (specs : List Spec) → drop i specs ≡ [] → IsPassed name all offset (map spec_shown (drop i specs)) → first_named name all ≡ None
+absent name i offset all specs none passed = passed.none ∙ ap (λ (left : List Spec). first_named name (map spec_shown left)) none
 
 -- ---- a table of names
 
 -- each is right
-abbrev pub AllFixed : List Specification → Known → Type 0
-AllFixed specs [] = Unit {0}
-AllFixed specs (first ∷ known) = IfSome first.1 (λ fixed. fixed_in first.0 specs ≡ Some (fixed_shown fixed)) × AllFixed specs known
+abbrev pub AllPositions : List Specification → Known → Type 0
+AllPositions specs [] = Unit {0}
+AllPositions specs (first ∷ known) = IsPosition first.0 first.1 specs × AllPositions specs known
 
-pub are-fixed : (specs : List Specification) (known : Known) → AllFixed specs known → AreFixed known specs
-are-fixed specs [] right name fixed e = absurd cc
-are-fixed specs (first ∷ known) right name fixed e = by_name (λ e. are-fixed specs known right.1 name fixed e) (nat_eq name first.0) refl e
+is-position : (specs : List Specification) (known : Known) → AllPositions specs known → (name : ℕ) → IsPosition name (position_in known name) specs
+is-position specs [] right name = tt
+is-position specs (first ∷ known) right name = by_name (is-position specs known right.1 name) (nat_eq name first.0) refl
   where
-    at : (p : Option FixedValue) → IfSome p (λ fixed. fixed_in first.0 specs ≡ Some (fixed_shown fixed)) → p ≡ Some fixed → fixed_in first.0 specs ≡ Some (fixed_shown fixed)
-    at None h e = absurd cc
-    at (Some q) h e = h ∙ ap (λ (f : FixedValue). Some (fixed_shown f)) (same_Some q fixed e)
+    by_name : IsPosition name (position_in known name) specs → (b : Bool) → nat_eq name first.0 ≡ b → IsPosition name (option_map_or (λ position. position) (cond b (Some first.1) (lookup (nat_eq name) known)) Unknown) specs
+    by_name others true same = subst (λ (n : ℕ). IsPosition n first.1 specs) (sym (eqb-true name first.0 same)) right.0
+    by_name others false same = others
 
-    by_name : (value_known known name ≡ Some fixed → fixed_in name specs ≡ Some (fixed_shown fixed)) → (b : Bool) → nat_eq name first.0 ≡ b → option_and_then (λ fixed. fixed) (cond b (Some first.1) (lookup (nat_eq name) known)) ≡ Some fixed → fixed_in name specs ≡ Some (fixed_shown fixed)
-    by_name others true same e = ap (λ (n : ℕ). fixed_in n specs) (eqb-true name first.0 same) ∙ at first.1 right.0 e
-    by_name others false same e = others e
+pub are-positions : (specs : List Specification) (known : Known) → AllPositions specs known → ArePositions known specs
+are-positions specs known right name =
+    let is = is-position specs known right name in
+    (λ e. subst (λ (position : Position). IsPosition name position specs) e is, λ fixed e. subst (λ (position : Position). IsPosition name position specs) e is)
 
 -- ---- what the code finds
 
@@ -202,19 +225,7 @@ read-is name n form p q r t bytes v found read same some e =
     let value : (v, t) ≡ read.0 = ok_is (v, t) read.0 (sym e ∙ ap (value_at OFFSET_SIZE_32 form None) (sym there) ∙ read.2) in
     ap (λ (x : Value × Place). Some x.0) value ∙ read.3
 
-pub at-here : (name offset i : ℕ) (specs : List Spec) (spec : Spec) (told : Option FixedValue) → i < length specs → (get_or specs i spec).name ≡ name → IfSome told (λ fixed. fixed.form ≡ (get_or specs i spec).form) → IfSome told (λ fixed. fixed.offset ≡ offset)
-    → IfSome told (λ _. (get_or specs i spec).implicit ≡ None) → Behind offset (fixed_in name (map spec_shown (drop i specs))) (fixed_in name (map spec_shown specs)) → IfSome told (λ fixed. fixed_in name (map spec_shown specs) ≡ Some (fixed_shown fixed))
-at-here name offset i specs spec None h same form at none so_far = tt
-at-here name offset i specs spec (Some fixed) h same form at none so_far =
-    let one : Spec = get_or specs i spec in
-    let here : Behind offset (fixed_in name (spec_shown one ∷ map spec_shown (drop (i + 1) specs))) (fixed_in name (map spec_shown specs)) =
-        subst (λ (left : List Spec). Behind offset (fixed_in name (map spec_shown left)) (fixed_in name (map spec_shown specs))) (drop_more specs i spec h) so_far in
-    behind-here name offset (spec_shown one) (map spec_shown (drop (i + 1) specs)) (fixed_in name (map spec_shown specs)) same none here ∙ ap Some (rw (at, form) refl)
-
-pub at-later : (name offset next i m : ℕ) (specs : List Spec) (spec : Spec) → i < length specs → ((get_or specs i spec).name ≡ name → ⊥) → Some m ≡ value_size OFFSET_SIZE_32 (spec_shown (get_or specs i spec)) → next ≡ offset + m
-    → Behind offset (fixed_in name (map spec_shown (drop i specs))) (fixed_in name (map spec_shown specs)) → Behind next (fixed_in name (map spec_shown (drop (i + 1) specs))) (fixed_in name (map spec_shown specs))
-at-later name offset next i m specs spec h apart size sum so_far =
-    let one : Spec = get_or specs i spec in
-    let here : Behind offset (fixed_in name (spec_shown one ∷ map spec_shown (drop (i + 1) specs))) (fixed_in name (map spec_shown specs)) =
-        subst (λ (left : List Spec). Behind offset (fixed_in name (map spec_shown left)) (fixed_in name (map spec_shown specs))) (drop_more specs i spec h) so_far in
-    subst (λ (n : ℕ). Behind n (fixed_in name (map spec_shown (drop (i + 1) specs))) (fixed_in name (map spec_shown specs))) (sym sum) (behind-more name offset m (spec_shown one) (map spec_shown (drop (i + 1) specs)) (fixed_in name (map spec_shown specs)) apart (sym size) here)
+-- a sum that was told
+pub told-sum : (told : Option ℕ) (P : Type 0) (sum : ℕ) → SomeIff told P sum → IfSome told (λ n. n ≡ sum)
+told-sum None P sum h = tt
+told-sum (Some n) P sum h = h.1

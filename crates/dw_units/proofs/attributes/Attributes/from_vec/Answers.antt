@@ -1,5 +1,0 @@
-use Rattle.dw_units.proofs.PlaceOfLemmas.{names_in}
-use Rattle.dw_units.proofs.attributes.Attributes.from_vec.Goals as goal
-
-pub invariant_of-result : goal.invariant_of-result
-invariant_of-result c = c.unknown.ensures (names_in c.args.list.items)
