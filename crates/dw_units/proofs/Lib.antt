@@ -3,7 +3,6 @@ pub mod EntryLemmas
 pub mod HoldingLemmas
 pub mod OpenLemmas
 pub mod UnitsLemmas
-mod ViewLemmas
 pub mod HeaderLemmas
 pub mod AttrLemmas
 pub mod PlaceLemmas

@@ -241,21 +241,29 @@ fn sizes_of_declarations(rt: HostRuntime) -> Result<(), Fail> {
     Ok(())
 }
 
-/// Where the first attribute of a name is: DW_AT_external, DW_AT_name, DW_AT_low_pc, DW_AT_name
-/// again. What isn't there is after all; a name that tells of no function has no place.
+/// The first value of a name: after values of one size, after a text, of two, and of none.
 #[test]
-fn places_of_declarations(rt: HostRuntime) -> Result<(), Fail> {
-    let bytes = &[1, 0x2e, 0, 0x3f, 0x19, 3, 8, 0x11, 1, 3, 8, 0, 0, 0];
-    let table = Abbrevs::read(rt.alloc(), bytes, 0)?;
-    let firsts = table.get(1).ok_or("a declaration")?.firsts();
-    let rows: &[(u64, Option<usize>)] = &[
-        (DW_AT_name, Some(1)),
-        (DW_AT_low_pc, Some(2)),
-        (DW_AT_high_pc, Some(4)),
-        (0x3f, None),
+fn first_values(rt: HostRuntime) -> Result<(), Fail> {
+    let bytes = &[
+        1, 0x2e, 0, 0x3f, 0x19, 0x3b, 0x0b, 0x11, 1, 3, 8, 0x12, 6, 3, 8, 0, 0, 0,
     ];
-    for (name, place) in rows {
-        assert_eq!(rt; firsts.place(*name), *place, "of {name}");
+    let values = Cursor::new(&[
+        7, 1, 2, 3, 4, 5, 6, 7, 8, b'a', b'b', 0, 9, 0, 0, 0, b'c', 0,
+    ]);
+    let table = Abbrevs::read(rt.alloc(), bytes, 0)?;
+    let declaration = table.get(1).ok_or("a declaration")?;
+    let rows: &[(u64, Option<Value<'static>>)] = &[
+        (DW_AT_low_pc, Some(Value::Address(0x0807_0605_0403_0201))),
+        (DW_AT_name, Some(Value::Inline(b"ab"))),
+        (DW_AT_high_pc, Some(Value::Unsigned(9))),
+        (0x3f, Some(Value::Flag(true))),
+        (0x55, None),
+        (0x49, None),
+    ];
+    for (name, value) in rows {
+        for width in [Width::Four, Width::Eight] {
+            assert_eq!(rt; declaration.first_value(*name, &values, width), *value, "of {name}");
+        }
     }
     Ok(())
 }
