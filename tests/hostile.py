@@ -15,7 +15,7 @@ LINEAR, SQUARE = 'linear', 'square'
 
 COMPILE_UNIT, INLINED, SUBPROGRAM = 0x11, 0x1d, 0x2e
 NAME, STMT_LIST, LOW_PC, HIGH_PC, ORIGIN, RANGES, ADDR_BASE = 0x03, 0x10, 0x11, 0x12, 0x31, 0x55, 0x73
-ADDR, DATA1, DATA4, STRP, REF4, SEC_OFFSET, FLAG_PRESENT, ADDRX, IMPLICIT_CONST = 0x01, 0x0b, 0x06, 0x0e, 0x13, 0x17, 0x19, 0x1b, 0x21
+ADDR, DATA1, DATA4, STRP, UDATA, REF4, SEC_OFFSET, FLAG_PRESENT, ADDRX, IMPLICIT_CONST = 0x01, 0x0b, 0x06, 0x0e, 0x0f, 0x13, 0x17, 0x19, 0x1b, 0x21
 COVERING = [(LOW_PC, ADDR), (HIGH_PC, DATA4)]
 BEGIN, LENGTH = 0x1000, 0x10000000
 
@@ -46,6 +46,14 @@ def tables_in_one_another(size):
     """Units whose tables of abbreviations begin one declaration after another."""
     count = size // 18
     units = b''.join(unit(b'\x01', abbrev=5 * i) for i in range(count))
+    last = declaration(2, COMPILE_UNIT, 0, COVERING)
+    return file_of(units + unit(b'\x02' + covered()), declaration(1, COMPILE_UNIT, 0, []) * count + last + b'\0')
+
+
+def falling_tables_in_one_another(size):
+    """The same, the last table first."""
+    count = size // 18
+    units = b''.join(unit(b'\x01', abbrev=5 * i) for i in reversed(range(count)))
     last = declaration(2, COMPILE_UNIT, 0, COVERING)
     return file_of(units + unit(b'\x02' + covered()), declaration(1, COMPILE_UNIT, 0, []) * count + last + b'\0')
 
@@ -117,6 +125,14 @@ def functions_of_empty_values(size):
     return one_unit(function, b'\x02\0' * (count // 2))
 
 
+def functions_of_empty_values_after_a_number(size):
+    """The same after a number of no fixed size, so each function's values are looked for among all of them."""
+    count = size // 4
+    pairs = [(0x2001, UDATA), *[(0x2000, FLAG_PRESENT)] * (count // 2)]
+    function = declaration(2, SUBPROGRAM, 0, [*pairs, (LOW_PC, ADDRX), (HIGH_PC, IMPLICIT_CONST, 1)])
+    return one_unit(function, b'\x02\0\0' * (count // 2))
+
+
 def units_of_empty_values(size):
     """Units whose first entries have a long list of values that take no bytes."""
     first = declaration(1, COMPILE_UNIT, 0, [(0x2000, FLAG_PRESENT)] * (size // 8))
@@ -185,9 +201,10 @@ def no_rows(size):
 
 
 KINDS = {
-    'tables_in_one_another': LINEAR, 'functions_of_one_list': LINEAR, 'inlined_of_one_list': LINEAR,
+    'tables_in_one_another': LINEAR, 'falling_tables_in_one_another': LINEAR, 'functions_of_one_list': LINEAR, 'inlined_of_one_list': LINEAR,
     'functions_of_tails': SQUARE, 'units_of_one_list': LINEAR, 'units_with_bases_of_one_list': SQUARE,
     'units_of_one_line_table': LINEAR, 'names_without_end': LINEAR, 'functions_of_empty_values': LINEAR,
+    'functions_of_empty_values_after_a_number': SQUARE,
     'units_of_empty_values': LINEAR, 'references_of_empty_values': LINEAR, 'skipped_units': LINEAR,
     'small_units': LINEAR, 'small_declarations': LINEAR, 'small_functions': LINEAR, 'small_sequences': LINEAR,
     'small_files': LINEAR, 'no_rows': LINEAR,
