@@ -1,6 +1,6 @@
 -- Where values are in the entries of a declaration.
 use Rattle.std.proofs.Common.{◌≡◌, ◌∙◌, ℕ, ℤ, ◌+◌, ◌-◌, ◌<◌, Bool, true, false, cond, List, [], ◌∷◌, length, map, take, drop, get_or, Option, Some, None, Result, Ok, Err, refl, sym, ap, subst, arith}
-use Rattle.std.specs.Prelude.{IfSome, nat_eq, nat_le, ok_or, option_map, option_and_then, ◌==◌}
+use Rattle.std.specs.Prelude.{IfSome, nat_eq, nat_le, ok_or, option_and_then, ◌==◌}
 use Rattle.std.specs.Map.{lookup}
 use Rattle.std.specs.Option.{option_map_or, SomeIff}
 use Rattle.std.proofs.lemmas.Bool.{eq-eqb, ne_eqb, eqb-true, eqb-false, leb-true, le-leb}
@@ -19,7 +19,7 @@ use Rattle.dw_forms.specs.declared.positions.FixedValue.{FixedValue}
 use Rattle.dw_forms.specs.Spec.{spec_shown}
 use Rattle.dw_forms.specs.Size.{value_size, place_behind}
 use Rattle.dw_forms.specs.declared.positions.Position.{Position}
-use Rattle.dw_forms.specs.declared.positions.Position.TheVariants.{Absent, Fixed, Unknown}
+use Rattle.dw_forms.specs.declared.positions.Position.TheVariants.{Unknown}
 use Rattle.dw_forms.specs.Positions.{first_in, fixed_in, fixed_shown, first_named, further, Known, position_in, ArePositions, IsPosition, IsPassed}
 use Rattle.dw_forms.proofs.SizeLemmas.{value-skips}
 use Rattle.dw_forms.proofs.FirstValueLemmas.{value_of, by-told, first-read, found-here, found-later}
@@ -86,11 +86,11 @@ read-first : (name n form : ℕ) (one : Specification) (p : Place) (value : Valu
 read-first name n form one p value rest same first e =
     let none : nat_le n (length p.left) ≡ true = le-leb n (length p.left) (omega (arith, first.1)) in
     let there : value_at OFFSET_SIZE_32 form None (past n p) ≡ Ok value =
-        ap (λ (form : ℕ). value_at OFFSET_SIZE_32 form None (past n p)) first.2
-        ∙ ap (λ (constant : Option ℤ). value_at OFFSET_SIZE_32 one.form constant (past n p)) (sym first.0)
-        ∙ ap (λ (n : ℕ). value_at OFFSET_SIZE_32 one.form one.constant (past n p)) first.1
-        ∙ ap (value_at OFFSET_SIZE_32 one.form one.constant) (sym (none-past p))
-        ∙ e in
+    ap (λ (form : ℕ). value_at OFFSET_SIZE_32 form None (past n p)) first.2
+    ∙ ap (λ (constant : Option ℤ). value_at OFFSET_SIZE_32 one.form constant (past n p)) (sym first.0)
+    ∙ ap (λ (n : ℕ). value_at OFFSET_SIZE_32 one.form one.constant (past n p)) first.1
+    ∙ ap (value_at OFFSET_SIZE_32 one.form one.constant) (sym (none-past p))
+    ∙ e in
     (value, none, there, sym (found-here OFFSET_SIZE_32 name value.0 one.name rest same))
 
 read-later : (name m k n form : ℕ) (p q : Place) (value : Value) (other : ℕ) (rest : List Attribute) → m + k ≡ n → nat_le m (length p.left) ≡ true → q ≡ past m p → (other ≡ name → ⊥) → IsReadAt name k form q rest

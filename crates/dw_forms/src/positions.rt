@@ -6,7 +6,8 @@ ghost use Rattle.dw_model.specs.Abbrev.{Specification};
 ghost use Rattle.dw_model.specs.Entry.{Attribute, attributes_at};
 ghost use Rattle.dw_model.specs.Reading.{Place};
 ghost use Rattle.dw_forms.specs.Declaration.{spec_shown};
-ghost use Rattle.dw_forms.specs.Positions.{fixed_in, fixed_shown, known_of, position_in, ArePositions, IsPosition, IsPassed};
+ghost use Rattle.dw_forms.specs.Positions.{fixed_in, fixed_shown, known_of, position_in};
+ghost use Rattle.dw_forms.specs.Positions.{ArePositions, IsPosition, IsPassed};
 ghost use Rattle.dw_forms.specs.Value.{value_shown};
 
 use crate::declaration::Spec;

@@ -75,7 +75,9 @@ impl<'b, 'a> EntryView<'b, 'a> {
     pub fn attr(&self, name: u64) -> Option<Value<'a>>
         ensures { option_map value_shown result ≡ model.attribute name self.now }
     {
-        let value = self.declaration.first_value(name, &self.values, self.width)?;
+        let value = self
+            .declaration
+            .first_value(name, &self.values, self.width)?;
         if !counts(name, &value) {
             return None;
         }

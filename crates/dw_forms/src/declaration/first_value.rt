@@ -41,12 +41,7 @@ impl<'a> Decl<'a> {
     /// The value of the first attribute of a name in an entry whose values begin at a cursor, where
     /// all of them can be read; `None` where no attribute of this name is declared. This takes no
     /// memory.
-    pub fn first_value<'b>(
-        &self,
-        name: u64,
-        values: &Cursor<'b>,
-        width: Width,
-    ) -> Option<Value<'b>>
+    pub fn first_value<'b>(&self, name: u64, values: &Cursor<'b>, width: Width) -> Option<Value<'b>>
         ensures { (found : List Attribute × Place)
             → attributes_at (size_of width) self.now.specs values.now ≡ Ok found
             → option_map value_shown result ≡ option_map

@@ -1,6 +1,5 @@
 use Rattle.std.proofs.Common.{◌∙◌, sym, ap}
-use Rattle.dw_model.specs.Entry.{Entry, attributes_at}
-use Rattle.dw_bytes.specs.Width.{size_of}
+use Rattle.dw_model.specs.Entry.{Entry}
 use Rattle.dw_forms.specs.Value.{value_shown}
 use Rattle.dw_units.specs.View.{attributes_in}
 use Rattle.dw_units.proofs.AttrLemmas.{value_of, absent, not_counted, is_given}
