@@ -14,8 +14,9 @@ from samples import file_of, line_table, unit
 LINEAR, SQUARE = 'linear', 'square'
 
 COMPILE_UNIT, INLINED, SUBPROGRAM = 0x11, 0x1d, 0x2e
-NAME, STMT_LIST, LOW_PC, HIGH_PC, ORIGIN, RANGES, ADDR_BASE = 0x03, 0x10, 0x11, 0x12, 0x31, 0x55, 0x73
-ADDR, DATA1, DATA4, STRP, UDATA, REF4, SEC_OFFSET, FLAG_PRESENT, ADDRX, IMPLICIT_CONST = 0x01, 0x0b, 0x06, 0x0e, 0x0f, 0x13, 0x17, 0x19, 0x1b, 0x21
+NAME, STMT_LIST, LOW_PC, HIGH_PC, ORIGIN, RANGES, ADDR_BASE, LISTS_BASE = 0x03, 0x10, 0x11, 0x12, 0x31, 0x55, 0x73, 0x74
+ADDR, DATA1, DATA4, STRP, UDATA, REF4, SEC_OFFSET, FLAG_PRESENT = 0x01, 0x0b, 0x06, 0x0e, 0x0f, 0x13, 0x17, 0x19
+ADDRX, IMPLICIT_CONST, RNGLISTX = 0x1b, 0x21, 0x23
 COVERING = [(LOW_PC, ADDR), (HIGH_PC, DATA4)]
 BEGIN, LENGTH = 0x1000, 0x10000000
 
@@ -76,6 +77,25 @@ def functions_of_tails(size):
     function = declaration(2, SUBPROGRAM, 0, [(RANGES, SEC_OFFSET)])
     entries = b''.join(b'\x02' + number(9 * (count - 1 - i), 4) for i in range(count))
     return one_unit(function, entries, rnglists=long_list(count))
+
+
+def callers_of_one_list(size):
+    """Functions of two bytes, in each of which one of two bytes was inlined that names one list."""
+    count = size // 14
+    first = declaration(1, COMPILE_UNIT, 1, [*COVERING, (ADDR_BASE, SEC_OFFSET), (LISTS_BASE, SEC_OFFSET)])
+    functions = (declaration(2, SUBPROGRAM, 1, [(LOW_PC, ADDRX), (HIGH_PC, IMPLICIT_CONST, 100)])
+                 + declaration(3, INLINED, 0, [(RANGES, RNGLISTX)]))
+    info = unit(b'\x01' + covered() + bytes(8) + b'\x02\0\x03\0\0' * count)
+    return file_of(info, first + functions + b'\0', addr=number(BEGIN, 8), rnglists=number(4, 4) + long_list(count))
+
+
+def units_with_functions_of_one_list(size):
+    """Units of 16 addresses, in each of which a function names one list."""
+    count = size // 40
+    first = declaration(1, COMPILE_UNIT, 1, COVERING)
+    function = declaration(2, SUBPROGRAM, 0, [(RANGES, SEC_OFFSET)])
+    units = b''.join(unit(b'\x01' + covered(BEGIN + 16 * i, 16) + b'\x02\0\0\0\0\0') for i in range(count))
+    return file_of(units, first + function + b'\0', rnglists=long_list(count))
 
 
 def units_of_one_list(size):
@@ -201,14 +221,17 @@ def no_rows(size):
 
 
 KINDS = {
-    'tables_in_one_another': LINEAR, 'falling_tables_in_one_another': LINEAR, 'functions_of_one_list': LINEAR, 'inlined_of_one_list': LINEAR,
-    'functions_of_tails': SQUARE, 'units_of_one_list': LINEAR, 'units_with_bases_of_one_list': SQUARE,
+    'tables_in_one_another': LINEAR, 'falling_tables_in_one_another': LINEAR, 'functions_of_one_list': LINEAR,
+    'inlined_of_one_list': LINEAR, 'functions_of_tails': SQUARE, 'callers_of_one_list': SQUARE,
+    'units_with_functions_of_one_list': SQUARE, 'units_of_one_list': LINEAR, 'units_with_bases_of_one_list': SQUARE,
     'units_of_one_line_table': LINEAR, 'names_without_end': LINEAR, 'functions_of_empty_values': LINEAR,
-    'functions_of_empty_values_after_a_number': SQUARE,
-    'units_of_empty_values': LINEAR, 'references_of_empty_values': LINEAR, 'skipped_units': LINEAR,
-    'small_units': LINEAR, 'small_declarations': LINEAR, 'small_functions': LINEAR, 'small_sequences': LINEAR,
-    'small_files': LINEAR, 'no_rows': LINEAR,
+    'functions_of_empty_values_after_a_number': SQUARE, 'units_of_empty_values': LINEAR,
+    'references_of_empty_values': LINEAR, 'skipped_units': LINEAR, 'small_units': LINEAR, 'small_declarations': LINEAR,
+    'small_functions': LINEAR, 'small_sequences': LINEAR, 'small_files': LINEAR, 'no_rows': LINEAR,
 }
+
+# how many bytes a unit of 16 addresses takes of the file, with what it names
+UNITS = {'units_of_one_line_table': 60, 'units_with_functions_of_one_list': 40}
 
 if __name__ == '__main__':
     if len(sys.argv) == 1:
@@ -218,7 +241,6 @@ if __name__ == '__main__':
     kind, size, path = sys.argv[1], int(sys.argv[2]), sys.argv[3]
     with open(path, 'wb') as out:
         out.write(globals()[kind](size))
-    if kind == 'units_of_one_line_table':
-        print(*(f'{BEGIN + 16 * i:x}' for i in range(size // 60)), sep='\n')
-    else:
-        print(f'{BEGIN + 5:x}')
+    # of units with 16 addresses one address in each
+    units = size // UNITS[kind] if kind in UNITS else 1
+    print(*(f'{BEGIN + 16 * i + 5:x}' for i in range(units)), sep='\n')

@@ -10,12 +10,11 @@ use Rattle.dw_model.specs.Ranges.{Range, covers}
 use Rattle.dw_model.specs.Tree.{Node, is_function, is_subprogram, is_inlined, enclosing, chain, chain_in, holds_address}
 use Rattle.dw_model.specs.Tree as model
 use Rattle.dw_index.specs.Owners.{least_owner}
-use Rattle.dw_index.specs.Segments.{owner_at}
 use Rattle.dw_frames.specs.declared.chains.Chains.{Chains}
 use Rattle.dw_frames.specs.Inlined.{InlinedRange, inlined_in}
 use Rattle.dw_frames.specs.Drafts.{Drafts, known_ranges, is_idle, is_kept}
 use Rattle.dw_frames.specs.Placed.{Placed, placed, offset_of, Falls, Follows}
-use Rattle.dw_frames.specs.Tree.{id_of, inwards, chain_at, function_at, nodes_of, IsTreeOf}
+use Rattle.dw_frames.specs.Tree.{id_of, all_inlined, outermost_at, inwards, chain_at, function_at, nodes_of, IsTreeOf}
 use Rattle.dw_frames.specs.UnitIn.{UnitIn}
 use Rattle.dw_frames.proofs.GetLemmas.{get-there, get-mapped, get-pushed}
 use Rattle.dw_frames.proofs.PlacedLemmas.{map-reverse, reverse-cons}
@@ -82,7 +81,7 @@ idle-holds [] a e = refl
 idle-holds (range ∷ ranges) a e = let no : suc (length ranges) ≡ 0 = eqb-true (suc (length ranges)) 0 e in absurd (omega (arith, no))
 
 module _ (of : UnitIn) (after : List Node) (drafts : Drafts) (bound : ℕ) (found : Chains)
-    (whole : model.tree of.sections of.unit ≡ Ok (reverse after)) (follows : Follows of.sections of.unit after drafts bound) (unit : found.unit ≡ of.index) (kept : found.functions.items ≡ drafts.functions) (inlined : found.inlined ≡ drafts.inlined) (index : (a : ℕ) → owner_at found.outermost a ≡ least_owner drafts.outermost a) where
+    (whole : model.tree of.sections of.unit ≡ Ok (reverse after)) (follows : Follows of.sections of.unit after drafts bound) (unit : found.unit ≡ of.index) (kept : found.functions.items ≡ drafts.functions) (inlined : all_inlined found ≡ drafts.inlined) (index : (a : ℕ) → outermost_at found a ≡ least_owner drafts.outermost a) where
   abbrev keep : Entry → Bool
   keep = is_kept of.sections of.unit
 
@@ -124,9 +123,9 @@ module _ (of : UnitIn) (after : List Node) (drafts : Drafts) (bound : ℕ) (foun
 
     -- the number of the first function further inwards
     abbrev inner : ℕ → Option ℕ
-    inner k = least_owner (inlined_in k found.inlined) a
+    inner k = least_owner (inlined_in k (all_inlined found)) a
 
-    steps : Found keep holds idle after (owner_at found.outermost a) inner
+    steps : Found keep holds idle after (outermost_at found a) inner
     steps = record {
       rises = follows.rises;
       around = follows.around;
@@ -143,7 +142,7 @@ module _ (of : UnitIn) (after : List Node) (drafts : Drafts) (bound : ℕ) (foun
       | inr past ↦ inl (slice_get_past found.functions.items k (omega (arith, past, size)), slice_get_past (placed keep after) k past)
     ]
 
-    climbs-same : (most : ℕ) (number : Option ℕ) → map (function_at of) (inwards found a most number) ≡ map Some (climb keep holds idle after (owner_at found.outermost a) inner steps most number)
+    climbs-same : (most : ℕ) (number : Option ℕ) → map (function_at of) (inwards found a most number) ≡ map Some (climb keep holds idle after (outermost_at found a) inner steps most number)
     unfolding inwards climb
     climbs-same zero number = refl
     climbs-same (suc most) None = refl
@@ -155,9 +154,9 @@ module _ (of : UnitIn) (after : List Node) (drafts : Drafts) (bound : ℕ) (foun
     chain-same : map (function_at of) (reverse (chain_at found a)) ≡ map Some (chain of.sections of.unit (nodes_of of.sections of.unit) a)
     chain-same =
         map-reverse (function_at of) (chain_at found a)
-        ∙ ap (λ (nodes : List (Option Node)). reverse nodes) (climbs-same (length found.functions.items) (owner_at found.outermost a) ∙ ap (λ (n : ℕ). map Some (climb keep holds idle after (owner_at found.outermost a) inner steps n (owner_at found.outermost a))) size)
-        ∙ sym (map-reverse Some (climb keep holds idle after (owner_at found.outermost a) inner steps (length (placed keep after)) (owner_at found.outermost a)))
-        ∙ ap (map Some) (sym (chain-climbs keep holds idle after (owner_at found.outermost a) inner steps))
+        ∙ ap (λ (nodes : List (Option Node)). reverse nodes) (climbs-same (length found.functions.items) (outermost_at found a) ∙ ap (λ (n : ℕ). map Some (climb keep holds idle after (outermost_at found a) inner steps n (outermost_at found a))) size)
+        ∙ sym (map-reverse Some (climb keep holds idle after (outermost_at found a) inner steps (length (placed keep after)) (outermost_at found a)))
+        ∙ ap (map Some) (sym (chain-climbs keep holds idle after (outermost_at found a) inner steps))
         ∙ ap (λ (nodes : List Node). map Some (chain_in holds nodes)) (sym nodes-are)
 
   pub is-tree : IsTreeOf of found

@@ -74,7 +74,7 @@ least-same : (test : Bool) (n : ℕ) → least (Some n) (cond test (Some n) None
 least-same true n = ap Some (omega arith)
 least-same false n = refl
 
-of_list : (ranges : List Range) (owner a : ℕ) → least_owner (map (λ range. (range, owner)) ranges) a ≡ cond (covers a ranges) (Some owner) None
+pub of_list : (ranges : List Range) (owner a : ℕ) → least_owner (map (λ range. (range, owner)) ranges) a ≡ cond (covers a ranges) (Some owner) None
 unfolding least_owner
 of_list [] owner a = refl
 of_list (range ∷ ranges) owner a = rw (of_list ranges owner a) (by_test (holds a range))

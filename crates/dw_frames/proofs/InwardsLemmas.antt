@@ -7,7 +7,7 @@ use Rattle.dw_index.specs.Owners.{least_owner}
 use Rattle.dw_frames.specs.declared.function.EntryId.{EntryId}
 use Rattle.dw_frames.specs.declared.chains.Chains.{Chains}
 use Rattle.dw_frames.specs.Inlined.{inlined_in}
-use Rattle.dw_frames.specs.Tree.{id_of, inwards}
+use Rattle.dw_frames.specs.Tree.{id_of, all_inlined, inwards}
 
 pub inwards-zero : (chains : Chains) (a : ℕ) (number : Option ℕ) → inwards chains a 0 number ≡ []
 unfolding inwards
@@ -23,7 +23,7 @@ unfolding inwards
 inwards-nowhere chains a zero k e = refl
 inwards-nowhere chains a (suc most) k e = rw e refl
 
-pub inwards-on : (chains : Chains) (a n i k : ℕ) (offset : ℕ) → i < n → slice_get chains.functions.items k ≡ Some offset → inwards chains a (n - i) (Some k) ≡ id_of chains offset ∷ inwards chains a (n - (i + 1)) (least_owner (inlined_in k chains.inlined) a)
+pub inwards-on : (chains : Chains) (a n i k : ℕ) (offset : ℕ) → i < n → slice_get chains.functions.items k ≡ Some offset → inwards chains a (n - i) (Some k) ≡ id_of chains offset ∷ inwards chains a (n - (i + 1)) (least_owner (inlined_in k (all_inlined chains)) a)
 unfolding inwards
 inwards-on chains a n i k offset h e =
     let step : n - i ≡ suc (n - (i + 1)) = omega (arith, h) in
@@ -36,9 +36,9 @@ Found chains a ids most number all = ids ++ inwards chains a most number ≡ all
 pub found-all : (chains : Chains) (a most : ℕ) (number : Option ℕ) (ids all : List EntryId) → inwards chains a most number ≡ [] → Found chains a ids most number all → ids ≡ all
 found-all chains a most number ids all e h = sym (append-nil ids) ∙ ap (λ (rest : List EntryId). ids ++ rest) (sym e) ∙ h
 
-pub found-more : (chains : Chains) (a n i k : ℕ) (offset : ℕ) (ids all : List EntryId) → i < n → slice_get chains.functions.items k ≡ Some offset → Found chains a ids (n - i) (Some k) all → Found chains a (ids ++ id_of chains offset ∷ []) (n - (i + 1)) (least_owner (inlined_in k chains.inlined) a) all
+pub found-more : (chains : Chains) (a n i k : ℕ) (offset : ℕ) (ids all : List EntryId) → i < n → slice_get chains.functions.items k ≡ Some offset → Found chains a ids (n - i) (Some k) all → Found chains a (ids ++ id_of chains offset ∷ []) (n - (i + 1)) (least_owner (inlined_in k (all_inlined chains)) a) all
 found-more chains a n i k offset ids all h e f =
-    append_assoc ids (id_of chains offset ∷ []) (inwards chains a (n - (i + 1)) (least_owner (inlined_in k chains.inlined) a))
+    append_assoc ids (id_of chains offset ∷ []) (inwards chains a (n - (i + 1)) (least_owner (inlined_in k (all_inlined chains)) a))
     ∙ ap (λ (rest : List EntryId). ids ++ rest) (sym (inwards-on chains a n i k offset h e)) ∙ f
 
 -- ---- offsets as they are read

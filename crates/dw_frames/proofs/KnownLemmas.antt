@@ -31,6 +31,26 @@ use Rattle.dw_frames.proofs.InlinedLemmas.{inlined-here, inlined-elsewhere}
 pub same-as : (drafts new : Drafts) → new ≡ drafts → Same drafts new
 same-as drafts new e = subst (Same drafts) (sym e) (record { functions = refl; lists = refl; outermost = λ a. refl; inlined = λ k a. refl; unowned = λ k none. none })
 
+pub same-trans : (drafts other new : Drafts) → Same drafts other → Same other new → Same drafts new
+same-trans drafts other new one two = record {
+  functions = two.functions ∙ one.functions;
+  lists = two.lists ∙ one.lists;
+  outermost = λ a. two.outermost a ∙ one.outermost a;
+  inlined = λ k a. two.inlined k a ∙ one.inlined k a;
+  unowned = λ k none. two.unowned k (one.unowned k none);
+}
+
+-- one more function leaves the owners
+pub same-function : (drafts other new : Drafts) (children : Bool) (offset : ℕ) → Same drafts other → new ≡ with_list children (Some (length other.functions)) (with_function offset other)
+    → Same (with_list children (Some (length drafts.functions)) (with_function offset drafts)) new
+same-function drafts other new children offset same e = rw e (record {
+  functions = ap (λ (functions : List ℕ). functions ++ offset ∷ []) same.functions;
+  lists = rw (same.functions, same.lists) refl;
+  outermost = same.outermost;
+  inlined = same.inlined;
+  unowned = same.unowned;
+})
+
 pub follows-same : (s : Sections) (unit : DwarfUnit) (before : List Node) (drafts new : Drafts) (bound : ℕ) → Same drafts new → Follows s unit before drafts bound → Follows s unit before new bound
 follows-same s unit before drafts new bound same f = record {
   functions = same.functions ∙ f.functions;
@@ -45,6 +65,20 @@ follows-same s unit before drafts new bound same f = record {
 }
 
 -- ---- what is known where more is kept
+
+owned-same : (pairs other : List (Range × ℕ)) (bound next : ℕ) (ranges : List Range) → ((a : ℕ) → least_owner other a ≡ least_owner pairs a) → bound ≡ next → AreOwned pairs bound ranges → AreOwned other next ranges
+owned-same pairs other bound next ranges same e h = λ a held. let old = h a held in let below = old.2 in (old.0, same a ∙ old.1, omega (arith, below, e))
+
+-- the same is known of drafts of the same owners
+knows-same : (reading : Reading) (drafts new : Drafts) → Same drafts new → Knows reading drafts → Knows reading new
+knows-same reading drafts new same h =
+    let count : length drafts.functions ≡ length new.functions = ap (λ (functions : List ℕ). length functions) (sym same.functions) in
+    record {
+      idle = h.idle;
+      outermost = λ known has. (let old = h.outermost known has in (old.0, old.1, old.2, owned-same drafts.outermost new.outermost (length drafts.functions) (length new.functions) old.0 same.outermost count old.3));
+      inlined = λ known has. (let old = h.inlined known has in (old.0, old.1, old.2, owned-same (inlined_in known.1 drafts.inlined) (inlined_in known.1 new.inlined) (length drafts.functions) (length new.functions) old.0 (same.inlined known.1) count old.3));
+      loose = h.loose;
+    }
 
 -- what has owners still has them
 record Grows (drafts new : Drafts) : Type 0 where
@@ -124,9 +158,10 @@ knows-list reading other drafts new children number same e h = rw e (knows-on re
 pub knows-function : (reading other : Reading) (drafts new : Drafts) (children : Bool) (number : Option ℕ) (offset : ℕ) → SameLists reading other → new ≡ with_list children number (with_function offset drafts) → Knows reading drafts → Knows other new
 knows-function reading other drafts new children number offset same e h = rw e (knows-on reading other drafts (with_list children number (with_function offset drafts)) same (grows-function drafts children number offset) h)
 
-pub knows-kept : (reading other : Reading) (drafts new : Drafts) (children : Bool) (number : Option ℕ) (offset : ℕ) (subprogram : Bool) (pairs : List (Range × ℕ)) → SameLists reading other → new ≡ with_list children number (with_function offset (with_ranges subprogram pairs drafts)) → Knows reading drafts → Knows other new
-knows-kept reading other drafts new children number offset subprogram pairs same e h =
-    rw e (knows-on reading other drafts (with_list children number (with_function offset (with_ranges subprogram pairs drafts))) same (grows-kept drafts children number offset subprogram pairs) h)
+pub knows-kept : (reading other : Reading) (drafts new : Drafts) (children : Bool) (number : Option ℕ) (offset : ℕ) (subprogram : Bool) (pairs : List (Range × ℕ)) → SameLists reading other → Same (with_list children number (with_function offset (with_ranges subprogram pairs drafts))) new → Knows reading drafts → Knows other new
+knows-kept reading other drafts new children number offset subprogram pairs lists same h =
+    let full = with_list children number (with_function offset (with_ranges subprogram pairs drafts)) in
+    knows-same other full new same (knows-on reading other drafts full lists (grows-kept drafts children number offset subprogram pairs) h)
 
 -- ---- a function whose list is known
 
@@ -145,9 +180,9 @@ module _ (s : Sections) (unit : DwarfUnit) (entry : Entry) (drafts new : Drafts)
   behind-kept ranges e some = rw (e, some) refl
 
   pub kept-added : (ranges : List Range) → entry_ranges_in s unit entry ≡ Ok ranges → (length ranges == 0) ≡ false
-      → new ≡ with_list entry.children (Some (length drafts.functions)) (with_function entry.offset (with_ranges (is_subprogram entry) (owned ranges (length drafts.functions)) drafts)) → Added
-  kept-added ranges e some is =
-      (ap (λ (read : Result (List Range) Bad). is_err read) e, same-as (behind_function s unit entry drafts) new (is ∙ sym (behind-kept ranges e some)))
+      → Same (with_list entry.children (Some (length drafts.functions)) (with_function entry.offset (with_ranges (is_subprogram entry) (owned ranges (length drafts.functions)) drafts))) new → Added
+  kept-added ranges e some same =
+      (ap (λ (read : Result (List Range) Bad). is_err read) e, rw (behind-kept ranges e some) same)
 
   passed-outermost : (subprogram : Bool) (outer : Option ℕ) (reading : Reading) (list : RangeList) → Knows reading drafts → IsKnown reading subprogram outer list → (ranges : List Range) → ranges_of_list reading.of.sections.tables list ≡ Ok ranges → (a : ℕ)
       → least_owner drafts.outermost a ≡ least_owner (cond subprogram (drafts.outermost ++ owned ranges (length drafts.functions)) drafts.outermost) a
@@ -254,18 +289,28 @@ noted-loose reading other drafts false None list ranges of e some h known (inl s
     subst (HasRanges other) one (ranges, rw of e, some)
 noted-loose reading other drafts false None list ranges of e some h known (inr old) = still-ranges reading other known.0 of (h.loose known old)
 
-pub knows-noted : (reading other : Reading) (drafts new : Drafts) (subprogram : Bool) (outer : Option ℕ) (list : RangeList) (ranges : List Range) (children : Bool) (number : Option ℕ) (offset : ℕ) → other.of ≡ reading.of → other.idle ≡ reading.idle
+knows-noted-is : (reading other : Reading) (drafts new : Drafts) (subprogram : Bool) (outer : Option ℕ) (list : RangeList) (ranges : List Range) (children : Bool) (number : Option ℕ) (offset : ℕ) → other.of ≡ reading.of → other.idle ≡ reading.idle
     → ((known : RangeList × ℕ) → Has other.outermost known → Has (for_subprogram subprogram list ++ reading.outermost) known)
     → ((known : RangeList × ℕ) → Has other.inlined known → Has (for_inlined subprogram outer list ++ reading.inlined) known)
     → ((known : RangeList × ℕ) → Has other.loose known → Has (for_loose subprogram outer list ++ reading.loose) known)
     → ranges_of_list reading.of.sections.tables list ≡ Ok ranges → (length ranges == 0) ≡ false → innermost drafts ≡ outer
     → new ≡ with_list children number (with_function offset (with_ranges subprogram (owned ranges (length drafts.functions)) drafts)) → Knows reading drafts → Knows other new
-knows-noted reading other drafts new subprogram outer list ranges children number offset of idle noted noted_inlined noted_loose e some at is h = record {
+knows-noted-is reading other drafts new subprogram outer list ranges children number offset of idle noted noted_inlined noted_loose e some at is h = record {
   idle = λ known has. rw of (h.idle known (rw (← idle) has));
   outermost = λ known has. noted-outermost reading other drafts new subprogram list ranges children number offset of e some is h known (noted known has);
   inlined = λ known has. noted-inlined reading other drafts new subprogram outer list ranges children number offset of e some at is h known (noted_inlined known has);
   loose = λ known has. noted-loose reading other drafts subprogram outer list ranges of e some h known (noted_loose known has);
 }
+
+pub knows-noted : (reading other : Reading) (drafts new : Drafts) (subprogram : Bool) (outer : Option ℕ) (list : RangeList) (ranges : List Range) (children : Bool) (number : Option ℕ) (offset : ℕ) → other.of ≡ reading.of → other.idle ≡ reading.idle
+    → ((known : RangeList × ℕ) → Has other.outermost known → Has (for_subprogram subprogram list ++ reading.outermost) known)
+    → ((known : RangeList × ℕ) → Has other.inlined known → Has (for_inlined subprogram outer list ++ reading.inlined) known)
+    → ((known : RangeList × ℕ) → Has other.loose known → Has (for_loose subprogram outer list ++ reading.loose) known)
+    → ranges_of_list reading.of.sections.tables list ≡ Ok ranges → (length ranges == 0) ≡ false → innermost drafts ≡ outer
+    → Same (with_list children number (with_function offset (with_ranges subprogram (owned ranges (length drafts.functions)) drafts))) new → Knows reading drafts → Knows other new
+knows-noted reading other drafts new subprogram outer list ranges children number offset of idle noted noted_inlined noted_loose e some at same h =
+    let full = with_list children number (with_function offset (with_ranges subprogram (owned ranges (length drafts.functions)) drafts)) in
+    knows-same other full new same (knows-noted-is reading other drafts full subprogram outer list ranges children number offset of idle noted noted_inlined noted_loose e some at refl h)
 
 -- a list without ranges that is noted
 pub knows-idle : (reading other : Reading) (drafts new : Drafts) (list : RangeList) (children : Bool) (number : Option ℕ) → other.of ≡ reading.of → other.outermost ≡ reading.outermost → other.inlined ≡ reading.inlined → other.loose ≡ reading.loose

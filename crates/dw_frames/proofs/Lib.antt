@@ -14,5 +14,6 @@ pub mod TreeLemmas
 pub mod InwardsLemmas
 pub mod StandLemmas
 pub mod BuiltLemmas
+pub mod HeldLemmas
 pub mod InlinedLemmas
 pub mod LinkLemmas

@@ -2,6 +2,7 @@ pub mod Call
 pub mod Drafts
 pub mod DraftsInside
 pub mod Fault
+pub mod Held
 pub mod Inlined
 pub mod InlinedInside
 pub mod Known

@@ -1,5 +1,5 @@
 -- What a tree knows of the functions of its unit, and that it is the unit's.
-use Rattle.std.specs.Prelude.{◌≡◌, ℕ, zero, suc, List, [], ◌∷◌, length, map, reverse, find, Option, Some, None, Ok, cond, option_and_then, slice_get, ◌==◌, ◌&&◌, if◌then◌else◌}
+use Rattle.std.specs.Prelude.{◌≡◌, ℕ, zero, suc, List, [], ◌∷◌, ◌++◌, length, map, reverse, find, Option, Some, None, Ok, cond, option_and_then, slice_get, ◌==◌, ◌&&◌, if◌then◌else◌}
 use Rattle.std.specs.Option.{option_map_or}
 use Rattle.std.specs.Result.{result_unwrap_or}
 use Rattle.dw_model.specs.Entry.{Entry}
@@ -9,11 +9,12 @@ use Rattle.dw_model.specs.Root as root
 use Rattle.dw_model.specs.Tree.{Node, is_function, chain}
 use Rattle.dw_model.specs.Tree as model
 use Rattle.dw_units.specs.View.{found_in}
-use Rattle.dw_index.specs.Owners.{least_owner}
+use Rattle.dw_index.specs.Owners.{least, least_owner}
 use Rattle.dw_index.specs.Segments.{owner_at}
 use Rattle.dw_frames.specs.declared.function.EntryId.{EntryId}
 use Rattle.dw_frames.specs.declared.chains.Chains.{Chains}
-use Rattle.dw_frames.specs.Inlined.{inlined_in}
+use Rattle.dw_frames.specs.Held.{all_held, all_held_in}
+use Rattle.dw_frames.specs.Inlined.{InlinedRange, inlined_in}
 use Rattle.dw_frames.specs.Told.{Told, told_of, nothing}
 use Rattle.dw_frames.specs.UnitIn.{UnitIn}
 
@@ -22,16 +23,24 @@ use Rattle.dw_frames.specs.UnitIn.{UnitIn}
 abbrev pub id_of : Chains → ℕ → EntryId
 id_of chains offset = record { unit = chains.unit; offset = offset }
 
+-- the number of the first subprogram that holds an address
+abbrev pub outermost_at : Chains → ℕ → Option ℕ
+outermost_at chains a = least (owner_at chains.outermost a) (least_owner (all_held chains.held.outermost.items) a)
+
+-- the ranges of all inlined functions
+abbrev pub all_inlined : Chains → List InlinedRange
+all_inlined chains = chains.inlined ++ all_held_in chains.held.inlined.items
+
 -- the functions at an address from a number on inwards, at most so many
 unfoldable pub inwards : Chains → (a most : ℕ) → Option ℕ → List EntryId
 inwards chains a zero number = []
 inwards chains a (suc most) None = []
 inwards chains a (suc most) (Some number) =
-    option_map_or (λ offset. id_of chains offset ∷ inwards chains a most (least_owner (inlined_in number chains.inlined) a)) (slice_get chains.functions.items number) []
+    option_map_or (λ offset. id_of chains offset ∷ inwards chains a most (least_owner (inlined_in number (all_inlined chains)) a)) (slice_get chains.functions.items number) []
 
 -- the functions at an address, outermost first
 abbrev pub chain_at : Chains → ℕ → List EntryId
-chain_at chains a = inwards chains a (length chains.functions.items) (owner_at chains.outermost a)
+chain_at chains a = inwards chains a (length chains.functions.items) (outermost_at chains a)
 
 -- ---- the definitions
 

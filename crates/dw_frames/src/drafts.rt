@@ -1,13 +1,20 @@
 //! The functions of a unit, while its entries are read.
 
-ghost use Rattle.std.specs.Prelude.{◌≡◌, ◌++◌, ℕ, false, OnOk, IfOk, length, map};
+ghost use Rattle.std.specs.Prelude.{◌≡◌, ◌++◌, ℕ, false, Ok, OnOk, IfOk, length, map};
 ghost use Rattle.dw_index.specs.Owners.{least_owner};
 ghost use Rattle.dw_index.specs.Segments.{owner_at};
 ghost use Rattle.dw_index.specs.Range.{pair_shown, range_shown};
+ghost use Rattle.dw_forms.specs.Tables.{tables_shown};
+ghost use Rattle.dw_ranges.specs.Lists.{ranges_of_list};
 ghost use Rattle.dw_frames.specs.Drafts as model;
 ghost use Rattle.dw_frames.specs.Drafts.{owned};
+ghost use Rattle.dw_frames.specs.Held.{pairs_held};
+ghost use Rattle.dw_frames.specs.Known.{Same};
+ghost use Rattle.dw_frames.specs.Tree.{all_inlined, outermost_at};
 
 use crate::chains::Chains;
+use crate::held::HeldList;
+use crate::held_lists::HeldLists;
 use crate::inlined::Inlined;
 use crate::links::Links;
 use dw_ranges::{Index, Range};
@@ -31,19 +38,23 @@ fn push_ranges(
 
 /// The functions of a unit, while its entries are read.
 #[derive(Drop)]
-pub(crate) struct Drafts {
+pub(crate) struct Drafts<'b, 'a> {
     /// The offsets of those that have ranges, in order. The number of a function is its index here.
     functions: Vec<u64>,
     /// The ranges of all subprograms, each with the number of its function.
     outermost: Vec<(Range, usize)>,
     /// The ranges of all functions that are inlined in others.
     inlined: Links,
+    /// The range lists of functions that are held by name.
+    held: HeldLists<'b, 'a>,
+    /// How many ranges of lists may still be kept.
+    left: usize,
     /// The lists of children that are open, the outermost first: each has the number of the
     /// function in which its entries lie.
     lists: Vec<Option<usize>>,
 }
 
-impl Model for Drafts {
+impl<'b, 'a> Model for Drafts<'b, 'a> {
     ghost use Rattle.dw_frames.specs.Drafts as model;
 
     ghost Value = { model.Drafts };
@@ -55,15 +66,17 @@ impl Model for Drafts {
     ghost invariant = { λ drafts. Unit {0} };
 }
 
-impl Drafts {
+impl<'b, 'a> Drafts<'b, 'a> {
     /// No entry was read yet.
-    pub(crate) fn new(alloc: Global) -> Self
+    pub(crate) fn new(alloc: Global, most: usize) -> Self
         ensures { result ≡ model.no_drafts }
     {
         Drafts {
             functions: Vec::new(alloc),
             outermost: Vec::new(alloc),
             inlined: Links::new(alloc),
+            held: HeldLists::new(alloc),
+            left: most,
             lists: Vec::new(alloc),
         }
     }
@@ -114,13 +127,14 @@ impl Drafts {
 
     /// Keeps the ranges of a function that is inlined in another one that is kept.
     fn push_inlined(&mut self, ranges: &[Range], number: usize) -> Result<(), AllocError>
-        ensures { OnOk result (self.new ≡ model.with_ranges false
-            (owned (map range_shown ranges.now) number) self.old) }
+        ensures { OnOk result (Same (model.with_ranges false
+            (owned (map range_shown ranges.now) number) self.old) self.new) }
     {
         let Some(outer) = self.innermost() else {
             return Ok(());
         };
-        self.inlined.push(outer, ranges, number)
+        self.inlined.push(outer, ranges, number)?;
+        Ok(())
     }
 
     /// Keeps the ranges of a function.
@@ -132,13 +146,51 @@ impl Drafts {
         ranges: &[Range],
         number: usize,
     ) -> Result<(), AllocError>
-        ensures { OnOk result (self.new ≡ model.with_ranges is_subprogram
-            (owned (map range_shown ranges.now) number) self.old) }
+        ensures { OnOk result (Same (model.with_ranges is_subprogram
+            (owned (map range_shown ranges.now) number) self.old) self.new) }
     {
         if !is_subprogram {
             return self.push_inlined(ranges, number);
         }
-        push_ranges(&mut self.outermost, ranges, number)
+        push_ranges(&mut self.outermost, ranges, number)?;
+        Ok(())
+    }
+
+    /// Holds the list of a function by name.
+    fn hold(&mut self, is_subprogram: bool, held: HeldList<'b, 'a>) -> Result<(), AllocError>
+        ensures { OnOk result (self.new ≡ model.with_ranges is_subprogram (pairs_held held.entry) self.old) }
+    {
+        if is_subprogram {
+            self.held.push(held)?;
+            return Ok(());
+        }
+        let Some(outer) = self.innermost() else {
+            return Ok(());
+        };
+        self.held.push_in(outer, held)?;
+        Ok(())
+    }
+
+    /// Keeps the ranges of a function that are those of a list, or holds the list by name where too many ranges
+    /// of lists are kept already. One range takes no more than the name.
+    #[inline(always)]
+    pub(crate) fn push_listed(
+        &mut self,
+        is_subprogram: bool,
+        ranges: &[Range],
+        held: HeldList<'b, 'a>,
+    ) -> Result<(), AllocError>
+        requires { ranges_of_list (tables_shown held.tables.now) held.list ≡ Ok (map range_shown ranges.now) }
+        ensures { OnOk result (Same (model.with_ranges is_subprogram
+            (owned (map range_shown ranges.now) held.entry.number) self.old) self.new) }
+    {
+        if ranges.len() > 1 {
+            if ranges.len() > self.left {
+                return self.hold(is_subprogram, held);
+            }
+            self.left -= ranges.len();
+        }
+        self.push_ranges(is_subprogram, ranges, held.number)
     }
 
     /// One more function, by its offset.
@@ -150,19 +202,20 @@ impl Drafts {
     }
 }
 
-impl Drafts {
+impl<'b, 'a> Drafts<'b, 'a> {
     /// The functions of the unit of an index.
-    pub(crate) fn chains(self, alloc: Global, unit: usize) -> Result<Chains, AllocError>
+    pub(crate) fn chains(self, alloc: Global, unit: usize) -> Result<Chains<'b, 'a>, AllocError>
         ensures unit { IfOk result (λ chains. chains.unit ≡ unit) }
-        ensures functions { IfOk result (λ chains. chains.functions.items ≡ self.functions) }
+        ensures functions { IfOk result (λ chains. chains.functions.items ≡ self.entry.functions) }
         ensures outermost { IfOk result (λ chains. (a : ℕ)
-            → owner_at chains.outermost a ≡ least_owner self.outermost a) }
-        ensures inlined { IfOk result (λ chains. chains.inlined ≡ self.inlined) }
+            → outermost_at chains a ≡ least_owner self.entry.outermost a) }
+        ensures inlined { IfOk result (λ chains. all_inlined chains ≡ self.entry.inlined) }
     {
         let Drafts {
             functions,
             outermost,
             inlined,
+            held,
             ..
         } = self;
         let outermost = Index::build(alloc, &outermost)?;
@@ -172,6 +225,7 @@ impl Drafts {
             outermost,
             functions,
             inlined,
+            held,
         })
     }
 }

@@ -6,6 +6,8 @@ mod chains;
 mod drafts;
 mod fault;
 mod function;
+mod held;
+mod held_lists;
 mod inlined;
 mod links;
 mod name;

@@ -1,10 +1,11 @@
 //! Entries of a unit, read one after the other, of which the functions are kept.
 
-ghost use Rattle.std.specs.Prelude.{◌≡◌, ◌++◌, Bool, Option, Some, None, true, OnOk, length, map, nat_lt};
+ghost use Rattle.std.specs.Prelude.{◌≡◌, ◌++◌, Bool, Option, Some, None, Ok, true, OnOk, length, map, nat_lt};
 ghost use Rattle.dw_model.specs.Results.{refuse_if};
 ghost use Rattle.dw_model.specs.Faults.{depth_fault};
 ghost use Rattle.dw_model.specs.Tree.{most_depth, entry_ranges_in, is_subprogram};
 ghost use Rattle.dw_model.specs.Answers.{Gives};
+ghost use Rattle.dw_forms.specs.Tables.{tables_shown};
 ghost use Rattle.dw_index.specs.Range.{range_shown};
 ghost use Rattle.dw_ranges.specs.Lists.{ranges_of_list};
 ghost use Rattle.dw_ranges.specs.ReadLists.{Has};
@@ -14,12 +15,14 @@ ghost use Rattle.dw_units.specs.NamedRanges.{IsNamed};
 ghost use Rattle.dw_frames.specs.Fault.{tree_fault};
 ghost use Rattle.dw_frames.specs.Drafts as model;
 ghost use Rattle.dw_frames.specs.Drafts.{owned};
-ghost use Rattle.dw_frames.specs.Known.{IsKnown, Knows, for_inlined, for_loose, for_subprogram};
+ghost use Rattle.dw_frames.specs.Known.{IsKnown, Knows, Same, for_inlined, for_loose, for_subprogram};
 ghost use Rattle.dw_frames.specs.UnitIn.{unit_in};
 ghost use Rattle.dw_frames.specs.Reader.{AddsFunction, Keeps};
 
 use crate::drafts::Drafts;
 use crate::fault::TreeFault;
+use crate::held::HeldList;
+use dw_forms::Tables;
 use dw_model::dwarf::DW_TAG_subprogram;
 use dw_ranges::{Range, RangeList, ReadLists, list_of, read_list, read_ranges};
 use dw_units::{EntryView, NamedRanges, Next, OpenUnit};
@@ -71,7 +74,7 @@ fn check_depth(depth: usize) -> Result<(), TreeFault>
 }
 
 /// Leaves out a function without ranges. What lies in it lies in no function.
-fn leave_out(drafts: &mut Drafts, entry: &EntryView<'_, '_>) -> Result<(), AllocError>
+fn leave_out(drafts: &mut Drafts<'_, '_>, entry: &EntryView<'_, '_>) -> Result<(), AllocError>
     ensures { OnOk result (drafts.new ≡ model.with_list entry.now.children None drafts.old) }
 {
     drafts.begin_list(entry.children(), None)
@@ -80,7 +83,7 @@ fn leave_out(drafts: &mut Drafts, entry: &EntryView<'_, '_>) -> Result<(), Alloc
 /// Adds a function that is seen to have ranges, but owns no address: those are all an earlier one's. What lies in
 /// it lies in a function all the same.
 #[inline(always)]
-fn pass_function(drafts: &mut Drafts, entry: &EntryView<'_, '_>) -> Result<(), AllocError>
+fn pass_function(drafts: &mut Drafts<'_, '_>, entry: &EntryView<'_, '_>) -> Result<(), AllocError>
     ensures { OnOk result (drafts.new ≡ model.with_list entry.now.children (Some (length drafts.old.functions))
         (model.with_function entry.now.offset drafts.old)) }
 {
@@ -92,17 +95,43 @@ fn pass_function(drafts: &mut Drafts, entry: &EntryView<'_, '_>) -> Result<(), A
 /// Adds a function with its ranges.
 #[inline(always)]
 fn keep_function(
-    drafts: &mut Drafts,
+    drafts: &mut Drafts<'_, '_>,
     entry: &EntryView<'_, '_>,
     ranges: &[Range],
 ) -> Result<(), AllocError>
-    ensures { OnOk result (drafts.new ≡ model.with_list entry.now.children (Some (length drafts.old.functions))
+    ensures { OnOk result (Same (model.with_list entry.now.children (Some (length drafts.old.functions))
         (model.with_function entry.now.offset (model.with_ranges (is_subprogram entry.now)
-        (owned (map range_shown ranges.now) (length drafts.old.functions)) drafts.old))) }
+        (owned (map range_shown ranges.now) (length drafts.old.functions)) drafts.old))) drafts.new) }
 {
     let number = drafts.count();
     drafts.push_ranges(entry.tag() == DW_TAG_subprogram, ranges, number)?;
-    pass_function(drafts, entry)
+    pass_function(drafts, entry)?;
+    Ok(())
+}
+
+/// Adds a function with its ranges, which are those of a list.
+#[inline(always)]
+fn keep_listed<'b, 'a>(
+    drafts: &mut Drafts<'b, 'a>,
+    entry: &EntryView<'b, 'a>,
+    ranges: &[Range],
+    list: RangeList,
+    tables: &'b Tables<'a>,
+) -> Result<(), AllocError>
+    requires { ranges_of_list (tables_shown tables.now) list ≡ Ok (map range_shown ranges.now) }
+    ensures { OnOk result (Same (model.with_list entry.now.children (Some (length drafts.old.functions))
+        (model.with_function entry.now.offset (model.with_ranges (is_subprogram entry.now)
+        (owned (map range_shown ranges.now) (length drafts.old.functions)) drafts.old))) drafts.new) }
+{
+    let number = drafts.count();
+    let held = HeldList {
+        tables,
+        list,
+        number,
+    };
+    drafts.push_listed(entry.tag() == DW_TAG_subprogram, ranges, held)?;
+    pass_function(drafts, entry)?;
+    Ok(())
 }
 
 impl<'b, 'a> Reader<'b, 'a> {
@@ -122,11 +151,24 @@ impl<'b, 'a> Reader<'b, 'a> {
         }
     }
 
+    /// The list was read, and has no ranges.
+    fn is_idle(&self, list: RangeList) -> bool
+        ensures { result ≡ true → Has self.now.idle (list, 0) }
+    {
+        if self.left > 0 {
+            return false;
+        }
+        self.idle.has(list, 0)
+    }
+
     /// An earlier function owns each address of a list: a subprogram, or else one that is inlined in the same
     /// function. Or the list is that of an earlier function that is inlined, as this one, in none that is kept.
     fn is_known(&self, is_subprogram: bool, outer: Option<usize>, list: RangeList) -> bool
         ensures { result ≡ true → IsKnown self.now is_subprogram outer list }
     {
+        if self.left > 0 {
+            return false;
+        }
         if is_subprogram {
             return self.outermost.has(list, 0);
         }
@@ -168,7 +210,7 @@ impl<'b, 'a> Reader<'b, 'a> {
     /// and once for all that are inlined in one function: of those the first owns all its addresses.
     fn add_listed(
         &mut self,
-        drafts: &mut Drafts,
+        drafts: &mut Drafts<'b, 'a>,
         entry: &EntryView<'b, 'a>,
         list: RangeList,
     ) -> Result<(), TreeFault>
@@ -181,7 +223,7 @@ impl<'b, 'a> Reader<'b, 'a> {
             → entry_ranges_in self.old.of.sections self.old.of.unit entry.now
             ≡ ranges_of_list self.old.of.sections.tables list → OnOk result (Knows self.new drafts.new) }
     {
-        if self.idle.has(list, 0) {
+        if self.is_idle(list) {
             leave_out(drafts, entry)?;
             return Ok(());
         }
@@ -199,7 +241,7 @@ impl<'b, 'a> Reader<'b, 'a> {
             leave_out(drafts, entry)?;
             return Ok(());
         }
-        keep_function(drafts, entry, &self.ranges)?;
+        keep_listed(drafts, entry, &self.ranges, list, unit.units().tables())?;
         self.note(is_subprogram, outer, list)?;
         Ok(())
     }
@@ -207,7 +249,7 @@ impl<'b, 'a> Reader<'b, 'a> {
     /// Keeps a function that names no list that can be found, where it has ranges.
     fn add_bounded(
         &mut self,
-        drafts: &mut Drafts,
+        drafts: &mut Drafts<'b, 'a>,
         entry: &EntryView<'b, 'a>,
         named: &NamedRanges<'a>,
     ) -> Result<(), TreeFault>
@@ -233,7 +275,7 @@ impl<'b, 'a> Reader<'b, 'a> {
     #[inline(never)]
     fn add_function(
         &mut self,
-        drafts: &mut Drafts,
+        drafts: &mut Drafts<'b, 'a>,
         entry: &EntryView<'b, 'a>,
     ) -> Result<(), TreeFault>
         ensures same { self.new.of ≡ self.old.of }
@@ -251,7 +293,11 @@ impl<'b, 'a> Reader<'b, 'a> {
 
     /// Keeps the next entry, where it is a function that has ranges. The error is `Depth` where it is too deep,
     /// `Ranges` where it is a function whose ranges can't be read, or `Memory`.
-    pub(crate) fn keep(&mut self, next: Next<'b, 'a>, drafts: &mut Drafts) -> Result<(), TreeFault>
+    pub(crate) fn keep(
+        &mut self,
+        next: Next<'b, 'a>,
+        drafts: &mut Drafts<'b, 'a>,
+    ) -> Result<(), TreeFault>
         ensures same { self.new.of ≡ self.old.of }
         ensures entry { Knows self.old drafts.old → (ranged : Bool) (found : Option ModelEntry)
             → IsNext ranged next.entry found

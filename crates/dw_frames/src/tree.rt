@@ -30,7 +30,7 @@ use std::marker::Model;
 #[derive(Drop)]
 pub struct Tree<'b, 'a> {
     unit: OpenUnit<'b, 'a>,
-    chains: Chains,
+    chains: Chains<'b, 'a>,
 }
 
 impl<'b, 'a> Model for Tree<'b, 'a> {

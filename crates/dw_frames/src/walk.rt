@@ -18,7 +18,7 @@ use std::alloc::Global;
 fn read_below<'b, 'a>(
     reader: &mut Reader<'b, 'a>,
     entries: &mut Entries<'b, 'a>,
-    drafts: &mut Drafts,
+    drafts: &mut Drafts<'b, 'a>,
 ) -> Result<(), TreeFault>
     ensures { Knows reader.old drafts.old → (before : List Node)
         → Follows reader.old.of.sections reader.old.of.unit before drafts.old entries.old.place.at
@@ -32,8 +32,17 @@ fn read_below<'b, 'a>(
     Ok(())
 }
 
+/// How many ranges of lists may be kept for a unit.
+fn most_ranges(unit: OpenUnit<'_, '_>) -> usize {
+    let unit = unit.unit();
+    unit.end.saturating_sub(unit.offset) as usize / 4
+}
+
 /// Reads the entries of a unit that isn't skipped, and keeps its functions.
-pub(crate) fn read_all<'a>(alloc: Global, unit: OpenUnit<'_, 'a>) -> Result<Drafts, TreeFault>
+pub(crate) fn read_all<'b, 'a>(
+    alloc: Global,
+    unit: OpenUnit<'b, 'a>,
+) -> Result<Drafts<'b, 'a>, TreeFault>
     requires { is_skipped (unit_of unit).kind ≡ false }
     ensures { FollowsAll (sections_of unit.entry) (unit_of unit.entry) result }
 {
@@ -41,7 +50,7 @@ pub(crate) fn read_all<'a>(alloc: Global, unit: OpenUnit<'_, 'a>) -> Result<Draf
         return Err(TreeFault::Entry);
     };
     let mut reader = Reader::new(alloc, unit);
-    let mut drafts = Drafts::new(alloc);
+    let mut drafts = Drafts::new(alloc, most_ranges(unit));
     let first = entries.next_function()?;
     if let Next::Null = first {
         return Err(TreeFault::Entry);

@@ -3,3 +3,4 @@ pub mod NamedLemmas
 pub mod OnlyAddr
 pub mod ReadLemmas
 pub mod OwnedLemmas
+pub mod HeldLemmas

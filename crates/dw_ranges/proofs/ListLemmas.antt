@@ -25,7 +25,7 @@ Ranges = Result (List Range) Bad
 abbrev onto_front : List Range → Ranges → Ranges
 onto_front front later = later >>= λ ranges. Ok (front ++ ranges)
 
-front-nil : (later : Ranges) → onto_front [] later ≡ later
+pub front-nil : (later : Ranges) → onto_front [] later ≡ later
 front-nil (Ok ranges) = refl
 front-nil (Err e) = refl
 
@@ -110,7 +110,7 @@ abbrev pub SoFar : Tables → Bases → List CodeRange → Result ℕ Bad → Pl
 SoFar tables bases found base p all =
     onto_front (map range_shown found) (ranges_from tables bases base p) ≡ all
 
-map-some : (found : List CodeRange) (last : Option CodeRange) → map range_shown (found ++ option_to_list last) ≡ map range_shown found ++ option_to_list (option_map range_shown last)
+pub map-some : (found : List CodeRange) (last : Option CodeRange) → map range_shown (found ++ option_to_list last) ≡ map range_shown found ++ option_to_list (option_map range_shown last)
 map-some [] None = refl
 map-some [] (Some last) = refl
 map-some (first ∷ found) last = ap (λ (xs : List Range). range_shown first ∷ xs) (map-some found last)

@@ -13,7 +13,7 @@ least-same : (test : Bool) (n : ℕ) → least (Some n) (cond test (Some n) None
 least-same true n = ap Some (omega arith)
 least-same false n = refl
 
-of-ranges : (ranges : List Range) (owner a : ℕ) → least_owner (owned_by ranges owner) a ≡ cond (covers a ranges) (Some owner) None
+pub of-ranges : (ranges : List Range) (owner a : ℕ) → least_owner (owned_by ranges owner) a ≡ cond (covers a ranges) (Some owner) None
 unfolding least_owner
 of-ranges [] owner a = refl
 of-ranges (range ∷ ranges) owner a = rw (of-ranges ranges owner a) (by_test (holds a range))

@@ -4,6 +4,8 @@ pub mod Step
 pub mod OutcomeShown
 pub mod Named
 pub mod Lists
+pub mod Held
+pub mod HeldInside
 pub mod ReadLists
 pub mod ReadListsInside
 pub mod Owned

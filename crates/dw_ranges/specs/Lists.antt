@@ -1,5 +1,5 @@
 -- Range lists, by where they begin and what their entries count from.
-use Rattle.std.specs.Prelude.{◌≡◌, ℕ, List, Option, None, Result}
+use Rattle.std.specs.Prelude.{◌≡◌, ◌≤◌, ℕ, List, length, Option, None, Result, Ok}
 use Rattle.dw_model.specs.Results.{◌>>=◌}
 use Rattle.dw_model.specs.Entry.{Entry}
 use Rattle.dw_model.specs.Form.{Value}
@@ -23,3 +23,7 @@ ranges_of_list tables list =
 abbrev pub IsListOf : Tables → Bases → Option Entry → Value → RangeList → Type 0
 IsListOf tables bases root value list =
     all_kept (list_ranges tables bases (first_base tables bases root) value) ≡ ranges_of_list tables list
+
+-- there is one range at most, where they can be read
+abbrev pub IsOneAtMost : Result (List Range) Bad → Type 0
+IsOneAtMost read = (ranges : List Range) → read ≡ Ok ranges → length ranges ≤ 1

@@ -2,6 +2,7 @@
 //! of `dw_index`.
 #![tactic(auto)]
 
+mod at_address;
 mod fault;
 mod list;
 mod range_entry;
@@ -10,6 +11,7 @@ mod ranges;
 mod read_lists;
 mod step;
 
+pub use at_address::{Held, list_at};
 pub use dw_index::{Index, Range, law_of_least_owner};
 pub use fault::RangeFault;
 pub use range_list::{RangeList, list_of, read_list};

@@ -1,17 +1,19 @@
 //! Range lists, by where they begin and what their entries count from.
 
-ghost use Rattle.std.specs.Prelude.{◌≡◌, IfSome, map, option_map};
+ghost use Rattle.std.specs.Prelude.{◌≡◌, MatchOption, Err, map, option_map};
 ghost use Rattle.dw_model.specs.Entry.{Entry as ModelEntry};
 ghost use Rattle.dw_model.specs.Ranges as model;
 ghost use Rattle.dw_model.specs.Answers.{GivesUnlessMemory};
+ghost use Rattle.dw_model.specs.Faults.{bad};
 ghost use Rattle.dw_forms.specs.Tables.{tables_shown, bases_shown};
 ghost use Rattle.dw_forms.specs.Value.{value_shown};
 ghost use Rattle.dw_units.specs.Entry.{entry_shown};
 ghost use Rattle.dw_units.specs.NamedRanges.{IsNamed};
 ghost use Rattle.dw_ranges.specs.Fault.{range_fault};
 ghost use Rattle.dw_index.specs.Range.{range_shown};
-ghost use Rattle.dw_ranges.specs.Lists.{IsListOf, ranges_of_list};
+ghost use Rattle.dw_ranges.specs.Lists.{IsListOf, IsOneAtMost, only_addr, ranges_of_list};
 ghost use Rattle.dw_ranges.specs.OutcomeShown.{base_shown};
+ghost use Rattle.dw_ranges.specs.Step.{all_kept};
 
 use crate::fault::RangeFault;
 use crate::list::{list_place, place_at, ranges_at};
@@ -33,14 +35,19 @@ pub struct RangeList {
     pub addr: Option<u64>,
 }
 
-/// The list that a value names in a unit with these bases and this first entry.
+/// The list that a value names in a unit with these bases and this first entry; `None` where that isn't within
+/// .debug_rnglists.
 fn list_by<'a>(
     value: &Value<'a>,
     bases: &Bases,
     root: Option<&Entry<'a>>,
     tables: &Tables<'a>,
 ) -> Option<RangeList>
-    ensures { IfSome result (λ list. IsListOf (tables_shown tables.now) (bases_shown bases.now)
+    ensures { MatchOption result
+        (all_kept (model.list_ranges (tables_shown tables.now) (bases_shown bases.now)
+        (model.first_base (tables_shown tables.now) (bases_shown bases.now)
+        (option_map (λ first. entry_shown first.now) root.entry)) (value_shown value.now)) ≡ Err bad)
+        (λ list. IsListOf (tables_shown tables.now) (bases_shown bases.now)
         (option_map (λ first. entry_shown first.now) root.entry) (value_shown value.now) list) }
 {
     let Ok(place) = list_place(tables, bases, value) else {
@@ -53,14 +60,19 @@ fn list_by<'a>(
     })
 }
 
-/// The list that the entries of a unit name that name their ranges so. `None` where they name no list, or one that
-/// isn't within .debug_rnglists.
+/// The list that the entries of a unit name that name their ranges so. `None` where they name no list, so have one
+/// range at most, or one that isn't within .debug_rnglists, so can't be read.
+#[inline]
 pub fn list_of<'a>(
     named: &NamedRanges<'a>,
     unit: &Unit<'a>,
     tables: &Tables<'a>,
 ) -> Option<RangeList>
-    ensures { IfSome result (λ list. (entry : ModelEntry) → IsNamed named.now entry
+    ensures { MatchOption result
+        ((entry : ModelEntry) → IsNamed named.now entry
+        → IsOneAtMost (model.ranges_of (tables_shown tables.now) (bases_shown unit.now.bases)
+        (option_map entry_shown unit.now.root) entry))
+        (λ list. (entry : ModelEntry) → IsNamed named.now entry
         → model.ranges_of (tables_shown tables.now) (bases_shown unit.now.bases)
         (option_map entry_shown unit.now.root) entry ≡ ranges_of_list (tables_shown tables.now) list) }
 {
@@ -68,6 +80,18 @@ pub fn list_of<'a>(
         return None;
     };
     list_by(value, &unit.bases, unit.root.as_ref(), tables)
+}
+
+/// Bases of which only that of addresses is there: the ranges of a list depend on no other.
+pub(crate) fn only_addr(addr: Option<u64>) -> Bases
+    ensures { bases_shown result ≡ only_addr addr }
+{
+    Bases {
+        str_offsets: None,
+        addr,
+        rnglists: None,
+        width: Width::Four,
+    }
 }
 
 /// Reads the ranges of a list that count, in place of those that were kept, whose memory serves them, and returns how
@@ -83,12 +107,7 @@ pub fn read_list(
     ensures { GivesUnlessMemory (λ _. map range_shown ranges.new.items) range_fault result
         (ranges_of_list (tables_shown tables.now) list) }
 {
-    let bases = Bases {
-        str_offsets: None,
-        addr: list.addr,
-        rnglists: None,
-        width: Width::Four,
-    };
+    let bases = only_addr(list.addr);
     let mut place = place_at(tables.rnglists, list.begin)?;
     let begin = place.at();
     ranges_at(ranges, tables, &bases, list.base, &mut place)?;

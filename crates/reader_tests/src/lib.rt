@@ -10,6 +10,8 @@ mod forms;
 #[cfg(test)]
 mod growth;
 #[cfg(test)]
+mod held_lists;
+#[cfg(test)]
 mod lines;
 #[cfg(test)]
 mod owners;

@@ -1,9 +1,8 @@
 use Rattle.std.proofs.Common.{◌-◌}
-use Rattle.dw_index.specs.Segments.{owner_at}
-use Rattle.dw_frames.specs.Tree.{inwards}
+use Rattle.dw_frames.specs.Tree.{inwards, outermost_at}
 use Rattle.dw_frames.proofs.InwardsLemmas.{Found}
 use Rattle.dw_frames.proofs.chains.Chains.at.Given as goal
 
 abbrev pub invariant-loop : goal.invariant-loop
 invariant-loop l =
-    Found l.self l.a l.ids.items (l.end - l.counter) l.number (inwards l.self l.a l.end (owner_at l.self.outermost l.a))
+    Found l.self l.a l.ids.items (l.end - l.counter) l.number (inwards l.self l.a l.end (outermost_at l.self l.a))
