@@ -2,9 +2,9 @@
 """What the prover doesn't look at in the sources.
 
 Each crate uses each crate that crates.txt names for it. No line of an .rt file is longer than 120 columns, but for
-attributes. The text that an edit of must-fail/ replaces is in its file just once, and what it puts there differs. Each
-file that docs/ARCHITECTURE.md names in the section of a crate is in that crate, or in the one that it names beside it.
-The last line counts crates and edits; it fails where one is wrong.
+attributes. The text that an edit of must-fail/ replaces is in its file just once, and what it puts there differs; there
+are no more edits than the gate has time for. Each file that docs/ARCHITECTURE.md names in the section of a crate is in
+that crate, or in the one that it names beside it. The last line counts crates and edits; it fails where one is wrong.
 """
 
 import os
@@ -13,6 +13,8 @@ import sys
 
 TOP = os.path.join(os.path.dirname(os.path.abspath(__file__)), '..')
 WIDEST = 120
+# An edit takes the gate some 40 seconds of a processor.
+MOST_EDITS = 220
 # `thiserror` is used by its attribute, and these by what stands for them in the sources.
 USES = {'thiserror': r'#\[derive\([^)]*\bError\b|\bthiserror\b'}
 
@@ -79,6 +81,8 @@ def main():
         for path, fields in edits(crate):
             tried += 1
             wrong.append(wrong_edit(crate, path, fields))
+    if tried > MOST_EDITS:
+        wrong.append(f'{tried} edits are more than {MOST_EDITS}: a less telling one goes')
     wrong.extend(missing([name.split()[0] for name, _ in crates]))
     for path in files(os.path.join(TOP, 'crates'), '.rt'):
         for number, line in enumerate(read(path).split('\n'), 1):

@@ -1,5 +1,7 @@
-//! What tests are made of: sample files and the parts of files, and numbers drawn at random.
+//! What tests are made of: sample files and the parts of files, numbers drawn at random, and
+//! comparisons.
 #![tactic(auto)]
 
+pub mod checks;
 pub mod draws;
 pub mod files;
