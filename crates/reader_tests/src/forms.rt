@@ -291,9 +291,7 @@ fn first_value(
     values: &'static [u8],
     width: Width,
 ) -> Option<Option<Value<'static>>> {
-    table
-        .get(code)
-        .map(|found| found.first_value(name, &Cursor::new(values), width))
+    table.get(code).map(|found| found.first_value(name, &Cursor::new(values), width))
 }
 
 /// The first value of a name: after values of one size, after a text, of two, and of none.
