@@ -1,6 +1,6 @@
 """Makes files of about so many bytes that are meant to ruin their reader: few bytes of the file that many others name.
 
-    hostile.py KIND BYTES FILE     writes the file, and prints the addresses to ask, one a line
+    hostile.py KIND BYTES FILE     writes the file, and prints the addresses to ask, or a span of them, one a line
     hostile.py                     prints the kinds, each with how its time may grow
 """
 import os
@@ -104,12 +104,23 @@ def units_of_one_list(size):
     return file_of(unit(b'\x01\0\0\0\0') * count, first + b'\0', rnglists=long_list(count))
 
 
-def units_with_bases_of_one_list(size):
-    """The same, but each unit has a base of its own, so the list has other ranges in each."""
+def units_with_bases(size):
+    """How many units with bases of their own there are, and where the last one begins."""
     count = size // 34
+    return count, 16 * count * (count - 1)
+
+
+def units_with_bases_of_one_list(size):
+    """The same, but each unit has a base of its own, so the list has other ranges in each. The last unit is asked."""
+    count, _ = units_with_bases(size)
     first = declaration(1, COMPILE_UNIT, 0, [(RANGES, SEC_OFFSET), (LOW_PC, ADDR)])
     units = b''.join(unit(b'\x01\0\0\0\0' + number(16 * i * count, 8)) for i in range(count))
     return file_of(units, first + b'\0', rnglists=long_list(count))
+
+
+def span_over_units_with_bases(size):
+    """The same file, of which a span is asked that begins in the last unit, and has five borders."""
+    return units_with_bases_of_one_list(size)
 
 
 def program(count):
@@ -224,6 +235,7 @@ KINDS = {
     'tables_in_one_another': LINEAR, 'falling_tables_in_one_another': LINEAR, 'functions_of_one_list': LINEAR,
     'inlined_of_one_list': LINEAR, 'functions_of_tails': SQUARE, 'callers_of_one_list': SQUARE,
     'units_with_functions_of_one_list': SQUARE, 'units_of_one_list': LINEAR, 'units_with_bases_of_one_list': SQUARE,
+    'span_over_units_with_bases': SQUARE,
     'units_of_one_line_table': LINEAR, 'names_without_end': LINEAR, 'functions_of_empty_values': LINEAR,
     'functions_of_empty_values_after_a_number': SQUARE, 'units_of_empty_values': LINEAR,
     'references_of_empty_values': LINEAR, 'skipped_units': LINEAR, 'small_units': LINEAR, 'small_declarations': LINEAR,
@@ -241,6 +253,12 @@ if __name__ == '__main__':
     kind, size, path = sys.argv[1], int(sys.argv[2]), sys.argv[3]
     with open(path, 'wb') as out:
         out.write(globals()[kind](size))
-    # of units with 16 addresses one address in each
-    units = size // UNITS[kind] if kind in UNITS else 1
-    print(*(f'{BEGIN + 16 * i + 5:x}' for i in range(units)), sep='\n')
+    if kind == 'units_with_bases_of_one_list':
+        print(f'{units_with_bases(size)[1] + 5:x}')
+    elif kind == 'span_over_units_with_bases':
+        begin = units_with_bases(size)[1]
+        print(f'{begin + 5:x}-{begin + 45:x}')
+    else:
+        # of units with 16 addresses one address in each
+        units = size // UNITS[kind] if kind in UNITS else 1
+        print(*(f'{BEGIN + 16 * i + 5:x}' for i in range(units)), sep='\n')

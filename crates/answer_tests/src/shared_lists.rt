@@ -6,16 +6,18 @@ use std::alloc::{AllocError, Global};
 use std::test::Fail;
 use test_inputs::files::{elf, push_unit};
 
-/// A unit with a range list, and one with a range list and an address.
+/// A unit with a range list, one with a range list and an address, and one with an address and how
+/// many it has.
 const ABBREVS: &[u8] = &[
-    1, 0x11, 0, 0x55, 0x17, 0, 0, 2, 0x11, 0, 0x55, 0x17, 0x11, 1, 0, 0, 0,
+    1, 0x11, 0, 0x55, 0x17, 0, 0, 2, 0x11, 0, 0x55, 0x17, 0x11, 1, 0, 0, 3, 0x11, 0, 0x11, 1, 0x12,
+    6, 0, 0, 0,
 ];
 
 /// Lists at 0: 0x10 to 0x20 from the base of the unit on; at 4: 0x10 to 0x30; at 8 one that has no end.
 const LISTS: &[u8] = &[4, 0x10, 0x20, 0, 4, 0x10, 0x30, 0, 4, 5];
 
-/// A file of units with these first entries.
-fn file_of(alloc: Global, roots: &[&[u8]]) -> Result<Vec<u8>, AllocError> {
+/// A file of units with these first entries, and these lists.
+fn file_of(alloc: Global, roots: &[&[u8]], lists: &[u8]) -> Result<Vec<u8>, AllocError> {
     let mut info = Vec::new(alloc);
     for root in roots {
         push_unit(&mut info, root)?;
@@ -25,7 +27,7 @@ fn file_of(alloc: Global, roots: &[&[u8]]) -> Result<Vec<u8>, AllocError> {
         &[
             (Name::DebugInfo, &info),
             (Name::DebugAbbrev, ABBREVS),
-            (Name::DebugRnglists, LISTS),
+            (Name::DebugRnglists, lists),
         ],
     )
 }
@@ -54,7 +56,7 @@ const PLACES: [(u64, Option<usize>); 9] = [
 
 #[test]
 fn units_of_one_list(rt: HostRuntime) -> Result<(), Fail> {
-    let file = file_of(rt.alloc(), ROOTS)?;
+    let file = file_of(rt.alloc(), ROOTS, LISTS)?;
     let image = Image::open(rt.alloc(), &file)?;
     for (a, wanted) in PLACES {
         let place = image.unit_place(a).map(|found| found.place);
@@ -72,8 +74,93 @@ fn bad_list_behind_one_that_was_read(rt: HostRuntime) -> Result<(), Fail> {
         &[1, 8, 0, 0, 0],
         &[1, 8, 0, 0, 0],
     ];
-    let file = file_of(rt.alloc(), roots)?;
+    let file = file_of(rt.alloc(), roots, LISTS)?;
     let fault = Image::open(rt.alloc(), &file).err();
     assert_eq!(rt; fault, Some(OpenFault::RootRanges(34)));
+    Ok(())
+}
+
+/// Lists at 0: 0x10 to 0x20 and 0x30 to 0x40 from the base of the unit on; at 7 one that has no end.
+/// So of lists two ranges are kept.
+const FEW: &[u8] = &[4, 0x10, 0x20, 4, 0x30, 0x40, 0, 5];
+
+/// The ranges of unit 0 are kept, and the one of unit 3, 0x118 to 0x150. The units 1, 2 and 4 are
+/// held by the list at 0, which counts from 0x100, 0x108 and 0x10.
+const HELD: &[&[u8]] = &[
+    &[1, 0, 0, 0, 0],
+    &[2, 0, 0, 0, 0, 0, 1, 0, 0, 0, 0, 0, 0],
+    &[2, 0, 0, 0, 0, 8, 1, 0, 0, 0, 0, 0, 0],
+    &[3, 0x18, 1, 0, 0, 0, 0, 0, 0, 0x38, 0, 0, 0],
+    &[2, 0, 0, 0, 0, 0x10, 0, 0, 0, 0, 0, 0, 0],
+];
+
+/// Where another unit answers, or none.
+const BORDERS: [(u64, Option<usize>); 14] = [
+    (0, None),
+    (0x10, Some(0)),
+    (0x20, Some(4)),
+    (0x30, Some(0)),
+    (0x40, Some(4)),
+    (0x50, None),
+    (0x110, Some(1)),
+    (0x120, Some(2)),
+    (0x128, Some(3)),
+    (0x130, Some(1)),
+    (0x140, Some(2)),
+    (0x148, Some(3)),
+    (0x150, None),
+    (u64::MAX, None),
+];
+
+#[test]
+fn units_held_by_their_lists(rt: HostRuntime) -> Result<(), Fail> {
+    let file = file_of(rt.alloc(), HELD, FEW)?;
+    let image = Image::open(rt.alloc(), &file)?;
+    assert_eq!(rt; image.kept(), 3);
+    for (i, (begin, wanted)) in BORDERS.iter().enumerate() {
+        let place = image.unit_place(*begin).map(|found| found.place);
+        assert_eq!(rt; place, *wanted, "unit at {begin:#x}");
+        let Some((next, _)) = BORDERS.get(i + 1) else {
+            return Ok(());
+        };
+        let last = image.unit_place(next - 1).map(|found| found.place);
+        assert_eq!(rt; last, *wanted, "unit before {next:#x}");
+        let first = image
+            .first_unit_place(*begin, *next)
+            .map(|found| found.place);
+        assert_eq!(rt; first, *wanted, "first unit from {begin:#x}");
+    }
+    Ok(())
+}
+
+/// The first unit of a span is found behind addresses that no unit has.
+#[test]
+fn held_units_of_spans(rt: HostRuntime) -> Result<(), Fail> {
+    let file = file_of(rt.alloc(), HELD, FEW)?;
+    let image = Image::open(rt.alloc(), &file)?;
+    let spans = [
+        (0, 0x11, Some(0)),
+        (0x50, 0x110, None),
+        (0x50, u64::MAX, Some(1)),
+        (0x150, u64::MAX, None),
+    ];
+    for (low, high, wanted) in spans {
+        let place = image.first_unit_place(low, high).map(|found| found.place);
+        assert_eq!(rt; place, wanted, "first unit from {low:#x}");
+    }
+    Ok(())
+}
+
+/// A list that can't be read is told where no more ranges are kept, too.
+#[test]
+fn bad_list_of_a_held_unit(rt: HostRuntime) -> Result<(), Fail> {
+    let roots: &[&[u8]] = &[
+        &[1, 0, 0, 0, 0],
+        &[2, 0, 0, 0, 0, 0, 1, 0, 0, 0, 0, 0, 0],
+        &[2, 7, 0, 0, 0, 0, 1, 0, 0, 0, 0, 0, 0],
+    ];
+    let file = file_of(rt.alloc(), roots, FEW)?;
+    let fault = Image::open(rt.alloc(), &file).err();
+    assert_eq!(rt; fault, Some(OpenFault::RootRanges(42)));
     Ok(())
 }

@@ -1,10 +1,14 @@
 -- Which condition a file fails first.
-use Rattle.std.proofs.Common.{◌≡◌, ◌∙◌, ℕ, List, Option, Some, None, sym, ap}
-use Rattle.std.specs.Prelude.{MatchOption}
+use Rattle.std.proofs.Common.{◌≡◌, ◌∙◌, ◌<◌, ℕ, List, length, Option, Some, None, sym, ap, subst}
+use Rattle.std.specs.Prelude.{IfSome, MatchOption, option_and_then, slice_get}
 use Rattle.dw_model.specs.Faults.{Refusal}
 use Rattle.dw_model.specs.Section.{Sections, sections, elf_refusal}
 use Rattle.dw_model.specs.Root.{unit_refusal}
 use Rattle.dw_model.specs.Refusal.{ranges_refusal, refusal}
+use Rattle.dw_model.specs.Answer.{unit_of}
+use Rattle.dw_model.specs.Text.{Tables}
+use Rattle.dw_model.specs.Unit.{units}
+use Rattle.dw_symbols.specs.Held.{CoverState, first_unit}
 
 pub by-ranges : (file : List ℕ) (s : Sections) (told : Option Refusal) → s ≡ sections file → elf_refusal file ≡ None → unit_refusal s ≡ None → ranges_refusal s ≡ told → refusal file ≡ told
 unfolding refusal
@@ -16,3 +20,20 @@ by-ranges file s told same elf units ranges =
 pub told-by-ranges : (file : List ℕ) (s : Sections) (told : Option Refusal) → s ≡ sections file → elf_refusal file ≡ None → unit_refusal s ≡ None → MatchOption told (Unit {0}) (λ fault. ranges_refusal s ≡ Some fault) → MatchOption told (Unit {0}) (λ fault. refusal file ≡ Some fault)
 told-by-ranges file s None same elf units ranges = tt
 told-by-ranges file s (Some fault) same elf units ranges = by-ranges file s (Some fault) same elf units ranges
+
+-- ---- the unit of an address
+
+module _ (file seen : List ℕ) (tables : Tables) (cover : CoverState) (view : file ≡ seen) (same : tables ≡ (sections file).tables)
+    (unit_at : (a : ℕ) → option_and_then (slice_get (units (sections file).info)) (first_unit (sections file).tables cover a) ≡ unit_of (sections file) a)
+    (within : (a : ℕ) → IfSome (first_unit (sections file).tables cover a) (λ i. i < length (units (sections file).info))) where
+  pub found-unit : (found : Option ℕ) (a : ℕ) → found ≡ first_unit tables cover a → option_and_then (slice_get (units (sections seen).info)) found ≡ unit_of (sections seen) a
+  found-unit found a is =
+      let first : found ≡ first_unit (sections file).tables cover a = is ∙ ap (λ (tables : Tables). first_unit tables cover a) same in
+      subst (λ (file : List ℕ). option_and_then (slice_get (units (sections file).info)) found ≡ unit_of (sections file) a) view
+      (ap (λ (owner : Option ℕ). option_and_then (slice_get (units (sections file).info)) owner) first ∙ unit_at a)
+
+  pub found-within : (found : Option ℕ) (a : ℕ) → found ≡ first_unit tables cover a → IfSome found (λ i. i < length (units (sections seen).info))
+  found-within found a is =
+      let first : found ≡ first_unit (sections file).tables cover a = is ∙ ap (λ (tables : Tables). first_unit tables cover a) same in
+      subst (λ (file : List ℕ). IfSome found (λ i. i < length (units (sections file).info))) view
+      (subst (λ (owner : Option ℕ). IfSome owner (λ i. i < length (units (sections file).info))) (sym first) (within a))

@@ -1,5 +1,6 @@
 pub mod CountSteps
 pub mod CoverLemmas
+pub mod HeldLemmas
 pub mod PairsLemmas
 pub mod OwnerLemmas
 pub mod ImageLemmas

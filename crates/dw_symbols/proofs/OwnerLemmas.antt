@@ -20,6 +20,7 @@ use Rattle.dw_model.proofs.StepLemmas.{bind_ok, bind_err, ok_is}
 use Rattle.dw_model.proofs.InstructionLemmas.{or_fault-ok}
 use Rattle.dw_index.specs.Owners.{least_owner, numbered}
 use Rattle.dw_symbols.specs.Cover.{ranges_in, checked_ranges, pairs_from}
+use Rattle.dw_symbols.specs.Held.{CoverState, first_unit}
 
 -- the ranges of a unit that are there
 abbrev kept : Sections → DwarfUnit → List Range
@@ -134,10 +135,10 @@ pub told-bad : (s : Sections) (n : ℕ) (units : List DwarfUnit) (told : Option 
 told-bad s n units None e = tt
 told-bad s n units (Some fault) e = first-bad s n units fault e
 
--- the same with the index
-pub index-unit : (s seen : Sections) (pairs : List (Range × ℕ)) (owner : Option ℕ) (a : ℕ) → s ≡ seen → FirstIsLeast → pairs_from s 0 (model.units s.info) ≡ Ok pairs → owner ≡ least_owner pairs a
-    → (option_and_then (slice_get (model.units seen.info)) owner ≡ unit_of seen a) × IfSome owner (λ i. i < length (model.units seen.info))
-index-unit s seen pairs owner a same law e is =
-    let found : option_and_then (slice_get (model.units s.info)) owner ≡ unit_of s a = ap (λ (owner : Option ℕ). option_and_then (slice_get (model.units s.info)) owner) is ∙ owner-unit s pairs a law e in
-    let within : IfSome owner (λ i. i < length (model.units s.info)) = subst (λ owner. IfSome owner (λ i. i < length (model.units s.info))) (sym is) (owner-within s pairs a law e) in
-    (subst (λ s. option_and_then (slice_get (model.units s.info)) owner ≡ unit_of s a) same found, subst (λ (s : Sections). IfSome owner (λ i. i < length (model.units s.info))) same within)
+-- the same of the unit that is found, where ranges are kept and units are held
+pub cover-unit : (s seen : Sections) (cover : CoverState) (pairs : List (Range × ℕ)) (a : ℕ) → s ≡ seen → FirstIsLeast → pairs_from s 0 (model.units s.info) ≡ Ok pairs → first_unit s.tables cover a ≡ least_owner pairs a
+    → (option_and_then (slice_get (model.units seen.info)) (first_unit seen.tables cover a) ≡ unit_of seen a) × IfSome (first_unit seen.tables cover a) (λ i. i < length (model.units seen.info))
+cover-unit s seen cover pairs a same law e is =
+    let found : option_and_then (slice_get (model.units s.info)) (first_unit s.tables cover a) ≡ unit_of s a = ap (λ (owner : Option ℕ). option_and_then (slice_get (model.units s.info)) owner) is ∙ owner-unit s pairs a law e in
+    let within : IfSome (first_unit s.tables cover a) (λ i. i < length (model.units s.info)) = subst (λ owner. IfSome owner (λ i. i < length (model.units s.info))) (sym is) (owner-within s pairs a law e) in
+    subst (λ (s : Sections). (option_and_then (slice_get (model.units s.info)) (first_unit s.tables cover a) ≡ unit_of s a) × IfSome (first_unit s.tables cover a) (λ i. i < length (model.units s.info))) same (found, within)

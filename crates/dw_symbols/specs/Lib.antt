@@ -8,5 +8,7 @@ pub mod Told
 pub mod UnitParts
 pub mod Kept
 pub mod Cover
+pub mod Held
+pub mod CoverInside
 pub mod Pairs
 pub mod Image

@@ -12,7 +12,7 @@ ghost use Rattle.dw_symbols.specs.Told.{means};
 use crate::answer::{Answer, Piece, UnitFault};
 use crate::image::Image;
 use crate::refusals::Refusals;
-use crate::span::Span;
+use crate::span::{Span, lesser};
 use crate::unit_answers::{location_by, push_pieces_by};
 use crate::unit_cache::{
     Tables, Trees, keep_lines, keep_tree, kept_answer, kept_location, kept_pieces, tree_answer,
@@ -58,15 +58,6 @@ fn offset_of(image: &Image<'_>, i: usize) -> u64
     ensures { IfSome (slice_get (units (sections image.now).info) i) (λ unit. result ≡ unit.offset) }
 {
     image.units().unit(i).offset
-}
-
-/// The lesser of two addresses.
-fn lesser(a: u64, b: u64) -> u64
-    ensures first { result ≤ a }
-    ensures second { result ≤ b }
-    ensures above { (c : ℕ) → c < a → c < b → c < result }
-{
-    if a <= b { a } else { b }
 }
 
 impl<'b, 'a> Context<'b, 'a> {

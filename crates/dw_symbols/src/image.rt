@@ -1,28 +1,23 @@
 //! A file that is open: its units, and which of them answers an address.
 
-ghost use Rattle.std.specs.Prelude.{◌≡◌, ◌<◌, false, None, OnOk, IfOk, IfErr, IfSome, length, option_and_then};
+ghost use Rattle.std.specs.Prelude.{◌≡◌, ◌≤◌, ◌<◌, false, None, OnOk, IfOk, IfErr, IfSome, length, option_and_then};
 ghost use Rattle.std.specs.Prelude.{slice_get};
 ghost use Rattle.dw_model.specs.Section.{sections, elf_refusal};
 ghost use Rattle.dw_model.specs.Unit.{is_skipped, units};
 ghost use Rattle.dw_model.specs.Answer.{unit_of};
 ghost use Rattle.dw_model.specs.Steady.{last_address};
+ghost use Rattle.dw_symbols.specs.Held.{most_ranges};
 ghost use Rattle.dw_symbols.specs.Span.{IsUnitOf};
 ghost use Rattle.dw_model.specs.Refusal.{refusal};
 ghost use Rattle.dw_elf.specs.OpenFault.{RefusesUnlessMemory, HidesNoRefusal};
 
-use crate::unit_ranges::unit_pairs;
+use crate::cover::{Cover, Owner};
+use crate::unit_ranges::unit_ranges;
 use dw_elf::{Elf, Name, OpenFault};
-use dw_ranges::{Index, law_of_least_owner};
+use dw_ranges::law_of_least_owner;
 use dw_units::Units;
 use std::alloc::Global;
 use std::marker::Model;
-
-/// The unit that answers some addresses, by its place, if one does, and where they end.
-#[derive(Clone, Copy, Debug)]
-pub(crate) struct Owner {
-    pub(crate) unit: Option<usize>,
-    pub(crate) until: u64,
-}
 
 /// A file whose addresses can be asked for. Contracts see its bytes.
 #[derive(Drop)]
@@ -32,7 +27,7 @@ pub struct Image<'a> {
     line: &'a [u8],
     units: Units<'a>,
     /// The places of the units that answer addresses.
-    index: Index,
+    cover: Cover,
 }
 
 impl<'a> Model for Image<'a> {
@@ -64,14 +59,14 @@ impl<'a> Image<'a> {
     {
         let elf = Elf::open(file)?;
         let units = Units::read(alloc, &elf)?;
-        let pairs = unit_pairs(alloc, &units)?;
-        let index = Index::build(alloc, &pairs)?;
+        let kept = unit_ranges(alloc, &units)?;
+        let cover = Cover::build(alloc, kept)?;
         law_of_least_owner();
         Ok(Image {
             file,
             line: elf.section(Name::DebugLine),
             units,
-            index,
+            cover,
         })
     }
 
@@ -97,7 +92,7 @@ impl<'a> Image<'a> {
         ensures answers { IfSome result (λ i. IfSome (slice_get (units (sections self.now).info) i)
             (λ unit. is_skipped unit.kind ≡ false)) }
     {
-        self.index.find(a)
+        self.cover.find(self.units.tables(), a)
     }
 
     /// The unit that answers an address, as `unit_at` finds it, and up to where it answers all
@@ -108,10 +103,16 @@ impl<'a> Image<'a> {
         ensures unit { IsUnitOf (sections self.now) result.unit a result.until }
         ensures within { IfSome result.unit (λ i. i < length (units (sections self.now).info)) }
     {
-        Owner {
-            unit: self.index.find(a),
-            until: self.index.steady(a),
-        }
+        self.cover.find_from(self.units.tables(), a)
+    }
+
+    /// How many ranges are kept to find the unit of an address: of lists at most a third of the
+    /// bytes of .debug_rnglists, and one of each other unit. So memory stays in proportion to the
+    /// file, however many units name one list.
+    pub fn kept(&self) -> usize
+        ensures { result ≤ most_ranges (sections self.now) }
+    {
+        self.cover.ranges()
     }
 
     /// The bytes of the file.

@@ -3,6 +3,7 @@
 
 mod answer;
 mod context;
+mod cover;
 mod frames;
 mod image;
 mod location;

@@ -1,6 +1,6 @@
 //! The ranges of all units that answer addresses.
 
-ghost use Rattle.std.specs.Prelude.{◌≡◌, ◌++◌, ◌<◌, true, OnOk, IfOk, IfErr, IfSome, MatchOption, map, length};
+ghost use Rattle.std.specs.Prelude.{◌≡◌, ◌≤◌, ◌++◌, ◌<◌, true, OnOk, IfOk, IfErr, IfSome, MatchOption, map, length};
 ghost use Rattle.std.specs.Prelude.{option_map, option_to_list, slice_get};
 ghost use Rattle.dw_model.specs.Unit as model;
 ghost use Rattle.dw_model.specs.Answers.{GivesUnlessMemory};
@@ -9,35 +9,50 @@ ghost use Rattle.dw_forms.specs.Tables.{tables_shown, bases_shown};
 ghost use Rattle.dw_units.specs.Header.{kind_shown};
 ghost use Rattle.dw_units.specs.Entry.{entry_shown};
 ghost use Rattle.dw_ranges.specs.Fault.{range_fault};
-ghost use Rattle.dw_ranges.specs.Lists.{ranges_of_list};
+ghost use Rattle.dw_ranges.specs.Lists.{IsOneAtMost, ranges_of_list};
 ghost use Rattle.dw_ranges.specs.ReadLists.{Has};
-ghost use Rattle.dw_index.specs.Range.{range_shown, pair_shown};
-ghost use Rattle.dw_symbols.specs.Pairs.{Owns, Refuses};
+ghost use Rattle.dw_index.specs.Range.{range_shown};
+ghost use Rattle.dw_symbols.specs.Held.{AreInOrder, most_ranges};
+ghost use Rattle.dw_symbols.specs.Pairs.{Adds, Owns, Refuses, all_pairs};
 ghost use Rattle.dw_symbols.specs.Cover.{answering_ranges, checked_ranges, pairs_from, ranges_in};
 
+use crate::cover::HeldUnit;
 use dw_elf::OpenFault;
 use dw_forms::Tables;
-use dw_ranges::{Range, RangeFault, RangeList, ReadLists, list_of, ranges_of};
+use dw_ranges::{Range, RangeFault, RangeList, ReadLists, list_of, read_ranges};
 use dw_units::{Unit, Units};
 use std::alloc::{AllocError, Global};
 
-/// The ranges of a unit's first entry, where the unit answers addresses; none where it doesn't.
-fn answering_ranges<'a>(
-    alloc: Global,
+/// The ranges of units, each with the place of its unit, and the units whose ranges are more than
+/// what is kept, in order of their places.
+#[derive(Drop)]
+pub(crate) struct UnitRanges {
+    pub(crate) pairs: Vec<(Range, usize)>,
+    pub(crate) held: Vec<HeldUnit>,
+    /// How many ranges more of lists are kept.
+    room: usize,
+}
+
+/// Reads the ranges of a unit's first entry, where the unit answers addresses, in place of those
+/// that were kept; none where it doesn't.
+fn read_answering<'a>(
+    ranges: &mut Vec<Range>,
     unit: &Unit<'a>,
     tables: &Tables<'a>,
-) -> Result<Vec<Range>, RangeFault>
-    ensures { GivesUnlessMemory (λ ranges. map range_shown ranges.items) range_fault result
+) -> Result<(), RangeFault>
+    ensures { GivesUnlessMemory (λ _. map range_shown ranges.new.items) range_fault result
         (answering_ranges (tables_shown tables.now) (bases_shown unit.now.bases)
         (option_map entry_shown unit.now.root) (kind_shown unit.now.kind)) }
 {
-    if !unit.kind.answers() {
-        return Ok(Vec::new(alloc));
+    ranges.clear();
+    let answers = unit.kind.answers();
+    if !answers {
+        return Ok(());
     }
     let Some(root) = &unit.root else {
-        return Ok(Vec::new(alloc));
+        return Ok(());
     };
-    ranges_of(alloc, root, unit, tables)
+    read_ranges(ranges, &root.named_ranges(), unit, tables)
 }
 
 /// Adds ranges that have one owner.
@@ -54,41 +69,48 @@ fn push_ranges(
     Ok(())
 }
 
-/// The ranges of the unit at a place, where it answers addresses. The error tells the unit.
-fn ranges_at(alloc: Global, units: &Units<'_>, i: usize) -> Result<Vec<Range>, OpenFault>
+/// Reads the ranges of the unit at a place, where it answers addresses, in place of those that were
+/// kept. The error tells the unit.
+fn read_at(ranges: &mut Vec<Range>, units: &Units<'_>, i: usize) -> Result<(), OpenFault>
     requires { i < length (model.units units.now.info) }
     ensures { IfSome (slice_get (model.units units.now.info) i)
-        (λ unit. GivesUnlessMemory (λ ranges. map range_shown ranges.items) refusal_of result
+        (λ unit. GivesUnlessMemory (λ _. map range_shown ranges.new.items) refusal_of result
         (checked_ranges units.now unit)) }
 {
     let unit = units.unit(i);
-    match answering_ranges(alloc, unit, units.tables()) {
-        Ok(ranges) => Ok(ranges),
+    match read_answering(ranges, unit, units.tables()) {
+        Ok(()) => Ok(()),
         Err(RangeFault::Bad) => Err(OpenFault::RootRanges(unit.offset)),
         Err(RangeFault::Memory) => Err(OpenFault::Memory),
     }
 }
 
-/// The list that a unit's first entry names, where the unit answers addresses.
+/// The list that a unit's first entry names, where the unit answers addresses; `None` where it has
+/// one range at most, or they can't be read.
 fn answering_list<'a>(unit: &Unit<'a>, tables: &Tables<'a>) -> Option<RangeList>
-    ensures { IfSome result (λ list. answering_ranges (tables_shown tables.now) (bases_shown unit.now.bases)
+    ensures { MatchOption result
+        (IsOneAtMost (answering_ranges (tables_shown tables.now) (bases_shown unit.now.bases)
+        (option_map entry_shown unit.now.root) (kind_shown unit.now.kind)))
+        (λ list. answering_ranges (tables_shown tables.now) (bases_shown unit.now.bases)
         (option_map entry_shown unit.now.root) (kind_shown unit.now.kind)
         ≡ ranges_of_list (tables_shown tables.now) list) }
 {
+    if !unit.kind.answers() {
+        return None;
+    }
     let Some(root) = &unit.root else {
         return None;
     };
-    if unit.kind.answers() {
-        return list_of(&root.named_ranges(), unit, tables);
-    }
-    None
+    list_of(&root.named_ranges(), unit, tables)
 }
 
-/// The list that the first entry of the unit at a place names, where the unit answers addresses.
-fn list_at(units: &Units<'_>, i: usize) -> Option<RangeList>
+/// The list that the first entry of the unit at a place names, where the unit answers addresses;
+/// `None` where it has one range at most, or they can't be read.
+fn unit_list(units: &Units<'_>, i: usize) -> Option<RangeList>
     requires { i < length (model.units units.now.info) }
     ensures { IfSome (slice_get (model.units units.now.info) i)
-        (λ unit. IfSome result (λ list. ranges_in units.now unit ≡ ranges_of_list units.now.tables list)) }
+        (λ unit. MatchOption result (IsOneAtMost (ranges_in units.now unit))
+        (λ list. ranges_in units.now unit ≡ ranges_of_list units.now.tables list)) }
 {
     answering_list(units.unit(i), units.tables())
 }
@@ -114,26 +136,57 @@ fn note(read: &mut ReadLists, list: Option<RangeList>) -> Result<(), AllocError>
     read.note(list, 0)
 }
 
+/// Keeps the ranges of a unit; where they are those of a list and more than what is kept, the unit
+/// alone.
+fn keep(
+    kept: &mut UnitRanges,
+    ranges: &[Range],
+    list: Option<RangeList>,
+    unit: usize,
+) -> Result<(), AllocError>
+    ensures { OnOk result (Adds list ranges.now unit kept.old kept.new) }
+{
+    let Some(list) = list else {
+        return push_ranges(&mut kept.pairs, ranges, unit);
+    };
+    let Some(room) = kept.room.checked_sub(ranges.len()) else {
+        kept.held.push(HeldUnit { list, unit })?;
+        return Ok(());
+    };
+    kept.room = room;
+    push_ranges(&mut kept.pairs, ranges, unit)
+}
+
 /// The ranges of all units that answer addresses, each with the place of its unit, but for those of
 /// units whose ranges are all an earlier one's: such a unit owns no address. So a list is read once,
-/// however many units name it and count from the same bases. The error is `RootRanges`, of the first
-/// unit whose ranges can't be read, or `Memory`.
-pub(crate) fn unit_pairs(alloc: Global, units: &Units<'_>) -> Result<Vec<(Range, usize)>, OpenFault>
-    ensures owns { IfOk result (λ pairs. Owns (map pair_shown pairs.items)
+/// however many units name it and count from the same bases. A list of which several units count
+/// from other bases has other ranges in each; so no more ranges of lists are kept than the bytes of
+/// .debug_rnglists can spell, and the units behind these are held by their lists, whose ranges were
+/// read for their faults alone. The error is `RootRanges`, of the first unit whose ranges can't be
+/// read, or `Memory`.
+pub(crate) fn unit_ranges(alloc: Global, units: &Units<'_>) -> Result<UnitRanges, OpenFault>
+    ensures owns { IfOk result (λ kept. Owns (all_pairs units.now.tables kept)
         (pairs_from units.now 0 (model.units units.now.info))) }
+    ensures order { IfOk result (λ kept. AreInOrder kept.held.items) }
+    ensures few { IfOk result (λ kept. length kept.pairs.items ≤ most_ranges units.now) }
     ensures refused { IfErr result (λ fault. Refuses (refusal_of fault)
         (pairs_from units.now 0 (model.units units.now.info))) }
 {
-    let mut pairs = Vec::new(alloc);
+    let mut kept = UnitRanges {
+        pairs: Vec::new(alloc),
+        held: Vec::new(alloc),
+        room: units.tables().rnglists.len() / 3,
+    };
     let mut read = ReadLists::new(alloc);
+    let mut ranges = Vec::new(alloc);
     for i in 0..units.len() {
-        let list = list_at(units, i);
+        let list = unit_list(units, i);
         if was_read(&read, list) {
             continue;
         }
-        let ranges = ranges_at(alloc, units, i)?;
-        push_ranges(&mut pairs, &ranges, i)?;
+        read_at(&mut ranges, units, i)?;
+        keep(&mut kept, &ranges, list, i)?;
         note(&mut read, list)?;
     }
-    Ok(pairs)
+    Ok(kept)
 }

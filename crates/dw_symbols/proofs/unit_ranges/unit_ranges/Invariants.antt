@@ -1,5 +1,7 @@
+use Rattle.std.proofs.Common.{length}
+use Rattle.std.specs.Prelude.{◌/◌}
 use Rattle.dw_symbols.proofs.PairsLemmas.{Kept}
-use Rattle.dw_symbols.proofs.unit_ranges.unit_pairs.Given as goal
+use Rattle.dw_symbols.proofs.unit_ranges.unit_ranges.Given as goal
 
 abbrev pub invariant-loop-i : goal.invariant-loop-i
-invariant-loop-i l = Kept l.units l.pairs.items l.read l.i
+invariant-loop-i l = Kept l.units (length l.units.tables.rnglists / 3) l.kept l.read l.i

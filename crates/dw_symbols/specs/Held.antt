@@ -1,0 +1,55 @@
+-- Units whose ranges aren't kept, each with the list that has them.
+use Rattle.std.specs.Prelude.{◌≡◌, ◌≤◌, ◌<◌, ℕ, ◌+◌, ◌/◌, List, [], ◌∷◌, ◌++◌, length, map, Option}
+use Rattle.dw_model.specs.Ranges.{Range}
+use Rattle.dw_model.specs.Section.{Sections}
+use Rattle.dw_model.specs.Steady.{last_address}
+use Rattle.dw_model.specs.Text.{Tables}
+use Rattle.dw_model.specs.Unit.{units}
+use Rattle.dw_index.specs.declared.segment.Segment.{Segment}
+use Rattle.dw_index.specs.Owners.{least, least_owner}
+use Rattle.dw_index.specs.Segments.{owner_at}
+use Rattle.dw_ranges.specs.Held.{listed}
+use Rattle.dw_symbols.specs.declared.cover.HeldUnit.{HeldUnit}
+use Rattle.dw_symbols.specs.declared.cover.Owner.{Owner}
+
+-- the ranges of the lists, each with the place of its unit
+abbrev pub held_pairs : Tables → List HeldUnit → List (Range × ℕ)
+held_pairs tables [] = []
+held_pairs tables (one ∷ held) = map (λ range. (range, one.unit)) (listed tables one.list) ++ held_pairs tables held
+
+-- the first unit of which a range holds the address
+abbrev pub held_at : Tables → List HeldUnit → ℕ → Option ℕ
+held_at tables held a = least_owner (held_pairs tables held) a
+
+-- the places of the units rise, from one on and below another
+abbrev pub AreBetween : (bound end : ℕ) → List HeldUnit → Type 0
+AreBetween bound end [] = bound ≤ end
+AreBetween bound end (one ∷ held) = (bound ≤ one.unit) × AreBetween (one.unit + 1) end held
+
+abbrev pub AreInOrder : List HeldUnit → Type 0
+AreInOrder held = (end : ℕ) × AreBetween 0 end held
+
+-- what contracts see of how units are found: the index of the ranges that are kept, how many these
+-- are, and the units that are held by their lists
+pub record CoverState : Type 0 where
+  pub index : List Segment
+  pub held : List HeldUnit
+  pub ranges : ℕ
+
+-- the first unit that has an address, of all
+abbrev pub first_unit : Tables → CoverState → ℕ → Option ℕ
+first_unit tables cover a = least (owner_at cover.index a) (held_at tables cover.held a)
+
+-- Of the unit that the index has and the units that are held, the first that has an address is
+-- found, and up to where it is that, if the index has no other there.
+pub record IsFirst (tables : Tables) (held : List HeldUnit) (a : ℕ) (indexed found : Owner) : Type 0 where
+  pub unit : found.unit ≡ least indexed.unit (held_at tables held a)
+  pub within : found.until ≤ indexed.until
+  pub above : a < last_address → a < indexed.until → a < found.until
+  pub same : (c : ℕ) → a ≤ c → c < found.until → least indexed.unit (held_at tables held c) ≡ found.unit
+
+-- The most ranges that are kept for units: those of lists up to a third of the bytes of
+-- .debug_rnglists, since an entry that makes a range takes three bytes at least, and one for each
+-- unit that names no list.
+abbrev pub most_ranges : Sections → ℕ
+most_ranges sections = length sections.tables.rnglists / 3 + length (units sections.info)
