@@ -1,9 +1,11 @@
 //! Units whose first entries name one range list, worked out by hand.
 
+use crate::calls::opened;
 use dw_elf::{Name, OpenFault};
 use dw_symbols::Image;
 use std::alloc::{AllocError, Global};
 use std::test::Fail;
+use test_inputs::checks::expect_eq;
 use test_inputs::files::{elf, push_unit};
 
 /// A unit with a range list, and one with a range list and an address.
@@ -40,7 +42,7 @@ const ROOTS: &[&[u8]] = &[
 ];
 
 /// The places of the units that answer.
-const PLACES: [(u64, Option<usize>); 9] = [
+static PLACES: [(u64, Option<usize>); 9] = [
     (0x0f, None),
     (0x10, Some(0)),
     (0x1f, Some(0)),
@@ -52,13 +54,18 @@ const PLACES: [(u64, Option<usize>); 9] = [
     (0x120, None),
 ];
 
+/// The place of the unit that answers an address. No clause says which it is, so that its callers
+/// are proved soon.
+fn place_of(image: &Image<'_>, a: u64) -> Option<usize> {
+    image.unit_place(a).map(|found| found.place)
+}
+
 #[test]
 fn units_of_one_list(rt: HostRuntime) -> Result<(), Fail> {
     let file = file_of(rt.alloc(), ROOTS)?;
-    let image = Image::open(rt.alloc(), &file)?;
-    for (a, wanted) in PLACES {
-        let place = image.unit_place(a).map(|found| found.place);
-        assert_eq!(rt; place, wanted, "unit at {a:#x}");
+    let image = opened(rt.alloc(), &file)?;
+    for (a, wanted) in &PLACES {
+        expect_eq(&rt, &place_of(&image, *a), wanted, a);
     }
     Ok(())
 }
@@ -73,7 +80,7 @@ fn bad_list_behind_one_that_was_read(rt: HostRuntime) -> Result<(), Fail> {
         &[1, 8, 0, 0, 0],
     ];
     let file = file_of(rt.alloc(), roots)?;
-    let fault = Image::open(rt.alloc(), &file).err();
-    assert_eq!(rt; fault, Some(OpenFault::RootRanges(34)));
+    let fault = opened(rt.alloc(), &file).err();
+    expect_eq(&rt, &fault, &Some(OpenFault::RootRanges(34)), &34);
     Ok(())
 }
