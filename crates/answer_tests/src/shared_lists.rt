@@ -1,9 +1,11 @@
 //! Units whose first entries name one range list, worked out by hand.
 
+use crate::calls::opened;
 use dw_elf::{Name, OpenFault};
 use dw_symbols::Image;
 use std::alloc::{AllocError, Global};
 use std::test::Fail;
+use test_inputs::checks::expect_eq;
 use test_inputs::files::{elf, push_unit};
 
 /// A unit with a range list, one with a range list and an address, and one with an address and how
@@ -42,7 +44,7 @@ const ROOTS: &[&[u8]] = &[
 ];
 
 /// The places of the units that answer.
-const PLACES: [(u64, Option<usize>); 9] = [
+static PLACES: [(u64, Option<usize>); 9] = [
     (0x0f, None),
     (0x10, Some(0)),
     (0x1f, Some(0)),
@@ -54,13 +56,28 @@ const PLACES: [(u64, Option<usize>); 9] = [
     (0x120, None),
 ];
 
+/// The place of the unit that answers an address. No clause says which it is, so that its callers
+/// are proved soon.
+fn place_of(image: &Image<'_>, a: u64) -> Option<usize> {
+    image.unit_place(a).map(|found| found.place)
+}
+
+/// The place of the first unit that answers an address of a span.
+fn first_place(image: &Image<'_>, low: u64, high: u64) -> Option<usize> {
+    image.first_unit_place(low, high).map(|found| found.place)
+}
+
+/// How many ranges are kept.
+fn kept_by(image: &Image<'_>) -> usize {
+    image.kept()
+}
+
 #[test]
 fn units_of_one_list(rt: HostRuntime) -> Result<(), Fail> {
     let file = file_of(rt.alloc(), ROOTS, LISTS)?;
-    let image = Image::open(rt.alloc(), &file)?;
-    for (a, wanted) in PLACES {
-        let place = image.unit_place(a).map(|found| found.place);
-        assert_eq!(rt; place, wanted, "unit at {a:#x}");
+    let image = opened(rt.alloc(), &file)?;
+    for (a, wanted) in &PLACES {
+        expect_eq(&rt, &place_of(&image, *a), wanted, a);
     }
     Ok(())
 }
@@ -75,8 +92,8 @@ fn bad_list_behind_one_that_was_read(rt: HostRuntime) -> Result<(), Fail> {
         &[1, 8, 0, 0, 0],
     ];
     let file = file_of(rt.alloc(), roots, LISTS)?;
-    let fault = Image::open(rt.alloc(), &file).err();
-    assert_eq!(rt; fault, Some(OpenFault::RootRanges(34)));
+    let fault = opened(rt.alloc(), &file).err();
+    expect_eq(&rt, &fault, &Some(OpenFault::RootRanges(34)), &34);
     Ok(())
 }
 
@@ -95,7 +112,7 @@ const HELD: &[&[u8]] = &[
 ];
 
 /// Where another unit answers, or none.
-const BORDERS: [(u64, Option<usize>); 14] = [
+static BORDERS: [(u64, Option<usize>); 14] = [
     (0, None),
     (0x10, Some(0)),
     (0x20, Some(4)),
@@ -115,20 +132,15 @@ const BORDERS: [(u64, Option<usize>); 14] = [
 #[test]
 fn units_held_by_their_lists(rt: HostRuntime) -> Result<(), Fail> {
     let file = file_of(rt.alloc(), HELD, FEW)?;
-    let image = Image::open(rt.alloc(), &file)?;
-    assert_eq!(rt; image.kept(), 3);
+    let image = opened(rt.alloc(), &file)?;
+    expect_eq(&rt, &kept_by(&image), &3, &0);
     for (i, (begin, wanted)) in BORDERS.iter().enumerate() {
-        let place = image.unit_place(*begin).map(|found| found.place);
-        assert_eq!(rt; place, *wanted, "unit at {begin:#x}");
+        expect_eq(&rt, &place_of(&image, *begin), wanted, begin);
         let Some((next, _)) = BORDERS.get(i + 1) else {
             return Ok(());
         };
-        let last = image.unit_place(next - 1).map(|found| found.place);
-        assert_eq!(rt; last, *wanted, "unit before {next:#x}");
-        let first = image
-            .first_unit_place(*begin, *next)
-            .map(|found| found.place);
-        assert_eq!(rt; first, *wanted, "first unit from {begin:#x}");
+        expect_eq(&rt, &place_of(&image, next - 1), wanted, next);
+        expect_eq(&rt, &first_place(&image, *begin, *next), wanted, begin);
     }
     Ok(())
 }
@@ -137,7 +149,7 @@ fn units_held_by_their_lists(rt: HostRuntime) -> Result<(), Fail> {
 #[test]
 fn held_units_of_spans(rt: HostRuntime) -> Result<(), Fail> {
     let file = file_of(rt.alloc(), HELD, FEW)?;
-    let image = Image::open(rt.alloc(), &file)?;
+    let image = opened(rt.alloc(), &file)?;
     let spans = [
         (0, 0x11, Some(0)),
         (0x50, 0x110, None),
@@ -145,8 +157,7 @@ fn held_units_of_spans(rt: HostRuntime) -> Result<(), Fail> {
         (0x150, u64::MAX, None),
     ];
     for (low, high, wanted) in spans {
-        let place = image.first_unit_place(low, high).map(|found| found.place);
-        assert_eq!(rt; place, wanted, "first unit from {low:#x}");
+        expect_eq(&rt, &first_place(&image, low, high), &wanted, &low);
     }
     Ok(())
 }
@@ -160,7 +171,7 @@ fn bad_list_of_a_held_unit(rt: HostRuntime) -> Result<(), Fail> {
         &[2, 7, 0, 0, 0, 0, 1, 0, 0, 0, 0, 0, 0],
     ];
     let file = file_of(rt.alloc(), roots, FEW)?;
-    let fault = Image::open(rt.alloc(), &file).err();
-    assert_eq!(rt; fault, Some(OpenFault::RootRanges(42)));
+    let fault = opened(rt.alloc(), &file).err();
+    expect_eq(&rt, &fault, &Some(OpenFault::RootRanges(42)), &42);
     Ok(())
 }
