@@ -74,7 +74,7 @@ def callers_of_one_list(size):
     """Functions of two bytes, in each of which one of two bytes was inlined that names one list."""
     count = size // 14
     first = declaration(1, COMPILE_UNIT, 1, [*COVERING, (ADDR_BASE, SEC_OFFSET), (LISTS_BASE, SEC_OFFSET)])
-    functions = (declaration(2, SUBPROGRAM, 1, [(LOW_PC, ADDRX), (HIGH_PC, IMPLICIT_CONST, 100)])
+    functions = (declaration(2, SUBPROGRAM, 1, [(LOW_PC, ADDRX), (HIGH_PC, IMPLICIT_CONST, 16)])
                  + declaration(3, INLINED, 0, [(RANGES, RNGLISTX)]))
     info = unit(b'\x01' + covered() + bytes(8) + b'\x02\0\x03\0\0' * count)
     return file_of(info, first + functions + b'\0', addr=number(BEGIN, 8), rnglists=number(4, 4) + long_list(count))
