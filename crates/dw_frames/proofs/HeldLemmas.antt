@@ -1,16 +1,15 @@
 -- Range lists that are held by name.
-use Rattle.std.proofs.Common.{◌≡◌, ◌∙◌, inl, inr, ℕ, zero, suc, ◌+◌, ◌≤◌, ◌<◌, min, Bool, true, false, cond, List, [], ◌∷◌, ◌++◌, length, take, get_or, subst, Option, Some, None, refl, sym, ap, arith, append_assoc}
+use Rattle.std.proofs.Common.{◌≡◌, ◌∙◌, ℕ, zero, suc, ◌+◌, ◌≤◌, ◌<◌, Bool, true, false, cond, List, [], ◌∷◌, ◌++◌, length, take, get_or, subst, Option, Some, None, refl, sym, ap, arith, append_assoc}
 use Rattle.std.proofs.lemmas.List.{append-nil, take_more}
 use Rattle.dw_model.specs.Ranges.{Range, covers}
 use Rattle.dw_index.specs.Owners.{least, least_owner}
-use Rattle.dw_index.proofs.OwnerLemmas.{least-assoc, least-none, least_owner-append}
+use Rattle.dw_index.proofs.OwnerLemmas.{least-assoc, least_owner-append}
 use Rattle.dw_frames.specs.declared.held.HeldList.{HeldList}
 use Rattle.dw_frames.specs.Drafts.{Drafts, owned, with_ranges, innermost}
 use Rattle.dw_frames.specs.Held.{all_held, all_held_in, pairs_held}
-use Rattle.dw_frames.specs.Inlined.{InlinedRange, inlined_in, all_in, all_in_some}
+use Rattle.dw_frames.specs.Inlined.{InlinedRange, inlined_in, all_in}
 use Rattle.dw_frames.specs.Known.{Same}
 use Rattle.dw_frames.proofs.FirstLemmas.{of_list}
-use Rattle.dw_frames.proofs.FollowLemmas.{same_or_apart}
 use Rattle.dw_frames.proofs.InlinedLemmas.{inlined-append, inlined-here, inlined-elsewhere}
 
 -- ---- one more list

@@ -1,11 +1,13 @@
 -- Functions whose range lists were read for earlier ones.
 use Rattle.std.proofs.Common.{◌≡◌, ◌∙◌, inl, inr, ℕ, ◌<◌, ◌≤◌, Bool, true, false, cond, List, [], ◌∷◌, ◌++◌, length, map, Option, Some, None, Result, Ok, refl, sym, ap, subst, arith, length-append}
 use Rattle.std.specs.Prelude.{is_err, ◌==◌}
+use Rattle.std.specs.Result.{result_unwrap_or}
 use Rattle.std.proofs.lemmas.Bool.{eqb-true, ne_eqb}
 use Rattle.std.proofs.lemmas.List.{append-nil}
 use Rattle.dw_model.specs.Entry.{Entry}
 use Rattle.dw_model.specs.Faults.{Bad}
 use Rattle.dw_model.specs.Section.{Sections}
+use Rattle.dw_model.specs.Text.{Tables}
 use Rattle.dw_model.specs.Unit.{DwarfUnit}
 use Rattle.dw_model.specs.Ranges.{Range}
 use Rattle.dw_model.specs.Tree.{Node, is_subprogram, entry_ranges_in}
@@ -14,6 +16,7 @@ use Rattle.dw_index.specs.declared.range.Range.{Range as CodeRange}
 use Rattle.dw_index.specs.Range.{range_shown}
 use Rattle.dw_index.specs.Owners.{least_owner}
 use Rattle.dw_ranges.specs.declared.range_list.RangeList.{RangeList}
+use Rattle.dw_ranges.specs.Held.{listed}
 use Rattle.dw_ranges.specs.Lists.{ranges_of_list}
 use Rattle.dw_ranges.specs.Owned.{AreOwned}
 use Rattle.dw_ranges.specs.ReadLists.{Has}
@@ -244,6 +247,35 @@ module _ (s : Sections) (unit : DwarfUnit) (entry : Entry) (drafts new : Drafts)
       } in
       (ap (λ (read : Result (List Range) Bad). is_err read) e, rw (behind-kept ranges e read.2, new_is) same)
 
+-- ---- a list that was read for another function
+
+read-is : (entry : Entry) (drafts new : Drafts) (tables : Tables) (list : RangeList) (ranges : List Range) → ranges_of_list tables list ≡ Ok ranges
+    → new ≡ with_list entry.children (Some (length drafts.functions)) (with_function entry.offset (with_ranges (is_subprogram entry) (owned (listed tables list) (length drafts.functions)) drafts))
+    → Same (with_list entry.children (Some (length drafts.functions)) (with_function entry.offset (with_ranges (is_subprogram entry) (owned ranges (length drafts.functions)) drafts))) new
+read-is entry drafts new tables list ranges e is =
+    same-as (with_list entry.children (Some (length drafts.functions)) (with_function entry.offset (with_ranges (is_subprogram entry) (owned ranges (length drafts.functions)) drafts))) new
+    (is ∙ ap (λ (read : Result (List Range) Bad). with_list entry.children (Some (length drafts.functions)) (with_function entry.offset (with_ranges (is_subprogram entry) (owned (result_unwrap_or read []) (length drafts.functions)) drafts))) e)
+
+pub read-added : (s : Sections) (unit : DwarfUnit) (entry : Entry) (reading : Reading) (drafts new : Drafts) (tables : Tables) (list : RangeList) → tables ≡ reading.of.sections.tables → Knows reading drafts → Has reading.loose (list, 0)
+    → entry_ranges_in s unit entry ≡ ranges_of_list reading.of.sections.tables list
+    → new ≡ with_list entry.children (Some (length drafts.functions)) (with_function entry.offset (with_ranges (is_subprogram entry) (owned (listed tables list) (length drafts.functions)) drafts)) → Added s unit entry drafts new
+read-added s unit entry reading drafts new tables list tables_are knows known e is =
+    let has = knows.loose (list, 0) known in
+    kept-added s unit entry drafts new has.0 (e ∙ has.1) has.2 (read-is entry drafts new tables list has.0 (rw tables_are (has.1)) is)
+
+-- a list with ranges that is noted
+pub knows-read : (reading other : Reading) (drafts : Drafts) (list : RangeList) → other.of ≡ reading.of → other.idle ≡ reading.idle → other.outermost ≡ reading.outermost → other.inlined ≡ reading.inlined
+    → ((known : RangeList × ℕ) → Has other.loose known → Has ((list, 0) ∷ reading.loose) known) → HasRanges reading list → Knows reading drafts → Knows other drafts
+knows-read reading other drafts list of idle outermost inlined noted has h = record {
+  idle = λ known at. rw of (h.idle known (rw (← idle) at));
+  outermost = λ known at. still-has reading other drafts drafts known.0 drafts.outermost drafts.outermost of (λ ranges owned. owned) (h.outermost known (rw (← outermost) at));
+  inlined = λ known at. still-has reading other drafts drafts known.0 (inlined_in known.1 drafts.inlined) (inlined_in known.1 drafts.inlined) of (λ ranges owned. owned) (h.inlined known (rw (← inlined) at));
+  loose = λ known at. elim (noted known at) [
+    | inl same ↦ (let one : list ≡ known.0 = ap (λ (known : RangeList × ℕ). known.0) same in subst (HasRanges other) one (still-ranges reading other list of has))
+    | inr old ↦ still-ranges reading other known.0 of (h.loose known old)
+  ];
+}
+
 -- ---- a list that is noted
 
 noted-outermost : (reading other : Reading) (drafts new : Drafts) (subprogram : Bool) (list : RangeList) (ranges : List Range) (children : Bool) (number : Option ℕ) (offset : ℕ) → other.of ≡ reading.of → ranges_of_list reading.of.sections.tables list ≡ Ok ranges → (length ranges == 0) ≡ false
@@ -337,3 +369,14 @@ some-shown ranges seen count same size some = rw same (by_ranges ranges (ap (λ 
     by_ranges : (ranges : List CodeRange) → (length ranges == 0) ≡ false → (length (map range_shown ranges) == 0) ≡ false
     by_ranges [] e = e
     by_ranges (range ∷ ranges) e = ne_eqb (length (map range_shown (range ∷ ranges))) 0 (λ none. absurd (omega (arith, none)))
+
+pub knows-held : (reading other : Reading) (entry : Entry) (drafts new : Drafts) (tables : Tables) (outer : Option ℕ) (list : RangeList) → tables ≡ reading.of.sections.tables → other.of ≡ reading.of → other.idle ≡ reading.idle
+    → ((known : RangeList × ℕ) → Has other.outermost known → Has (for_subprogram (is_subprogram entry) list ++ reading.outermost) known)
+    → ((known : RangeList × ℕ) → Has other.inlined known → Has (for_inlined (is_subprogram entry) outer list ++ reading.inlined) known)
+    → ((known : RangeList × ℕ) → Has other.loose known → Has (for_loose (is_subprogram entry) outer list ++ reading.loose) known)
+    → innermost drafts ≡ outer → Has reading.loose (list, 0)
+    → new ≡ with_list entry.children (Some (length drafts.functions)) (with_function entry.offset (with_ranges (is_subprogram entry) (owned (listed tables list) (length drafts.functions)) drafts)) → Knows reading drafts → Knows other new
+knows-held reading other entry drafts new tables outer list tables_are of idle noted noted_inlined noted_loose at known is h =
+    let has = h.loose (list, 0) known in
+    knows-noted reading other drafts new (is_subprogram entry) outer list has.0 entry.children (Some (length drafts.functions)) entry.offset of idle noted noted_inlined noted_loose has.1 has.2 at
+    (read-is entry drafts new tables list has.0 (rw tables_are (has.1)) is) h

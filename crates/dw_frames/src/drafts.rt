@@ -156,8 +156,17 @@ impl<'b, 'a> Drafts<'b, 'a> {
         Ok(())
     }
 
+    /// Further lists of more than one range are held by name.
+    pub(crate) fn is_full(&self) -> bool {
+        self.left == 0
+    }
+
     /// Holds the list of a function by name.
-    fn hold(&mut self, is_subprogram: bool, held: HeldList<'b, 'a>) -> Result<(), AllocError>
+    pub(crate) fn hold(
+        &mut self,
+        is_subprogram: bool,
+        held: HeldList<'b, 'a>,
+    ) -> Result<(), AllocError>
         ensures { OnOk result (self.new ≡ model.with_ranges is_subprogram (pairs_held held.entry) self.old) }
     {
         if is_subprogram {
@@ -186,6 +195,7 @@ impl<'b, 'a> Drafts<'b, 'a> {
     {
         if ranges.len() > 1 {
             if ranges.len() > self.left {
+                self.left = 0;
                 return self.hold(is_subprogram, held);
             }
             self.left -= ranges.len();

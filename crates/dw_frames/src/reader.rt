@@ -1,12 +1,13 @@
 //! Entries of a unit, read one after the other, of which the functions are kept.
 
-ghost use Rattle.std.specs.Prelude.{◌≡◌, ◌++◌, Bool, Option, Some, None, Ok, true, OnOk, length, map, nat_lt};
+ghost use Rattle.std.specs.Prelude.{◌≡◌, ◌++◌, ◌∷◌, Bool, Option, Some, None, Ok, true, OnOk, length, map, nat_lt};
 ghost use Rattle.dw_model.specs.Results.{refuse_if};
 ghost use Rattle.dw_model.specs.Faults.{depth_fault};
 ghost use Rattle.dw_model.specs.Tree.{most_depth, entry_ranges_in, is_subprogram};
 ghost use Rattle.dw_model.specs.Answers.{Gives};
 ghost use Rattle.dw_forms.specs.Tables.{tables_shown};
 ghost use Rattle.dw_index.specs.Range.{range_shown};
+ghost use Rattle.dw_ranges.specs.Held.{listed};
 ghost use Rattle.dw_ranges.specs.Lists.{ranges_of_list};
 ghost use Rattle.dw_ranges.specs.ReadLists.{Has};
 ghost use Rattle.dw_model.specs.Entry.{Entry as ModelEntry};
@@ -134,6 +135,28 @@ fn keep_listed<'b, 'a>(
     Ok(())
 }
 
+/// Adds a function whose list is held by name.
+fn hold_function<'b, 'a>(
+    drafts: &mut Drafts<'b, 'a>,
+    entry: &EntryView<'b, 'a>,
+    list: RangeList,
+    tables: &'b Tables<'a>,
+) -> Result<(), AllocError>
+    ensures { OnOk result (drafts.new ≡ model.with_list entry.now.children (Some (length drafts.old.functions))
+        (model.with_function entry.now.offset (model.with_ranges (is_subprogram entry.now)
+        (owned (listed (tables_shown tables.now) list) (length drafts.old.functions)) drafts.old))) }
+{
+    let number = drafts.count();
+    let held = HeldList {
+        tables,
+        list,
+        number,
+    };
+    drafts.hold(entry.tag() == DW_TAG_subprogram, held)?;
+    pass_function(drafts, entry)?;
+    Ok(())
+}
+
 impl<'b, 'a> Reader<'b, 'a> {
     /// No function of a unit was read yet.
     pub(crate) fn new(alloc: Global, unit: OpenUnit<'b, 'a>) -> Self
@@ -159,6 +182,58 @@ impl<'b, 'a> Reader<'b, 'a> {
             return false;
         }
         self.idle.has(list, 0)
+    }
+
+    /// The list was read, and has ranges.
+    fn is_read(&self, list: RangeList) -> bool
+        ensures { result ≡ true → Has self.now.loose (list, 0) }
+    {
+        if self.left > 0 {
+            return false;
+        }
+        self.loose.has(list, 0)
+    }
+
+    /// Notes a list that has ranges, where further lists are held by name.
+    fn note_read(&mut self, list: RangeList, is_full: bool) -> Result<(), AllocError>
+        ensures same { self.new.of ≡ self.old.of }
+        ensures idle { self.new.idle ≡ self.old.idle }
+        ensures outermost { self.new.outermost ≡ self.old.outermost }
+        ensures inlined { self.new.inlined ≡ self.old.inlined }
+        ensures loose { OnOk result ((known : _) → Has self.new.loose known
+            → Has ((list, 0) ∷ self.old.loose) known) }
+    {
+        if self.left > 0 {
+            return Ok(());
+        }
+        if !is_full {
+            return Ok(());
+        }
+        self.loose.note(list, 0)?;
+        Ok(())
+    }
+
+    /// Holds the list of a function by name that was read for an earlier one and has ranges.
+    fn add_read(
+        &mut self,
+        drafts: &mut Drafts<'b, 'a>,
+        entry: &EntryView<'b, 'a>,
+        list: RangeList,
+    ) -> Result<(), TreeFault>
+        ensures same { self.new.of ≡ self.old.of }
+        ensures function { Knows self.old drafts.old → Has self.old.loose (list, 0)
+            → entry_ranges_in self.old.of.sections self.old.of.unit entry.now
+            ≡ ranges_of_list self.old.of.sections.tables list
+            → AddsFunction self.old.of.sections self.old.of.unit entry.now result drafts.old drafts.new }
+        ensures known { Knows self.old drafts.old → Has self.old.loose (list, 0)
+            → OnOk result (Knows self.new drafts.new) }
+    {
+        let is_subprogram = entry.tag() == DW_TAG_subprogram;
+        let outer = drafts.innermost();
+        let unit = self.unit;
+        hold_function(drafts, entry, list, unit.units().tables())?;
+        self.note(is_subprogram, outer, list)?;
+        Ok(())
     }
 
     /// An earlier function owns each address of a list: a subprogram, or else one that is inlined in the same
@@ -233,6 +308,11 @@ impl<'b, 'a> Reader<'b, 'a> {
             pass_function(drafts, entry)?;
             return Ok(());
         }
+        if drafts.is_full() {
+            if self.is_read(list) {
+                return self.add_read(drafts, entry, list);
+            }
+        }
         let unit = self.unit;
         let size = read_list(&mut self.ranges, list, unit.units().tables())?;
         self.left = self.left.saturating_sub(size);
@@ -243,6 +323,7 @@ impl<'b, 'a> Reader<'b, 'a> {
         }
         keep_listed(drafts, entry, &self.ranges, list, unit.units().tables())?;
         self.note(is_subprogram, outer, list)?;
+        self.note_read(list, drafts.is_full())?;
         Ok(())
     }
 

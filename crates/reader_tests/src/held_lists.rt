@@ -12,34 +12,33 @@ const ABBREVS: &[u8] = &[
     1, 0x11, 1, 0, 0, 2, 0x2e, 1, 0x55, 0x17, 0, 0, 3, 0x1d, 0, 0x55, 0x17, 0, 0, 0,
 ];
 
-/// Subprograms at 13, 24, 40 and 51, of the lists at 57, 0, 3 and 54; of functions inlined in the first one at 18 of
-/// the list at 0, in the second at 29 and 34 of those at 54 and 21, and in the third at 45 of that at 0. The unit has
-/// 58 bytes, so 14 ranges are kept of lists that have more than one: those of the functions at 29 and 51.
+/// Subprograms at 13, 29 and 45, of the lists at 54, 0 and 61; of functions inlined in the first one at 18
+/// and 23 of the lists at 57 and 0, and in the second at 34 and 39 of those at 3 and 61. The unit has 52
+/// bytes, so 13 ranges may be kept of lists that have more than one: the lists at 0 and 3 are too long.
 const ENTRIES: &[u8] = &[
-    1, 2, 57, 0, 0, 0, 3, 0, 0, 0, 0, 0, 2, 0, 0, 0, 0, 3, 54, 0, 0, 0, 3, 21, 0, 0, 0, 0, 2, 3, 0,
-    0, 0, 3, 0, 0, 0, 0, 0, 2, 54, 0, 0, 0, 0, 0,
+    1, 2, 54, 0, 0, 0, 3, 57, 0, 0, 0, 3, 0, 0, 0, 0, 0, 2, 0, 0, 0, 0, 3, 3, 0, 0, 0, 3, 61, 0, 0,
+    0, 0, 2, 61, 0, 0, 0, 0, 0,
 ];
 
-/// Twenty ranges: two addresses from 4 on, two from 8 on, and so on to those from 80 on. The list at 3 * n has all but
-/// the first n.
+/// Twenty ranges: two addresses from 4 on, two from 8 on, and so on to those from 80 on; the list at 3 * n
+/// has all but the first n. At 61 is a list of the two addresses from 8 on.
 fn lists(alloc: Global) -> Result<Vec<u8>, AllocError> {
     let mut lists = Vec::new(alloc);
     for i in 1..21u8 {
         lists.extend_from_slice(&[4, 4 * i, 4 * i + 2])?;
     }
-    lists.push(0)?;
+    lists.extend_from_slice(&[0, 4, 8, 10, 0])?;
     Ok(lists)
 }
 
 /// The functions at addresses, innermost first.
-const CHAINS: [(u64, &[u64]); 9] = [
+const CHAINS: [(u64, &[u64]); 8] = [
     (3, &[]),
-    (4, &[24]),
+    (4, &[29]),
     (6, &[]),
-    (8, &[24]),
-    (32, &[34, 24]),
-    (76, &[29, 24]),
-    (78, &[]),
+    (8, &[34, 29]),
+    (32, &[34, 29]),
+    (76, &[23, 13]),
     (80, &[18, 13]),
     (82, &[]),
 ];
