@@ -1,5 +1,5 @@
 -- What a unit's functions and lines answer.
-use Rattle.std.proofs.Common.{◌≡◌, ◌∙◌, ℕ, Bool, true, false, cond, List, [], ◌∷◌, Option, Some, None, Ok, Err, refl, sym, ap, subst}
+use Rattle.std.proofs.Common.{◌≡◌, ◌∙◌, ℕ, Bool, true, false, cond, List, [], ◌∷◌, Option, Some, None, Err, refl, sym, ap, subst}
 use Rattle.std.specs.Prelude.{IfSome, MatchOption, find, slice_get, option_and_then, ◌&&◌}
 use Rattle.std.proofs.lemmas.Option.{get_or_from_slice_get}
 use Rattle.dw_model.specs.Results.{with_code}

@@ -1,7 +1,5 @@
-use Rattle.std.proofs.Common.{◌≡◌, ◌∙◌, [], ◌∷◌, ◌++◌, map, List, length, ℕ, ◌-◌, take, refl, sym, ap, arith}
-use Rattle.std.proofs.lemmas.List.{map-append, append-nil}
-use Rattle.dw_model.specs.Pieces.{with_piece}
-use Rattle.dw_symbols.specs.Answer.{piece_shown}
+use Rattle.std.proofs.Common.{◌∙◌, ℕ, ◌-◌, take, sym, ap}
+use Rattle.std.proofs.lemmas.List.{append-nil}
 use Rattle.dw_symbols.proofs.SpanLemmas.{first_of, grows_shown, follows_shown}
 use Rattle.dw_symbols.proofs.pieces.push_piece.Goals as goal
 

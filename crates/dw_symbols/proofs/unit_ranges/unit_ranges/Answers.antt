@@ -1,5 +1,5 @@
-use Rattle.std.proofs.Common.{◌≡◌, ◌∙◌, ◌++◌, length, List, map, arith, ap, subst, Ok, Err}
-use Rattle.std.specs.Prelude.{IfSome, MatchOption, ◌/◌}
+use Rattle.std.proofs.Common.{◌≡◌, length, List, map, arith, ap, subst, Ok, Err}
+use Rattle.std.specs.Prelude.{MatchOption, ◌/◌}
 use Rattle.std.proofs.lemmas.Result.{err_from_is_err_and}
 use Rattle.dw_model.specs.Text.{Tables}
 use Rattle.dw_model.specs.Unit as model

@@ -1,12 +1,11 @@
-use Rattle.std.proofs.Common.{◌≡◌, ◌≤◌, ◌<◌, ◌∙◌, ℕ, List, map, Option, Some, sym, subst, ap, arith}
+use Rattle.std.proofs.Common.{◌<◌, ◌∙◌, ℕ, List, map, Option, subst, ap, arith}
 use Rattle.dw_model.specs.Section.{sections}
 use Rattle.dw_model.specs.Answer as model
-use Rattle.dw_model.specs.Pieces.{place}
 use Rattle.dw_symbols.specs.declared.answer.Piece.{Piece}
 use Rattle.dw_symbols.specs.declared.answer.UnitFault.{UnitFault}
 use Rattle.dw_symbols.specs.declared.span.Span.{Span}
 use Rattle.dw_symbols.specs.ContextState.{ContextState}
-use Rattle.dw_symbols.specs.Answer.{piece_shown, code_shown}
+use Rattle.dw_symbols.specs.Answer.{piece_shown}
 use Rattle.dw_symbols.specs.Span.{AddsSpan, fault_shown}
 use Rattle.dw_symbols.proofs.SpanLemmas.{all_pieces, first_fault, no_span}
 use Rattle.dw_symbols.proofs.context.Context.find_location_range.Goals as goal

@@ -1,4 +1,4 @@
-use Rattle.std.proofs.Common.{◌≡◌, ◌∙◌, ℕ, ◌<◌, List, map, length, Option, Some, None, subst, sym, ap}
+use Rattle.std.proofs.Common.{◌≡◌, ◌∙◌, ℕ, ◌<◌, List, map, length, Option, subst, ap}
 use Rattle.std.specs.Prelude.{IfSome, slice_get}
 use Rattle.dw_model.specs.Section.{sections}
 use Rattle.dw_model.specs.Unit.{units}

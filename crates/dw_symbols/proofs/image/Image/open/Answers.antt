@@ -1,4 +1,4 @@
-use Rattle.std.proofs.Common.{◌≡◌, ◌≤◌, ◌∙◌, ◌++◌, ℕ, None, length, map, sym, ap, subst}
+use Rattle.std.proofs.Common.{◌≡◌, ◌≤◌, ◌∙◌, ℕ, None, sym, ap, subst}
 use Rattle.std.specs.Prelude.{option_map}
 use Rattle.std.proofs.lemmas.Result.{err_from_is_err_and}
 use Rattle.dw_model.specs.Section.{Sections, sections}
@@ -6,9 +6,7 @@ use Rattle.dw_model.specs.Unit as model
 use Rattle.dw_model.specs.Root.{unit_refusal}
 use Rattle.dw_elf.specs.OpenFault.{refusal_of}
 use Rattle.dw_model.specs.Faults.{root_ranges}
-use Rattle.dw_index.specs.Range.{pair_shown}
-use Rattle.dw_index.specs.Owners.{least_owner}
-use Rattle.dw_symbols.specs.Held.{held_pairs, most_ranges}
+use Rattle.dw_symbols.specs.Held.{most_ranges}
 use Rattle.dw_symbols.proofs.OwnerLemmas.{none-bad, told-bad, cover-unit}
 use Rattle.dw_symbols.proofs.ImageLemmas.{by-ranges, told-by-ranges}
 use Rattle.dw_symbols.proofs.image.Image.open.Goals as goal

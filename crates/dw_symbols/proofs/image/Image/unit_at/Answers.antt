@@ -1,5 +1,5 @@
-use Rattle.std.proofs.Common.{◌≡◌, ◌∙◌, ap}
-use Rattle.dw_model.specs.Section.{Sections, sections}
+use Rattle.std.proofs.Common.{◌∙◌, ap}
+use Rattle.dw_model.specs.Section.{Sections}
 use Rattle.dw_model.specs.Text.{Tables}
 use Rattle.dw_forms.specs.Tables.{tables_shown}
 use Rattle.dw_symbols.specs.Held.{first_unit}

@@ -1,4 +1,4 @@
-use Rattle.std.proofs.Common.{◌≡◌, ◌∙◌, sym, ap, arith}
+use Rattle.std.proofs.Common.{◌∙◌, sym, ap, arith}
 use Rattle.dw_model.specs.Section.{Sections}
 use Rattle.dw_forms.specs.Tables.{tables_shown}
 use Rattle.dw_symbols.proofs.ImageLemmas.{found-unit, found-within}
