@@ -4,13 +4,13 @@
 ghost use Rattle.std.specs.Prelude.{◌≡◌};
 ghost use Rattle.ticket_board.specs.Seats.{IsClientOf, IsWorkerOf};
 
-use crate::calls::{context_at_last, context_of, open_at_last, opened};
-use crate::contexts::{IN_MAIN, INLINED, expect_frames};
+use crate::contexts::{IN_MAIN, INLINED, context_at_last, expect_frames, open_at_last};
 use crate::texts::Open;
+use dw_symbols::{Context, Image};
 use std::alloc::Global;
+use std::num::NonZeroUsize;
 use std::process::Abort;
 use std::test::Fail;
-use test_inputs::checks::expect_eq;
 use test_inputs::files::sample;
 use ticket_board::{AskFault, Board, BoardFault, Client, Next, Turn, Worker, open};
 use ticket_core::{NoMemory, Query, Shape, Solver};
@@ -33,10 +33,11 @@ fn expect_asked<'a, S: Solver>(
     requires { IsClientOf board.now client.old }
     ensures { IsClientOf board.now client.new }
 {
-    let asked = client.ask(board, Query::address(a));
-    expect_eq(rt, &asked, &Ok(number), &number);
-    let asked = client.ask(board, Query::address(0x40_1004));
-    expect_eq(rt, &asked, &Err(AskFault::Full), &number);
+    assert_eq!(rt; client.ask(board, Query::address(a)), Ok(number));
+    assert_eq!(rt;
+        client.ask(board, Query::address(0x40_1004)),
+        Err(AskFault::Full)
+    );
     assert!(rt; matches!(client.next(board), Next::Pending));
 }
 
@@ -54,7 +55,7 @@ fn answer_of<'a, S: Solver>(
     let Next::Answer(found, answer) = client.next(board) else {
         return Err(BoardFault::BadShape.into());
     };
-    expect_eq(rt, &found, &number, &number);
+    assert_eq!(rt; found, number);
     Ok(answer)
 }
 
@@ -65,8 +66,10 @@ fn expect_end<'a, S: Solver>(rt: &impl Abort, board: &Board<'a, S>, client: &mut
     client.close();
     assert!(rt; matches!(client.next(board), Next::Ended));
     assert!(rt; matches!(client.next(board), Next::Ended));
-    let asked = client.ask(board, Query::address(0x40_1004));
-    expect_eq(rt, &asked, &Err(AskFault::Closed), &0);
+    assert_eq!(rt;
+        client.ask(board, Query::address(0x40_1004)),
+        Err(AskFault::Closed)
+    );
 }
 
 /// The answers to 0x401000 and 0x401004; what each other call of the board returns on the way is
@@ -88,11 +91,11 @@ fn answers_of<S: Solver>(
     };
     expect_asked(rt, &board, &mut client, 0x40_1000, 0);
     let turn = worker.turn(&board, solver, &Open);
-    expect_eq(rt, &turn, &Ok(Turn::Answered(0, 0)), &0);
+    assert_eq!(rt; turn, Ok(Turn::Answered(0, 0)));
     let first = answer_of(rt, &board, &mut client, 0)?;
     expect_asked(rt, &board, &mut client, 0x40_1004, 1);
     let turn = worker.turn(&board, solver, &Open);
-    expect_eq(rt, &turn, &Ok(Turn::Answered(0, 1)), &1);
+    assert_eq!(rt; turn, Ok(Turn::Answered(0, 1)));
     let second = answer_of(rt, &board, &mut client, 1)?;
     expect_end(rt, &board, &mut client);
     Ok((first, second))
@@ -101,10 +104,9 @@ fn answers_of<S: Solver>(
 #[test]
 fn one_cell(rt: HostRuntime) -> Result<(), Fail> {
     let file = sample(rt.alloc())?;
-    let image = opened(rt.alloc(), &file)?;
-    let mut context = context_of(rt.alloc(), &image)?;
-    let key = context.bytes();
-    let (first, second) = answers_of(&rt, rt.alloc(), key, &mut context)?;
+    let image = Image::open(rt.alloc(), &file)?;
+    let mut context = Context::new(rt.alloc(), &image, NonZeroUsize::MIN)?;
+    let (first, second) = answers_of(&rt, rt.alloc(), &file, &mut context)?;
     expect_frames(&rt, &first, 0, IN_MAIN);
     expect_frames(&rt, &second, 0, INLINED);
     Ok(())
@@ -131,7 +133,7 @@ fn answer_at_last<'a, S: Solver>(
     };
     assert!(rt; matches!(client.next(board), Next::Pending));
     let turn = worker.turn(board, solver, &Open);
-    expect_eq(rt, &turn, &Ok(Turn::Answered(0, 0)), &0);
+    assert_eq!(rt; turn, Ok(Turn::Answered(0, 0)));
 }
 
 /// The answer to 0x401004, which is given once; `None` where the board can't be opened.
@@ -153,11 +155,10 @@ fn answered_once<S: Solver>(
     let Some(mut worker) = workers.pop() else {
         return Err(BoardFault::BadShape.into());
     };
-    let asked = client.ask(&board, Query::address(0x40_1004));
-    expect_eq(rt, &asked, &Ok(0), &0);
+    assert_eq!(rt; client.ask(&board, Query::address(0x40_1004)), Ok(0));
     answer_at_last(rt, &board, &mut client, &mut worker, solver);
     let turn = worker.turn(&board, solver, &Open);
-    expect_eq(rt, &turn, &Ok(Turn::Idle), &0);
+    assert_eq!(rt; turn, Ok(Turn::Idle));
     let answer = answer_of(rt, &board, &mut client, 0)?;
     expect_end(rt, &board, &mut client);
     Ok(Some(answer))

@@ -1,17 +1,14 @@
 //! Frames of addresses, worked out by hand, and what no clause says: that calls succeed, and that
 //! contexts go to threads.
 
-use crate::calls::{
-    context_at_last, context_of, frames_at, frames_at_last, location_at, location_at_last,
-    open_at_last, opened,
-};
 use crate::spans::{PIECES, expect_pieces};
-use dw_symbols::{Answer, Frame, UnitFault};
+use dw_elf::OpenFault;
+use dw_symbols::{Answer, Context, Image, UnitFault};
 use std::alloc::{AllocError, Global};
+use std::num::NonZeroUsize;
 use std::process::Abort;
 use std::test::Fail;
 use std::thread;
-use test_inputs::checks::expect_eq;
 use test_inputs::files::{ABBREVS, INFO, file_of, poked, sample, with_lines};
 use ticket_core::{NoMemory, Query, Solver};
 
@@ -33,13 +30,6 @@ const LINE: &[Wanted<'_>] = &[(None, Some(b"/w/a.c"), Some(4), Some(0))];
 /// The frame where nothing is known.
 const UNKNOWN: &[Wanted<'_>] = &[(None, None, None, None)];
 
-/// What a frame tells.
-fn told<'b>(frame: &'b Frame<'_>) -> Wanted<'b> {
-    let location = &frame.location;
-    let path = location.path.as_deref();
-    (frame.name, path, location.line, location.column)
-}
-
 /// An answer is of a unit and has these frames.
 pub fn expect_frames<A: Abort>(rt: &A, answer: &Answer<'_>, unit: u64, wanted: &[Wanted<'_>]) {
     let Answer::Found {
@@ -47,37 +37,45 @@ pub fn expect_frames<A: Abort>(rt: &A, answer: &Answer<'_>, unit: u64, wanted: &
         frames,
     } = answer
     else {
-        panic!(rt; "no frames")
+        assert!(rt; false, "no frames");
+        return;
     };
-    expect_eq(rt, &(*found, frames.len()), &(unit, wanted.len()), &unit);
-    for (frame, wanted) in frames.iter().zip(wanted.iter()) {
-        expect_eq(rt, &told(frame), wanted, &unit);
+    assert_eq!(rt; *found, unit);
+    assert_eq!(rt; frames.len(), wanted.len());
+    for (frame, (name, path, line, column)) in frames.iter().zip(wanted.iter()) {
+        let location = &frame.location;
+        assert_eq!(rt; frame.name, *name);
+        assert_eq!(rt; location.path.as_deref(), *path);
+        assert_eq!(rt; (location.line, location.column), (*line, *column));
     }
 }
 
-/// An address isn't covered.
-fn is_uncovered(answer: &Answer<'_>) -> bool {
-    matches!(answer, Answer::NotCovered)
+/// The frames at an address. No clause says what they are, so that its callers are proved soon.
+fn frames_at<'a>(context: &mut Context<'_, 'a>, a: u64) -> Result<Answer<'a>, AllocError> {
+    context.find_frames(a)
 }
 
-/// Addresses one after the other, the units and the frames there.
-static VISITS: [(u64, u64, &[Wanted<'_>]); 3] = [
-    (0x40_1004, 0, INLINED),
-    (0x50_0001, 0x6e, UNKNOWN),
-    (0x40_1004, 0, INLINED),
-];
+/// The location at an address, in the same way.
+fn location_at<'a>(context: &mut Context<'_, 'a>, a: u64) -> Result<Answer<'a>, AllocError> {
+    context.find_location(a)
+}
 
 #[test]
 fn units_come_and_go(rt: HostRuntime) -> Result<(), Fail> {
     let file = sample(rt.alloc())?;
-    let image = opened(rt.alloc(), &file)?;
-    let mut context = context_of(rt.alloc(), &image)?;
-    for (a, unit, wanted) in &VISITS {
-        expect_frames(&rt, &frames_at(&mut context, *a)?, *unit, wanted);
+    let image = Image::open(rt.alloc(), &file)?;
+    let mut context = Context::new(rt.alloc(), &image, NonZeroUsize::MIN)?;
+    let rows = [
+        (0x40_1004, 0, INLINED),
+        (0x50_0001, 0x6e, UNKNOWN),
+        (0x40_1004, 0, INLINED),
+    ];
+    for (a, unit, wanted) in rows {
+        expect_frames(&rt, &frames_at(&mut context, a)?, unit, wanted);
     }
     expect_frames(&rt, &location_at(&mut context, 0x40_1004)?, 0, LINE);
-    assert!(rt; is_uncovered(&frames_at(&mut context, 0x50_0004)?));
-    assert!(rt; is_uncovered(&location_at(&mut context, 0x50_0004)?));
+    assert!(rt; matches!(frames_at(&mut context, 0x50_0004)?, Answer::NotCovered));
+    assert!(rt; matches!(location_at(&mut context, 0x50_0004)?, Answer::NotCovered));
     Ok(())
 }
 
@@ -89,13 +87,21 @@ fn solved<S: Solver>(solver: &mut S, query: Query) -> Result<S::Answer, NoMemory
 #[test]
 fn as_solver(rt: HostRuntime) -> Result<(), Fail> {
     let file = sample(rt.alloc())?;
-    let image = opened(rt.alloc(), &file)?;
-    let mut context = context_of(rt.alloc(), &image)?;
+    let image = Image::open(rt.alloc(), &file)?;
+    let mut context = Context::new(rt.alloc(), &image, NonZeroUsize::MIN)?;
     assert!(rt; context.key() == file.as_slice());
-    for (a, unit, wanted) in &VISITS {
-        let answer = solved(&mut context, Query::address(*a))?;
-        expect_frames(&rt, &answer, *unit, wanted);
-    }
+    expect_frames(
+        &rt,
+        &solved(&mut context, Query::address(0x40_1004))?,
+        0,
+        INLINED,
+    );
+    expect_frames(
+        &rt,
+        &solved(&mut context, Query::address(0x50_0001))?,
+        0x6e,
+        UNKNOWN,
+    );
     let Some(span) = Query::range(0x40_1002, 0x40_1006) else {
         return Err(Fail::from("a span"));
     };
@@ -109,15 +115,15 @@ fn crosses<T: Send + Sync>(_value: &T) {}
 #[test]
 fn on_threads(rt: HostRuntime) -> Result<(), Fail> {
     let file = sample(rt.alloc())?;
-    let image = opened(rt.alloc(), &file)?;
-    let mut first = context_of(rt.alloc(), &image)?;
-    let mut second = context_of(rt.alloc(), &image)?;
+    let image = Image::open(rt.alloc(), &file)?;
+    let mut first = Context::new(rt.alloc(), &image, NonZeroUsize::MIN)?;
+    let mut second = Context::new(rt.alloc(), &image, NonZeroUsize::MIN)?;
     crosses(&image);
     crosses(&first);
     let (one, other) = thread::join(
         &rt,
-        move || frames_at(&mut first, 0x40_1004),
-        move || frames_at(&mut second, 0x50_0001),
+        move || first.find_frames(0x40_1004),
+        move || second.find_frames(0x50_0001),
     );
     expect_frames(&rt, &one?, 0, INLINED);
     expect_frames(&rt, &other?, 0x6e, UNKNOWN);
@@ -196,8 +202,8 @@ fn is_fault(answer: &Answer<'_>, fault: UnitFault) -> bool {
 fn faults_of_units(rt: HostRuntime) -> Result<(), Fail> {
     for fault in FAULTS {
         let file = unreadable(rt.alloc(), fault)?;
-        let image = opened(rt.alloc(), &file)?;
-        let mut context = context_of(rt.alloc(), &image)?;
+        let image = Image::open(rt.alloc(), &file)?;
+        let mut context = Context::new(rt.alloc(), &image, NonZeroUsize::MIN)?;
         let answer = frames_at(&mut context, 0x40_1000)?;
         assert!(rt; is_fault(&answer, fault), "{fault:?}");
     }
@@ -207,11 +213,47 @@ fn faults_of_units(rt: HostRuntime) -> Result<(), Fail> {
 #[test]
 fn fault_of_lines(rt: HostRuntime) -> Result<(), Fail> {
     let file = unreadable(rt.alloc(), UnitFault::Line)?;
-    let image = opened(rt.alloc(), &file)?;
-    let mut context = context_of(rt.alloc(), &image)?;
+    let image = Image::open(rt.alloc(), &file)?;
+    let mut context = Context::new(rt.alloc(), &image, NonZeroUsize::MIN)?;
     let answer = location_at(&mut context, 0x40_1000)?;
     assert!(rt; is_fault(&answer, UnitFault::Line));
     Ok(())
+}
+
+/// Asks once more where memory was refused.
+fn frames_at_last<'a>(context: &mut Context<'_, 'a>, a: u64) -> Result<Answer<'a>, AllocError> {
+    let Ok(answer) = frames_at(context, a) else {
+        return frames_at(context, a);
+    };
+    Ok(answer)
+}
+
+/// The same for the location alone.
+fn location_at_last<'a>(context: &mut Context<'_, 'a>, a: u64) -> Result<Answer<'a>, AllocError> {
+    let Ok(answer) = location_at(context, a) else {
+        return location_at(context, a);
+    };
+    Ok(answer)
+}
+
+/// A file, opened once more where memory was refused.
+pub fn open_at_last<'a>(alloc: Global, file: &'a [u8]) -> Result<Image<'a>, OpenFault> {
+    let opened = Image::open(alloc, file);
+    let Err(OpenFault::Memory) = opened else {
+        return opened;
+    };
+    Image::open(alloc, file)
+}
+
+/// A context that keeps one unit, made once more where memory was refused.
+pub fn context_at_last<'b, 'a>(
+    alloc: Global,
+    image: &'b Image<'a>,
+) -> Result<Context<'b, 'a>, AllocError> {
+    let Ok(context) = Context::new(alloc, image, NonZeroUsize::MIN) else {
+        return Context::new(alloc, image, NonZeroUsize::MIN);
+    };
+    Ok(context)
 }
 
 /// Where an allocation is refused, opening and asking are out of memory and nothing else; the same

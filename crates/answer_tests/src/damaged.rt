@@ -1,21 +1,16 @@
 //! Files that are cut or have another byte, and what no clause says of them: that no call is out of
 //! memory.
 
-use crate::calls::{context_of, frames_at, location_at, opened};
 use dw_elf::OpenFault;
+use dw_symbols::{Context, Image};
 use std::alloc::Global;
+use std::num::NonZeroUsize;
 use std::process::Abort;
 use std::test::Fail;
-use test_inputs::checks::expect_eq;
 use test_inputs::files::{poked, sample};
 
 /// Bytes of a file header.
 const HEADER_SIZE: usize = 64;
-
-/// Why a file is refused, if it is.
-fn refusal(alloc: Global, file: &[u8]) -> Option<OpenFault> {
-    opened(alloc, file).err()
-}
 
 /// The sample's section header table is after its header, and the section with the names is its
 /// last: it isn't whole in a file that is cut.
@@ -23,28 +18,28 @@ fn refusal(alloc: Global, file: &[u8]) -> Option<OpenFault> {
 fn cut_at_each_length(rt: HostRuntime) -> Result<(), Fail> {
     let file = sample(rt.alloc())?;
     for len in 0..file.len() {
-        let found = refusal(rt.alloc(), file.split_at(len).0);
+        let refusal = Image::open(rt.alloc(), file.split_at(len).0).err();
         let wanted = if len < HEADER_SIZE {
             OpenFault::NotElf
         } else {
             OpenFault::SectionTable
         };
-        expect_eq(&rt, &found, &Some(wanted), &len);
+        assert_eq!(rt; refusal, Some(wanted), "{len} bytes");
     }
-    expect_eq(&rt, &refusal(rt.alloc(), &file), &None, &file.len());
+    Image::open(rt.alloc(), &file)?;
     Ok(())
 }
 
 /// A file is opened and addresses of the sample are asked for, none of which is out of memory.
 fn is_answered(alloc: Global, file: &[u8]) -> Result<bool, Fail> {
-    let image = match opened(alloc, file) {
+    let image = match Image::open(alloc, file) {
         Ok(image) => image,
         Err(fault) => return Ok(fault != OpenFault::Memory),
     };
-    let mut context = context_of(alloc, &image)?;
+    let mut context = Context::new(alloc, &image, NonZeroUsize::MIN)?;
     for a in [0x40_1000, 0x40_1004, 0x50_0001, 0] {
-        frames_at(&mut context, a)?;
-        location_at(&mut context, a)?;
+        context.find_frames(a)?;
+        context.find_location(a)?;
     }
     Ok(true)
 }

@@ -1,8 +1,8 @@
 //! The 64-bit format (sections 7.2.2, 7.4 and 7.5.1 of DWARF 5), alone and beside the 32-bit one,
 //! worked out by hand.
 
-use crate::calls::{context_of, frames_at, opened, units_of};
 use crate::contexts::{Wanted, expect_frames};
+use crate::texts::units_of;
 use dw_bytes::{Cursor, Initial, Width};
 use dw_elf::{Name, OpenFault};
 use dw_forms::{Abbrevs, Bases, FormFault, Tables, Value, read_value};
@@ -12,17 +12,17 @@ use dw_model::dwarf::{
     DW_FORM_ref_addr, DW_FORM_ref4, DW_FORM_sec_offset, DW_FORM_strp, DW_FORM_strp_sup,
     DW_FORM_strx4,
 };
-use dw_units::{Kind, Unit};
+use dw_symbols::{Context, Image};
+use dw_units::Kind;
 use std::alloc::{AllocError, Global};
-use std::process::Abort;
+use std::num::NonZeroUsize;
 use std::test::Fail;
-use test_inputs::checks::expect_eq;
 use test_inputs::files::{HEADER, elf, file_of, line_table};
 
 /// Bytes, what the initial length is with which they begin, and how many bytes are passed.
 type Length = (&'static [u8], Option<Initial>, usize);
 
-static LENGTHS: [Length; 10] = [
+const LENGTHS: [Length; 10] = [
     (&[7, 0, 0, 0, 9], Some(Initial::Bytes(7, Width::Four)), 4),
     (
         &[0xef, 0xff, 0xff, 0xff],
@@ -49,40 +49,23 @@ static LENGTHS: [Length; 10] = [
     (&[], None, 0),
 ];
 
-/// The initial length at the front of some bytes, and how many of them are passed. No clause says
-/// what it is, so that its callers are proved soon.
-fn initial_of(bytes: &[u8]) -> (Option<Initial>, usize) {
-    let mut cursor = Cursor::new(bytes);
-    let initial = cursor.initial_length();
-    (initial, cursor.at())
-}
-
 #[test]
 fn initial_lengths(rt: HostRuntime) {
-    for (bytes, initial, passed) in &LENGTHS {
-        expect_eq(&rt, &initial_of(bytes), &(*initial, *passed), bytes);
+    for (bytes, initial, passed) in LENGTHS {
+        let mut cursor = Cursor::new(bytes);
+        assert_eq!(rt; cursor.initial_length(), initial, "{bytes:?}");
+        assert_eq!(rt; cursor.at(), passed, "{bytes:?}");
     }
-}
-
-/// The next offset, in the same way.
-fn offset_of(cursor: &mut Cursor<'_>, width: Width) -> (Option<u64>, usize) {
-    let offset = cursor.offset(width);
-    (offset, cursor.at())
 }
 
 #[test]
 fn offsets(rt: HostRuntime) {
     let mut cursor = Cursor::new(&[1, 2, 3, 4, 5, 6, 7, 8, 9, 10, 11, 12, 13]);
-    let rows: &[(Width, Option<u64>, usize)] = &[
-        (Width::Four, Some(0x0403_0201), 4),
-        (Width::Eight, Some(0x0c0b_0a09_0807_0605), 12),
-        (Width::Eight, None, 12),
-        (Width::Four, None, 12),
-    ];
-    for (width, offset, passed) in rows {
-        let found = offset_of(&mut cursor, *width);
-        expect_eq(&rt, &found, &(*offset, *passed), width);
-    }
+    assert_eq!(rt; cursor.offset(Width::Four), Some(0x0403_0201));
+    assert_eq!(rt; cursor.offset(Width::Eight), Some(0x0c0b_0a09_0807_0605));
+    assert_eq!(rt; cursor.offset(Width::Eight), None);
+    assert_eq!(rt; cursor.offset(Width::Four), None);
+    assert_eq!(rt; cursor.at(), 12);
 }
 
 /// Eight bytes, and the numbers that they are in both formats.
@@ -92,12 +75,9 @@ const SHORT: u64 = 0x0403_0201;
 
 const LONG: u64 = 0x0807_0605_0403_0201;
 
-/// A form with the values of eight bytes in the 32-bit and in the 64-bit format.
-type Offsets = (u64, Value<'static>, Value<'static>);
-
 /// The forms of offsets with their values in the 32-bit and in the 64-bit format, and three forms
 /// whose values have as many bytes in both.
-static FORMS: [Offsets; 10] = [
+const FORMS: [(u64, Value<'static>, Value<'static>); 10] = [
     (
         DW_FORM_ref_addr,
         Value::SectionRef(SHORT),
@@ -138,41 +118,37 @@ static FORMS: [Offsets; 10] = [
     ),
 ];
 
-/// The value at the front of some bytes, and how many of them are passed, in the same way.
-fn value_of(bytes: &[u8], form: u64, width: Width) -> (Result<Value<'_>, FormFault>, usize) {
-    let mut cursor = Cursor::new(bytes);
-    let value = read_value(&mut cursor, form, None, width);
-    (value, cursor.at())
-}
-
-fn expect_offsets(rt: &impl Abort, row: &Offsets) {
-    let (form, short, long) = *row;
-    let passed = if short == long { 4 } else { 8 };
-    expect_eq(
-        rt,
-        &value_of(EIGHT, form, Width::Four),
-        &(Ok(short), 4),
-        &form,
-    );
-    expect_eq(
-        rt,
-        &value_of(EIGHT, form, Width::Eight),
-        &(Ok(long), passed),
-        &form,
-    );
-    let cut = EIGHT.split_at(3).0;
-    let wanted = (Err(FormFault::End), 0);
-    expect_eq(rt, &value_of(cut, form, Width::Eight), &wanted, &form);
-}
-
 #[test]
 fn values_of_offsets(rt: HostRuntime) {
-    for row in &FORMS {
-        expect_offsets(&rt, row);
+    for (form, short, long) in FORMS {
+        let mut cursor = Cursor::new(EIGHT);
+        assert_eq!(rt;
+            read_value(&mut cursor, form, None, Width::Four),
+            Ok(short),
+            "form {form}"
+        );
+        assert_eq!(rt; cursor.at(), 4, "form {form}");
+        let mut cursor = Cursor::new(EIGHT);
+        assert_eq!(rt;
+            read_value(&mut cursor, form, None, Width::Eight),
+            Ok(long),
+            "form {form}"
+        );
+        let passed = if short == long { 4 } else { 8 };
+        assert_eq!(rt; cursor.at(), passed, "form {form}");
+        let mut cut = Cursor::new(EIGHT.split_at(3).0);
+        assert_eq!(rt;
+            read_value(&mut cut, form, None, Width::Eight),
+            Err(FormFault::End),
+            "form {form}"
+        );
+        assert_eq!(rt; cut.at(), 0, "form {form}");
     }
-    let bytes = &[0x0e, 1, 2, 3, 4, 5, 6, 7, 8];
-    let found = value_of(bytes, DW_FORM_indirect, Width::Eight).0;
-    expect_eq(&rt, &found, &Ok(Value::Str(LONG)), &DW_FORM_indirect);
+    let mut indirect = Cursor::new(&[0x0e, 1, 2, 3, 4, 5, 6, 7, 8]);
+    assert_eq!(rt;
+        read_value(&mut indirect, DW_FORM_indirect, None, Width::Eight),
+        Ok(Value::Str(LONG))
+    );
 }
 
 /// One declaration: a text by an offset, an index of a text, and a reference by an offset; and one
@@ -181,22 +157,15 @@ const SIZED: &[u8] = &[
     1, 0x34, 0, 3, 0x0e, 3, 0x25, 0x31, 0x10, 0, 0, 2, 0x34, 0, 3, 8, 0x31, 0x10, 0, 0, 0,
 ];
 
-/// The table at the front of a section, in the same way.
-fn table_of<'a>(alloc: Global, bytes: &'a [u8]) -> Result<Abbrevs<'a>, FormFault> {
-    Abbrevs::read(alloc, bytes, 0)
-}
-
-/// How many bytes the values of entries take in both formats; none of a code that isn't declared.
-fn sizes_of(table: &Abbrevs<'_>, code: u64) -> Option<(Option<usize>, Option<usize>)> {
-    let found = table.get(code)?;
-    Some((found.size(Width::Four), found.size(Width::Eight)))
-}
-
 #[test]
 fn sizes_by_width(rt: HostRuntime) -> Result<(), Fail> {
-    let table = table_of(rt.alloc(), SIZED)?;
-    expect_eq(&rt, &sizes_of(&table, 1), &Some((Some(9), Some(17))), &1);
-    expect_eq(&rt, &sizes_of(&table, 2), &Some((None, None)), &2);
+    let abbrevs = Abbrevs::read(rt.alloc(), SIZED, 0)?;
+    let sized = abbrevs.get(1).ok_or("a declaration of 1")?;
+    assert_eq!(rt; sized.size(Width::Four), Some(9));
+    assert_eq!(rt; sized.size(Width::Eight), Some(17));
+    let unsized_one = abbrevs.get(2).ok_or("a declaration of 2")?;
+    assert_eq!(rt; unsized_one.size(Width::Four), None);
+    assert_eq!(rt; unsized_one.size(Width::Eight), None);
     Ok(())
 }
 
@@ -223,33 +192,25 @@ const NARROW: Bases = Bases {
     width: Width::Four,
 };
 
-/// The text of an index. No clause says what it is, so that its callers are proved soon.
-fn text_of(i: u64, bases: &Bases) -> Option<&'static [u8]> {
-    TABLES.text(&Value::StrIndex(i), bases)
-}
-
-/// The address of the index 0, in the same way.
-fn first_address(bases: &Bases) -> Option<u64> {
-    TABLES.address(&Value::AddressIndex(0), bases)
-}
-
-/// Indexes, and their texts in the 64-bit and in the 32-bit format.
-static TEXTS: [(u64, Option<&[u8]>, Option<&[u8]>); 4] = [
-    (0, Some(b"wide"), Some(b"wide")),
-    (1, Some(b"narrow"), Some(b"narrow")),
-    (2, None, Some(b"narrow")),
-    (u64::MAX, None, None),
-];
-
 #[test]
 fn texts_by_index(rt: HostRuntime) {
-    for (i, wide, narrow) in &TEXTS {
-        expect_eq(&rt, &text_of(*i, &WIDE), wide, i);
-        expect_eq(&rt, &text_of(*i, &NARROW), narrow, i);
+    let texts: [(u64, Option<&[u8]>, Option<&[u8]>); 4] = [
+        (0, Some(b"wide"), Some(b"wide")),
+        (1, Some(b"narrow"), Some(b"narrow")),
+        (2, None, Some(b"narrow")),
+        (u64::MAX, None, None),
+    ];
+    for (i, wide, narrow) in texts {
+        assert_eq!(rt; TABLES.text(&Value::StrIndex(i), &WIDE), wide, "index {i}");
+        assert_eq!(rt;
+            TABLES.text(&Value::StrIndex(i), &NARROW),
+            narrow,
+            "index {i}"
+        );
     }
     // Addresses have eight bytes in both formats.
-    let addresses = (first_address(&WIDE), first_address(&NARROW));
-    expect_eq(&rt, &addresses, &(Some(1), Some(1)), &0);
+    assert_eq!(rt; TABLES.address(&Value::AddressIndex(0), &WIDE), Some(1));
+    assert_eq!(rt; TABLES.address(&Value::AddressIndex(0), &NARROW), Some(1));
 }
 
 /// A unit over 0x1000 to 0x3000 without lines, and one over 0x2000 to 0x2010 with lines, in both
@@ -302,68 +263,56 @@ pub fn overlapping(
 /// Two units, where the second begins, and the frame at 0x2000.
 type Overlapping = (&'static [u8], &'static [u8], u64, Wanted<'static>);
 
-const NOTHING: Wanted<'static> = (None, None, None, None);
-
-const IN_A: Wanted<'static> = (None, Some(b"/w/a.c"), Some(3), Some(0));
-
-static OF_BOTH_FORMATS: [Overlapping; 3] = [
-    (X_WIDE, Y, 0x25, NOTHING),
-    (Y_WIDE, X, 0x2d, IN_A),
-    (Y, X_WIDE, 0x1d, IN_A),
-];
-
-/// The offsets of the units of a file.
-fn offsets_of(alloc: Global, file: &[u8]) -> Result<Vec<u64>, Fail> {
-    let units = units_of(alloc, file)?;
-    let mut offsets = Vec::new(alloc);
-    for i in 0..units.len() {
-        offsets.push(units.unit(i).offset)?;
-    }
-    Ok(offsets)
-}
-
 #[test]
 fn overlapping_units_of_both_formats(rt: HostRuntime) -> Result<(), Fail> {
-    for (first, second, behind, wanted) in &OF_BOTH_FORMATS {
+    let nothing: Wanted<'_> = (None, None, None, None);
+    let line: Wanted<'_> = (None, Some(b"/w/a.c"), Some(3), Some(0));
+    let rows: [Overlapping; 3] = [
+        (X_WIDE, Y, 0x25, nothing),
+        (Y_WIDE, X, 0x2d, line),
+        (Y, X_WIDE, 0x1d, line),
+    ];
+    for (first, second, behind, wanted) in rows {
         let file = overlapping(rt.alloc(), first, second, ONE_ROW)?;
-        let offsets = offsets_of(rt.alloc(), &file)?;
-        expect_eq(&rt, &offsets.as_slice(), &[0, *behind].as_slice(), behind);
-        let image = opened(rt.alloc(), &file)?;
-        let mut context = context_of(rt.alloc(), &image)?;
-        expect_frames(&rt, &frames_at(&mut context, 0x2000)?, 0, &[*wanted]);
+        let units = units_of(rt.alloc(), &file)?;
+        if units.len() != 2 {
+            return Err(Fail::from("two units"));
+        }
+        assert_eq!(rt; (units.unit(0).offset, units.unit(1).offset), (0, behind));
+        let image = Image::open(rt.alloc(), &file)?;
+        let mut context = Context::new(rt.alloc(), &image, NonZeroUsize::MIN)?;
+        expect_frames(&rt, &context.find_frames(0x2000)?, 0, &[wanted]);
     }
     Ok(())
 }
 
-/// Padding of 12 bytes, and then a skeleton unit of the 64-bit format, whose header has 32 bytes.
-const PADDED: &[u8] = &[
-    0xff, 0xff, 0xff, 0xff, 0, 0, 0, 0, 0, 0, 0, 0, 0xff, 0xff, 0xff, 0xff, 0x21, 0, 0, 0, 0, 0, 0,
-    0, 5, 0, 4, 8, 0, 0, 0, 0, 0, 0, 0, 0, 1, 2, 3, 4, 5, 6, 7, 8, 1, 0, 0x10, 0, 0, 0, 0, 0, 0, 0,
-    0, 0, 0,
-];
-
-/// That unit as it should be.
-fn is_padded_skeleton(unit: &Unit<'_>) -> bool {
-    matches!(unit.kind, Kind::Skeleton)
-        && unit.offset == 12
-        && unit.first_entry == 44
-        && unit.end == 57
-        && unit.width == Width::Eight
-        && unit.bases.width == Width::Eight
-}
-
 #[test]
 fn headers_of_the_64_bit_format(rt: HostRuntime) -> Result<(), Fail> {
-    let file = file_of(rt.alloc(), PADDED, OVERLAPPING)?;
+    // Padding of 12 bytes, and then a skeleton unit, whose header has 32 bytes.
+    let info: &[u8] = &[
+        0xff, 0xff, 0xff, 0xff, 0, 0, 0, 0, 0, 0, 0, 0, 0xff, 0xff, 0xff, 0xff, 0x21, 0, 0, 0, 0,
+        0, 0, 0, 5, 0, 4, 8, 0, 0, 0, 0, 0, 0, 0, 0, 1, 2, 3, 4, 5, 6, 7, 8, 1, 0, 0x10, 0, 0, 0,
+        0, 0, 0, 0, 0, 0, 0,
+    ];
+    let file = file_of(rt.alloc(), info, OVERLAPPING)?;
     let units = units_of(rt.alloc(), &file)?;
-    assert!(rt; units.len() == 1 && is_padded_skeleton(units.unit(0)));
+    if units.len() != 1 {
+        return Err(Fail::from("one unit"));
+    }
+    let unit = units.unit(0);
+    assert!(rt; matches!(unit.kind, Kind::Skeleton));
+    assert_eq!(rt; (unit.offset, unit.first_entry, unit.end), (12, 44, 57));
+    assert_eq!(rt;
+        (unit.width, unit.bases.width),
+        (Width::Eight, Width::Eight)
+    );
     Ok(())
 }
 
 /// Beginnings of .debug_info of which the header at an offset can't be read: the length is cut,
 /// reserved, or longer than the section, and a header of the 64-bit format is cut, once without the
 /// last byte of a skeleton's.
-static UNREADABLE: [(&[u8], u64); 7] = [
+const UNREADABLE: [(&[u8], u64); 7] = [
     (&[0xff, 0xff, 0xff, 0xff, 0, 0, 0, 0, 0, 0, 0], 0),
     (&[0xff, 0xff, 0xff, 0xff], 0),
     (&[0xfe, 0xff, 0xff, 0xff, 0, 0, 0, 0, 0, 0, 0, 0], 0),
@@ -396,10 +345,13 @@ static UNREADABLE: [(&[u8], u64); 7] = [
 
 #[test]
 fn unreadable_lengths(rt: HostRuntime) -> Result<(), Fail> {
-    for (info, offset) in &UNREADABLE {
+    for (info, offset) in UNREADABLE {
         let file = file_of(rt.alloc(), info, OVERLAPPING)?;
-        let found = units_of(rt.alloc(), &file).err();
-        expect_eq(&rt, &found, &Some(OpenFault::UnitHeader(*offset)), info);
+        assert_eq!(rt;
+            units_of(rt.alloc(), &file).err(),
+            Some(OpenFault::UnitHeader(offset)),
+            "{info:?}"
+        );
     }
     Ok(())
 }
@@ -472,7 +424,7 @@ fn both(alloc: Global) -> Result<Vec<u8>, AllocError> {
 }
 
 /// An address, its unit, and the name and line there.
-static FRAMES: [(u64, u64, &[u8], u64); 6] = [
+const FRAMES: [(u64, u64, &[u8], u64); 6] = [
     (0x1000, 0, b"wide", 3),
     (0x1010, 0, b"narrow", 3),
     (0x102f, 0, b"wide", 3),
@@ -484,29 +436,28 @@ static FRAMES: [(u64, u64, &[u8], u64); 6] = [
 #[test]
 fn two_formats_over_one_table(rt: HostRuntime) -> Result<(), Fail> {
     let file = both(rt.alloc())?;
-    let image = opened(rt.alloc(), &file)?;
-    let mut context = context_of(rt.alloc(), &image)?;
-    for (address, unit, name, line) in &FRAMES {
-        let wanted: Wanted<'_> = (Some(name), Some(b"/w/a.c"), Some(*line), Some(0));
-        expect_frames(&rt, &frames_at(&mut context, *address)?, *unit, &[wanted]);
+    let image = Image::open(rt.alloc(), &file)?;
+    let mut context = Context::new(rt.alloc(), &image, NonZeroUsize::MIN)?;
+    for (address, unit, name, line) in FRAMES {
+        let wanted: Wanted<'_> = (Some(name), Some(b"/w/a.c"), Some(line), Some(0));
+        expect_frames(&rt, &context.find_frames(address)?, unit, &[wanted]);
     }
     Ok(())
-}
-
-/// Whether the line table at the front of a section can be read.
-fn is_read(alloc: Global, section: &[u8]) -> bool {
-    Lines::read(alloc, section, &TABLES, &NARROW, None, 0).is_ok()
 }
 
 /// Initial lengths before the rest of a line table with `n` bytes, and whether it can be read then.
 #[test]
 fn lengths_of_line_tables(rt: HostRuntime) -> Result<(), Fail> {
+    let reserved = &[0xfe, 0xff, 0xff, 0xff];
     let table = LINES.split_at(0x46).1;
-    assert!(rt; is_read(rt.alloc(), table));
-    assert!(rt; !is_read(rt.alloc(), table.split_at(table.len().saturating_sub(1)).0));
-    assert!(rt; !is_read(rt.alloc(), table.split_at(11).0));
-    let mut reserved = Vec::from_slice(rt.alloc(), &[0xfe, 0xff, 0xff, 0xff])?;
-    reserved.extend_from_slice(table.split_at(4).1)?;
-    assert!(rt; !is_read(rt.alloc(), &reserved));
+    let read = |section: &[u8]| {
+        Lines::read(rt.alloc(), section, &TABLES, &NARROW, None, 0).is_ok()
+    };
+    assert!(rt; read(table));
+    assert!(rt; !read(table.split_at(table.len().saturating_sub(1)).0));
+    assert!(rt; !read(table.split_at(11).0));
+    let mut other = Vec::from_slice(rt.alloc(), reserved)?;
+    other.extend_from_slice(table.split_at(4).1)?;
+    assert!(rt; !read(&other));
     Ok(())
 }

@@ -6,8 +6,6 @@
 #[cfg(test)]
 mod boards;
 #[cfg(test)]
-mod calls;
-#[cfg(test)]
 mod contexts;
 #[cfg(test)]
 mod damaged;

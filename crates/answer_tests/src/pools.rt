@@ -1,18 +1,13 @@
 //! Pools of two workers, each of which waits for the other.
 
-use crate::calls::opened;
 use crate::contexts::{IN_MAIN, INLINED, expect_frames};
 use crate::spans::{PIECES, expect_pieces};
 use crate::texts::{Asked, Open, PLAIN, status_of};
 use a2l_lines::{Status, run_pool};
 use dw_symbols::{Answer, Image};
-use std::alloc::Global;
-use std::sync::Wait;
 use std::sync::atomic::{AtomicU64, Ordering};
 use std::test::Fail;
 use std::thread;
-use std::thread::Threads;
-use test_inputs::checks::expect_eq;
 use test_inputs::files::sample;
 use ticket_board::{Gate, PoolFault};
 use ticket_core::{Query, Shape};
@@ -70,22 +65,10 @@ impl Gate for Meeting {
 /// Each of two numbers entered once, and the limit wasn't reached.
 const BOTH_ENTERED: (u64, u64, u64) = (1, 1, 0);
 
-/// The answers of a pool. No clause says what they are, so that its callers are proved soon.
-fn answers_of<'a, T: Threads + Wait + Sync, G: Gate + Sync>(
-    rt: &T,
-    alloc: Global,
-    image: &Image<'a>,
-    shape: Shape,
-    queries: &[Query],
-    gate: &G,
-) -> Result<Vec<Answer<'a>>, PoolFault> {
-    run_pool(rt, alloc, image, shape, queries, gate)
-}
-
 #[test]
 fn two_workers_at_once(rt: HostRuntime) -> Result<(), Fail> {
     let file = sample(rt.alloc())?;
-    let image = opened(rt.alloc(), &file)?;
+    let image = Image::open(rt.alloc(), &file)?;
     let gate = Meeting::new();
     let shape = Shape {
         senders: 1,
@@ -94,11 +77,11 @@ fn two_workers_at_once(rt: HostRuntime) -> Result<(), Fail> {
         most: 1 << 60,
     };
     let queries = [Query::address(0x401000), Query::address(0x401004)];
-    let answers = answers_of(&rt, rt.alloc(), &image, shape, &queries, &gate)?;
+    let answers = run_pool(&rt, rt.alloc(), &image, shape, &queries, &gate)?;
     assert_eq!(rt; answers.len(), 2);
     expect_frames(&rt, &answers[0], 0, IN_MAIN);
     expect_frames(&rt, &answers[1], 0, INLINED);
-    expect_eq(&rt, &gate.counts(), &BOTH_ENTERED, &0);
+    assert_eq!(rt; gate.counts(), BOTH_ENTERED);
     Ok(())
 }
 
@@ -106,7 +89,7 @@ fn two_workers_at_once(rt: HostRuntime) -> Result<(), Fail> {
 #[test]
 fn pool_with_a_span(rt: HostRuntime) -> Result<(), Fail> {
     let file = sample(rt.alloc())?;
-    let image = opened(rt.alloc(), &file)?;
+    let image = Image::open(rt.alloc(), &file)?;
     let shape = Shape {
         senders: 2,
         workers: 3,
@@ -117,7 +100,7 @@ fn pool_with_a_span(rt: HostRuntime) -> Result<(), Fail> {
         return Err(Fail::from("a span"));
     };
     let queries = [Query::address(0x401004), span, Query::address(0)];
-    let answers = answers_of(&rt, rt.alloc(), &image, shape, &queries, &Open)?;
+    let answers = run_pool(&rt, rt.alloc(), &image, shape, &queries, &Open)?;
     assert_eq!(rt; answers.len(), 3);
     expect_frames(&rt, &answers[0], 0, INLINED);
     expect_pieces(&rt, &answers[1], PIECES);
@@ -125,39 +108,20 @@ fn pool_with_a_span(rt: HostRuntime) -> Result<(), Fail> {
     Ok(())
 }
 
-/// Why a pool of three queries has no answers, if it has none.
-fn fault_of<T: Threads + Wait + Sync>(
-    rt: &T,
-    alloc: Global,
-    image: &Image<'_>,
-    limits: (usize, usize, u64),
-) -> Option<PoolFault> {
-    let (senders, workers, most) = limits;
-    let shape = Shape {
-        senders,
-        workers,
-        window: 2,
-        most,
-    };
-    let queries = [Query::address(1), Query::address(2), Query::address(3)];
-    answers_of(rt, alloc, image, shape, &queries, &Meeting::new()).err()
-}
-
-/// Senders, workers, and how many queries a sender may ask.
-static PAST_THE_LIMITS: [(usize, usize, u64); 4] = [
-    (0, 1, 1),
-    (1, 65, 1),
-    (1, 1, (1 << 60) + 1),
-    (2, 1, 1),
-];
-
 #[test]
 fn shapes_past_the_limits(rt: HostRuntime) -> Result<(), Fail> {
     let file = sample(rt.alloc())?;
-    let image = opened(rt.alloc(), &file)?;
-    for shape in &PAST_THE_LIMITS {
-        let fault = fault_of(&rt, rt.alloc(), &image, *shape);
-        expect_eq(&rt, &fault, &Some(PoolFault::BadShape), shape);
+    let image = Image::open(rt.alloc(), &file)?;
+    for (senders, workers, most) in [(0, 1, 1), (1, 65, 1), (1, 1, (1 << 60) + 1), (2, 1, 1)] {
+        let shape = Shape {
+            senders,
+            workers,
+            window: 2,
+            most,
+        };
+        let queries = [Query::address(1), Query::address(2), Query::address(3)];
+        let answers = run_pool(&rt, rt.alloc(), &image, shape, &queries, &Meeting::new());
+        assert!(rt; matches!(answers, Err(PoolFault::BadShape)));
     }
     Ok(())
 }
@@ -172,7 +136,7 @@ fn two_workers_write_in_order(rt: HostRuntime) -> Result<(), Fail> {
         text: "/w/a.c:4\n/w/a.c:3\n",
     };
     let status = status_of(&rt, rt.alloc(), &file, &asked, &gate)?;
-    expect_eq(&rt, &status, &Some(Status::Clean), &asked.text);
-    expect_eq(&rt, &gate.counts(), &BOTH_ENTERED, &0);
+    assert_eq!(rt; status, Some(Status::Clean));
+    assert_eq!(rt; gate.counts(), BOTH_ENTERED);
     Ok(())
 }

@@ -1,11 +1,9 @@
 //! Units whose first entries name one range list, worked out by hand.
 
-use crate::calls::opened;
 use dw_elf::{Name, OpenFault};
 use dw_symbols::Image;
 use std::alloc::{AllocError, Global};
 use std::test::Fail;
-use test_inputs::checks::expect_eq;
 use test_inputs::files::{elf, push_unit};
 
 /// A unit with a range list, one with a range list and an address, and one with an address and how
@@ -44,7 +42,7 @@ const ROOTS: &[&[u8]] = &[
 ];
 
 /// The places of the units that answer.
-static PLACES: [(u64, Option<usize>); 9] = [
+const PLACES: [(u64, Option<usize>); 9] = [
     (0x0f, None),
     (0x10, Some(0)),
     (0x1f, Some(0)),
@@ -56,28 +54,13 @@ static PLACES: [(u64, Option<usize>); 9] = [
     (0x120, None),
 ];
 
-/// The place of the unit that answers an address. No clause says which it is, so that its callers
-/// are proved soon.
-fn place_of(image: &Image<'_>, a: u64) -> Option<usize> {
-    image.unit_place(a).map(|found| found.place)
-}
-
-/// The place of the first unit that answers an address of a span.
-fn first_place(image: &Image<'_>, low: u64, high: u64) -> Option<usize> {
-    image.first_unit_place(low, high).map(|found| found.place)
-}
-
-/// How many ranges are kept.
-fn kept_by(image: &Image<'_>) -> usize {
-    image.kept()
-}
-
 #[test]
 fn units_of_one_list(rt: HostRuntime) -> Result<(), Fail> {
     let file = file_of(rt.alloc(), ROOTS, LISTS)?;
-    let image = opened(rt.alloc(), &file)?;
-    for (a, wanted) in &PLACES {
-        expect_eq(&rt, &place_of(&image, *a), wanted, a);
+    let image = Image::open(rt.alloc(), &file)?;
+    for (a, wanted) in PLACES {
+        let place = image.unit_place(a).map(|found| found.place);
+        assert_eq!(rt; place, wanted, "unit at {a:#x}");
     }
     Ok(())
 }
@@ -92,8 +75,8 @@ fn bad_list_behind_one_that_was_read(rt: HostRuntime) -> Result<(), Fail> {
         &[1, 8, 0, 0, 0],
     ];
     let file = file_of(rt.alloc(), roots, LISTS)?;
-    let fault = opened(rt.alloc(), &file).err();
-    expect_eq(&rt, &fault, &Some(OpenFault::RootRanges(34)), &34);
+    let fault = Image::open(rt.alloc(), &file).err();
+    assert_eq!(rt; fault, Some(OpenFault::RootRanges(34)));
     Ok(())
 }
 
@@ -112,7 +95,7 @@ const HELD: &[&[u8]] = &[
 ];
 
 /// Where another unit answers, or none.
-static BORDERS: [(u64, Option<usize>); 14] = [
+const BORDERS: [(u64, Option<usize>); 14] = [
     (0, None),
     (0x10, Some(0)),
     (0x20, Some(4)),
@@ -132,15 +115,20 @@ static BORDERS: [(u64, Option<usize>); 14] = [
 #[test]
 fn units_held_by_their_lists(rt: HostRuntime) -> Result<(), Fail> {
     let file = file_of(rt.alloc(), HELD, FEW)?;
-    let image = opened(rt.alloc(), &file)?;
-    expect_eq(&rt, &kept_by(&image), &3, &0);
+    let image = Image::open(rt.alloc(), &file)?;
+    assert_eq!(rt; image.kept(), 3);
     for (i, (begin, wanted)) in BORDERS.iter().enumerate() {
-        expect_eq(&rt, &place_of(&image, *begin), wanted, begin);
+        let place = image.unit_place(*begin).map(|found| found.place);
+        assert_eq!(rt; place, *wanted, "unit at {begin:#x}");
         let Some((next, _)) = BORDERS.get(i + 1) else {
             return Ok(());
         };
-        expect_eq(&rt, &place_of(&image, next - 1), wanted, next);
-        expect_eq(&rt, &first_place(&image, *begin, *next), wanted, begin);
+        let last = image.unit_place(next - 1).map(|found| found.place);
+        assert_eq!(rt; last, *wanted, "unit before {next:#x}");
+        let first = image
+            .first_unit_place(*begin, *next)
+            .map(|found| found.place);
+        assert_eq!(rt; first, *wanted, "first unit from {begin:#x}");
     }
     Ok(())
 }
@@ -149,7 +137,7 @@ fn units_held_by_their_lists(rt: HostRuntime) -> Result<(), Fail> {
 #[test]
 fn held_units_of_spans(rt: HostRuntime) -> Result<(), Fail> {
     let file = file_of(rt.alloc(), HELD, FEW)?;
-    let image = opened(rt.alloc(), &file)?;
+    let image = Image::open(rt.alloc(), &file)?;
     let spans = [
         (0, 0x11, Some(0)),
         (0x50, 0x110, None),
@@ -157,7 +145,8 @@ fn held_units_of_spans(rt: HostRuntime) -> Result<(), Fail> {
         (0x150, u64::MAX, None),
     ];
     for (low, high, wanted) in spans {
-        expect_eq(&rt, &first_place(&image, low, high), &wanted, &low);
+        let place = image.first_unit_place(low, high).map(|found| found.place);
+        assert_eq!(rt; place, wanted, "first unit from {low:#x}");
     }
     Ok(())
 }
@@ -171,7 +160,7 @@ fn bad_list_of_a_held_unit(rt: HostRuntime) -> Result<(), Fail> {
         &[2, 7, 0, 0, 0, 0, 1, 0, 0, 0, 0, 0, 0],
     ];
     let file = file_of(rt.alloc(), roots, FEW)?;
-    let fault = opened(rt.alloc(), &file).err();
-    expect_eq(&rt, &fault, &Some(OpenFault::RootRanges(42)), &42);
+    let fault = Image::open(rt.alloc(), &file).err();
+    assert_eq!(rt; fault, Some(OpenFault::RootRanges(42)));
     Ok(())
 }

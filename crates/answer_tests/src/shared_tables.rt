@@ -1,13 +1,12 @@
 //! Units that name one line table, each with its own directory and texts, worked out by hand.
 
-use crate::calls::{context_of, frames_at, location_at, opened, pieces_of};
 use crate::contexts::{Wanted, expect_frames};
 use dw_elf::Name;
-use dw_symbols::{Answer, Context, Piece, UnitFault};
+use dw_symbols::{Answer, Context, Image, UnitFault};
 use std::alloc::{AllocError, Global};
+use std::num::NonZeroUsize;
 use std::process::Abort;
 use std::test::Fail;
-use test_inputs::checks::expect_eq;
 use test_inputs::files::{elf, line_table};
 
 /// The header of a line table after its length, without directories, whose file 0 is the text with
@@ -63,7 +62,7 @@ const FIRST: Wanted<'_> = (None, Some(b"/a/one.c"), Some(3), Some(0));
 const SECOND: Wanted<'_> = (None, Some(b"/b/two.c"), Some(4), Some(0));
 
 /// An address, its unit and its frame.
-static FRAMES: [(u64, u64, Wanted<'_>); 5] = [
+const FRAMES: [(u64, u64, Wanted<'_>); 5] = [
     (0x1000, 0, FIRST),
     (0x1010, 0x24, SECOND),
     (0x100f, 0, FIRST),
@@ -74,69 +73,45 @@ static FRAMES: [(u64, u64, Wanted<'_>); 5] = [
 /// The unit at 0x48 can't be answered, since its line table can't be read.
 fn expect_fault<A: Abort>(rt: &A, answer: &Answer<'_>) {
     let Answer::Fault { unit, code } = answer else {
-        panic!(rt; "no fault")
+        assert!(rt; false, "no fault");
+        return;
     };
-    expect_eq(rt, &(*unit, *code), &(0x48, UnitFault::Line), &0x1020);
-}
-
-/// An address has this frame, whatever was asked before, and the address 0x1020 a fault.
-fn expect_both<A: Abort>(
-    rt: &A,
-    context: &mut Context<'_, '_>,
-    address: u64,
-    unit: u64,
-    wanted: Wanted<'_>,
-) -> Result<(), AllocError> {
-    expect_frames(rt, &frames_at(context, address)?, unit, &[wanted]);
-    expect_frames(rt, &location_at(context, address)?, unit, &[wanted]);
-    expect_fault(rt, &location_at(context, 0x1020)?);
-    expect_frames(rt, &location_at(context, address)?, unit, &[wanted]);
-    expect_fault(rt, &frames_at(context, 0x1020)?);
-    Ok(())
+    assert_eq!(rt; (*unit, *code), (0x48, UnitFault::Line));
 }
 
 #[test]
 fn two_directories_of_one_table(rt: HostRuntime) -> Result<(), Fail> {
     let file = shared(rt.alloc())?;
-    let image = opened(rt.alloc(), &file)?;
-    let mut context = context_of(rt.alloc(), &image)?;
-    for (address, unit, wanted) in &FRAMES {
-        expect_both(&rt, &mut context, *address, *unit, *wanted)?;
+    let image = Image::open(rt.alloc(), &file)?;
+    let mut context = Context::new(rt.alloc(), &image, NonZeroUsize::MIN)?;
+    for (address, unit, wanted) in FRAMES {
+        expect_frames(&rt, &context.find_frames(address)?, unit, &[wanted]);
+        expect_frames(&rt, &context.find_location(address)?, unit, &[wanted]);
+        expect_fault(&rt, &context.find_location(0x1020)?);
+        expect_frames(&rt, &context.find_location(address)?, unit, &[wanted]);
+        expect_fault(&rt, &context.find_frames(0x1020)?);
     }
     Ok(())
-}
-
-/// The first address of a piece, its end, its path and its line.
-type WantedPiece = (u64, u64, Option<&'static [u8]>, Option<u64>);
-
-static PIECES: [WantedPiece; 2] = [
-    (0x1000, 0x1010, Some(b"/a/one.c"), Some(3)),
-    (0x1010, 0x1020, Some(b"/b/two.c"), Some(4)),
-];
-
-fn expect_piece<A: Abort>(rt: &A, piece: &Piece, wanted: &WantedPiece) {
-    let location = &piece.location;
-    let path = location.path.as_deref();
-    expect_eq(
-        rt,
-        &(piece.begin, piece.end, path, location.line),
-        wanted,
-        wanted,
-    );
 }
 
 #[test]
 fn pieces_of_one_table(rt: HostRuntime) -> Result<(), Fail> {
     let file = shared(rt.alloc())?;
-    let image = opened(rt.alloc(), &file)?;
-    let mut context = context_of(rt.alloc(), &image)?;
-    let Answer::Pieces(pieces) = pieces_of(&mut context, 0x1000, 0x1020)? else {
+    let image = Image::open(rt.alloc(), &file)?;
+    let mut context = Context::new(rt.alloc(), &image, NonZeroUsize::MIN)?;
+    let Answer::Pieces(pieces) = context.find_location_range(0x1000, 0x1020)? else {
         return Err(Fail::from("pieces"));
     };
-    expect_eq(&rt, &pieces.len(), &PIECES.len(), &0x1000);
-    for (piece, wanted) in pieces.iter().zip(PIECES.iter()) {
-        expect_piece(&rt, piece, wanted);
+    let wanted: [(u64, u64, &[u8], u64); 2] = [
+        (0x1000, 0x1010, b"/a/one.c", 3),
+        (0x1010, 0x1020, b"/b/two.c", 4),
+    ];
+    assert_eq!(rt; pieces.len(), wanted.len());
+    for (piece, (begin, end, path, line)) in pieces.iter().zip(wanted.iter()) {
+        assert_eq!(rt; (piece.begin, piece.end), (*begin, *end));
+        assert_eq!(rt; piece.location.path.as_deref(), Some(*path));
+        assert_eq!(rt; piece.location.line, Some(*line));
     }
-    expect_fault(&rt, &pieces_of(&mut context, 0x1000, 0x1030)?);
+    expect_fault(&rt, &context.find_location_range(0x1000, 0x1030)?);
     Ok(())
 }

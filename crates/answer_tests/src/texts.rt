@@ -2,10 +2,9 @@
 
 ghost use Rattle.std.specs.Prelude.{◌≡◌, None, IfOk};
 
-use crate::calls::{opened, units_of};
 use crate::contexts::{FAULTS, unreadable};
 use a2l_lines::{Failed, Options, RunFault, Sink, Source, Status, list_units, symbolize};
-use dw_elf::Name;
+use dw_elf::{Elf, Name, OpenFault};
 use dw_symbols::Image;
 use dw_units::Units;
 use std::alloc::{AllocError, Global};
@@ -13,7 +12,6 @@ use std::process::Abort;
 use std::sync::Wait;
 use std::test::Fail;
 use std::thread::Threads;
-use test_inputs::checks::expect_eq;
 use test_inputs::files::{ABBREVS, HEADER, INFO, elf, line_table, sample};
 use ticket_board::Gate;
 use ticket_core::Query;
@@ -141,7 +139,7 @@ pub fn status_of<T: Threads + Wait + Sync, G: Gate + Sync>(
     asked: &Asked<'_>,
     gate: &G,
 ) -> Result<Option<Status>, Fail> {
-    let image = opened(alloc, file)?;
+    let image = Image::open(alloc, file)?;
     let options = options(alloc, asked)?;
     let mut lines = Compared::new(asked.text);
     let status = symbolize(rt, alloc, &mut Nothing, &mut lines, &image, &options, gate)?;
@@ -152,7 +150,7 @@ pub fn status_of<T: Threads + Wait + Sync, G: Gate + Sync>(
 }
 
 /// Of the sample.
-static ANSWERS: [Asked<'static>; 5] = [
+const ANSWERS: [Asked<'static>; 5] = [
     Asked {
         flags: ALL,
         words: &["0x401004"],
@@ -188,9 +186,10 @@ const SPANNED: Asked<'static> = Asked {
 #[test]
 fn lines_of_frames(rt: HostRuntime) -> Result<(), Fail> {
     let file = sample(rt.alloc())?;
-    for asked in &ANSWERS {
-        let status = status_of(&rt, rt.alloc(), &file, asked, &Open)?;
-        expect_eq(&rt, &status, &Some(Status::Clean), &asked.text);
+    for asked in ANSWERS {
+        let status = status_of(&rt, rt.alloc(), &file, &asked, &Open)?;
+        let text = asked.text;
+        assert_eq!(rt; status, Some(Status::Clean), "for {text:?}");
     }
     Ok(())
 }
@@ -205,7 +204,7 @@ fn the_same_address_again(rt: HostRuntime) -> Result<(), Fail> {
         text: "/w/a.c:4\n!bad address\n/w/a.c:3\n/w/a.c:4\n??:0\n!bad address\n??:0\n/w/a.c:3\n",
     };
     let status = status_of(&rt, rt.alloc(), &file, &asked, &Open)?;
-    expect_eq(&rt, &status, &Some(Status::Faults), &asked.text);
+    assert_eq!(rt; status, Some(Status::Faults));
     Ok(())
 }
 
@@ -229,12 +228,12 @@ fn parts_that_are_not_known(rt: HostRuntime) -> Result<(), Fail> {
         text: "/w/a.c:?\n??:20\n??:0\n",
     };
     let status = status_of(&rt, rt.alloc(), &file, &asked, &Open)?;
-    expect_eq(&rt, &status, &Some(Status::Clean), &asked.text);
+    assert_eq!(rt; status, Some(Status::Clean));
     Ok(())
 }
 
 /// The lines of each fault of a unit, and of a word that is no address.
-static FAULT_LINES: [&str; 4] = [
+const FAULT_LINES: [&str; 4] = [
     "!unit 0x1af fault 1\n!bad address\n",
     "!unit 0x1af fault 2\n!bad address\n",
     "!unit 0x1af fault 3\n!bad address\n",
@@ -251,9 +250,15 @@ fn faults_by_their_numbers(rt: HostRuntime) -> Result<(), Fail> {
             text,
         };
         let status = status_of(&rt, rt.alloc(), &file, &asked, &Open)?;
-        expect_eq(&rt, &status, &Some(Status::Faults), text);
+        assert_eq!(rt; status, Some(Status::Faults), "for {text:?}");
     }
     Ok(())
+}
+
+/// The units of a file.
+pub fn units_of<'a>(alloc: Global, file: &'a [u8]) -> Result<Units<'a>, OpenFault> {
+    let elf = Elf::open(file)?;
+    Units::read(alloc, &elf)
 }
 
 const UNITS: &str = "0x0 version 5 compile\n0x5b version 5 partial\n0x6e version 5 compile\n";
@@ -325,7 +330,7 @@ fn each_allocation_refused(rt: HostRuntime) -> Result<(), Fail> {
     let Ok(file) = sample(alloc) else {
         return Ok(());
     };
-    let Ok(image) = opened(alloc, &file) else {
+    let Ok(image) = Image::open(alloc, &file) else {
         return Ok(());
     };
     let Ok(units) = units_of(alloc, &file) else {

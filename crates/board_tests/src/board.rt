@@ -6,7 +6,6 @@ use crate::solver::KEY;
 use std::alloc::AllocError;
 use std::process::Abort;
 use std::test::Fail;
-use test_inputs::checks::expect_eq;
 use ticket_board::{AskFault, BoardFault, Next, Turn};
 use ticket_core::QueryKind::{Address, Span};
 use ticket_core::{NoMemory, QueryKind, Shape};
@@ -26,12 +25,12 @@ fn make(rt: &impl Abort, desk: &mut BoardDesk, i: usize, call: &Call) {
     match call {
         Call::Ask(kind, wanted) => {
             let query = query_of(rt, *kind);
-            expect_eq(rt, &desk.ask(query), wanted, &i);
+            assert_eq!(rt; desk.ask(query), *wanted, "call {i}");
         }
-        Call::Ready(wanted) => expect_eq(rt, &desk.ready(), wanted, &i),
-        Call::Next(wanted) => expect_eq(rt, &desk.next(), wanted, &i),
+        Call::Ready(wanted) => assert_eq!(rt; desk.ready(), *wanted, "call {i}"),
+        Call::Next(wanted) => assert_eq!(rt; desk.next(), *wanted, "call {i}"),
         Call::Close => desk.close(),
-        Call::Turn(wanted) => expect_eq(rt, &desk.turn(), wanted, &i),
+        Call::Turn(wanted) => assert_eq!(rt; desk.turn(), *wanted, "call {i}"),
     }
 }
 
@@ -163,7 +162,7 @@ const WORDS: [[u64; 4]; 2] = [[1, 2, 3, 8], [9, 10, 11, 16]];
 
 /// The state word of the first cell, and the sender and number that wait there.
 fn expect_cell(rt: &impl Abort, desk: &BoardDesk, word: u64, waits: Option<(usize, u64)>) {
-    expect_eq(rt, &desk.cell(0), &(Some(word), waits), &word);
+    assert_eq!(rt; desk.cell(0), (Some(word), waits));
 }
 
 /// A number is asked, answered and received, while the cell has these words.
@@ -171,8 +170,9 @@ fn expect_words(rt: &impl Abort, desk: &mut BoardDesk, number: u64, words: [u64;
     let [asked, taken, answered, received] = words;
     make(rt, desk, 0, &Call::Ask(Address(0x401000), Ok(number)));
     expect_cell(rt, desk, asked, Some((0, number)));
-    let turn = (Ok(Turn::Answered(0, number)), Some(taken));
-    expect_eq(rt, &desk.turn_watched(), &turn, &number);
+    let (turn, seen) = desk.turn_watched();
+    assert_eq!(rt; turn, Ok(Turn::Answered(0, number)));
+    assert_eq!(rt; seen, Some(taken));
     expect_cell(rt, desk, answered, None);
     make(
         rt,
@@ -187,7 +187,7 @@ fn expect_words(rt: &impl Abort, desk: &mut BoardDesk, number: u64, words: [u64;
 fn words_of_one_cell(rt: HostRuntime) -> Result<(), Fail> {
     let mut desk = BoardDesk::new(rt.alloc(), ONE_CELL, &KEY, 0)?;
     expect_cell(&rt, &desk, 0, None);
-    expect_eq(&rt, &desk.cell(1), &(None, None), &1);
+    assert_eq!(rt; desk.cell(1), (None, None));
     for (number, words) in WORDS.iter().enumerate() {
         expect_words(&rt, &mut desk, number as u64, *words);
     }
@@ -209,9 +209,9 @@ fn turns_begin_where_told(rt: HostRuntime) -> Result<(), Fail> {
     make_all(&rt, &mut desk, FOUR_ASKED);
     for (cell, number) in [(2, 2), (2, 3), (3, 0), (4, 1)] {
         desk.begin_at(cell);
-        expect_eq(&rt, &desk.turn(), &Ok(Turn::Answered(0, number)), &cell);
+        assert_eq!(rt; desk.turn(), Ok(Turn::Answered(0, number)));
     }
-    expect_eq(&rt, &desk.turn(), &Ok(Turn::Idle), &4);
+    assert_eq!(rt; desk.turn(), Ok(Turn::Idle));
     Ok(())
 }
 

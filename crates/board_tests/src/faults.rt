@@ -4,7 +4,6 @@ use std::alloc::{AllocError, Global};
 use std::fmt::Display;
 use std::process::Abort;
 use std::test::Fail;
-use test_inputs::checks::expect_eq;
 use ticket_board::{AskFault, BoardFault, PoolFault};
 use ticket_core::{CoreFault, NewFault};
 
@@ -15,7 +14,7 @@ fn says<F: Display + Drop>(
     fault: F,
     text: &str,
 ) -> Result<(), AllocError> {
-    expect_eq(rt, &format!(in alloc; "{fault}")?.as_str(), &text, &text);
+    assert_eq!(rt; format!(in alloc; "{fault}")?.as_str(), text);
     Ok(())
 }
 
@@ -45,7 +44,7 @@ fn core_faults(rt: HostRuntime) -> Result<(), Fail> {
         (CoreFault::Memory, 9, "out of memory"),
     ];
     for (fault, number, text) in table {
-        expect_eq(&rt, &fault.number(), &number, &text);
+        assert_eq!(rt; fault.number(), number);
         says(&rt, rt.alloc(), fault, text)?;
     }
     Ok(())
@@ -63,7 +62,7 @@ fn ask_faults(rt: HostRuntime) -> Result<(), Fail> {
         ),
     ];
     for (fault, number, text) in table {
-        expect_eq(&rt, &fault.number(), &number, &text);
+        assert_eq!(rt; fault.number(), number);
         says(&rt, rt.alloc(), fault, text)?;
     }
     Ok(())
@@ -77,8 +76,7 @@ fn new_faults(rt: HostRuntime) -> Result<(), Fail> {
         BoardFault::BadShape,
         PoolFault::BadShape,
     );
-    let numbers = (core.number(), board.number(), pool.number());
-    expect_eq(&rt, &numbers, &(1, 1, 1), &"shapes");
+    assert_eq!(rt; [core.number(), board.number(), pool.number()], [1; 3]);
     says(
         &rt,
         rt.alloc(),
@@ -98,8 +96,7 @@ fn new_faults(rt: HostRuntime) -> Result<(), Fail> {
         "the shape of the pool is not within its limits",
     )?;
     let (core, board, pool) = (NewFault::Memory, BoardFault::Memory, PoolFault::Memory);
-    let numbers = (core.number(), board.number(), pool.number());
-    expect_eq(&rt, &numbers, &(2, 2, 2), &"memory");
+    assert_eq!(rt; [core.number(), board.number(), pool.number()], [2; 3]);
     says(&rt, rt.alloc(), core, "out of memory")?;
     says(&rt, rt.alloc(), board, "out of memory")?;
     says(&rt, rt.alloc(), pool, "out of memory")?;

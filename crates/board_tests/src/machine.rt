@@ -5,7 +5,6 @@ use crate::queries::query_of;
 use crate::solver::KEY;
 use std::process::Abort;
 use std::test::Fail;
-use test_inputs::checks::expect_eq;
 use ticket_core::QueryKind::{Address, Span};
 use ticket_core::{CoreFault, NewFault, Query, QueryKind, Shape};
 
@@ -32,21 +31,21 @@ fn make(rt: &impl Abort, desk: &mut CoreDesk, i: usize, call: Call) {
     match call {
         Call::Ask(kind, wanted) => {
             let query = query_of(rt, kind);
-            expect_eq(rt, &desk.ask(0, query), &wanted, &i);
+            assert_eq!(rt; desk.ask(0, query), wanted, "call {i}");
         }
         Call::Take(worker, number, wanted) => {
             assert!(rt; worker < workers);
-            expect_eq(rt, &desk.take(worker, 0, number), &wanted, &i);
+            assert_eq!(rt; desk.take(worker, 0, number), wanted, "call {i}");
         }
         Call::Finish(worker, wanted) => {
             assert!(rt; worker < workers);
-            expect_eq(rt, &desk.finish(worker), &wanted, &i);
+            assert_eq!(rt; desk.finish(worker), wanted, "call {i}");
         }
         Call::GiveBack(worker, wanted) => {
             assert!(rt; worker < workers);
-            expect_eq(rt, &desk.give_back(worker), &wanted, &i);
+            assert_eq!(rt; desk.give_back(worker), wanted, "call {i}");
         }
-        Call::Collect(wanted) => expect_eq(rt, &desk.collect(0), &wanted, &i),
+        Call::Collect(wanted) => assert_eq!(rt; desk.collect(0), wanted, "call {i}"),
         Call::Close => desk.close(0),
     }
 }
@@ -64,7 +63,7 @@ const SMALL: Shape = Shape {
     most: 2,
 };
 
-static ONE_NUMBER: [Call; 13] = [
+const ONE_NUMBER: [Call; 13] = [
     Call::Collect(Err(CoreFault::NotReady)),
     Call::Ask(Address(5), Ok(0)),
     Call::Ask(Address(6), Err(CoreFault::Full)),
@@ -88,7 +87,7 @@ fn one_number_at_a_time(rt: HostRuntime) -> Result<(), Fail> {
 }
 
 /// `Closed` comes before `Exhausted`, and that before `Full`.
-static TO_THE_END: [Call; 10] = [
+const TO_THE_END: [Call; 10] = [
     Call::Ask(Address(5), Ok(0)),
     Call::Ask(Address(6), Err(CoreFault::Exhausted)),
     Call::Close,
@@ -107,8 +106,8 @@ fn a_sender_ends(rt: HostRuntime) -> Result<(), Fail> {
     let mut desk = CoreDesk::new(rt.alloc(), Shape { most: 1, ..SMALL }, &KEY)?;
     make_all(&rt, &mut desk, &TO_THE_END);
     assert!(rt; desk.shape.senders > 0);
-    expect_eq(&rt, &desk.asked(0), &[Query::address(5)].as_slice(), &0);
-    expect_eq(&rt, &desk.received(0), &[Address(5)].as_slice(), &0);
+    assert_eq!(rt; desk.asked(0), [Query::address(5)].as_slice());
+    assert_eq!(rt; desk.received(0), [Address(5)].as_slice());
     Ok(())
 }
 
@@ -118,10 +117,10 @@ fn ask_at_last(rt: &impl Abort, desk: &mut CoreDesk, a: usize) {
     let query = Query::address(a as u64);
     let asked = desk.ask(0, query);
     if asked == Err(CoreFault::Memory) {
-        expect_eq(rt, &desk.asked(0).len(), &a, &a);
-        expect_eq(rt, &desk.ask(0, query), &Ok(a as u64), &a);
+        assert_eq!(rt; desk.asked(0).len(), a);
+        assert_eq!(rt; desk.ask(0, query), Ok(a as u64));
     } else {
-        expect_eq(rt, &asked, &Ok(a as u64), &a);
+        assert_eq!(rt; asked, Ok(a as u64));
     }
 }
 
@@ -156,7 +155,7 @@ fn each_allocation_refused(rt: HostRuntime) -> Result<(), Fail> {
     }
     assert!(rt; desk.shape.senders > 0);
     for (a, answer) in desk.received(0).iter().enumerate() {
-        expect_eq(&rt, answer, &Address(a as u64), &a);
+        assert_eq!(rt; *answer, Address(a as u64));
     }
     Ok(())
 }

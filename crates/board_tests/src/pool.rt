@@ -8,7 +8,6 @@ use std::alloc::Global;
 use std::sync::Wait;
 use std::test::Fail;
 use std::thread::Threads;
-use test_inputs::checks::expect_eq;
 use test_inputs::draws::Draws;
 use ticket_board::{Gate, PoolFault, Queries, run_pool};
 use ticket_core::{Query, QueryKind, Shape};
@@ -79,7 +78,7 @@ fn queries_of_each_sender(rt: HostRuntime) -> Result<(), Fail> {
             &queries,
             &Open,
         );
-        expect_eq(&rt, &refused, &Err(PoolFault::BadShape), &senders);
+        assert_eq!(rt; refused, Err(PoolFault::BadShape));
     }
     Ok(())
 }
@@ -171,7 +170,7 @@ fn refuses(rt: HostRuntime) -> Result<(), Fail> {
                 for_all(&queries),
                 &Open,
             );
-            expect_eq(&rt, &found, &Err(PoolFault::Memory), &workers);
+            assert_eq!(rt; found, Err(PoolFault::Memory));
         }
     }
     Ok(())

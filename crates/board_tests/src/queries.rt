@@ -2,7 +2,6 @@
 
 use std::alloc::{AllocError, Global};
 use std::process::Abort;
-use test_inputs::checks::expect_eq;
 use test_inputs::draws::Draws;
 use ticket_core::{Query, QueryKind};
 
@@ -55,9 +54,9 @@ pub fn draw(draws: &mut Draws) -> Query {
 
 /// The answers are those of the queries, in their order.
 pub fn assert_echoed(rt: &impl Abort, answers: &[QueryKind], queries: &[Query]) {
-    expect_eq(rt, &answers.len(), &queries.len(), &queries.len());
-    for (i, (answer, query)) in answers.iter().zip(queries).enumerate() {
-        expect_eq(rt, answer, &query.kind(), &i);
+    assert_eq!(rt; answers.len(), queries.len());
+    for (answer, query) in answers.iter().zip(queries) {
+        assert_eq!(rt; *answer, query.kind());
     }
 }
 
@@ -77,13 +76,15 @@ const SPANS: [(u64, u64, bool); 8] = [
 fn queries(rt: HostRuntime) {
     for a in [0, 5, u64::MAX] {
         let query = Query::address(a);
-        expect_eq(&rt, &query.kind(), &QueryKind::Address(a), &a);
-        expect_eq(&rt, &(query.first(), query.second()), &(a, 0), &a);
-        expect_eq(&rt, &Query::of_words(a, 0), &query, &a);
+        assert_eq!(rt; query.kind(), QueryKind::Address(a));
+        assert_eq!(rt; (query.first(), query.second()), (a, 0));
+        assert_eq!(rt; Query::of_words(a, 0), query);
     }
     for (low, high, some) in SPANS {
-        let found = Query::range(low, high).map(|span| (span.kind(), span.first(), span.second()));
-        let wanted = some.then_some((QueryKind::Span(low, high), low, high));
-        expect_eq(&rt, &found, &wanted, &(low, high));
+        let query = Query::range(low, high);
+        assert_eq!(rt;
+            query.map(|span| (span.kind(), span.first(), span.second())),
+            some.then_some((QueryKind::Span(low, high), low, high))
+        );
     }
 }

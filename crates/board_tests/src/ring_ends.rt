@@ -8,7 +8,6 @@ use crate::solver::{Echo, KEY};
 use std::alloc::Global;
 use std::process::Abort;
 use std::test::Fail;
-use test_inputs::checks::expect_eq;
 use ticket_board::ring::{Asker, Ring, Taker};
 use ticket_board::{AskFault, BoardFault};
 use ticket_core::{Query, QueryKind, Shape, Solver};
@@ -64,18 +63,18 @@ fn take_two<S: Solver>(rt: &impl Abort, alloc: Global) -> Result<(), BoardFault>
     } = open_ends::<S>(alloc, &KEY)?;
     let address = Query::address(0x10);
     let span = query_of(rt, QueryKind::Span(0x10, 0x20));
-    expect_eq(rt, &asker.ask(&ring, span), &Ok(0), &0);
-    expect_eq(rt, &asker.ask(&ring, address), &Ok(1), &1);
-    expect_eq(rt, &asker.ask(&ring, span), &Err(AskFault::Exhausted), &2);
+    assert_eq!(rt; asker.ask(&ring, span), Ok(0));
+    assert_eq!(rt; asker.ask(&ring, address), Ok(1));
+    assert_eq!(rt; asker.ask(&ring, span), Err(AskFault::Exhausted));
     let Some(taken) = first.take(&ring) else {
         panic!(rt; "the first number waits")
     };
-    expect_eq(rt, &taken, &(0, 0, span), &0);
+    assert_eq!(rt; taken, (0, 0, span));
     let taken = second.take(&ring);
-    expect_eq(rt, &taken, &Some((0, 1, address)), &1);
-    expect_eq(rt, &first.give_back(&ring), &(0, 0), &0);
+    assert_eq!(rt; taken, Some((0, 1, address)));
+    assert_eq!(rt; first.give_back(&ring), (0, 0));
     let taken = first.take(&ring);
-    expect_eq(rt, &taken, &Some((0, 0, span)), &0);
+    assert_eq!(rt; taken, Some((0, 0, span)));
     Ok(())
 }
 

@@ -11,7 +11,6 @@ use plain::{Misuse, Plain};
 use std::alloc::Global;
 use std::process::Abort;
 use std::test::Fail;
-use test_inputs::checks::expect_eq;
 use test_inputs::draws::Draws;
 use ticket_core::Shape;
 
@@ -35,32 +34,24 @@ fn play(
     match draws.below(16) {
         0..=3 => {
             let query = draw(draws);
-            expect_eq(
-                rt,
-                &desk.ask(sender, query),
-                &plain.ask(sender, query)?,
-                &sender,
-            );
+            assert_eq!(rt; desk.ask(sender, query), plain.ask(sender, query)?);
         }
         4..=8 => {
             let number = next.saturating_add(draws.below(shape.window) as u64);
-            let wanted = plain.take(worker, sender, number)?;
-            expect_eq(rt, &desk.take(worker, sender, number), &wanted, &number);
+            assert_eq!(rt;
+                desk.take(worker, sender, number),
+                plain.take(worker, sender, number)?
+            );
         }
         9..=11 => {
-            expect_eq(rt, &desk.finish(worker), &plain.finish(worker)?, &worker);
+            assert_eq!(rt; desk.finish(worker), plain.finish(worker)?);
         }
         12 => {
-            expect_eq(
-                rt,
-                &desk.give_back(worker),
-                &plain.give_back(worker)?,
-                &worker,
-            );
+            assert_eq!(rt; desk.give_back(worker), plain.give_back(worker)?);
         }
         _ => {
             let collected = desk.collect(sender);
-            expect_eq(rt, &collected, &plain.collect(sender)?, &sender);
+            assert_eq!(rt; collected, plain.collect(sender)?);
             return Ok(collected.is_ok());
         }
     }
@@ -71,13 +62,8 @@ fn play(
 fn compare(rt: &impl Abort, desk: &CoreDesk, plain: &Plain) -> Result<(), Misuse> {
     for sender in 0..desk.shape.senders {
         let lists = plain.senders.get(sender).ok_or(Misuse)?;
-        expect_eq(rt, &desk.asked(sender), &lists.asked.as_slice(), &sender);
-        expect_eq(
-            rt,
-            &desk.received(sender),
-            &lists.received.as_slice(),
-            &sender,
-        );
+        assert_eq!(rt; desk.asked(sender), lists.asked.as_slice());
+        assert_eq!(rt; desk.received(sender), lists.received.as_slice());
     }
     Ok(())
 }
@@ -104,7 +90,7 @@ fn play_all(rt: &impl Abort, alloc: Global, queries: u64) -> Result<(), Fail>
             received += 1;
         }
     }
-    expect_eq(rt, &received, &queries, &queries);
+    assert_eq!(rt; received, queries);
     compare(rt, &desk, &plain)?;
     Ok(())
 }

@@ -3,11 +3,6 @@
 use crate::gates::Open;
 use crate::pool::answers;
 use crate::solver::{Echo, KEY};
-use std::alloc::Global;
-use std::process::Abort;
-use std::sync::Wait;
-use std::thread::Threads;
-use test_inputs::checks::expect_eq;
 use ticket_board::{BoardFault, PoolFault, open};
 use ticket_core::{Core, NewFault, Shape};
 
@@ -19,17 +14,6 @@ pub fn shape(senders: usize, workers: usize, window: usize, most: u64) -> Shape 
         window,
         most,
     }
-}
-
-/// A core, a board and a pool take a shape, or refuse it, as it fits or doesn't.
-fn expect_taken<R: Abort + Threads + Wait + Sync>(rt: &R, alloc: Global, shape: Shape, fits: bool) {
-    expect_eq(rt, &shape.fits(), &fits, &shape);
-    let core = Core::<Echo>::new(alloc, shape, &KEY).err();
-    expect_eq(rt, &core, &(!fits).then_some(NewFault::BadShape), &shape);
-    let board = open::<Echo>(alloc, shape, &KEY).err();
-    expect_eq(rt, &board, &(!fits).then_some(BoardFault::BadShape), &shape);
-    let pool = answers(rt, alloc, shape, &[], &Open).err();
-    expect_eq(rt, &pool, &(!fits).then_some(PoolFault::BadShape), &shape);
 }
 
 /// A core, a board and a pool each take the shapes that fit, and refuse the others.
@@ -48,7 +32,25 @@ fn shapes(rt: HostRuntime) {
         (shape(1, 1, 1, 0), false),
         (shape(1, 1, 1, most + 1), false),
     ];
-    for (shape, fits) in &table {
-        expect_taken(&rt, rt.alloc(), *shape, *fits);
+    for (shape, fits) in table {
+        assert_eq!(rt; shape.fits(), fits, "{shape:?}");
+        let core = Core::<Echo>::new(rt.alloc(), shape, &KEY);
+        assert_eq!(rt;
+            core.err(),
+            (!fits).then_some(NewFault::BadShape),
+            "{shape:?}"
+        );
+        let board = open::<Echo>(rt.alloc(), shape, &KEY);
+        assert_eq!(rt;
+            board.err(),
+            (!fits).then_some(BoardFault::BadShape),
+            "{shape:?}"
+        );
+        let pool = answers(&rt, rt.alloc(), shape, &[], &Open);
+        assert_eq!(rt;
+            pool.err(),
+            (!fits).then_some(PoolFault::BadShape),
+            "{shape:?}"
+        );
     }
 }

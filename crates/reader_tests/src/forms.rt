@@ -14,27 +14,10 @@ use dw_model::dwarf::{
     DW_FORM_strx, DW_FORM_strx1, DW_FORM_strx2, DW_FORM_strx3, DW_FORM_strx4, DW_FORM_udata,
 };
 use std::alloc::{AllocError, Global};
-use std::process::Abort;
 use std::test::Fail;
-use test_inputs::checks::expect_eq;
-
-/// The value at the front of some bytes, and how many of them are passed. No clause says what it
-/// is, so that its callers are proved soon.
-fn value_of(
-    bytes: &[u8],
-    form: u64,
-    implicit: Option<i64>,
-) -> (Result<Value<'_>, FormFault>, usize) {
-    let mut cursor = Cursor::new(bytes);
-    let value = read_value(&mut cursor, form, implicit, Width::Four);
-    (value, cursor.at())
-}
-
-/// A form, bytes, and their value.
-type Row = (u64, &'static [u8], Value<'static>);
 
 /// The value of each form, of bytes that are one spelling of it.
-static ROWS: [Row; 43] = [
+const ROWS: [(u64, &[u8], Value<'static>); 43] = [
     (
         DW_FORM_addr,
         &[1, 2, 3, 4, 5, 6, 7, 8],
@@ -128,77 +111,74 @@ static ROWS: [Row; 43] = [
     (DW_FORM_indirect, &[0x16, 0x0b, 7], Value::Unsigned(7)),
 ];
 
-/// The bytes of a row are read to their end, and aren't read without the last.
-fn expect_value(rt: &impl Abort, row: &Row) {
-    let (form, bytes, value) = *row;
-    expect_eq(
-        rt,
-        &value_of(bytes, form, None),
-        &(Ok(value), bytes.len()),
-        &form,
-    );
-    let short = bytes.split_at(bytes.len().saturating_sub(1)).0;
-    expect_eq(
-        rt,
-        &value_of(short, form, None),
-        &(Err(FormFault::End), 0),
-        &form,
-    );
-}
-
 #[test]
 fn value_of_each_form(rt: HostRuntime) {
-    for row in &ROWS {
-        expect_value(&rt, row);
+    for (form, bytes, value) in ROWS {
+        let mut cursor = Cursor::new(bytes);
+        assert_eq!(rt;
+            read_value(&mut cursor, form, None, Width::Four),
+            Ok(value),
+            "form {form}"
+        );
+        assert_eq!(rt; cursor.left(), 0, "form {form}");
+        let mut short = Cursor::new(bytes.split_at(bytes.len().saturating_sub(1)).0);
+        assert_eq!(rt;
+            read_value(&mut short, form, None, Width::Four),
+            Err(FormFault::End),
+            "form {form}"
+        );
+        assert_eq!(rt; short.at(), 0, "form {form}");
     }
 }
-
-/// A form, the number in the declaration, and the value that no bytes spell.
-static WITHOUT_BYTES: [(u64, Option<i64>, Result<Value<'static>, FormFault>); 3] = [
-    (DW_FORM_flag_present, None, Ok(Value::Flag(true))),
-    (DW_FORM_implicit_const, Some(-3), Ok(Value::Signed(-3))),
-    (DW_FORM_implicit_const, None, Err(FormFault::Form)),
-];
 
 #[test]
 fn values_without_bytes(rt: HostRuntime) {
-    for (form, implicit, value) in &WITHOUT_BYTES {
-        expect_eq(&rt, &value_of(&[], *form, *implicit).0, value, form);
-    }
+    let mut cursor = Cursor::new(&[]);
+    assert_eq!(rt;
+        read_value(&mut cursor, DW_FORM_flag_present, None, Width::Four),
+        Ok(Value::Flag(true))
+    );
+    assert_eq!(rt;
+        read_value(&mut cursor, DW_FORM_implicit_const, Some(-3), Width::Four),
+        Ok(Value::Signed(-3))
+    );
+    assert_eq!(rt;
+        read_value(&mut cursor, DW_FORM_implicit_const, None, Width::Four),
+        Err(FormFault::Form)
+    );
 }
-
-/// Forms, bytes that aren't a spelling of a value, and why.
-static FAULTS: [(u64, &[u8], FormFault); 11] = [
-    (0, &[1], FormFault::Form),
-    (2, &[1], FormFault::Form),
-    (0x2d, &[1], FormFault::Form),
-    (0x1f01, &[1, 2, 3, 4], FormFault::Form),
-    (0x1f02, &[1, 2, 3, 4], FormFault::Form),
-    (DW_FORM_indirect, &[0x21, 1], FormFault::Form),
-    (DW_FORM_indirect, &[0x16, 0x16], FormFault::End),
-    (DW_FORM_block, &[5, 1], FormFault::End),
-    (DW_FORM_string, b"ab", FormFault::End),
-    (
-        DW_FORM_udata,
-        &[0xff, 0xff, 0xff, 0xff, 0xff, 0xff, 0xff, 0xff, 0xff, 2],
-        FormFault::Wide,
-    ),
-    (
-        DW_FORM_udata,
-        &[0xff, 0xff, 0xff, 0xff, 0xff, 0xff, 0xff, 0xff, 0xff, 0xff],
-        FormFault::End,
-    ),
-];
 
 #[test]
 fn faults_of_values(rt: HostRuntime) {
-    for (form, bytes, fault) in &FAULTS {
-        expect_eq(
-            &rt,
-            &value_of(bytes, *form, Some(1)),
-            &(Err(*fault), 0),
-            form,
+    let rows: &[(u64, &[u8], FormFault)] = &[
+        (0, &[1], FormFault::Form),
+        (2, &[1], FormFault::Form),
+        (0x2d, &[1], FormFault::Form),
+        (0x1f01, &[1, 2, 3, 4], FormFault::Form),
+        (0x1f02, &[1, 2, 3, 4], FormFault::Form),
+        (DW_FORM_indirect, &[0x21, 1], FormFault::Form),
+        (DW_FORM_indirect, &[0x16, 0x16], FormFault::End),
+        (DW_FORM_block, &[5, 1], FormFault::End),
+        (DW_FORM_string, b"ab", FormFault::End),
+        (
+            DW_FORM_udata,
+            &[0xff, 0xff, 0xff, 0xff, 0xff, 0xff, 0xff, 0xff, 0xff, 2],
+            FormFault::Wide,
+        ),
+        (
+            DW_FORM_udata,
+            &[0xff, 0xff, 0xff, 0xff, 0xff, 0xff, 0xff, 0xff, 0xff, 0xff],
+            FormFault::End,
+        ),
+    ];
+    for (form, bytes, fault) in rows {
+        let mut cursor = Cursor::new(bytes);
+        assert_eq!(rt;
+            read_value(&mut cursor, *form, Some(1), Width::Four),
+            Err(*fault),
+            "form {form}"
         );
+        assert_eq!(rt; cursor.at(), 0, "form {form}");
     }
 }
 
@@ -222,76 +202,43 @@ fn pairs_of(alloc: Global, declaration: &Decl<'_>) -> Result<Vec<Spec>, AllocErr
     Ok(pairs)
 }
 
-/// The table at an offset. No clause says what it is, so that its callers are proved soon.
-fn table_of<'a>(alloc: Global, bytes: &'a [u8], offset: u64) -> Result<Abbrevs<'a>, FormFault> {
-    Abbrevs::read(alloc, bytes, offset)
-}
-
-/// The code, the tag, whether children follow, and how many attributes there are.
-type Declared = (u64, u64, bool, usize);
-
-/// What a table declares for a code.
-fn declared(table: &Abbrevs<'_>, code: u64) -> Option<Declared> {
-    let found = table.get(code)?;
-    Some((found.code, found.tag, found.children, found.specs.len()))
-}
-
-/// Codes, and what the table above declares for them.
-static DECLARED: [(u64, Option<Declared>); 6] = [
-    (1, Some((1, 0x11, true, 1))),
-    (2, Some((2, 0x2e, false, 1))),
-    (9, Some((9, 0x34, true, 0))),
-    (0, None),
-    (3, None),
-    (u64::MAX, None),
-];
-
 #[test]
 fn tables_of_declarations(rt: HostRuntime) -> Result<(), Fail> {
-    let table = table_of(rt.alloc(), TABLE, 1)?;
-    for (code, wanted) in &DECLARED {
-        expect_eq(&rt, &declared(&table, *code), wanted, code);
-    }
-    let pairs = pairs_of(rt.alloc(), table.get(2).ok_or("a function")?)?;
-    let implicit = pairs.first().map(|spec| spec.implicit);
-    expect_eq(&rt, &implicit, &Some(Some(-1)), &2);
+    let table = Abbrevs::read(rt.alloc(), TABLE, 1)?;
+    let unit = table.get(1).ok_or("a unit")?;
+    assert_eq!(rt; (unit.code, unit.tag, unit.children), (1, 0x11, true));
+    let function = table.get(2).ok_or("a function")?;
+    assert_eq!(rt;
+        (function.tag, function.children, function.specs.len()),
+        (0x2e, false, 1)
+    );
+    let pairs = pairs_of(rt.alloc(), function)?;
+    assert_eq!(rt; pairs.len(), 1);
+    assert_eq!(rt; pairs.first().map(|spec| spec.implicit), Some(Some(-1)));
+    let variable = table.get(9).ok_or("a variable")?;
+    assert_eq!(rt; (variable.tag, variable.children), (0x34, true));
+    assert!(rt; table.get(0).is_none() && table.get(3).is_none() && table.get(u64::MAX).is_none());
     Ok(())
 }
 
-/// Declarations of forms of one size, one of a length of its own, no pair, and one that names
-/// another.
-const SIZED: &[u8] = &[
-    1, 0x05, 0, 0x03, 0x0e, 0x3a, 0x21, 1, 0x3b, 0x05, 0x49, 0x13, 0x3f, 0x19, 0, 0, // 1
-    2, 0x34, 0, 0x3b, 0x05, 0x02, 0x18, 0, 0, // 2
-    3, 0x18, 0, 0, 0, // 3
-    4, 0x34, 0, 0x3b, 0x16, 0, 0, // 4
-    0,
-];
-
-/// How many bytes the values of entries take; none of a code that isn't declared.
-fn size_of(table: &Abbrevs<'_>, code: u64) -> Option<Option<usize>> {
-    table.get(code).map(|found| found.size(Width::Four))
-}
-
+/// How many bytes the values of entries take: forms of one size, one of a length of its own, no
+/// pair, and one that names another.
 #[test]
 fn sizes_of_declarations(rt: HostRuntime) -> Result<(), Fail> {
-    let table = table_of(rt.alloc(), SIZED, 0)?;
+    let bytes = &[
+        1, 0x05, 0, 0x03, 0x0e, 0x3a, 0x21, 1, 0x3b, 0x05, 0x49, 0x13, 0x3f, 0x19, 0, 0, // 1
+        2, 0x34, 0, 0x3b, 0x05, 0x02, 0x18, 0, 0, // 2
+        3, 0x18, 0, 0, 0, // 3
+        4, 0x34, 0, 0x3b, 0x16, 0, 0, // 4
+        0,
+    ];
+    let table = Abbrevs::read(rt.alloc(), bytes, 0)?;
     let rows: &[(u64, Option<usize>)] = &[(1, Some(10)), (2, None), (3, Some(0)), (4, None)];
     for (code, size) in rows {
-        expect_eq(&rt, &size_of(&table, *code), &Some(*size), code);
+        let declaration = table.get(*code).ok_or("a declaration")?;
+        assert_eq!(rt; declaration.size(Width::Four), *size, "of {code}");
     }
     Ok(())
-}
-
-/// The first value of a name in an entry with these values; none of a code that isn't declared.
-fn first_value(
-    table: &Abbrevs<'_>,
-    code: u64,
-    name: u64,
-    values: &'static [u8],
-    width: Width,
-) -> Option<Option<Value<'static>>> {
-    table.get(code).map(|found| found.first_value(name, &Cursor::new(values), width))
 }
 
 /// The first value of a name: after values of one size, after a text, of two, and of none.
@@ -300,10 +247,11 @@ fn first_values(rt: HostRuntime) -> Result<(), Fail> {
     let bytes = &[
         1, 0x2e, 0, 0x3f, 0x19, 0x3b, 0x0b, 0x11, 1, 3, 8, 0x12, 6, 3, 8, 0, 0, 0,
     ];
-    let values = &[
+    let values = Cursor::new(&[
         7, 1, 2, 3, 4, 5, 6, 7, 8, b'a', b'b', 0, 9, 0, 0, 0, b'c', 0,
-    ];
-    let table = table_of(rt.alloc(), bytes, 0)?;
+    ]);
+    let table = Abbrevs::read(rt.alloc(), bytes, 0)?;
+    let declaration = table.get(1).ok_or("a declaration")?;
     let rows: &[(u64, Option<Value<'static>>)] = &[
         (DW_AT_low_pc, Some(Value::Address(0x0807_0605_0403_0201))),
         (DW_AT_name, Some(Value::Inline(b"ab"))),
@@ -314,15 +262,14 @@ fn first_values(rt: HostRuntime) -> Result<(), Fail> {
     ];
     for (name, value) in rows {
         for width in [Width::Four, Width::Eight] {
-            let found = first_value(&table, 1, *name, values, width);
-            expect_eq(&rt, &found, &Some(*value), name);
+            assert_eq!(rt; declaration.first_value(*name, &values, width), *value, "of {name}");
         }
     }
     Ok(())
 }
 
 /// Bytes, the offset of a table of declarations in them, and why it can't be read, if it can't.
-static ENDS: [(&[u8], u64, Option<FormFault>); 11] = [
+const ENDS: [(&[u8], u64, Option<FormFault>); 11] = [
     (&[], 0, None),
     (&[1, 0x11, 0, 0, 0], 0, None),
     (TABLE, 33, None),
@@ -342,15 +289,11 @@ static ENDS: [(&[u8], u64, Option<FormFault>); 11] = [
     ),
 ];
 
-/// Why a table can't be read, if it can't.
-fn fault_of(alloc: Global, bytes: &[u8], offset: u64) -> Option<FormFault> {
-    table_of(alloc, bytes, offset).err()
-}
-
 #[test]
 fn tables_that_end(rt: HostRuntime) {
     for (i, (bytes, offset, fault)) in ENDS.iter().enumerate() {
-        expect_eq(&rt, &fault_of(rt.alloc(), bytes, *offset), fault, &i);
+        let read = Abbrevs::read(rt.alloc(), bytes, *offset);
+        assert_eq!(rt; read.err(), *fault, "table {i}");
     }
 }
 
@@ -361,7 +304,7 @@ const INSIDE: &[u8] = &[
 ];
 
 /// The offset of a table, a code, and the tag of its first declaration there.
-static INSIDE_ROWS: [(u64, u64, Option<u64>); 17] = [
+const INSIDE_ROWS: [(u64, u64, Option<u64>); 17] = [
     (0, 1, Some(0x11)),
     (0, 2, Some(0x2e)),
     (0, 7, Some(0x35)),
@@ -382,23 +325,12 @@ static INSIDE_ROWS: [(u64, u64, Option<u64>); 17] = [
 ];
 
 /// In which order the tables are asked for.
-static ORDERS: [[u64; 6]; 4] = [
+const ORDERS: [[u64; 6]; 4] = [
     [0, 1, 5, 10, 15, 20],
     [20, 15, 10, 5, 1, 0],
     [10, 0, 20, 1, 15, 5],
     [1, 15, 0, 5, 20, 10],
 ];
-
-/// The tag that a table, which begins at an offset, declares first for a code.
-fn tag_at(
-    alloc: Global,
-    store: &mut AbbrevStore<'_>,
-    offset: u64,
-    code: u64,
-) -> Result<Option<u64>, FormFault> {
-    let start = store.start(alloc, offset)?;
-    Ok(store.table(start).get(code).map(|found| found.tag))
-}
 
 /// Tables that begin inside one another have what is declared from their beginning on, whichever
 /// was read first.
@@ -410,8 +342,13 @@ fn tables_inside_one_another(rt: HostRuntime) -> Result<(), Fail> {
             store.start(rt.alloc(), *offset)?;
         }
         for (offset, code, tag) in &INSIDE_ROWS {
-            let found = tag_at(rt.alloc(), &mut store, *offset, *code)?;
-            expect_eq(&rt, &found, tag, &(*offset, *code));
+            let start = store.start(rt.alloc(), *offset)?;
+            let found = store.table(start).get(*code);
+            assert_eq!(rt;
+                found.map(|declaration| declaration.tag),
+                *tag,
+                "{code} at {offset}"
+            );
         }
     }
     Ok(())
@@ -441,7 +378,7 @@ const NO_BASES: Bases = Bases {
 };
 
 /// The texts to which values lead.
-static TEXTS: [(Value<'static>, Option<&[u8]>); 17] = [
+const TEXTS: [(Value<'static>, Option<&[u8]>); 17] = [
     (Value::Inline(b"x"), Some(b"x")),
     (Value::Str(0), Some(b"ab")),
     (Value::Str(1), Some(b"b")),
@@ -462,7 +399,7 @@ static TEXTS: [(Value<'static>, Option<&[u8]>); 17] = [
 ];
 
 /// The addresses to which values lead.
-static ADDRESSES: [(Value<'static>, Option<u64>); 6] = [
+const ADDRESSES: [(Value<'static>, Option<u64>); 6] = [
     (Value::Address(7), Some(7)),
     (Value::AddressIndex(0), Some(1)),
     (Value::AddressIndex(1), Some(0x8000_0000_0000_0002)),
@@ -471,28 +408,16 @@ static ADDRESSES: [(Value<'static>, Option<u64>); 6] = [
     (Value::Unsigned(7), None),
 ];
 
-/// The text to which a value leads. No clause says what it is, so that its callers are proved soon.
-fn text_of<'a>(value: &Value<'a>, bases: &Bases) -> Option<&'a [u8]> {
-    TABLES.text(value, bases)
-}
-
-/// The address to which a value leads, in the same way.
-fn address_of(value: &Value<'_>, bases: &Bases) -> Option<u64> {
-    TABLES.address(value, bases)
-}
-
 #[test]
 fn texts_and_addresses(rt: HostRuntime) {
-    for (value, text) in &TEXTS {
-        expect_eq(&rt, &text_of(value, &BASES), text, value);
+    for (value, text) in TEXTS {
+        assert_eq!(rt; TABLES.text(&value, &BASES), text, "{value:?}");
     }
-    for (value, address) in &ADDRESSES {
-        expect_eq(&rt, &address_of(value, &BASES), address, value);
+    assert_eq!(rt; TABLES.text(&Value::StrIndex(0), &NO_BASES), None);
+    for (value, address) in ADDRESSES {
+        assert_eq!(rt; TABLES.address(&value, &BASES), address, "{value:?}");
     }
-    let text = Value::StrIndex(0);
-    expect_eq(&rt, &text_of(&text, &NO_BASES), &None, &text);
-    let address = Value::AddressIndex(0);
-    expect_eq(&rt, &address_of(&address, &NO_BASES), &None, &address);
+    assert_eq!(rt; TABLES.address(&Value::AddressIndex(0), &NO_BASES), None);
 }
 
 /// Codes in no order, one of which has more pairs than are gathered without an allocation.
@@ -501,28 +426,21 @@ const MANY: &[u8] = &[
     0, 0,
 ];
 
-/// A table, read once more where an allocation was refused.
-fn table_at_last<'a>(alloc: Global, bytes: &'a [u8]) -> Result<Abbrevs<'a>, FormFault> {
-    let table = table_of(alloc, bytes, 0);
-    let Err(FormFault::Memory) = table else {
-        return table;
-    };
-    table_of(alloc, bytes, 0)
-}
-
 /// A table for which an allocation is refused is out of memory, and the next reading, with memory,
 /// gives it whole.
 #[test]
 fn each_allocation_refused(rt: HostRuntime) -> Result<(), Fail> {
-    let table = table_at_last(rt.alloc(), MANY)?;
-    expect_eq(&rt, &declared(&table, 4), &Some((4, 0x35, true, 0)), &4);
-    let Ok(pairs) = pairs_of(rt.alloc(), table.get(9).ok_or("a variable")?) else {
+    let table = match Abbrevs::read(rt.alloc(), MANY, 0) {
+        Err(FormFault::Memory) => Abbrevs::read(rt.alloc(), MANY, 0)?,
+        read => read?,
+    };
+    let first = table.get(9).ok_or("a variable")?;
+    assert_eq!(rt; table.get(4).map(|found| found.tag), Some(0x35));
+    let Ok(pairs) = pairs_of(rt.alloc(), first) else {
         return Ok(());
     };
-    let names = (
-        pairs.first().map(|spec| spec.name),
-        pairs.last().map(|spec| spec.name),
-    );
-    expect_eq(&rt, &(pairs.len(), names), &(10, (Some(3), Some(12))), &9);
+    assert_eq!(rt; pairs.len(), 10);
+    assert_eq!(rt; pairs.first().map(|spec| spec.name), Some(3));
+    assert_eq!(rt; pairs.last().map(|spec| spec.name), Some(12));
     Ok(())
 }

@@ -4,11 +4,9 @@ use dw_bytes::Width;
 use dw_forms::{Bases, Tables};
 use dw_line::{LineFault, Lines, Row};
 use std::alloc::{AllocError, Global};
-use std::process::Abort;
 use std::test::Fail;
-use test_inputs::checks::expect_eq;
 use test_inputs::draws::Draws;
-use test_inputs::files::{HEADER, TWO_ROWS, line_table, poked};
+use test_inputs::files::{HEADER, TWO_ROWS, line_table};
 
 /// Another header: instructions of 4 bytes, opcode_base 14, opcode 13 with two operands.
 const FOUR_BYTES: &[u8] = &[
@@ -44,7 +42,7 @@ fn read<'a>(
 /// Header, program, and the lines of addresses: each row is of file 1 and column 0.
 type Program = (&'static [u8], &'static [u8], &'static [(u64, Option<u64>)]);
 
-static PROGRAMS: [Program; 11] = [
+const PROGRAMS: [Program; 11] = [
     // special opcodes
     (
         HEADER,
@@ -169,76 +167,56 @@ const MANY_ROWS: &[u8] = &[
     0x21, 0x21, 2, 1, 0, 1, 1,
 ];
 
-/// The row of an address. No clause says what it is, so that its callers are proved soon.
-fn row_of(lines: &Lines<'_>, address: u64) -> Option<Row> {
-    lines.row(address)
-}
-
-/// The line of an address, in the same way.
-fn line_of(lines: &Lines<'_>, address: u64) -> Option<u64> {
-    lines.row(address).map(|row| row.line)
-}
-
-/// A row of file 1 and column 0.
-fn row_at(line: u64) -> Row {
-    Row {
-        file: 1,
-        line,
-        column: 0,
-    }
-}
-
-/// The rows of these addresses are those of the lines beside them.
-fn expect_rows(rt: &impl Abort, lines: &Lines<'_>, rows: &[(u64, Option<u64>)]) {
-    for (address, line) in rows {
-        expect_eq(rt, &row_of(lines, *address), &line.map(row_at), address);
-    }
-}
-
 #[test]
 fn rows_of_programs(rt: HostRuntime) -> Result<(), Fail> {
-    for (header, program, rows) in &PROGRAMS {
+    for (i, (header, program, rows)) in PROGRAMS.iter().enumerate() {
         let section = line_table(rt.alloc(), header, program)?;
         let lines = read(rt.alloc(), &section, None)?;
-        expect_rows(&rt, &lines, rows);
+        for (address, line) in *rows {
+            let wanted = line.map(|line| Row {
+                file: 1,
+                line,
+                column: 0,
+            });
+            assert_eq!(rt;
+                lines.row(*address),
+                wanted,
+                "program {i}, address {address:#x}"
+            );
+        }
     }
     Ok(())
 }
 
-/// set_file 7, set_column 8, advance_line 9, four flags and an instruction set, fixed_advance_pc
-/// 0x102, a discriminator, copy; advance_pc 5, end; then the registers begin anew.
-const EACH_OPCODE: &[u8] = &[
-    4, 7, 5, 8, 3, 9, 6, 7, 10, 11, 12, 0x81, 1, 9, 2, 1, 0, 2, 4, 9, 1, 2, 5, 0, 1, 1, 1, 2, 1, 0,
-    1, 1,
-];
-
-const FIRST: Row = Row {
-    file: 7,
-    line: 10,
-    column: 8,
-};
-
-const ANEW: Row = Row {
-    file: 1,
-    line: 1,
-    column: 0,
-};
-
-/// Addresses and their rows.
-static OF_EACH_OPCODE: [(u64, Option<Row>); 5] = [
-    (0, Some(ANEW)),
-    (1, None),
-    (0x102, Some(FIRST)),
-    (0x106, Some(FIRST)),
-    (0x107, None),
-];
-
 #[test]
 fn each_opcode(rt: HostRuntime) -> Result<(), Fail> {
-    let section = line_table(rt.alloc(), HEADER, EACH_OPCODE)?;
+    // set_file 7, set_column 8, advance_line 9, four flags and an instruction set, fixed_advance_pc
+    // 0x102, a discriminator, copy; advance_pc 5, end; then the registers begin anew
+    let program = &[
+        4, 7, 5, 8, 3, 9, 6, 7, 10, 11, 12, 0x81, 1, 9, 2, 1, 0, 2, 4, 9, 1, 2, 5, 0, 1, 1, 1, 2,
+        1, 0, 1, 1,
+    ];
+    let section = line_table(rt.alloc(), HEADER, program)?;
     let lines = read(rt.alloc(), &section, None)?;
-    for (address, row) in &OF_EACH_OPCODE {
-        expect_eq(&rt, &row_of(&lines, *address), row, address);
+    let first = Row {
+        file: 7,
+        line: 10,
+        column: 8,
+    };
+    let anew = Row {
+        file: 1,
+        line: 1,
+        column: 0,
+    };
+    let rows: &[(u64, Option<Row>)] = &[
+        (0, Some(anew)),
+        (1, None),
+        (0x102, Some(first)),
+        (0x106, Some(first)),
+        (0x107, None),
+    ];
+    for (address, row) in rows {
+        assert_eq!(rt; lines.row(*address), *row, "address {address:#x}");
     }
     Ok(())
 }
@@ -259,8 +237,8 @@ fn rows_behind_checkpoints(rt: HostRuntime) -> Result<(), Fail> {
     push_rows(&mut program, 0, 200)?;
     let section = line_table(rt.alloc(), HEADER, &program)?;
     let lines = read(rt.alloc(), &section, None)?;
-    expect_eq(&rt, &lines.kept(), &4, &200);
-    let rows: &[(u64, Option<u64>)] = &[
+    assert_eq!(rt; lines.kept(), 4);
+    let rows = [
         (0x1000, None),
         (0x1001, Some(2)),
         (0x1040, Some(65)),
@@ -269,7 +247,11 @@ fn rows_behind_checkpoints(rt: HostRuntime) -> Result<(), Fail> {
         (0x10c9, None),
     ];
     for (address, line) in rows {
-        expect_eq(&rt, &line_of(&lines, *address), line, address);
+        assert_eq!(rt;
+            lines.row(address).map(|row| row.line),
+            line,
+            "address {address:#x}"
+        );
     }
     Ok(())
 }
@@ -284,9 +266,16 @@ fn line_of_two(address: u64) -> Option<u64> {
     }
 }
 
-/// Addresses from 0x0ff0 to 0x1150: in order, backwards, the same one twice, and in a drawn order.
-fn addresses(alloc: Global) -> Result<Vec<u64>, AllocError> {
-    let mut addresses = Vec::new(alloc);
+/// From the row that was found last, whatever was asked before: in order, backwards, the same
+/// address twice, and in a drawn order.
+#[test]
+fn rows_in_order(rt: HostRuntime) -> Result<(), Fail> {
+    let mut program = Vec::new(rt.alloc());
+    push_rows(&mut program, 0, 200)?;
+    push_rows(&mut program, 0x80, 200)?;
+    let section = line_table(rt.alloc(), HEADER, &program)?;
+    let mut lines = read(rt.alloc(), &section, None)?;
+    let mut addresses = Vec::new(rt.alloc());
     for i in 0..0x160 {
         addresses.push(0x0ff0 + i)?;
     }
@@ -298,31 +287,18 @@ fn addresses(alloc: Global) -> Result<Vec<u64>, AllocError> {
     for _ in 0..1000 {
         addresses.push(0x0ff0 + draws.below(0x160) as u64)?;
     }
-    Ok(addresses)
-}
-
-/// The line of an address, from the row that was found last.
-fn line_in_order(lines: &mut Lines<'_>, address: u64) -> Option<u64> {
-    lines.row_in_order(address).map(|row| row.line)
-}
-
-/// Whatever was asked before.
-#[test]
-fn rows_in_order(rt: HostRuntime) -> Result<(), Fail> {
-    let mut program = Vec::new(rt.alloc());
-    push_rows(&mut program, 0, 200)?;
-    push_rows(&mut program, 0x80, 200)?;
-    let section = line_table(rt.alloc(), HEADER, &program)?;
-    let mut lines = read(rt.alloc(), &section, None)?;
-    for address in addresses(rt.alloc())? {
-        let found = line_in_order(&mut lines, address);
-        expect_eq(&rt, &found, &line_of_two(address), &address);
+    for address in addresses {
+        assert_eq!(rt;
+            lines.row_in_order(address).map(|row| row.line),
+            line_of_two(address),
+            "address {address:#x}"
+        );
     }
     Ok(())
 }
 
 /// Programs, and whether they can't be read.
-static BAD_PROGRAMS: [(&[u8], Option<LineFault>); 12] = [
+const BAD_PROGRAMS: [(&[u8], Option<LineFault>); 12] = [
     (&[0, 0], Some(LineFault::Bad)),
     (&[0], Some(LineFault::Bad)),
     (&[0, 3, 2, 0, 0], Some(LineFault::Bad)),
@@ -345,22 +321,21 @@ static BAD_PROGRAMS: [(&[u8], Option<LineFault>); 12] = [
     (&[0, 3, 0x80, 0, 0], None),
 ];
 
-/// Why the table at an offset of a section can't be read, if it can't.
-fn fault_at(alloc: Global, section: &[u8], offset: u64) -> Option<LineFault> {
-    Lines::read(alloc, section, &TABLES, &NO_BASES, None, offset).err()
-}
-
 #[test]
 fn bad_programs(rt: HostRuntime) -> Result<(), Fail> {
-    for (program, fault) in &BAD_PROGRAMS {
+    for (i, (program, fault)) in BAD_PROGRAMS.iter().enumerate() {
         let section = line_table(rt.alloc(), HEADER, program)?;
-        expect_eq(&rt, &fault_at(rt.alloc(), &section, 0), fault, program);
+        assert_eq!(rt;
+            read(rt.alloc(), &section, None).err(),
+            *fault,
+            "program {i}"
+        );
     }
     Ok(())
 }
 
 /// Bytes that are changed in the table of two rows, and whether it can't be read then.
-static BAD_HEADERS: [(usize, u8, Option<LineFault>); 15] = [
+const BAD_HEADERS: [(usize, u8, Option<LineFault>); 15] = [
     // the length
     (0, 68, Some(LineFault::Bad)),
     (3, 0xff, Some(LineFault::Bad)),
@@ -389,16 +364,13 @@ static BAD_HEADERS: [(usize, u8, Option<LineFault>); 15] = [
 
 #[test]
 fn bad_headers(rt: HostRuntime) -> Result<(), Fail> {
-    let section = line_table(rt.alloc(), HEADER, TWO_ROWS)?;
-    for (at, byte, fault) in &BAD_HEADERS {
-        let changed = poked(rt.alloc(), &section, *at, *byte)?;
-        expect_eq(&rt, &fault_at(rt.alloc(), &changed, 0), fault, at);
+    for (at, byte, fault) in BAD_HEADERS {
+        let mut section = line_table(rt.alloc(), HEADER, TWO_ROWS)?;
+        *section.get_mut(at).ok_or("a byte of the table")? = byte;
+        assert_eq!(rt; read(rt.alloc(), &section, None).err(), fault, "byte {at}");
     }
     Ok(())
 }
-
-/// Offsets at which no table of the two below begins.
-static NO_TABLES: [u64; 6] = [1, 54, 123, 124, 125, u64::MAX];
 
 #[test]
 fn offsets_of_tables(rt: HostRuntime) -> Result<(), Fail> {
@@ -407,10 +379,10 @@ fn offsets_of_tables(rt: HostRuntime) -> Result<(), Fail> {
     let second = line_table(alloc, HEADER, TWO_ROWS)?;
     section.extend_from_slice(&second)?;
     let lines = Lines::read(alloc, &section, &TABLES, &NO_BASES, None, 53)?;
-    expect_eq(&rt, &line_of(&lines, 0x40_1000), &Some(3), &53);
-    for offset in &NO_TABLES {
-        let found = fault_at(alloc, &section, *offset);
-        expect_eq(&rt, &found, &Some(LineFault::Bad), offset);
+    assert_eq!(rt; lines.row(0x40_1000).map(|row| row.line), Some(3));
+    for offset in [1, 54, 123, 124, 125, u64::MAX] {
+        let read = Lines::read(alloc, &section, &TABLES, &NO_BASES, None, offset);
+        assert_eq!(rt; read.err(), Some(LineFault::Bad), "offset {offset}");
     }
     Ok(())
 }
@@ -442,7 +414,7 @@ type Path = (
     Option<&'static [u8]>,
 );
 
-static FILES: [Path; 12] = [
+const FILES: [Path; 12] = [
     (PATHS, Some(b"/x"), 0, Some(b"/w/src/b.c")),
     (PATHS, Some(b"/x"), 1, Some(b"/abs/b.c")),
     (PATHS, Some(b"/x"), 2, Some(b"/w/b.c")),
@@ -459,18 +431,13 @@ static FILES: [Path; 12] = [
     (NO_FORMATS, Some(b"/w"), 1, None),
 ];
 
-/// The path of a file. No clause says what it is, so that its callers are proved soon.
-fn path_of(alloc: Global, lines: &Lines<'_>, n: u64) -> Result<Option<Vec<u8>>, AllocError> {
-    lines.path(alloc, n)
-}
-
 #[test]
 fn paths_of_files(rt: HostRuntime) -> Result<(), Fail> {
     for (i, (header, comp_dir, n, path)) in FILES.iter().enumerate() {
         let section = line_table(rt.alloc(), header, &[])?;
         let lines = read(rt.alloc(), &section, *comp_dir)?;
-        let found = path_of(rt.alloc(), &lines, *n)?;
-        expect_eq(&rt, &found.as_deref(), path, &i);
+        let found = lines.path(rt.alloc(), *n)?;
+        assert_eq!(rt; found.as_deref(), *path, "path {i}");
     }
     Ok(())
 }
@@ -486,8 +453,8 @@ fn read_at_last<'a>(alloc: Global, section: &'a [u8]) -> Result<Lines<'a>, LineF
 
 /// The path of file 0, made once more where an allocation was refused.
 fn path_at_last(alloc: Global, lines: &Lines<'_>) -> Result<Option<Vec<u8>>, AllocError> {
-    let Ok(path) = path_of(alloc, lines, 0) else {
-        return path_of(alloc, lines, 0);
+    let Ok(path) = lines.path(alloc, 0) else {
+        return lines.path(alloc, 0);
     };
     Ok(path)
 }
@@ -501,9 +468,9 @@ fn each_allocation_refused(rt: HostRuntime) -> Result<(), Fail> {
         return Ok(());
     };
     let lines = read_at_last(alloc, &section)?;
-    let found = (line_of(&lines, 0x1003), line_of(&lines, 0x2009));
-    expect_eq(&rt, &found, &(Some(4), Some(10)), &0);
+    assert_eq!(rt; lines.row(0x1003).map(|row| row.line), Some(4));
+    assert_eq!(rt; lines.row(0x2009).map(|row| row.line), Some(10));
     let path = path_at_last(alloc, &lines)?;
-    expect_eq(&rt, &path.as_deref(), &Some(b"/w/src/b.c".as_slice()), &0);
+    assert_eq!(rt; path.as_deref(), Some(b"/w/src/b.c".as_slice()));
     Ok(())
 }

@@ -1,29 +1,18 @@
 //! The least owner of an address.
 
 use dw_ranges::{Index, Range};
-use std::alloc::{AllocError, Global};
+use std::alloc::Global;
 use std::test::Fail;
-use test_inputs::checks::expect_eq;
 use test_inputs::draws::Draws;
 
 fn pair(begin: u64, end: u64, owner: usize) -> (Range, usize) {
     (Range { begin, end }, owner)
 }
 
-/// The index of some ranges. No clause says what it is, so that its callers are proved soon.
-fn built(alloc: Global, pairs: &[(Range, usize)]) -> Result<Index, AllocError> {
-    Index::build(alloc, pairs)
-}
-
-/// The owner of an address, in the same way.
-fn owner_of(index: &Index, a: u64) -> Option<usize> {
-    index.find(a)
-}
-
 /// The first address at which the index doesn't find what is asked for.
 fn differs(index: &Index, rows: &[(u64, Option<usize>)]) -> Option<u64> {
     for (a, owner) in rows {
-        if owner_of(index, *a) != *owner {
+        if index.find(*a) != *owner {
             return Some(*a);
         }
     }
@@ -32,7 +21,7 @@ fn differs(index: &Index, rows: &[(u64, Option<usize>)]) -> Option<u64> {
 
 #[test]
 fn nested_ranges(rt: HostRuntime) -> Result<(), Fail> {
-    let outer_first = built(
+    let outer_first = Index::build(
         rt.alloc(),
         &[pair(0x1000, 0x3000, 0), pair(0x2000, 0x2010, 1)],
     )?;
@@ -43,8 +32,8 @@ fn nested_ranges(rt: HostRuntime) -> Result<(), Fail> {
         (0x2fff, Some(0)),
         (0x3000, None),
     ];
-    expect_eq(&rt, &differs(&outer_first, rows), &None, &"the outer first");
-    let inner_first = built(
+    assert_eq!(rt; differs(&outer_first, rows), None);
+    let inner_first = Index::build(
         rt.alloc(),
         &[pair(0x1000, 0x3000, 1), pair(0x2000, 0x2010, 0)],
     )?;
@@ -54,16 +43,16 @@ fn nested_ranges(rt: HostRuntime) -> Result<(), Fail> {
         (0x200f, Some(0)),
         (0x2010, Some(1)),
     ];
-    expect_eq(&rt, &differs(&inner_first, rows), &None, &"the inner first");
+    assert_eq!(rt; differs(&inner_first, rows), None);
     Ok(())
 }
 
 #[test]
 fn no_ranges(rt: HostRuntime) -> Result<(), Fail> {
-    let index = built(rt.alloc(), &[])?;
+    let index = Index::build(rt.alloc(), &[])?;
     let rows: &[(u64, Option<usize>)] = &[(0, None), (0x1000, None), (u64::MAX, None)];
-    expect_eq(&rt, &differs(&index, rows), &None, &"all rows");
-    let index = built(
+    assert_eq!(rt; differs(&index, rows), None);
+    let index = Index::build(
         rt.alloc(),
         &[pair(5, 5, 0), pair(9, 3, 1), pair(u64::MAX, 0, 2)],
     )?;
@@ -75,13 +64,13 @@ fn no_ranges(rt: HostRuntime) -> Result<(), Fail> {
         (u64::MAX - 1, None),
         (u64::MAX, None),
     ];
-    expect_eq(&rt, &differs(&index, rows), &None, &"all rows");
+    assert_eq!(rt; differs(&index, rows), None);
     Ok(())
 }
 
 #[test]
 fn ranges_at_the_ends(rt: HostRuntime) -> Result<(), Fail> {
-    let index = built(
+    let index = Index::build(
         rt.alloc(),
         &[
             pair(0, 1, 7),
@@ -96,14 +85,14 @@ fn ranges_at_the_ends(rt: HostRuntime) -> Result<(), Fail> {
         (u64::MAX - 1, Some(usize::MAX)),
         (u64::MAX, None),
     ];
-    expect_eq(&rt, &differs(&index, rows), &None, &"all rows");
+    assert_eq!(rt; differs(&index, rows), None);
     Ok(())
 }
 
 /// Equal ranges, ranges that touch, and owners that own several.
 #[test]
 fn ranges_side_by_side(rt: HostRuntime) -> Result<(), Fail> {
-    let index = built(
+    let index = Index::build(
         rt.alloc(),
         &[
             pair(10, 20, 3),
@@ -126,7 +115,7 @@ fn ranges_side_by_side(rt: HostRuntime) -> Result<(), Fail> {
         (50, Some(3)),
         (60, None),
     ];
-    expect_eq(&rt, &differs(&index, rows), &None, &"all rows");
+    assert_eq!(rt; differs(&index, rows), None);
     Ok(())
 }
 
@@ -161,22 +150,15 @@ pub fn drawn(alloc: Global, count: usize) -> Result<Vec<(Range, usize)>, Fail> {
 #[test]
 fn agrees_with_a_scan(rt: HostRuntime) -> Result<(), Fail> {
     let pairs = drawn(rt.alloc(), 10_000)?;
-    let index = built(rt.alloc(), &pairs)?;
+    let index = Index::build(rt.alloc(), &pairs)?;
     let mut draws = Draws::new(7);
     for _ in 0..2_000 {
         let a = draws.next() % 1_600_000;
-        expect_eq(&rt, &owner_of(&index, a), &scanned(&pairs, a), &a);
+        assert_eq!(rt; index.find(a), scanned(&pairs, a), "at {a}");
     }
     for (range, _) in pairs.iter().take(1_000) {
-        let begin = range.begin;
-        expect_eq(
-            &rt,
-            &owner_of(&index, begin),
-            &scanned(&pairs, begin),
-            &begin,
-        );
-        let end = range.end;
-        expect_eq(&rt, &owner_of(&index, end), &scanned(&pairs, end), &end);
+        assert_eq!(rt; index.find(range.begin), scanned(&pairs, range.begin));
+        assert_eq!(rt; index.find(range.end), scanned(&pairs, range.end));
     }
     Ok(())
 }
@@ -191,9 +173,9 @@ fn each_allocation_refused(rt: HostRuntime) -> Result<(), Fail> {
         pair(8, 12, 0),
         pair(20, 30, 2),
     ];
-    let index = match built(rt.alloc(), &pairs) {
+    let index = match Index::build(rt.alloc(), &pairs) {
         Ok(index) => index,
-        Err(_) => built(rt.alloc(), &pairs)?,
+        Err(_) => Index::build(rt.alloc(), &pairs)?,
     };
     let rows: &[(u64, Option<usize>)] = &[
         (0, None),
@@ -206,6 +188,6 @@ fn each_allocation_refused(rt: HostRuntime) -> Result<(), Fail> {
         (29, Some(2)),
         (30, None),
     ];
-    expect_eq(&rt, &differs(&index, rows), &None, &"all rows");
+    assert_eq!(rt; differs(&index, rows), None);
     Ok(())
 }

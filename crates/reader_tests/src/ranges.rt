@@ -5,11 +5,10 @@ use crate::units::units_of;
 use dw_forms::{Tables, Value};
 use dw_model::dwarf::{DW_AT_high_pc, DW_AT_low_pc, DW_AT_name, DW_AT_ranges, DW_TAG_subprogram};
 use dw_ranges::{Range, RangeFault, ranges_of, read_ranges};
-use dw_units::{Attribute, Attributes, Entry, Unit, Units};
+use dw_units::{Attribute, Attributes, Entry, Units};
 use std::alloc::{AllocError, Global};
 use std::process::Abort;
 use std::test::Fail;
-use test_inputs::checks::expect_eq;
 use test_inputs::files::{file_of, push_unit};
 
 /// What is asked for of an entry: its ranges, or that they are bad.
@@ -27,7 +26,7 @@ const DECLARATIONS: &[u8] = &[
     0x11, 1, 0, 0, 4, 0x11, 0, 0x73, 0x17, 0x74, 0x17, 0x11, 0x1b, 0, 0, 0,
 ];
 
-static ROOTS: [&[u8]; 5] = [
+const ROOTS: [&[u8]; 5] = [
     &[1, 8, 0, 0, 0, 4, 0, 0, 0],
     &[2],
     &[3, 8, 0, 0, 0, 4, 0, 0, 0, 0, 5, 0, 0, 0, 0, 0, 0],
@@ -53,7 +52,7 @@ const SKIPPED: usize = 5;
 /// A file of these units, and of one of version 4 after them.
 fn file_of_roots(alloc: Global) -> Result<Vec<u8>, AllocError> {
     let mut info = Vec::new(alloc);
-    for root in &ROOTS {
+    for root in ROOTS {
         push_unit(&mut info, root)?;
     }
     info.extend_from_slice(&[7, 0, 0, 0, 4, 0, 0, 0, 0, 0, 8])?;
@@ -99,48 +98,8 @@ fn are_expected(ranges: &[Range], expected: Expected) -> bool {
             .all(|(range, row)| range.begin == row.0 && range.end == row.1)
 }
 
-/// The ranges of an entry of a unit, where .debug_rnglists has these bytes. No clause says what they
-/// are, so that its callers are proved soon.
-fn ranges_alone(
-    alloc: Global,
-    entry: &Entry<'_>,
-    unit: &Unit<'_>,
-    rnglists: &[u8],
-) -> Result<Vec<Range>, RangeFault> {
-    ranges_of(alloc, entry, unit, &tables(rnglists))
-}
-
-/// The same, in place of those that were kept.
-fn read_again(
-    kept: &mut Vec<Range>,
-    entry: &Entry<'_>,
-    unit: &Unit<'_>,
-    rnglists: &[u8],
-) -> Result<(), RangeFault> {
-    read_ranges(kept, &entry.named_ranges(), unit, &tables(rnglists))
-}
-
-/// The ranges of an entry of a unit are as expected: read by themselves, and in place of others.
-fn is_ranged(
-    alloc: Global,
-    entry: &Entry<'_>,
-    unit: &Unit<'_>,
-    rnglists: &[u8],
-    expected: Expected,
-) -> Result<bool, Fail> {
-    let alone = match ranges_alone(alloc, entry, unit, rnglists) {
-        Ok(found) => are_expected(&found, expected),
-        Err(fault) => fault == RangeFault::Bad && expected.is_none(),
-    };
-    let mut kept = vec![in alloc; Range { begin: 7, end: 8 }]?;
-    let in_place = match read_again(&mut kept, entry, unit, rnglists) {
-        Ok(()) => are_expected(&kept, expected),
-        Err(fault) => fault == RangeFault::Bad && expected.is_none(),
-    };
-    Ok(alone && in_place)
-}
-
-/// The ranges of an entry of the unit at an index are as expected.
+/// The ranges of an entry of the unit at an index are as expected, where .debug_rnglists has these
+/// bytes: read by themselves, and in place of others.
 fn has_ranges(
     alloc: Global,
     units: &Units<'_>,
@@ -153,11 +112,21 @@ fn has_ranges(
         return Err(Fail::from("a unit at the index"));
     }
     let entry = entry_of(alloc, pairs)?;
-    is_ranged(alloc, &entry, units.unit(i), rnglists, expected)
+    let tables = tables(rnglists);
+    let alone = match ranges_of(alloc, &entry, units.unit(i), &tables) {
+        Ok(found) => are_expected(&found, expected),
+        Err(fault) => fault == RangeFault::Bad && expected.is_none(),
+    };
+    let mut kept = vec![in alloc; Range { begin: 7, end: 8 }]?;
+    let in_place = match read_ranges(&mut kept, &entry.named_ranges(), units.unit(i), &tables) {
+        Ok(()) => are_expected(&kept, expected),
+        Err(fault) => fault == RangeFault::Bad && expected.is_none(),
+    };
+    Ok(alone && in_place)
 }
 
 /// Lists, each with the ranges that it has, or bad.
-static LISTS: [(&[u8], Expected); 28] = [
+const LISTS: [(&[u8], Expected); 28] = [
     (&[0], Some(&[])),
     // base_addressx
     (&[1, 1, 4, 0, 1, 0], Some(&[(0x2000, 0x2001)])),
@@ -237,22 +206,24 @@ static LISTS: [(&[u8], Expected); 28] = [
 ];
 
 /// An entry has the list at the begin of .debug_rnglists.
-static LIST: [(u64, Value<'static>); 1] = [(DW_AT_ranges, Value::SectionOffset(0))];
+const LIST: [(u64, Value<'static>); 1] = [(DW_AT_ranges, Value::SectionOffset(0))];
 
 #[test]
 fn entries_of_lists(rt: HostRuntime) -> Result<(), Fail> {
     let file = file_of_roots(rt.alloc())?;
     let units = units_of(rt.alloc(), &file)?;
-    for (list, expected) in &LISTS {
-        let found = has_ranges(rt.alloc(), &units, BASED, &LIST, list, *expected)?;
-        expect_eq(&rt, &found, &true, list);
+    for (i, (list, expected)) in LISTS.iter().enumerate() {
+        assert!(rt;
+            has_ranges(rt.alloc(), &units, BASED, &LIST, list, *expected)?,
+            "list {i}"
+        );
     }
     Ok(())
 }
 
 /// Lists in units of each kind: without a base no address has an index, and the first base is the
 /// address of the unit's first entry.
-static IN_UNITS: [(usize, &[u8], Expected); 11] = [
+const IN_UNITS: [(usize, &[u8], Expected); 11] = [
     (PLAIN, &[1, 0, 0], None),
     (PLAIN, &[2, 0, 0, 0], None),
     (PLAIN, &[3, 0, 0, 0], None),
@@ -274,9 +245,11 @@ static IN_UNITS: [(usize, &[u8], Expected); 11] = [
 fn bases_of_units(rt: HostRuntime) -> Result<(), Fail> {
     let file = file_of_roots(rt.alloc())?;
     let units = units_of(rt.alloc(), &file)?;
-    for (i, list, expected) in &IN_UNITS {
-        let found = has_ranges(rt.alloc(), &units, *i, &LIST, list, *expected)?;
-        expect_eq(&rt, &found, &true, &(*i, *list));
+    for (row, (i, list, expected)) in IN_UNITS.iter().enumerate() {
+        assert!(rt;
+            has_ranges(rt.alloc(), &units, *i, &LIST, list, *expected)?,
+            "row {row}"
+        );
     }
     Ok(())
 }
@@ -286,7 +259,7 @@ fn bases_of_units(rt: HostRuntime) -> Result<(), Fail> {
 const INDEXED: &[u8] = &[9, 9, 9, 9, 8, 0, 0, 0, 12, 0, 0, 0, 4, 1, 2, 0, 4, 3, 4, 0];
 
 /// What names a list of these, in which unit, and its ranges.
-static NAMED: [(usize, Value<'static>, Expected); 12] = [
+const NAMED: [(usize, Value<'static>, Expected); 12] = [
     (BASED, Value::RangeIndex(0), Some(&[(1, 2)])),
     (BASED, Value::RangeIndex(1), Some(&[(3, 4)])),
     // a list as an offset: it begins after the section
@@ -306,16 +279,18 @@ static NAMED: [(usize, Value<'static>, Expected); 12] = [
 fn lists_by_offset_and_index(rt: HostRuntime) -> Result<(), Fail> {
     let file = file_of_roots(rt.alloc())?;
     let units = units_of(rt.alloc(), &file)?;
-    for (i, value, expected) in &NAMED {
-        let pairs = [(DW_AT_ranges, *value)];
-        let found = has_ranges(rt.alloc(), &units, *i, &pairs, INDEXED, *expected)?;
-        expect_eq(&rt, &found, &true, value);
+    for (i, value, expected) in NAMED {
+        let pairs = [(DW_AT_ranges, value)];
+        assert!(rt;
+            has_ranges(rt.alloc(), &units, i, &pairs, INDEXED, expected)?,
+            "{value:?}"
+        );
     }
     Ok(())
 }
 
 /// DW_AT_low_pc and DW_AT_high_pc, where each is there, and the ranges.
-static PAIRS: [(Option<Value<'static>>, Option<Value<'static>>, Expected); 16] = [
+const PAIRS: [(Option<Value<'static>>, Option<Value<'static>>, Expected); 16] = [
     (None, None, Some(&[])),
     (Some(Value::Address(5)), None, Some(&[])),
     (None, Some(Value::Address(5)), Some(&[])),
@@ -375,33 +350,35 @@ fn low_and_high(rt: HostRuntime) -> Result<(), Fail> {
             attribute(DW_AT_low_pc, *low),
             attribute(DW_AT_high_pc, *high),
         ];
-        let found = has_ranges(rt.alloc(), &units, BASED, &pairs, &[], *expected)?;
-        expect_eq(&rt, &found, &true, &i);
+        assert!(rt;
+            has_ranges(rt.alloc(), &units, BASED, &pairs, &[], *expected)?,
+            "pair {i}"
+        );
     }
     Ok(())
 }
-
-/// What DW_AT_ranges is of an entry that has both others too, and its ranges.
-static BESIDE_BOTH: [(Value<'static>, Expected); 3] = [
-    (Value::SectionOffset(0), Some(&[(1, 2)])),
-    (Value::SectionOffset(9), None),
-    (Value::Unsigned(0), Some(&[(5, 8)])),
-];
 
 /// Where both are there, the list alone counts; where DW_AT_ranges names none, it is as if absent.
 #[test]
 fn list_before_low_and_high(rt: HostRuntime) -> Result<(), Fail> {
     let file = file_of_roots(rt.alloc())?;
     let units = units_of(rt.alloc(), &file)?;
-    for (ranges, expected) in &BESIDE_BOTH {
+    let rows: [(Value<'static>, Expected); 3] = [
+        (Value::SectionOffset(0), Some(&[(1, 2)])),
+        (Value::SectionOffset(9), None),
+        (Value::Unsigned(0), Some(&[(5, 8)])),
+    ];
+    for (ranges, expected) in rows {
         let pairs = [
             (DW_AT_low_pc, Value::Address(5)),
-            (DW_AT_ranges, *ranges),
+            (DW_AT_ranges, ranges),
             (DW_AT_high_pc, Value::Address(8)),
         ];
         let list = &[4, 1, 2, 0];
-        let found = has_ranges(rt.alloc(), &units, PLAIN, &pairs, list, *expected)?;
-        expect_eq(&rt, &found, &true, ranges);
+        assert!(rt;
+            has_ranges(rt.alloc(), &units, PLAIN, &pairs, list, expected)?,
+            "{ranges:?}"
+        );
     }
     Ok(())
 }
@@ -415,45 +392,30 @@ fn faults_show_themselves(rt: HostRuntime) -> Result<(), Fail> {
     Ok(())
 }
 
-/// An entry of a unit has these ranges, where they are read once more after an allocation was
-/// refused, by themselves and in place of others.
-fn is_ranged_at_last(
+/// An entry of the first unit has these ranges, where they are read once more after an allocation
+/// was refused, by themselves and in place of others.
+fn has_ranges_at_last(
     alloc: Global,
-    unit: &Unit<'_>,
+    units: &Units<'_>,
     entry: &Entry<'_>,
     rnglists: &[u8],
     expected: Expected,
-) -> Result<bool, RangeFault> {
-    let found = match ranges_alone(alloc, entry, unit, rnglists) {
-        Err(RangeFault::Memory) => ranges_alone(alloc, entry, unit, rnglists)?,
-        found => found?,
-    };
-    let mut kept = Vec::new(alloc);
-    match read_again(&mut kept, entry, unit, rnglists) {
-        Err(RangeFault::Memory) => read_again(&mut kept, entry, unit, rnglists)?,
-        read => read?,
-    }
-    Ok(are_expected(&found, expected) && are_expected(&kept, expected))
-}
-
-/// The same of an entry of a file's first unit, where there is memory for the unit and the entry.
-fn has_ranges_at_last(
-    alloc: Global,
-    file: &[u8],
-    pairs: &[(u64, Value<'_>)],
-    rnglists: &[u8],
-    expected: Expected,
 ) -> Result<bool, Fail> {
-    let Ok(units) = units_of(alloc, file) else {
-        return Ok(true);
-    };
     if units.len() == 0 {
         return Err(Fail::from("a unit"));
     }
-    let Ok(entry) = entry_of(alloc, pairs) else {
-        return Ok(true);
+    let tables = tables(rnglists);
+    let found = match ranges_of(alloc, entry, units.unit(0), &tables) {
+        Err(RangeFault::Memory) => ranges_of(alloc, entry, units.unit(0), &tables)?,
+        found => found?,
     };
-    Ok(is_ranged_at_last(alloc, units.unit(0), &entry, rnglists, expected)?)
+    let mut kept = Vec::new(alloc);
+    let named = entry.named_ranges();
+    match read_ranges(&mut kept, &named, units.unit(0), &tables) {
+        Err(RangeFault::Memory) => read_ranges(&mut kept, &named, units.unit(0), &tables)?,
+        read => read?,
+    }
+    Ok(are_expected(&found, expected) && are_expected(&kept, expected))
 }
 
 /// Ranges for which an allocation is refused are out of memory, and the next call, with memory,
@@ -468,9 +430,18 @@ fn each_allocation_refused(rt: HostRuntime) -> Result<(), Fail> {
     let Ok(file) = file_of_roots(alloc) else {
         return Ok(());
     };
+    let Ok(units) = units_of(alloc, &file) else {
+        return Ok(());
+    };
+    let Ok(by_list) = entry_of(alloc, &LIST) else {
+        return Ok(());
+    };
+    let Ok(by_pair) = entry_of(alloc, &pairs) else {
+        return Ok(());
+    };
     let list = &[4, 1, 2, 4, 3, 4, 4, 5, 6, 4, 7, 8, 4, 9, 10, 0];
     let rows: Expected = Some(&[(1, 2), (3, 4), (5, 6), (7, 8), (9, 10)]);
-    assert!(rt; has_ranges_at_last(alloc, &file, &LIST, list, rows)?);
-    assert!(rt; has_ranges_at_last(alloc, &file, &pairs, &[], Some(&[(5, 13)]))?);
+    assert!(rt; has_ranges_at_last(alloc, &units, &by_list, list, rows)?);
+    assert!(rt; has_ranges_at_last(alloc, &units, &by_pair, &[], Some(&[(5, 13)]))?);
     Ok(())
 }

@@ -7,7 +7,6 @@ use dw_frames::TreeFault;
 use std::alloc::{AllocError, Global};
 use std::process::Abort;
 use std::test::Fail;
-use test_inputs::checks::expect_eq;
 use test_inputs::files::{elf, unit_of};
 
 /// A unit, a subprogram with children and an inlined subroutine, both with a range list.
@@ -52,7 +51,7 @@ const LATER: &[u8] = &[
 ];
 
 /// The functions at addresses, innermost first.
-static OF_LATER: [(u64, &[u64]); 7] = [
+const OF_LATER: [(u64, &[u64]); 7] = [
     (0x0f, &[]),
     (0x10, &[18, 13]),
     (0x17, &[18, 13]),
@@ -100,7 +99,7 @@ const CALLERS: &[u8] = &[
 ];
 
 /// The functions at addresses, innermost first.
-static OF_CALLERS: [(u64, &[u64]); 5] = [
+const OF_CALLERS: [(u64, &[u64]); 5] = [
     (0x10, &[29, 24]),
     (0x20, &[]),
     (0x40, &[18, 13]),
@@ -118,7 +117,7 @@ fn one_list_in_each_caller(rt: HostRuntime) -> Result<(), Fail> {
 }
 
 /// Entries, and why the unit's functions can't be read, if they can't.
-static FAULTS: [(&[u8], Option<TreeFault>); 4] = [
+const FAULTS: [(&[u8], Option<TreeFault>); 4] = [
     (&[2, 0, 0, 0, 0, 0, 2, 0, 0, 0, 0, 0, 0], None),
     (
         &[2, 0, 0, 0, 0, 0, 2, 19, 0, 0, 0, 0, 0],
@@ -137,11 +136,10 @@ static FAULTS: [(&[u8], Option<TreeFault>); 4] = [
 
 #[test]
 fn faults_behind_a_list_that_was_read(rt: HostRuntime) -> Result<(), Fail> {
-    for (entries, fault) in &FAULTS {
+    for (i, (entries, fault)) in FAULTS.iter().enumerate() {
         for loose in 0..5 {
             let file = file_of(rt.alloc(), loose, entries)?;
-            let found = read_first(rt.alloc(), &file)?.err();
-            expect_eq(&rt, &found, fault, &(loose, *entries));
+            assert_eq!(rt; read_first(rt.alloc(), &file)?.err(), *fault, "row {i}");
         }
     }
     Ok(())

@@ -2,12 +2,11 @@
 //! succeed.
 
 use crate::units::units_of;
-use dw_frames::{Call, Described, EntryId, Tree, TreeFault};
+use dw_frames::{Call, EntryId, Tree, TreeFault};
 use dw_units::{Kind, Units};
 use std::alloc::{AllocError, Global};
 use std::process::Abort;
 use std::test::Fail;
-use test_inputs::checks::expect_eq;
 use test_inputs::files::{ABBREVS, INFO, file_of, poked, sample, unit_of};
 
 /// The functions of the unit at an index, which isn't skipped.
@@ -34,16 +33,6 @@ pub(crate) fn read_first(alloc: Global, file: &[u8]) -> Result<Result<(), TreeFa
     }
 }
 
-/// The name of a function. No clause says what it is, so that its callers are proved soon.
-fn name_of<'a>(tree: &Tree<'_, 'a>, id: EntryId) -> Option<&'a [u8]> {
-    tree.name(id)
-}
-
-/// Where a function was called, in the same way.
-fn call_of(tree: &Tree<'_, '_>, id: EntryId) -> Call {
-    tree.call(id)
-}
-
 /// Two names, or none, are the same.
 fn is_same(found: Option<&[u8]>, wanted: Option<&[u8]>) -> bool {
     match (found, wanted) {
@@ -65,21 +54,8 @@ fn expect_name<A: Abort>(
     let units = units_of(alloc, &file)?;
     let tree = tree_at(alloc, &units, 0)??;
     let id = EntryId { unit: 0, offset };
-    let is_wanted = is_same(name_of(&tree, id), wanted);
-    expect_eq(rt, &is_wanted, &true, &offset);
+    assert!(rt; is_same(tree.name(id), wanted), "name at {offset:#x}");
     Ok(())
-}
-
-/// The offsets of the functions at an address, innermost first, all of which are of the first unit.
-fn chain_at(alloc: Global, tree: &Tree<'_, '_>, a: u64) -> Result<Vec<u64>, Fail> {
-    let mut offsets = Vec::new(alloc);
-    for id in tree.chain(alloc, a)? {
-        if id.unit != 0 {
-            return Err(Fail::from("a function of the first unit"));
-        }
-        offsets.push(id.offset)?;
-    }
-    Ok(offsets)
 }
 
 /// The functions at an address are those at these offsets of the first unit, innermost first.
@@ -90,13 +66,16 @@ pub(crate) fn expect_chain<A: Abort>(
     a: u64,
     wanted: &[u64],
 ) -> Result<(), Fail> {
-    let found = chain_at(alloc, tree, a)?;
-    expect_eq(rt, &found.as_slice(), &wanted, &a);
+    let chain = tree.chain(alloc, a)?;
+    assert_eq!(rt; chain.len(), wanted.len(), "functions at {a:#x}");
+    for (id, offset) in chain.iter().zip(wanted.iter()) {
+        assert_eq!(rt; (id.unit, id.offset), (0, *offset), "functions at {a:#x}");
+    }
     Ok(())
 }
 
 /// The functions at addresses of the sample's first unit.
-static CHAINS: [(u64, &[u64]); 12] = [
+const CHAINS: [(u64, &[u64]); 12] = [
     (0x40_0fff, &[]),
     (0x40_1000, &[0x23]),
     (0x40_1001, &[0x23]),
@@ -116,14 +95,14 @@ fn inlined_functions(rt: HostRuntime) -> Result<(), Fail> {
     let file = sample(rt.alloc())?;
     let units = units_of(rt.alloc(), &file)?;
     let tree = tree_at(rt.alloc(), &units, 0)??;
-    for (a, wanted) in &CHAINS {
-        expect_chain(&rt, rt.alloc(), &tree, *a, wanted)?;
+    for (a, wanted) in CHAINS {
+        expect_chain(&rt, rt.alloc(), &tree, a, wanted)?;
     }
     Ok(())
 }
 
 /// Units and offsets of entries, and the names of functions there, asked of the first unit.
-static NAMES: [(usize, u64, Option<&[u8]>); 8] = [
+const NAMES: [(usize, u64, Option<&[u8]>); 8] = [
     (0, 0x0c, None),
     (0, 0x1d, Some(b"leaf")),
     (0, 0x23, Some(b"main")),
@@ -135,48 +114,27 @@ static NAMES: [(usize, u64, Option<&[u8]>); 8] = [
 ];
 
 /// Where functions were called: file, line and column.
-static CALLS: [(u64, Option<u64>, Option<u64>, Option<u64>); 3] = [
+const CALLS: [(u64, Option<u64>, Option<u64>, Option<u64>); 3] = [
     (0x47, Some(1), Some(30), None),
     (0x36, Some(0), Some(20), Some(7)),
     (0x23, None, None, None),
 ];
-
-/// What is told of a function at once is its name and where it was called.
-fn expect_described(rt: &impl Abort, tree: &Tree<'_, '_>, id: EntryId) {
-    let Described { name, call } = tree.describe(id);
-    expect_eq(
-        rt,
-        &(name, call),
-        &(name_of(tree, id), call_of(tree, id)),
-        &id.offset,
-    );
-}
 
 #[test]
 fn names_and_calls(rt: HostRuntime) -> Result<(), Fail> {
     let file = sample(rt.alloc())?;
     let units = units_of(rt.alloc(), &file)?;
     let tree = tree_at(rt.alloc(), &units, 0)??;
-    for (unit, offset, name) in &NAMES {
-        let id = EntryId {
-            unit: *unit,
-            offset: *offset,
-        };
-        expect_eq(&rt, &name_of(&tree, id), name, offset);
-        expect_described(&rt, &tree, id);
+    for (unit, offset, name) in NAMES {
+        let id = EntryId { unit, offset };
+        assert_eq!(rt; tree.name(id), name, "name at {offset:#x}");
+        assert_eq!(rt; tree.describe(id).name, name, "name at {offset:#x}");
     }
-    for (offset, file, line, column) in &CALLS {
-        let id = EntryId {
-            unit: 0,
-            offset: *offset,
-        };
-        let wanted = Call {
-            file: *file,
-            line: *line,
-            column: *column,
-        };
-        expect_eq(&rt, &call_of(&tree, id), &wanted, offset);
-        expect_described(&rt, &tree, id);
+    for (offset, file, line, column) in CALLS {
+        let id = EntryId { unit: 0, offset };
+        let wanted = Call { file, line, column };
+        assert_eq!(rt; tree.call(id), wanted, "call of {offset:#x}");
+        assert_eq!(rt; tree.describe(id).call, wanted, "call of {offset:#x}");
     }
     Ok(())
 }
@@ -197,8 +155,10 @@ fn unit_of_a_target(rt: HostRuntime) -> Result<(), Fail> {
         unit: 1,
         offset: 0x68,
     };
-    expect_eq(&rt, &name_of(&tree, id), &Some(b"mid".as_slice()), &1);
-    expect_chain(&rt, rt.alloc(), &tree, 0x40_1000, &[])
+    assert_eq!(rt; tree.name(id), Some(b"mid".as_slice()));
+    let chain = tree.chain(rt.alloc(), 0x40_1000)?;
+    assert!(rt; chain.is_empty());
+    Ok(())
 }
 
 /// A unit with children; an inlined subroutine of another, by an offset of the unit; a subprogram
@@ -252,7 +212,7 @@ fn led_behind(alloc: Global, behind: &[u8]) -> Result<Vec<u8>, AllocError> {
 }
 
 /// What is there, and the name.
-static TARGETS: [(&[u8], Option<&[u8]>); 7] = [
+const TARGETS: [(&[u8], Option<&[u8]>); 7] = [
     (&[], None),
     (&[0], None),
     (&[0x7f], None),
@@ -270,9 +230,9 @@ static TARGETS: [(&[u8], Option<&[u8]>); 7] = [
 /// What can't be read is no name, and isn't out of memory.
 #[test]
 fn unreadable_targets(rt: HostRuntime) -> Result<(), Fail> {
-    for (behind, name) in &TARGETS {
+    for (behind, name) in TARGETS {
         let info = led_behind(rt.alloc(), behind)?;
-        expect_name(&rt, rt.alloc(), &info, SHORT, 13, *name)?;
+        expect_name(&rt, rt.alloc(), &info, SHORT, 13, name)?;
     }
     let mut skipped = led_behind(rt.alloc(), &[])?;
     let target = skipped.get_mut(14).ok_or("a reference")?;
@@ -283,7 +243,7 @@ fn unreadable_targets(rt: HostRuntime) -> Result<(), Fail> {
 
 /// How many blocks are in one another below the first entry, what is in the last, and why that
 /// unit's functions can't be read, if they can't.
-static FAULTS: [(usize, &[u8], Option<TreeFault>); 11] = [
+const FAULTS: [(usize, &[u8], Option<TreeFault>); 11] = [
     // entries after the list aren't read
     (0, &[0, 0x7f], None),
     (1, &[0x7f], Some(TreeFault::Entry)),
@@ -300,23 +260,18 @@ static FAULTS: [(usize, &[u8], Option<TreeFault>); 11] = [
     (0, &[6, 0, 0, 0, 0, 0], None),
 ];
 
-/// A unit with so many blocks in one another below its first entry, and this in the last.
-fn nested(alloc: Global, blocks: usize, last: &[u8]) -> Result<Vec<u8>, AllocError> {
-    let mut entries = Vec::from_slice(alloc, &[1])?;
-    for _ in 0..blocks {
-        entries.push(4)?;
-    }
-    entries.extend_from_slice(last)?;
-    unit_of(alloc, &entries)
-}
-
 #[test]
 fn faults_of_trees(rt: HostRuntime) -> Result<(), Fail> {
-    for (blocks, last, fault) in &FAULTS {
-        let info = nested(rt.alloc(), *blocks, last)?;
+    for (i, (blocks, last, fault)) in FAULTS.iter().enumerate() {
+        let mut entries = Vec::new(rt.alloc());
+        entries.push(1)?;
+        for _ in 0..*blocks {
+            entries.push(4)?;
+        }
+        entries.extend_from_slice(last)?;
+        let info = unit_of(rt.alloc(), &entries)?;
         let file = file_of(rt.alloc(), &info, SHORT)?;
-        let found = read_first(rt.alloc(), &file)?.err();
-        expect_eq(&rt, &found, fault, &(*blocks, *last));
+        assert_eq!(rt; read_first(rt.alloc(), &file)?.err(), *fault, "row {i}");
     }
     Ok(())
 }
@@ -341,12 +296,7 @@ fn each_allocation_refused(rt: HostRuntime) -> Result<(), Fail> {
         Ok(chain) => chain,
         Err(_) => tree.chain(alloc, 0x40_1004)?,
     };
-    let name = chain.first().and_then(|id| name_of(&tree, *id));
-    expect_eq(
-        &rt,
-        &(chain.len(), name),
-        &(3, Some(b"leaf".as_slice())),
-        &0x40_1004,
-    );
+    assert_eq!(rt; chain.len(), 3);
+    assert_eq!(rt; tree.name(chain[0]), Some(b"leaf".as_slice()));
     Ok(())
 }

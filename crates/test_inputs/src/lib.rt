@@ -1,7 +1,5 @@
-//! What tests are made of: sample files and the parts of files, numbers drawn at random, and
-//! comparisons.
+//! What tests are made of: sample files and the parts of files, and numbers drawn at random.
 #![tactic(auto)]
 
-pub mod checks;
 pub mod draws;
 pub mod files;
