@@ -262,7 +262,11 @@ fn first_values(rt: HostRuntime) -> Result<(), Fail> {
     ];
     for (name, value) in rows {
         for width in [Width::Four, Width::Eight] {
-            assert_eq!(rt; declaration.first_value(*name, &values, width), *value, "of {name}");
+            assert_eq!(rt;
+                declaration.first_value(*name, &values, width),
+                *value,
+                "of {name}"
+            );
         }
     }
     Ok(())
