@@ -1,6 +1,10 @@
-use Rattle.std.proofs.Common.{ap}
+use Rattle.std.proofs.Common.{◌≡◌, Option, Some, None, refl, ap}
+use Rattle.std.specs.Prelude.{IfSome, slice_get}
+use Rattle.dw_model.specs.Section.{sections}
+use Rattle.dw_model.specs.Unit.{units}
 use Rattle.dw_symbols.specs.ContextState.{ContextState}
 use Rattle.dw_symbols.specs.Answer.{answer_shown}
+use Rattle.dw_symbols.specs.UnitParts.{HasTree}
 use Rattle.dw_symbols.proofs.AnswerLemmas.{answer-none, answer-some, answer-ok}
 use Rattle.dw_symbols.proofs.context.Context.look_up.Goals as goal
 
@@ -14,3 +18,15 @@ returns-in-Some-kept_answer-clause-answer c =
 pub returns-clause-answer : goal.returns-clause-answer
 returns-clause-answer c =
     answer-some c.self.inside.image.now c.args.self.now.file c.in-Some.i c.args.a (answer_shown c.in_ok-answer.answer) (ap (λ (state : ContextState). state.file) c.self.view_is) c.in-Some.ensures.unit c.in-Some.ensures.within c.in_ok-answer.ensures.answer
+
+each-some : {X : Type 0} (o : Option X) (P : X → Type 0) → ((x : X) → o ≡ Some x → P x) → IfSome o P
+each-some None P h = tt
+each-some (Some x) P h = h x refl
+
+pub invariant_of-self-2 : goal.invariant_of-self-2
+invariant_of-self-2 c =
+    let s = sections c.self.inside.image.now in
+    record {
+      trees = c.keep_tree.ensures s c.in_default-kept_answer.ensures.trees (each-some (slice_get (units s.info) c.in-Some.i) (λ unit. HasTree s unit c.in_ok-tree.tree) c.in_ok-tree.ensures);
+      tables = c.tree_answer.ensures.kept;
+    }
