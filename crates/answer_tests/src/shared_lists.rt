@@ -94,22 +94,33 @@ const HELD: &[&[u8]] = &[
     &[2, 0, 0, 0, 0, 0x10, 0, 0, 0, 0, 0, 0, 0],
 ];
 
-/// Where another unit answers, or none.
-const BORDERS: [(u64, Option<usize>); 14] = [
+/// The places of the units that answer the first and the last address of each stretch.
+const HELD_PLACES: [(u64, Option<usize>); 25] = [
     (0, None),
+    (0x0f, None),
     (0x10, Some(0)),
+    (0x1f, Some(0)),
     (0x20, Some(4)),
+    (0x2f, Some(4)),
     (0x30, Some(0)),
+    (0x3f, Some(0)),
     (0x40, Some(4)),
+    (0x4f, Some(4)),
     (0x50, None),
+    (0x10f, None),
     (0x110, Some(1)),
+    (0x11f, Some(1)),
     (0x120, Some(2)),
+    (0x127, Some(2)),
     (0x128, Some(3)),
+    (0x12f, Some(3)),
     (0x130, Some(1)),
+    (0x13f, Some(1)),
     (0x140, Some(2)),
+    (0x147, Some(2)),
     (0x148, Some(3)),
+    (0x14f, Some(3)),
     (0x150, None),
-    (u64::MAX, None),
 ];
 
 #[test]
@@ -117,34 +128,26 @@ fn units_held_by_their_lists(rt: HostRuntime) -> Result<(), Fail> {
     let file = file_of(rt.alloc(), HELD, FEW)?;
     let image = Image::open(rt.alloc(), &file)?;
     assert_eq!(rt; image.kept(), 3);
-    for (i, (begin, wanted)) in BORDERS.iter().enumerate() {
-        let place = image.unit_place(*begin).map(|found| found.place);
-        assert_eq!(rt; place, *wanted, "unit at {begin:#x}");
-        let Some((next, _)) = BORDERS.get(i + 1) else {
-            return Ok(());
-        };
-        let last = image.unit_place(next - 1).map(|found| found.place);
-        assert_eq!(rt; last, *wanted, "unit before {next:#x}");
-        let first = image
-            .first_unit_place(*begin, *next)
-            .map(|found| found.place);
-        assert_eq!(rt; first, *wanted, "first unit from {begin:#x}");
+    for (a, wanted) in HELD_PLACES {
+        let place = image.unit_place(a).map(|found| found.place);
+        assert_eq!(rt; place, wanted, "unit at {a:#x}");
     }
     Ok(())
 }
 
-/// The first unit of a span is found behind addresses that no unit has.
+/// The first units of spans, some of which begin where no unit is.
+const HELD_SPANS: [(u64, u64, Option<usize>); 4] = [
+    (0, 0x11, Some(0)),
+    (0x50, 0x110, None),
+    (0x50, u64::MAX, Some(1)),
+    (0x150, u64::MAX, None),
+];
+
 #[test]
 fn held_units_of_spans(rt: HostRuntime) -> Result<(), Fail> {
     let file = file_of(rt.alloc(), HELD, FEW)?;
     let image = Image::open(rt.alloc(), &file)?;
-    let spans = [
-        (0, 0x11, Some(0)),
-        (0x50, 0x110, None),
-        (0x50, u64::MAX, Some(1)),
-        (0x150, u64::MAX, None),
-    ];
-    for (low, high, wanted) in spans {
+    for (low, high, wanted) in HELD_SPANS {
         let place = image.first_unit_place(low, high).map(|found| found.place);
         assert_eq!(rt; place, wanted, "first unit from {low:#x}");
     }
