@@ -17,7 +17,7 @@ const ABBREVS: &[u8] = &[
 const LISTS: &[u8] = &[4, 0x10, 0x20, 0, 4, 0x10, 0x30, 0, 4, 5];
 
 /// A file of units with these first entries, and these lists.
-fn file_of(alloc: Global, roots: &[&[u8]], lists: &[u8]) -> Result<Vec<u8>, AllocError> {
+fn file_of(alloc: Global, roots: &[&[u8]], lists: &'static [u8]) -> Result<Vec<u8>, AllocError> {
     let mut info = Vec::new(alloc);
     for root in roots {
         push_unit(&mut info, root)?;
