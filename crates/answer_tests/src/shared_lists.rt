@@ -16,18 +16,37 @@ const ABBREVS: &[u8] = &[
 /// Lists at 0: 0x10 to 0x20 from the base of the unit on; at 4: 0x10 to 0x30; at 8 one that has no end.
 const LISTS: &[u8] = &[4, 0x10, 0x20, 0, 4, 0x10, 0x30, 0, 4, 5];
 
-/// A file of units with these first entries, and these lists.
-fn file_of(alloc: Global, roots: &[&[u8]], lists: &'static [u8]) -> Result<Vec<u8>, AllocError> {
+/// Units with these first entries.
+fn info_of(alloc: Global, roots: &[&[u8]]) -> Result<Vec<u8>, AllocError> {
     let mut info = Vec::new(alloc);
     for root in roots {
         push_unit(&mut info, root)?;
     }
+    Ok(info)
+}
+
+/// A file of units with these first entries, and the lists of `LISTS`.
+fn file_of(alloc: Global, roots: &[&[u8]]) -> Result<Vec<u8>, AllocError> {
+    let info = info_of(alloc, roots)?;
     elf(
         alloc,
         &[
             (Name::DebugInfo, &info),
             (Name::DebugAbbrev, ABBREVS),
-            (Name::DebugRnglists, lists),
+            (Name::DebugRnglists, LISTS),
+        ],
+    )
+}
+
+/// A file of units with these first entries, and the lists of `FEW`.
+fn file_of_few(alloc: Global, roots: &[&[u8]]) -> Result<Vec<u8>, AllocError> {
+    let info = info_of(alloc, roots)?;
+    elf(
+        alloc,
+        &[
+            (Name::DebugInfo, &info),
+            (Name::DebugAbbrev, ABBREVS),
+            (Name::DebugRnglists, FEW),
         ],
     )
 }
@@ -56,7 +75,7 @@ const PLACES: [(u64, Option<usize>); 9] = [
 
 #[test]
 fn units_of_one_list(rt: HostRuntime) -> Result<(), Fail> {
-    let file = file_of(rt.alloc(), ROOTS, LISTS)?;
+    let file = file_of(rt.alloc(), ROOTS)?;
     let image = Image::open(rt.alloc(), &file)?;
     for (a, wanted) in PLACES {
         let place = image.unit_place(a).map(|found| found.place);
@@ -74,7 +93,7 @@ fn bad_list_behind_one_that_was_read(rt: HostRuntime) -> Result<(), Fail> {
         &[1, 8, 0, 0, 0],
         &[1, 8, 0, 0, 0],
     ];
-    let file = file_of(rt.alloc(), roots, LISTS)?;
+    let file = file_of(rt.alloc(), roots)?;
     let fault = Image::open(rt.alloc(), &file).err();
     assert_eq!(rt; fault, Some(OpenFault::RootRanges(34)));
     Ok(())
@@ -125,7 +144,7 @@ const HELD_PLACES: [(u64, Option<usize>); 25] = [
 
 #[test]
 fn units_held_by_their_lists(rt: HostRuntime) -> Result<(), Fail> {
-    let file = file_of(rt.alloc(), HELD, FEW)?;
+    let file = file_of_few(rt.alloc(), HELD)?;
     let image = Image::open(rt.alloc(), &file)?;
     assert_eq!(rt; image.kept(), 3);
     for (a, wanted) in HELD_PLACES {
@@ -145,7 +164,7 @@ const HELD_SPANS: [(u64, u64, Option<usize>); 4] = [
 
 #[test]
 fn held_units_of_spans(rt: HostRuntime) -> Result<(), Fail> {
-    let file = file_of(rt.alloc(), HELD, FEW)?;
+    let file = file_of_few(rt.alloc(), HELD)?;
     let image = Image::open(rt.alloc(), &file)?;
     for (low, high, wanted) in HELD_SPANS {
         let place = image.first_unit_place(low, high).map(|found| found.place);
@@ -162,7 +181,7 @@ fn bad_list_of_a_held_unit(rt: HostRuntime) -> Result<(), Fail> {
         &[2, 0, 0, 0, 0, 0, 1, 0, 0, 0, 0, 0, 0],
         &[2, 7, 0, 0, 0, 0, 1, 0, 0, 0, 0, 0, 0],
     ];
-    let file = file_of(rt.alloc(), roots, FEW)?;
+    let file = file_of_few(rt.alloc(), roots)?;
     let fault = Image::open(rt.alloc(), &file).err();
     assert_eq!(rt; fault, Some(OpenFault::RootRanges(42)));
     Ok(())
