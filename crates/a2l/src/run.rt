@@ -6,7 +6,7 @@ ghost use Rattle.a2l.specs.Fault.{usage_line, EndsBadly};
 ghost use Rattle.a2l.specs.Serving.{Serves, number_of};
 ghost use Rattle.a2l_lines.specs.declared.symbolizer.Status.TheVariants.{Clean};
 
-use crate::answering::symbolize_file;
+use crate::answers::symbolize_file;
 use crate::command::{USAGE, parse};
 use crate::fault::{Fault, report};
 use crate::listing::list_file;

@@ -1,7 +1,7 @@
 //! Whole runs of the program over ends in memory.
 
 mod command;
-mod ends;
+mod fakes;
 mod frames;
 mod input;
 mod listing;
@@ -11,8 +11,8 @@ mod spans;
 ghost use Rattle.std.specs.Prelude.{◌≡◌, ◌<◌};
 
 use crate::run::run;
-use a2l_lines::Count;
-use ends::{Kept, Lines, OneFile};
+use dw_bytes::Steps;
+use fakes::{Kept, Lines, OneFile};
 use std::alloc::Global;
 use std::marker::Brand;
 use std::process::Abort;
@@ -73,21 +73,21 @@ fn run_counted<T: Threads + Wait + Sync, I: Ledger, O: Ledger, E: Ledger>(
         most: setting.read_most,
         fails_at: setting.read_fails_at,
         calls: 0,
-        failures: Count::new(input),
+        failures: Steps::new(input),
     };
     let mut writer: Kept<O> = Kept {
         bytes: Vec::new(alloc),
         most: setting.write_most,
         fails_at: setting.write_fails_at,
         calls: 0,
-        failures: Count::new(output),
+        failures: Steps::new(output),
     };
     let mut told: Kept<E> = Kept {
         bytes: Vec::new(alloc),
         most: usize::MAX,
         fails_at: u64::MAX,
         calls: 0,
-        failures: Count::new(errors),
+        failures: Steps::new(errors),
     };
     let status = run(
         rt,

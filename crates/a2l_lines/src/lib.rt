@@ -3,7 +3,6 @@
 #![tactic(auto)]
 
 mod blocks;
-mod count;
 mod fault;
 mod file;
 mod input;
@@ -22,7 +21,6 @@ mod symbolizer;
 mod text;
 mod turns;
 
-pub use count::Count;
 pub use fault::RunFault;
 pub use file::{LoadFault, read_file};
 pub use input::Input;

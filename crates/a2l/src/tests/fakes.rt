@@ -3,7 +3,8 @@
 ghost use Rattle.std.specs.Prelude.{Some, None, option_copied};
 
 use crate::load::Load;
-use a2l_lines::{Count, Failed, LoadFault, Sink, Source};
+use a2l_lines::{Failed, LoadFault, Sink, Source};
+use dw_bytes::Steps;
 use std::alloc::{AllocError, Global};
 use std::sync::ledger::Ledger;
 
@@ -33,7 +34,7 @@ pub struct Lines<'a, L: Ledger> {
     pub most: usize,
     pub fails_at: u64,
     pub calls: u64,
-    pub failures: Count<L>,
+    pub failures: Steps<L>,
 }
 
 impl<L: Ledger> Source for Lines<'_, L> {
@@ -45,7 +46,7 @@ impl<L: Ledger> Source for Lines<'_, L> {
         let call = self.calls;
         self.calls = call.saturating_add(1);
         if call == self.fails_at {
-            self.failures.rise();
+            self.failures.tick();
             return Err(Failed);
         }
         let count = self.left.len().min(buffer.len()).min(self.most);
@@ -64,7 +65,7 @@ pub struct Kept<L: Ledger> {
     pub most: usize,
     pub fails_at: u64,
     pub calls: u64,
-    pub failures: Count<L>,
+    pub failures: Steps<L>,
 }
 
 impl<L: Ledger> Sink for Kept<L> {
@@ -82,11 +83,11 @@ impl<L: Ledger> Sink for Kept<L> {
                 .extend_from_slice(piece.split_at(count).0)
                 .is_err()
         {
-            self.failures.rise();
+            self.failures.tick();
             return Err(Failed);
         }
         if count == 0 && !piece.is_empty() {
-            self.failures.rise();
+            self.failures.tick();
         }
         Ok(count)
     }

@@ -1,4 +1,4 @@
-use Rattle.a2l.proofs.main.Given as goal
+use Rattle.a2l.proofs.host.run_on_host.Given as goal
 
 abbrev pub ghosts-served-I-Ledger : goal.ghosts-served-I-Ledger
 ghosts-served-I-Ledger a b = record { name = b.input.name; parts = b.input.parts }

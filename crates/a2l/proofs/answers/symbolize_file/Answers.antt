@@ -3,7 +3,7 @@ use Rattle.a2l_lines.specs.Input.{word_shown}
 use Rattle.a2l_lines.specs.Text.{options_shown}
 use Rattle.a2l_lines.proofs.SymbolizeLemmas.{begins}
 use Rattle.a2l_lines.proofs.WriteLemmas.{on_err}
-use Rattle.a2l.proofs.answering.symbolize_file.Goals as goal
+use Rattle.a2l.proofs.answers.symbolize_file.Goals as goal
 
 pub returns-in_err-image-clause-beginning : goal.returns-in_err-image-clause-beginning
 returns-in_err-image-clause-beginning g c =
