@@ -1,4 +1,4 @@
-//! The real ends: files and the standard streams.
+//! The disk and the standard streams.
 
 ghost use Rattle.std.specs.Prelude.{◌≤◌, length, None, IfOk};
 
