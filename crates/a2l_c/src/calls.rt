@@ -210,7 +210,7 @@ pub extern "C" fn a2l_find_pieces(alloc: Global, handle: &mut CHandle, low: u64,
     }
 }
 
-/// Tells what the answer at a place is.
+/// Fills in what the answer at an index is.
 #[unsafe(no_mangle)]
 pub extern "C" fn a2l_answer_at(
     alloc: Global,
@@ -237,7 +237,7 @@ pub extern "C" fn a2l_answer_at(
     status.number()
 }
 
-/// Tells a frame of an answer.
+/// Fills in a frame of an answer.
 #[unsafe(no_mangle)]
 pub extern "C" fn a2l_frame_at(
     alloc: Global,
@@ -269,7 +269,7 @@ pub extern "C" fn a2l_frame_at(
     status.number()
 }
 
-/// Tells a piece of a span.
+/// Fills in a piece of a span.
 #[unsafe(no_mangle)]
 pub extern "C" fn a2l_piece_at(
     alloc: Global,
