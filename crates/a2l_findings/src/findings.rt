@@ -42,7 +42,7 @@ pub struct Findings<'a> {
     pub supplementary: Option<Group<'a>>,
     /// Units that can't be read, by their fault.
     pub faulty: Vec<FaultyUnits<'a>>,
-    /// Addresses that a unit answers whose ranges begin where no code is, in place of another one.
+    /// Addresses that a unit answers whose ranges begin where no code is, instead of another one.
     pub units_over: Option<Overlap<'a>>,
     /// The same of functions of one unit.
     pub functions_over: Option<Overlap<'a>>,
