@@ -1,4 +1,4 @@
--- What is told of a fault, and the status of the run.
+-- How a fault is reported, and the status of the run.
 use Rattle.std.specs.Prelude.{◌≡◌, ◌⊎◌, ◌<◌, ℕ, List, [], ◌++◌, Option, codes, decimal}
 use Rattle.std.specs.Io.KnownBytes.{append_known}
 use Rattle.dw_model.specs.Faults.{Refusal}
@@ -55,7 +55,7 @@ status_of faults.Read = 3
 status_of faults.Write = 3
 status_of faults.Memory = 3
 
--- A fault was told on a stream, as far as that took the line: all of it where the count of the
+-- A fault was reported on a stream, as far as that took the line: all of it where the count of the
 -- stream's failures didn't rise.
 pub record Tells (fault : Fault) (old new : Option (List ℕ)) (failures_before failures_after : ℕ) : Type 0 where
   pub beginning : WritesBeginning old new (line_of fault)
@@ -71,8 +71,8 @@ Reports fault status old new before after =
 abbrev pub EndsBadly : ℕ → Option (List ℕ) → Option (List ℕ) → ℕ → ℕ → Type 0
 EndsBadly status old new before after = (told : Fault) × (status ≡ status_of told) × Tells told old new before after
 
--- why a listing ends early: the file is refused for just this reason, the writer failed, or memory
--- did
+-- why a listing ends early: the file is refused for just this reason, the writer failed, or it was
+-- out of memory
 abbrev pub ListFails : Fault → Option Refusal → ℕ → ℕ → Type 0
 ListFails faults.CommandLine refusal before after = ⊥
 ListFails faults.File refusal before after = ⊥
@@ -82,7 +82,7 @@ ListFails faults.Write refusal before after = before < after
 ListFails faults.Memory refusal before after = Unit {0}
 
 -- why answering ends early: the file is refused for just this reason, the reader or the writer
--- failed, or memory did
+-- failed, or it was out of memory
 abbrev pub SymbolizeFails : Fault → Option Refusal → (reads_before reads_after writes_before writes_after : ℕ) → Type 0
 SymbolizeFails faults.CommandLine refusal reads_before reads_after writes_before writes_after = ⊥
 SymbolizeFails faults.File refusal reads_before reads_after writes_before writes_after = ⊥

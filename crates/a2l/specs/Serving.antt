@@ -19,8 +19,8 @@ abbrev pub SymbolizesAt : (List ℕ → Option (List ℕ)) → (path : List ℕ)
 SymbolizesAt known path options words left old new ended =
     IfSome (known path) (λ file. (refusal file ≡ None) × Symbolizes options file words left old new ended)
 
--- The units of the file that was named were listed where that was asked for, and else it was asked,
--- and what it means was written, as was asked for.
+-- Where a listing was asked for, the units of the named file were listed; else its answers were
+-- written.
 abbrev pub ServesFound : (List ℕ → Option (List ℕ)) → List Row → (left old new : Option (List ℕ)) → ℕ → Type 0
 ServesFound known rows left old new status =
     (path : List ℕ) × (first_of (codes "file") rows ≡ Some path)

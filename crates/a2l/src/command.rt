@@ -40,7 +40,7 @@ pub struct Job<'a> {
     pub options: Options<'a>,
 }
 
-/// Why a command line gives no job.
+/// Why a command line is refused.
 #[derive(Clone, Copy, Debug, PartialEq, Eq, Error)]
 pub enum ParseFault {
     /// It isn't of the form that the usage line shows.

@@ -1,4 +1,4 @@
-//! Why a run ends early, and what is told of it.
+//! Why a run ends early, and how that is reported.
 
 ghost use Rattle.std.specs.Prelude.{◌≡◌, ◌⊎◌, IfOk, string_bytes};
 ghost use Rattle.std.specs.Cow.{cow_str_bytes};
@@ -142,8 +142,8 @@ fn refusal_line(alloc: Global, fault: &OpenFault) -> Result<String, AllocError>
     format!(in alloc; "a2l: file refused: {number} {name}{subject}\n")
 }
 
-/// The text that reports a fault, and the fault that it reports: out of memory, where the text itself
-/// couldn't be made.
+/// The text that reports a fault, and the fault that it reports: out of memory, where the text
+/// itself couldn't be made.
 fn told(alloc: Global, fault: Fault) -> (Fault, CowStr<'static>)
     ensures line { cow_str_bytes result.1 ≡ line_of result.0 }
     ensures fault { (result.0 ≡ fault) ⊎ (result.0 ≡ Fault.Memory) }
@@ -164,7 +164,7 @@ fn told(alloc: Global, fault: Fault) -> (Fault, CowStr<'static>)
     (fault, CowStr::Borrowed(line))
 }
 
-/// Tells a fault on the error stream, and answers the status of the run. A failure of that stream
+/// Reports a fault on the error stream, and returns the status of the run. A failure of that stream
 /// changes no status.
 pub fn report<E: Sink>(alloc: Global, errors: &mut E, fault: Fault) -> u8
     ensures { Reports fault result

@@ -113,8 +113,8 @@ fn words_of(rt: &HostRuntime) -> Result<Vec<String>, Fault> {
     }
 }
 
-/// Runs the program on the real ends, each with a count of its failures. The threads of the pool
-/// come from the same runtime.
+/// Runs the program on the disk and the standard streams, each with a count of its failures. The
+/// threads of the pool come from the same runtime.
 fn served<T: Threads + Wait + Sync, I: Ledger, O: Ledger, E: Ledger>(
     rt: &HostRuntime,
     threads: &T,

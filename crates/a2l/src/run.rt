@@ -1,4 +1,4 @@
-//! The whole program, over any ends.
+//! The whole program, over any files and streams.
 
 ghost use Rattle.std.specs.Prelude.{◌≡◌, ◌≢◌, ◌<◌, ◌≤◌, [], IfOk, IsErrOf, map};
 ghost use Rattle.std.specs.Io.KnownBytes.{append_known};
@@ -19,8 +19,8 @@ use std::thread::Threads;
 
 /// Runs the program on the words of a command line, which are without its own name, and returns its
 /// status: 0 where all is well, 1 where an input is a bad address or its unit can't be read, 2
-/// where the command line or the file is refused, and 3 where the file, the input or the output
-/// failed, or memory did.
+/// where the command line or the file is refused, and 3 where reading or writing failed, or it was
+/// out of memory.
 pub fn run<T: Threads + Wait + Sync, S: AsStr, L: Load, R: Source, W: Sink, E: Sink>(
     rt: &T,
     alloc: Global,

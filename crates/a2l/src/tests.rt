@@ -1,4 +1,4 @@
-//! Whole runs of the program over ends in memory.
+//! Whole runs of the program over files and streams in memory.
 
 mod command;
 mod fakes;
@@ -43,7 +43,7 @@ struct Setting<'a> {
 }
 
 impl Setting<'static> {
-    /// No file, no input, and ends that take and give all at once.
+    /// No file, no input, and streams that take and give all at once.
     const NOTHING: Self = Setting {
         file: None,
         input: &[],
@@ -166,7 +166,7 @@ fn expect(rt: &impl Abort, outcome: &Outcome, status: u8, output: &str, errors: 
     );
 }
 
-/// A file with bytes put in at a place.
+/// A file with bytes put in at an offset.
 fn poked(alloc: Global, hex: &str, at: usize, new: &[u8]) -> Result<Vec<u8>, Fail> {
     let mut bytes = hex::decode(alloc, hex)?;
     for (i, byte) in new.iter().enumerate() {

@@ -1,4 +1,4 @@
--- What a handle of C's holds.
+-- What a handle in C holds.
 use Rattle.std.specs.Prelude.{◌≡◌, ℕ, List, Option, Some, IsSome, true}
 use Rattle.dw_model.specs.Answer.{Answer}
 use Rattle.dw_model.specs.Faults.{Refusal}

@@ -68,7 +68,7 @@ frame_told told buffer = record {
 abbrev pub piece_told : CPiece → List ℕ → Piece
 piece_told told buffer = record { begin = told.begin; end = told.end; location = location_told told.location buffer }
 
--- all of a location is told but its path, which is longer than a buffer
+-- all of a location is filled in but its path, which is longer than a buffer
 abbrev pub TellsLength : CLocation → Location → (size : ℕ) → Type 0
 TellsLength told location size =
     (if_known told.line_known told.line ≡ location.line) × (if_known told.column_known told.column ≡ location.column)

@@ -17,10 +17,10 @@ ghost use Rattle.a2l_c.specs.Calls.{IsValid, Holds, Stays, Answers, TellsRefusal
 ghost use Rattle.a2l_c.specs.Structs.{TellsFrameLength, TellsPieceLength, answer_told, frame_told, piece_told};
 
 use crate::handle::Handle;
+use crate::lookup::{answer_at, frame_at, piece_at};
 use crate::session::Session;
 use crate::status::Status;
 use crate::structs::{CAnswer, CFrame, CHandle, CPiece, CRefusal, tell_refusal};
-use crate::telling::{answer_at, frame_at, piece_at};
 use dw_elf::OpenFault;
 use std::alloc::Global;
 use std::num::NonZeroUsize;
@@ -210,7 +210,7 @@ pub extern "C" fn a2l_find_pieces(alloc: Global, handle: &mut CHandle, low: u64,
     }
 }
 
-/// Tells what the answer at a place is.
+/// Fills in what the answer at an index is.
 #[unsafe(no_mangle)]
 pub extern "C" fn a2l_answer_at(
     alloc: Global,
@@ -237,7 +237,7 @@ pub extern "C" fn a2l_answer_at(
     status.number()
 }
 
-/// Tells a frame of an answer.
+/// Fills in a frame of an answer.
 #[unsafe(no_mangle)]
 pub extern "C" fn a2l_frame_at(
     alloc: Global,
@@ -269,7 +269,7 @@ pub extern "C" fn a2l_frame_at(
     status.number()
 }
 
-/// Tells a piece of a span.
+/// Fills in a piece of a span.
 #[unsafe(no_mangle)]
 pub extern "C" fn a2l_piece_at(
     alloc: Global,

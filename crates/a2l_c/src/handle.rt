@@ -1,4 +1,4 @@
-//! A session after a pointer that C can hold.
+//! A session by a pointer that C can hold.
 
 ghost use Rattle.std.specs.Prelude.{◌≡◌, Option, None, Some, IsSome};
 ghost use Rattle.a2l_c.specs.SessionState.{SessionState};
@@ -11,7 +11,7 @@ use std::marker::Model;
 use std::mem;
 use std::ptr::null_mut;
 
-/// A session, or none. Where there is none, its bytes are of no account, so C makes one of zeros.
+/// A session, or none. Where there is none, its bytes don't matter, so C makes one of zeros.
 #[repr(C)]
 #[derive(Drop)]
 pub struct Handle {

@@ -6,8 +6,8 @@
 
 mod calls;
 mod handle;
+mod lookup;
 mod parts;
 mod session;
 mod status;
 mod structs;
-mod telling;

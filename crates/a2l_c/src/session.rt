@@ -1,4 +1,4 @@
-//! What is after a handle: an open file, and what was asked of it last.
+//! What a handle holds: an open file, and what was asked of it last.
 
 ghost use Rattle.std.specs.Prelude.{◌≡◌, [], ◌∷◌, None, Some, OnOk, IfOk, IfErr, IfSome, IsNone, map};
 ghost use Rattle.std.specs.Prelude.{option_map};
@@ -125,7 +125,7 @@ impl Session {
         })
     }
 
-    /// Asks what addresses mean. After a refusal of memory nothing has changed.
+    /// Asks what addresses mean. Out of memory changes nothing.
     pub(crate) fn find_frames(&mut self, addresses: &[u64]) -> Result<(), AllocError>
         ensures found { OnOk result (self.new.answers ≡ map (model.answer self.old.file) addresses.now) }
         ensures file { self.new.file ≡ self.old.file }
@@ -136,8 +136,7 @@ impl Session {
         Ok(())
     }
 
-    /// Asks where addresses come from, by line tables alone. After a refusal of memory nothing has
-    /// changed.
+    /// Asks where addresses come from, by line tables alone. Out of memory changes nothing.
     pub(crate) fn find_locations(&mut self, addresses: &[u64]) -> Result<(), AllocError>
         ensures found { OnOk result (self.new.answers ≡ map (model.location self.old.file) addresses.now) }
         ensures file { self.new.file ≡ self.old.file }
@@ -148,7 +147,7 @@ impl Session {
         Ok(())
     }
 
-    /// Asks for the pieces of a span. After a refusal of memory nothing has changed.
+    /// Asks for the pieces of a span. Out of memory changes nothing.
     pub(crate) fn find_pieces(&mut self, low: u64, high: u64) -> Result<(), AllocError>
         ensures found { OnOk result (self.new.answers ≡ pieces self.old.file low high ∷ []) }
         ensures file { self.new.file ≡ self.old.file }

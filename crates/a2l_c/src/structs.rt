@@ -72,7 +72,7 @@ pub struct CPiece {
     pub location: CLocation,
 }
 
-/// Tells why a file is refused, where it isn't memory.
+/// Fills in why a file is refused, where it isn't out of memory.
 pub(crate) fn tell_refusal(fault: &OpenFault, told: &mut CRefusal<'static>)
     ensures { IsReason fault.now told.new }
 {
@@ -91,7 +91,7 @@ pub(crate) fn tell_refusal(fault: &OpenFault, told: &mut CRefusal<'static>)
     };
 }
 
-/// Tells what an answer is.
+/// Fills in what an answer is.
 pub(crate) fn tell_answer(answer: &Answer<'static>, told: &mut CAnswer)
     ensures { told.new ≡ answer_told (answer_shown answer.now) }
 {
@@ -137,7 +137,7 @@ fn copy_path(path: &[u8], buffer: &mut [u8]) -> Status
     Status::Done
 }
 
-/// Tells a location, of which the path goes into a buffer.
+/// Fills in a location, of which the path goes into a buffer.
 pub(crate) fn tell_location(location: &Location, buffer: &mut [u8], told: &mut CLocation) -> Status
     ensures told { result ≡ Status.Done → location_told told.new buffer.new ≡ location_shown location.now }
     ensures short { result ≡ Status.Short → TellsLength told.new (location_shown location.now) (length buffer.old) }
@@ -161,7 +161,7 @@ pub(crate) fn tell_location(location: &Location, buffer: &mut [u8], told: &mut C
     }
 }
 
-/// Tells a frame, of which the path goes into a buffer.
+/// Fills in a frame, of which the path goes into a buffer.
 pub(crate) fn tell_frame(
     frame: &Frame<'static>,
     buffer: &mut [u8],
@@ -184,7 +184,7 @@ pub(crate) fn tell_frame(
     tell_location(&frame.location, buffer, &mut told.location)
 }
 
-/// Tells a piece, of which the path goes into a buffer.
+/// Fills in a piece, of which the path goes into a buffer.
 pub(crate) fn tell_piece(piece: &Piece, buffer: &mut [u8], told: &mut CPiece) -> Status
     ensures told { result ≡ Status.Done → piece_told told.new buffer.new ≡ piece_shown piece.now }
     ensures short { result ≡ Status.Short → TellsPieceLength told.new (piece_shown piece.now) (length buffer.old) }

@@ -9,13 +9,13 @@ ghost use Rattle.a2l_findings.specs.Census.{IsCensus, listed};
 
 use crate::census::{Census, census_of};
 use crate::faults::FaultyUnits;
-use crate::gathering::{Gathered, Scene};
 use crate::group::Group;
 use crate::overlap::{Overlap, unit_overlap};
 use crate::overlaps::{Code, hidden_in};
 use crate::pairing::{Pairing, pairing_in};
 use crate::progress::Progress;
 use crate::skipped::{SkippedUnits, skipped_units};
+use crate::survey::{Gathered, Scene};
 use a2l_reasons::{SectionHeader, section_headers};
 use dw_elf::{Elf, OpenFault};
 use dw_symbols::Image;
@@ -42,7 +42,7 @@ pub struct Findings<'a> {
     pub supplementary: Option<Group<'a>>,
     /// Units that can't be read, by their fault.
     pub faulty: Vec<FaultyUnits<'a>>,
-    /// Addresses that a unit answers whose ranges begin where no code is, in place of another one.
+    /// Addresses that a unit answers whose ranges begin where no code is, instead of another one.
     pub units_over: Option<Overlap<'a>>,
     /// The same of functions of one unit.
     pub functions_over: Option<Overlap<'a>>,

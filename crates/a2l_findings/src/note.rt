@@ -1,5 +1,5 @@
-//! What is told of a file or an address: a sentence, the facts in it by their names, and what to do
-//! about it.
+//! What is reported of a file or an address: a sentence, the facts in it by their names, and what
+//! to do about it.
 
 use a2l_reasons::Reason;
 use std::alloc::{AllocError, Global};
@@ -34,7 +34,7 @@ pub struct Named<'a> {
 #[derive(Drop)]
 pub struct Note<'a> {
     alloc: Global,
-    /// What kind of thing is told.
+    /// What kind of thing it reports.
     pub kind: &'static str,
     /// The sentence, without an end of the line. Names and paths are in it byte for byte.
     pub sentence: Vec<u8>,
@@ -45,7 +45,7 @@ pub struct Note<'a> {
 }
 
 impl<'a> Note<'a> {
-    /// Nothing is told yet.
+    /// A note that reports nothing yet.
     pub fn new(alloc: Global, kind: &'static str) -> Self {
         Note {
             alloc,

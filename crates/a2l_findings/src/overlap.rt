@@ -15,7 +15,7 @@ pub struct Claim<'a> {
     pub function: Option<(u64, Option<&'a [u8]>)>,
 }
 
-/// Addresses that are answered by a claim whose code isn't there, in place of one whose code is.
+/// Addresses that are answered by a claim whose code isn't there, instead of by one whose code is.
 #[derive(Clone, Copy, Debug)]
 pub struct Overlap<'a> {
     /// How many addresses there are.
@@ -83,7 +83,7 @@ pub(crate) fn function_overlap<'a>(
     })
 }
 
-/// Both, of which the first is told by its first span.
+/// Both together, with the first span of the first one.
 pub(crate) fn both<'a>(
     one: Option<Overlap<'a>>,
     other: Option<Overlap<'a>>,

@@ -49,7 +49,7 @@ impl<'b, 'a> Code<'b, 'a> {
     }
 }
 
-/// The next address above one at which an index answers something else.
+/// The next address above one at which an index has another answer.
 fn next_border(all: &Index, live: &Index, at: u64) -> u64
     requires { at < last_address }
     ensures { at < result }
@@ -95,8 +95,8 @@ fn with_span(found: Option<Hidden>, span: Range, told: usize, hidden: usize) -> 
     }
 }
 
-/// What was found so far, with a span that all ranges give to one owner, and those that begin where
-/// code is to another, if they differ.
+/// What was found so far, with one span more, if all ranges give it to one owner and those that
+/// begin where code is give it to another.
 fn with_owners(
     found: Option<Hidden>,
     span: Range,
@@ -112,7 +112,8 @@ fn with_owners(
     Some(with_span(found, span, told, hidden))
 }
 
-/// The addresses that all ranges give to another owner than those do that begin where code is.
+/// The addresses for which the owner by all ranges isn't the owner by those that begin where code
+/// is.
 fn compare(all: &Index, live: &Index) -> Option<Hidden> {
     let mut found = None;
     let mut at = 0u64;
@@ -125,8 +126,8 @@ fn compare(all: &Index, live: &Index) -> Option<Hidden> {
     found
 }
 
-/// The addresses at which a range that begins without code is answered in place of one that does;
-/// each range has its owner, and the least owner answers.
+/// The addresses at which a range that begins where no code is answers, instead of one that begins
+/// at code. Each range has its owner, and the least owner answers.
 pub(crate) fn hidden_in(
     alloc: Global,
     code: Code<'_, '_>,

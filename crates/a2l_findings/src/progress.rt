@@ -1,12 +1,12 @@
 //! How far the work is.
 
-/// Is told how far the work is.
+/// Is called as the work goes on.
 pub trait Progress {
     /// So many of all units have been looked at.
     fn reach(&mut self, done: usize, all: usize);
 }
 
-/// Tells nobody.
+/// Reports nothing.
 #[derive(Drop)]
 pub struct Silent;
 

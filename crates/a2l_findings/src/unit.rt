@@ -8,7 +8,7 @@ use dw_model::dwarf::{ADDRESS_SIZE, DW_AT_name, DW_AT_str_offsets_base};
 use dw_units::{Attribute, Entry, OpenUnit, Sections};
 use std::alloc::{AllocError, Global};
 
-/// A unit, as it is told.
+/// A unit, as it is reported.
 #[derive(Clone, Copy, Debug)]
 pub struct UnitAt<'a> {
     /// The offset of its first byte in .debug_info.
@@ -138,7 +138,7 @@ fn first_text<'a>(
 }
 
 impl<'a> UnitAt<'a> {
-    /// Tells the unit in a sentence: where it is, and its name.
+    /// Adds the unit to a sentence: where it is, and its name.
     pub fn tell(&self, note: &mut Note<'a>) -> Result<(), AllocError> {
         note.say("unit ")?;
         note.place("unit", self.offset)?;

@@ -19,7 +19,7 @@ pub record IsOrder (queries : List Query) (order : List ((ℕ × ℕ) × ℕ)) :
 abbrev pub asked_in : List Query → List ((ℕ × ℕ) × ℕ) → List Query
 asked_in queries order = map (λ pair. query_at queries pair.1) order
 
--- at this place is the answer of the query there
+-- at this index is the answer to the query at this index
 abbrev pub IsAnswered : (Query → model.Answer) → List Query → List Answer → ℕ → Type 0
 IsAnswered means queries answers place = answer_shown (get_or answers place NotCovered) ≡ means (query_at queries place)
 

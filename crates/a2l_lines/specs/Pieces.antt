@@ -10,7 +10,7 @@ use Rattle.a2l_lines.specs.Ends.{WritesAll, WritesBeginning}
 use Rattle.a2l_lines.specs.Order.{AreAnswers}
 use Rattle.a2l_lines.specs.Text.{options_shown}
 
--- the piece of a text that begins at a place and has so many bytes
+-- the piece of a text that begins at an index and has so many bytes
 abbrev pub piece_in : List ℕ → ℕ × ℕ → List ℕ
 piece_in text span = take span.1 (drop span.0 text)
 

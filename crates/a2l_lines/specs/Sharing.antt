@@ -29,14 +29,14 @@ IsSharing inputs sharing = Shares (map input_shown inputs) sharing.asked.items s
 
 -- ---- on the way there
 
--- a query and the place of an input
+-- a query and the index of an input
 abbrev pub Pair : Type 0
 Pair = Query × ℕ
 
 abbrev pub pair_at : List Pair → ℕ → Pair
 pair_at pairs k = get_or pairs k (Address 0, 0)
 
--- each query among some inputs, with the place of its input
+-- each query among some inputs, with the index of its input
 pub record ArePairs (inputs : List (Option Query)) (pairs : List Pair) : Type 0 where
   pub right : All (λ pair. get_or inputs pair.1 None ≡ Some pair.0) pairs
   pub all : (j : ℕ) (query : Query) → get_or inputs j None ≡ Some query → Contains pairs (query, j)

@@ -26,7 +26,7 @@ AreAsked words left inputs = Asks (map word_shown words) left (map asked_by inpu
 abbrev pub status_for : Bool → Status
 status_for faults = if faults then Faults else Clean
 
--- all of the text was written, and the status tells whether it has a bad address or a fault
+-- all of the text was written, and the status says whether it has a bad address or a fault
 pub record Symbolizes (options : model.Options) (file : List ℕ) (words : List (List ℕ)) (left old new : Option (List ℕ)) (ended : Status) : Type 0 where
   pub bytes : List ℕ
   pub input : IsInput left bytes

@@ -48,8 +48,9 @@ fn room_for(alloc: Global, size: u64) -> Result<Vec<u8>, AllocError> {
     Vec::with_capacity(alloc, size.saturating_add(SPARE))
 }
 
-/// All bytes of a file, in one block of the size that the system tells of it: a list that grows
-/// would be copied again and again. The error is `Device`, also for a folder, or `Memory`.
+/// All bytes of a file, in one block of the size that the system reports: a list that is allocated
+/// anew as it gets longer would be copied again and again. The error is `Device`, also for a
+/// folder, or `Memory`.
 pub fn read_file<R: Files>(rt: &R, alloc: Global, path: &str) -> Result<Vec<u8>, LoadFault> {
     let mut file = File::open(rt, path)?;
     let size = file.metadata()?.len();

@@ -51,8 +51,8 @@ fn number(digits: &[u8]) -> Option<u64>
     Some(number)
 }
 
-/// The address that a text writes in 1 to 16 hexadecimal digits of either case, before which `0x` or
-/// `0X` may be; none for any other text.
+/// The address that a text writes in 1 to 16 hexadecimal digits of either case, before which `0x`
+/// or `0X` may be; none for any other text.
 fn address_in(text: &[u8]) -> Option<u64>
     ensures { result ≡ address_in text.now }
 {
@@ -113,7 +113,7 @@ pub fn inputs_of_words(alloc: Global, words: &[&str]) -> Result<Vec<Input>, Allo
     Ok(inputs)
 }
 
-/// The place of the first newline.
+/// The index of the first newline.
 fn newline(bytes: &[u8]) -> Option<usize>
     ensures { result ≡ position (λ byte. byte == 10) bytes.now }
 {

@@ -12,7 +12,7 @@ use std::alloc::Global;
 /// How many bytes are asked for at a time.
 const PIECE: usize = 65536;
 
-/// Reads into the front of a piece, and answers how many bytes. 0 is the end of input.
+/// Reads into the front of a piece, and returns how many bytes. 0 is the end of input.
 fn read_piece<R: Source>(reader: &mut R, piece: &mut [u8]) -> Result<usize, RunFault>
     ensures within { IfOk result (λ n. n ≤ length piece.old) }
     ensures len { length piece.new ≡ length piece.old }

@@ -45,7 +45,7 @@ pub fn in_order(
     Ok(asked)
 }
 
-/// Room for as many answers.
+/// As many answers, to be replaced by those that are found.
 fn unanswered<'a>(alloc: Global, count: usize) -> Result<Vec<Answer<'a>>, AllocError>
     ensures { IfOk result (λ answers. length answers.items ≡ count) }
 {
@@ -56,8 +56,8 @@ fn unanswered<'a>(alloc: Global, count: usize) -> Result<Vec<Answer<'a>>, AllocE
     Ok(answers)
 }
 
-/// The answers in the order of their queries, of answers that were found in another order: whatever
-/// each query means.
+/// The answers in the order of the queries, of those that were found in the order in which they
+/// were asked; whatever each query means.
 pub fn in_place<'a>(
     alloc: Global,
     queries: &[Query],

@@ -77,8 +77,8 @@ impl Hands {
     }
 }
 
-/// For each of some queries, which are asked in this order, the number of its worker: one for each
-/// unit, and of the units of a wave each next one's is the one that has least to do.
+/// For each query, in the order in which they are asked, the number of its worker. Each unit has
+/// one worker; in a wave, each next unit gets the worker that has least to do.
 pub fn owners_of(
     alloc: Global,
     image: &Image<'_>,

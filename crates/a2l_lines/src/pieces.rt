@@ -35,7 +35,7 @@ impl Model for Pieces {
 }
 
 impl Pieces {
-    /// The piece at a place.
+    /// The piece at an index.
     pub fn piece(&self, place: usize) -> &[u8]
         requires { place < length self.now }
         ensures { result.now ≡ slice_index_or self.now place [] }

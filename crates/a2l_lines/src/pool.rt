@@ -14,7 +14,7 @@ use std::thread::Threads;
 use ticket_board::{Gate, Maker, PoolFault, Queries, pool_fits};
 use ticket_core::{NoMemory, Query, Shape};
 
-/// How many units each worker keeps that it read.
+/// How many of the units that it read each worker keeps.
 const KEPT_UNITS: usize = 16;
 
 /// Makes the contexts of workers, all over one image.

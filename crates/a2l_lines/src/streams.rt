@@ -16,10 +16,10 @@ pub trait Source {
     /// How often a read failed.
     ghost failures: { Self → ℕ };
 
-    /// The bytes that are still to come, where the source tells them.
+    /// The bytes that are still to come, where they are known.
     ghost left: { Self → Option (List ℕ) };
 
-    /// Reads into the front of the buffer, and answers how many bytes. 0 is the end of input.
+    /// Reads into the front of the buffer, and returns how many bytes. 0 is the end of input.
     fn read(&mut self, buffer: &mut [u8]) -> Result<usize, Failed>
         ensures within { IfOk result (λ n. n ≤ length buffer.old) }
         ensures left { IfOk result (λ n. Consumes (left self.old) (left self.new) (given n buffer.new)) }
@@ -32,10 +32,10 @@ pub trait Sink {
     /// How often a write failed. One that takes no byte of a piece that isn't empty did.
     ghost failures: { Self → ℕ };
 
-    /// The bytes that were taken, where the sink tells them.
+    /// The bytes that were taken, where they are known.
     ghost told: { Self → Option (List ℕ) };
 
-    /// Takes bytes from the front of the piece, and answers how many.
+    /// Takes bytes from the front of the piece, and returns how many.
     fn write(&mut self, piece: &[u8]) -> Result<usize, Failed>
         ensures within { IfOk result (λ n. n ≤ length piece.now) }
         ensures told { told self.new ≡ append_known (told self.old) (taken result piece.now) }

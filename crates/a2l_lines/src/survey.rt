@@ -16,7 +16,7 @@ pub struct Load {
 /// The units of some queries.
 #[derive(Drop)]
 pub struct Survey {
-    /// For each query the place of its unit among the units of the file; `usize::MAX` where it has
+    /// For each query the index of its unit among the units of the file; `usize::MAX` where it has
     /// none.
     pub units: Vec<usize>,
     /// For each unit of the file what is asked of it.
@@ -40,7 +40,7 @@ fn unit_of(image: &Image<'_>, query: Query) -> Option<UnitPlace> {
     }
 }
 
-/// The place of the unit of a query, which is counted.
+/// The index of the unit of a query, which is counted.
 fn counted(image: &Image<'_>, loads: &mut [Load], query: Query) -> usize {
     let Some(unit) = unit_of(image, query) else {
         return usize::MAX;

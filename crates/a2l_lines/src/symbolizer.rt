@@ -88,7 +88,7 @@ fn some_refused(answers: &[Answer<'_>]) -> bool
     false
 }
 
-/// How a run over these inputs ends, of which those that aren't bad addresses have these answers.
+/// How a run over these inputs ends, where those that aren't bad addresses have these answers.
 fn outcome(inputs: &[Input], answers: &[Answer<'_>]) -> Status
     ensures { result ≡ status_for (some_fault (map input_shown inputs.now) (map answer_shown answers.now)) }
 {

@@ -105,7 +105,7 @@ fn shown<'s, 'a>(options: &Options<'_>, frames: &'s [Frame<'a>]) -> &'s [Frame<'
     frames.split_at(1).0
 }
 
-/// Adds the line of a unit that gives no answer.
+/// Adds the line of a unit that can't be read.
 fn push_fault(
     alloc: Global,
     text: &mut Vec<u8>,

@@ -21,13 +21,13 @@ const LAST: Turn = (u32::MAX, u32::MAX);
 #[derive(Drop)]
 pub struct Turns {
     survey: Survey,
-    /// For each unit its place among all of them, the largest first.
+    /// For each unit its rank by size; that of the largest is 0.
     ranks: Vec<usize>,
     /// For each unit how many of its queries have a turn.
     seen: Vec<u64>,
 }
 
-/// For each unit its place among all of them, the largest first.
+/// For each unit its rank by size; that of the largest is 0.
 fn ranks_of(alloc: Global, loads: &[Load]) -> Result<Vec<usize>, AllocError> {
     let mut sizes = Vec::new(alloc);
     for (i, load) in loads.iter().enumerate() {

@@ -48,8 +48,8 @@ fn declared<'b, 'a>(
     }
 }
 
-/// The entry at an offset of a unit. Its attributes take the place of those that were kept; a null
-/// entry has none.
+/// The entry at an offset of a unit. Its attributes are read into the list that is given, reusing
+/// its memory; a null entry has none.
 pub fn entry_at<'a>(
     alloc: Global,
     info: &'a [u8],

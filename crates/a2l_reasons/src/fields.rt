@@ -1,4 +1,4 @@
-//! Reading fields one after the other, so that one that isn't there is told by its name.
+//! Reading fields one after the other, so that one that isn't there is reported by its name.
 
 use crate::reason::{Stop, stop_at, stop_for};
 use crate::spot::Spot;

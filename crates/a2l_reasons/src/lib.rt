@@ -2,8 +2,8 @@
 //! what it holds and what was wanted.
 //!
 //! Everything here reads a second time what the crates below have refused, and stops at the first
-//! field that they can't have taken. So it is slower than they are, and says where they only
-//! answer.
+//! field that they can't have taken. So it is slower than they are; but it says where a reader
+//! stopped, and they don't.
 #![tactic(auto)]
 
 mod abbrevs;

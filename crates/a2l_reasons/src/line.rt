@@ -113,7 +113,7 @@ pub fn line_table<'a>(
     let mut fields = fields_up_to(alloc, offset, section, offset, end);
     let (_, width) = fields.length()?;
     let version = fields.u16("version")?;
-    // The fields of other versions are elsewhere, so nothing after the version is told of them.
+    // The fields of other versions are elsewhere, so nothing after the version is reported of them.
     exactly(
         &fields,
         "version",

@@ -1,4 +1,5 @@
-//! Texts that are put together of parts. Nothing is promised of them, so a caller's proof has nothing to do with them.
+//! Texts that are put together of parts. Nothing is promised of them, so a caller's proof has
+//! nothing to do with them.
 
 use std::alloc::{AllocError, Global};
 

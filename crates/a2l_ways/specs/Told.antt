@@ -1,4 +1,4 @@
--- What is told of a text that asks for something.
+-- The report on a text that asks for something.
 use Rattle.std.specs.Prelude.{ℕ, true, false, List, Option, Some, None, option_and_then, slice_get}
 use Rattle.dw_model.specs.Answer.{Answer, unit_of}
 use Rattle.dw_model.specs.Output as model
@@ -31,16 +31,16 @@ unit_of_query sections (span low high) = None
 abbrev pub unit_of_word : (file : List ℕ) → (text : List ℕ) → Option DwarfUnit
 unit_of_word file text = option_and_then (unit_of_query (sections file)) (model.query_in text)
 
--- the unit that is told to answer; none where it is told that no unit does
+-- the unit that a report says answers; none where it says that no unit does
 abbrev pub unit_told : Sections → Asked → Option DwarfUnit
 unit_told sections (Address explained) = option_and_then (slice_get (units sections.info)) (place_of explained.way)
 unit_told sections (Span answer) = None
 unit_told sections Bad = None
 
--- the same of what is told
+-- the same of a whole report
 abbrev pub unit_in : Sections → Told → Option DwarfUnit
 unit_in sections told = unit_told sections told.asked
 
--- the lines that are told
+-- the lines of a report
 abbrev pub lines_told : Told → List ℕ
 lines_told told = told.lines.items

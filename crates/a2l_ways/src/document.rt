@@ -140,7 +140,7 @@ fn put_answer(
     }
 }
 
-/// Adds the one step that is told of something without a way.
+/// Adds the one step of something without a way.
 fn put_step(
     alloc: Global,
     map: &mut Map<String, Value>,
@@ -164,7 +164,7 @@ fn put_explained(
     put_answer(alloc, map, &explained.answer)
 }
 
-/// What is told of a text.
+/// The report on a text.
 fn told_value(alloc: Global, word: &str, told: &Told<'_>) -> Result<Value, AllocError> {
     let mut map = Map::new(alloc);
     put(&mut map, alloc, "asked", Value::try_from_str(alloc, word)?)?;
@@ -180,7 +180,7 @@ fn told_value(alloc: Global, word: &str, told: &Told<'_>) -> Result<Value, Alloc
     Ok(Value::Object(map))
 }
 
-/// Adds the document of some texts, of which each is told.
+/// Adds the document of some texts, with the report on each.
 pub(crate) fn words_document(
     alloc: Global,
     text: &mut Vec<u8>,

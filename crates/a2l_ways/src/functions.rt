@@ -1,4 +1,4 @@
-//! The functions at an address, and where each was called that was inlined.
+//! The functions at an address, and where each inlined one was called.
 
 use crate::names::{entry_in, tell_name};
 use crate::scene::{Scene, holding};
@@ -9,7 +9,7 @@ use dw_ranges::{RangeFault, ranges_of};
 use dw_units::{Entry, OpenUnit};
 use std::alloc::{AllocError, Global};
 
-/// Tells where a function was called that was inlined.
+/// Adds where an inlined function was called.
 fn tell_call(note: &mut Note<'_>, tree: &Tree<'_, '_>, id: EntryId) -> Result<(), AllocError> {
     let call = tree.call(id);
     note.begin_group("call");
@@ -29,7 +29,7 @@ fn tell_call(note: &mut Note<'_>, tree: &Tree<'_, '_>, id: EntryId) -> Result<()
     Ok(())
 }
 
-/// Tells the range of a function that holds an address.
+/// Adds the range of a function that holds an address.
 fn tell_range<'a>(
     alloc: Global,
     note: &mut Note<'a>,
@@ -50,7 +50,7 @@ fn tell_range<'a>(
     Ok(())
 }
 
-/// A function at the address: its entry, its range, from where its name comes, and where it was
+/// A function at the address: its entry, its range, where its name comes from, and where it was
 /// called.
 fn function_note<'a>(
     alloc: Global,
@@ -130,7 +130,7 @@ fn push_others<'a>(
     Ok(())
 }
 
-/// Adds what is told of the functions at an address, innermost first, and of others that claim it.
+/// Adds the notes on the functions at an address, innermost first, and on others that claim it.
 pub(crate) fn push_functions<'a>(
     scene: &Scene<'_, 'a>,
     notes: &mut Vec<Note<'a>>,

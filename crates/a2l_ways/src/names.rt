@@ -1,4 +1,4 @@
-//! From where the name of a function comes, and through which references.
+//! Where the name of a function comes from, and through which references.
 
 use a2l_findings::Note;
 use dw_forms::{FormFault, Value};
@@ -49,7 +49,7 @@ pub(crate) fn entry_in<'a>(
     }
 }
 
-/// Tells from where the name of an entry of a unit comes.
+/// Adds where the name of an entry of a unit comes from.
 pub(crate) fn tell_name<'a>(
     alloc: Global,
     note: &mut Note<'a>,

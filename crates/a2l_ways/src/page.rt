@@ -48,12 +48,12 @@ pub(crate) fn sentence_note<'a>(
     Ok(note)
 }
 
-/// What is told of a text that asks for no address.
+/// The note on a text that asks for no address.
 pub(crate) fn bad_note<'a>(alloc: Global) -> Result<Note<'a>, AllocError> {
     sentence_note(alloc, "bad_address", BAD)
 }
 
-/// What is told of a span.
+/// The note on a span.
 pub(crate) fn span_note<'a>(alloc: Global) -> Result<Note<'a>, AllocError> {
     sentence_note(alloc, "span", SPAN)
 }
@@ -70,7 +70,7 @@ fn push_way(alloc: Global, text: &mut Vec<u8>, asked: &Asked<'_>) -> Result<(), 
     }
 }
 
-/// Adds what is told of a text: the text, the steps, and at the end the lines that `a2l -f -i`
+/// Adds the report on a text: the text, the steps, and at the end the lines that `a2l -f -i`
 /// writes.
 fn push_told(
     alloc: Global,
@@ -86,7 +86,7 @@ fn push_told(
     text.extend_from_slice(&told.lines)
 }
 
-/// Adds the page of some texts, of which each is told.
+/// Adds the page of some texts, with the report on each.
 pub(crate) fn push_words(
     alloc: Global,
     text: &mut Vec<u8>,

@@ -5,8 +5,8 @@ use a2l_reasons::{refusal_reason, remedy_of};
 use dw_elf::OpenFault;
 use std::alloc::{AllocError, Global};
 
-/// What is told of a refused file: the number and the name under which `a2l` refuses it, its
-/// reason, and what to do.
+/// The note on a refused file: the number and the name under which `a2l` refuses it, its reason,
+/// and what to do.
 pub(crate) fn refusal_note<'a>(
     alloc: Global,
     file: &[u8],

@@ -27,7 +27,7 @@ pub enum Form {
 /// What a report comes to.
 #[derive(Clone, Copy, Debug, PartialEq, Eq)]
 pub enum Outcome {
-    /// There is nothing to tell of the file, or each address is answered.
+    /// Nothing was found in the file, or each address is answered.
     Clean,
     /// There are findings, or some address isn't answered.
     Findings,
@@ -56,7 +56,7 @@ fn refused(alloc: Global, file: &[u8], fault: OpenFault, form: Form) -> Result<R
     Ok(Report { text, outcome })
 }
 
-/// What a report comes to that has something to tell, or nothing.
+/// What a report comes to that has findings, or none.
 fn outcome_of(is_clean: bool) -> Outcome
     ensures { refusal_told result ≡ None }
 {

@@ -17,7 +17,7 @@ struct Place {
     next: Option<Stretch>,
 }
 
-/// The place of an address in a line table, whose rows are gone through from the first on.
+/// Where an address is in a line table, whose rows are gone through from the first on.
 fn place_of(lines: &Lines<'_>, address: u64) -> Option<Place> {
     let mut walk = lines.walk(0, u64::MAX);
     let mut begin = 0;
@@ -39,7 +39,7 @@ fn place_of(lines: &Lines<'_>, address: u64) -> Option<Place> {
     None
 }
 
-/// Tells what a row says.
+/// Adds what a row says.
 fn tell_row(note: &mut Note<'_>, row: Row) -> Result<(), AllocError> {
     note.say("file ")?;
     note.count("file", row.file)?;
@@ -147,7 +147,7 @@ fn file_note<'a>(
     Ok(note)
 }
 
-/// Adds what is told of the row of an address, and of the file that it names.
+/// Adds the notes on the row of an address, and on the file that it names.
 pub(crate) fn push_row<'a>(
     scene: &Scene<'_, 'a>,
     notes: &mut Vec<Note<'a>>,

@@ -1,5 +1,5 @@
-//! What is told of texts that ask for something: the way of each to its answer, and the lines of
-//! the answer.
+//! The reports on texts that ask for something: the way of each to its answer, and the lines of the
+//! answer.
 
 ghost use Rattle.std.specs.Prelude.{◌≡◌, None, OnOk, IfOk, IfErr, map};
 ghost use Rattle.dw_model.specs.Query.{address as address_query, span as span_query, meaning};
@@ -37,7 +37,7 @@ pub enum Asked<'a> {
     Bad,
 }
 
-/// What is told of a text.
+/// The report on a text.
 #[derive(Drop)]
 pub struct Told<'a> {
     pub asked: Asked<'a>,
@@ -62,7 +62,7 @@ fn lines_of(alloc: Global, query: Query, answer: &Answer<'_>) -> Result<Vec<u8>,
     Ok(lines)
 }
 
-/// What is told of an address.
+/// The report on an address.
 fn tell_address<'a>(
     scene: &Scene<'_, 'a>,
     context: &mut Context<'_, 'a>,
@@ -81,7 +81,7 @@ fn tell_address<'a>(
     Ok(Told { asked, lines })
 }
 
-/// What is told of a span.
+/// The report on a span.
 fn tell_span<'a>(
     alloc: Global,
     context: &mut Context<'_, 'a>,
@@ -101,7 +101,7 @@ fn tell_span<'a>(
     Ok(Told { asked, lines })
 }
 
-/// What is told of a bad address.
+/// The report on a bad address.
 fn tell_bad<'a>(alloc: Global) -> Result<Told<'a>, AllocError>
     ensures lines { IfOk result (λ told. lines_told told ≡ model.bad_address_line) }
     ensures asked { IfOk result (λ told. told.asked ≡ Bad) }
@@ -111,7 +111,7 @@ fn tell_bad<'a>(alloc: Global) -> Result<Told<'a>, AllocError>
     Ok(Told { asked, lines })
 }
 
-/// What is told of a text.
+/// The report on a text.
 fn tell<'a>(
     scene: &Scene<'_, 'a>,
     context: &mut Context<'_, 'a>,
@@ -132,7 +132,7 @@ fn tell<'a>(
     }
 }
 
-/// What is told of each of some texts, in their order.
+/// The report on each of some texts, in their order.
 fn tell_each<'a>(
     scene: &Scene<'_, 'a>,
     context: &mut Context<'_, 'a>,
@@ -151,7 +151,7 @@ fn tell_each<'a>(
     Ok(tolds)
 }
 
-/// What is told of each of some texts that ask a file, in their order: the lines that `a2l -f -i`
+/// The report on each of some texts that ask a file, in their order: the lines that `a2l -f -i`
 /// writes for it, and the way of an address through the unit that answers it. A file is refused
 /// exactly as `a2l` refuses it.
 pub fn tell_words<'a>(

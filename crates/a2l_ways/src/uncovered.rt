@@ -58,7 +58,7 @@ fn neighbours_of(scene: &Scene<'_, '_>, address: u64) -> Result<Neighbours, Allo
     Ok(nearest)
 }
 
-/// Tells a range beside the address, and its unit.
+/// Adds a range beside the address, and its unit.
 fn tell_near<'a>(
     note: &mut Note<'a>,
     scene: &Scene<'_, 'a>,

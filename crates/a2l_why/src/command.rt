@@ -20,7 +20,7 @@ pub struct Job<'a> {
     pub words: Vec<&'a str>,
 }
 
-/// Why a command line gives no job.
+/// Why a command line is refused.
 #[derive(Clone, Copy, Debug, PartialEq, Eq, Error)]
 pub enum ParseFault {
     /// It isn't of the form that the usage line shows.

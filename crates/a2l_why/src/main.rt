@@ -100,8 +100,8 @@ fn write(rt: &HostRuntime, text: &[u8]) -> Result<(), Fault> {
     }
 }
 
-/// Does what the command line asks for, and returns the status: 0 where there is nothing to tell, 1
-/// where there are findings or an address isn't answered, 2 where the file is refused.
+/// Does what the command line asks for, and returns the status: 0 where there is nothing to report,
+/// 1 where there are findings or an address isn't answered, 2 where the file is refused.
 fn run(rt: &HostRuntime) -> Result<u8, Fault> {
     let words = words(rt)?;
     if words.is_empty() {

@@ -6,7 +6,7 @@ use std::io::{IsTerminal, Write};
 /// How many steps of the work are shown.
 const STEPS: usize = 100;
 
-/// Shows how many units have been looked at, in place of what it showed before.
+/// Shows how many units have been looked at, over what it showed before.
 #[derive(Drop)]
 pub struct Meter<W> {
     pub errors: W,

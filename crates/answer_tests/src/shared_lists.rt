@@ -13,7 +13,8 @@ const ABBREVS: &[u8] = &[
     6, 0, 0, 0,
 ];
 
-/// Lists at 0: 0x10 to 0x20 from the base of the unit on; at 4: 0x10 to 0x30; at 8 one that has no end.
+/// Lists at 0: 0x10 to 0x20 from the base of the unit on; at 4: 0x10 to 0x30; at 8 one that has no
+/// end.
 const LISTS: &[u8] = &[4, 0x10, 0x20, 0, 4, 0x10, 0x30, 0, 4, 5];
 
 /// Units with these first entries.
@@ -51,7 +52,8 @@ fn file_of_few(alloc: Global, roots: &[&[u8]]) -> Result<Vec<u8>, AllocError> {
     )
 }
 
-/// The units 0 and 1 have the list at 0 and no address, 2 and 4 the same list and the address 0x100, 3 the list at 4.
+/// The units 0 and 1 have the list at 0 and no address, 2 and 4 the same list and the address
+/// 0x100, 3 the list at 4.
 const ROOTS: &[&[u8]] = &[
     &[1, 0, 0, 0, 0],
     &[1, 0, 0, 0, 0],
@@ -60,7 +62,7 @@ const ROOTS: &[&[u8]] = &[
     &[2, 0, 0, 0, 0, 0, 1, 0, 0, 0, 0, 0, 0],
 ];
 
-/// The places of the units that answer.
+/// The indexes of the units that answer.
 const PLACES: [(u64, Option<usize>); 9] = [
     (0x0f, None),
     (0x10, Some(0)),
@@ -84,7 +86,8 @@ fn units_of_one_list(rt: HostRuntime) -> Result<(), Fail> {
     Ok(())
 }
 
-/// A list that can't be read is told of the first unit that names it, behind units of a list that was read.
+/// A list that can't be read is reported of the first unit that names it, after units of a list
+/// that was read.
 #[test]
 fn bad_list_behind_one_that_was_read(rt: HostRuntime) -> Result<(), Fail> {
     let roots: &[&[u8]] = &[
@@ -99,8 +102,8 @@ fn bad_list_behind_one_that_was_read(rt: HostRuntime) -> Result<(), Fail> {
     Ok(())
 }
 
-/// Lists at 0: 0x10 to 0x20 and 0x30 to 0x40 from the base of the unit on; at 7 one that has no end.
-/// So of lists two ranges are kept.
+/// Lists at 0: 0x10 to 0x20 and 0x30 to 0x40 from the base of the unit on; at 7 one that has no
+/// end. So two ranges of lists are kept.
 const FEW: &[u8] = &[4, 0x10, 0x20, 4, 0x30, 0x40, 0, 5];
 
 /// The ranges of unit 0 are kept, and the one of unit 3, 0x118 to 0x150. The units 1, 2 and 4 are
@@ -113,7 +116,7 @@ const HELD: &[&[u8]] = &[
     &[2, 0, 0, 0, 0, 0x10, 0, 0, 0, 0, 0, 0, 0],
 ];
 
-/// The places of the units that answer the first and the last address of each stretch.
+/// The indexes of the units that answer the first and the last address of each stretch.
 const HELD_PLACES: [(u64, Option<usize>); 25] = [
     (0, None),
     (0x0f, None),
@@ -173,7 +176,7 @@ fn held_units_of_spans(rt: HostRuntime) -> Result<(), Fail> {
     Ok(())
 }
 
-/// A list that can't be read is told where no more ranges are kept, too.
+/// A list that can't be read is reported where no more ranges are kept, too.
 #[test]
 fn bad_list_of_a_held_unit(rt: HostRuntime) -> Result<(), Fail> {
     let roots: &[&[u8]] = &[

@@ -27,10 +27,10 @@ const ABBREVS: &[u8] = &[
     1, 0x11, 0, 0x10, 0x17, 0x1b, 8, 0x72, 0x17, 0x11, 1, 0x12, 6, 0, 0, 0,
 ];
 
-/// Three units of 0x24 bytes. The one at 0 was compiled in `/a`, has its texts from 0 on, and covers
-/// 0x1000 to 0x1010; the one at 0x24 was compiled in `/b`, has them from 4 on, and covers 0x1010 to
-/// 0x1020. Both name the line table at 0. The one at 0x48, which covers 0x1020 to 0x1030, names one
-/// at 0x100, where there is none.
+/// Three units of 0x24 bytes. The one at 0 was compiled in `/a`, has its texts from 0 on, and
+/// covers 0x1000 to 0x1010; the one at 0x24 was compiled in `/b`, has them from 4 on, and covers
+/// 0x1010 to 0x1020. Both name the line table at 0. The one at 0x48, which covers 0x1020 to 0x1030,
+/// names one at 0x100, where there is none.
 const INFO: &[u8] = &[
     0x20, 0, 0, 0, 5, 0, 1, 8, 0, 0, 0, 0, // 0x0c
     1, 0, 0, 0, 0, b'/', b'a', 0, 0, 0, 0, 0, 0, 0x10, 0, 0, 0, 0, 0, 0, 0x10, 0, 0, 0, // 0x24

@@ -20,7 +20,7 @@ enum Call {
     Turn(Result<Turn, NoMemory>),
 }
 
-/// Makes the call at a place of a table. It returns what it should.
+/// Makes the call at an index of a table. It returns what it should.
 fn make(rt: &impl Abort, desk: &mut BoardDesk, i: usize, call: &Call) {
     match call {
         Call::Ask(kind, wanted) => {
@@ -201,7 +201,7 @@ const FOUR_ASKED: &[Call] = &[
     Call::Ask(Address(3), Ok(3)),
 ];
 
-/// A turn begins at the cell that it is told, and goes round from there; past the last cell it
+/// A turn begins at the cell that it is given, and goes round from there; past the last cell it
 /// begins at the first.
 #[test]
 fn turns_begin_where_told(rt: HostRuntime) -> Result<(), Fail> {

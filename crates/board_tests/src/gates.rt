@@ -1,4 +1,4 @@
-//! Gates for tests: what they are told of the queries that workers took.
+//! Gates for tests: what they learn of the queries that workers took.
 
 use crate::solver::Echo;
 use std::alloc::{AllocError, Global};

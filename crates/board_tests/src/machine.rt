@@ -20,7 +20,7 @@ enum Call {
     Close,
 }
 
-/// Makes the call at a place of a table. It returns what it should.
+/// Makes the call at an index of a table. It returns what it should.
 fn make(rt: &impl Abort, desk: &mut CoreDesk, i: usize, call: Call) {
     let Shape {
         senders,

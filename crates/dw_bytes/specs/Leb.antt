@@ -9,7 +9,7 @@ use Rattle.dw_bytes.specs.declared.leb.Leb.TheVariants.{End, Wide}
 abbrev pub fits_u64 : ℕ → Option ℕ
 fits_u64 n = if nat_lt n (2 ^ 64) then Some n else None
 
--- the fault that an error tells
+-- the fault that an error reports
 abbrev pub leb_fault : Leb → Option model.Fault
 leb_fault End = Some model.ends_early
 leb_fault Wide = Some model.too_wide

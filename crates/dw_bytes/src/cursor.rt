@@ -18,8 +18,8 @@ use std::marker::Model;
 /// A place in a piece of bytes. Contracts see it as a `Place`: how many bytes it has passed, and
 /// which are left.
 ///
-/// Each call reads what is at the place and goes just past it. A call that answers `None`
-/// leaves the place as it was. None of them takes memory.
+/// Each call reads what is at the place and moves just past it. A call that returns `None` leaves
+/// the place as it was. None of them takes memory.
 #[derive(Drop)]
 pub struct Cursor<'a> {
     left: &'a [u8],
@@ -206,7 +206,7 @@ impl<'a> Cursor<'a> {
     }
 }
 
-/// The place of the first zero byte. It isn't inlined, so that the reads of other values stay
+/// The index of the first zero byte. It isn't inlined, so that the reads of other values stay
 /// small.
 #[tactic(auto, using(crate::proofs::ZeroLemmas::first_zero))]
 #[inline(never)]

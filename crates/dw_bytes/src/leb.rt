@@ -13,7 +13,7 @@ pub enum Leb {
     Wide,
 }
 
-/// The place of the first byte whose top bit isn't set, among any bytes.
+/// The index of the first byte whose top bit isn't set, among any bytes.
 #[inline(never)]
 fn later_last_byte(bytes: &[u8]) -> Option<usize>
     ensures { result ≡ position (λ byte. nat_lt byte 128) bytes.now }
@@ -21,7 +21,7 @@ fn later_last_byte(bytes: &[u8]) -> Option<usize>
     bytes.iter().position(|byte| *byte < 128)
 }
 
-/// The place of the first byte whose top bit isn't set: the last of a number.
+/// The index of the first byte whose top bit isn't set: the last of a number.
 #[tactic(auto, using(crate::proofs::GroupLemmas::first_is_last, crate::proofs::GroupLemmas::second_is_last))]
 #[inline(always)]
 pub(crate) fn last_byte(bytes: &[u8]) -> Option<usize>

@@ -1,4 +1,4 @@
--- What the parts of a file's layout that code reads stand for.
+-- What the parts of a file's layout that code reads mean.
 use Rattle.std.specs.Prelude.{ℕ, List, Option, option_map}
 use Rattle.dw_model.specs.Reading.{start, text_at}
 use Rattle.dw_model.specs.Elf as model

@@ -20,15 +20,15 @@ refusal_of (Root offset) = Some (model.root offset)
 refusal_of (RootRanges offset) = Some (model.root_ranges offset)
 refusal_of Memory = None
 
--- there is a refusal, and the error tells just that one
+-- there is a refusal, and the error reports just that one
 abbrev pub Refuses : OpenFault → Option Refusal → Type 0
 Refuses fault refusal = IsSome refusal × (refusal_of fault ≡ refusal)
 
--- the same of a call that takes memory: want of it may come in place of any answer
+-- the same of a call that takes memory: it may report out of memory instead of any answer
 abbrev pub RefusesUnlessMemory : OpenFault → Option Refusal → Type 0
 RefusesUnlessMemory fault refusal = MatchOption (refusal_of fault) (Unit {0}) (λ told. refusal ≡ Some told)
 
--- Out of memory hides none of these refusals: it is told only where there is none.
+-- Out of memory hides none of these refusals: it is reported only where there is none.
 abbrev pub HidesNoRefusal : OpenFault → Option Refusal → Type 0
 HidesNoRefusal fault refusal = MatchOption (refusal_of fault) (refusal ≡ None) (λ told. Unit {0})
 

@@ -6,9 +6,9 @@ use crate::name::Name;
 use std::alloc::{AllocError, AllocFailed};
 use thiserror::Error;
 
-/// Why a file is refused. The first reason is told: of `NotElf` to `Compressed` the first in this
-/// order, of several sections the first that fails; then unit by unit `UnitHeader`, `AddressSize`
-/// and `Root`; then `RootRanges`. Offsets count from the first byte of .debug_info.
+/// Why a file is refused. The first reason is reported: of `NotElf` to `Compressed` the first in
+/// this order, of several sections the first that fails; then unit by unit `UnitHeader`,
+/// `AddressSize` and `Root`; then `RootRanges`. Offsets count from the first byte of .debug_info.
 #[derive(Clone, Copy, Debug, PartialEq, Eq, Error)]
 pub enum OpenFault {
     /// It has fewer bytes than a header, or doesn't begin as an ELF file does.

@@ -18,7 +18,7 @@ unfoldable pub least_owner : List (Range × ℕ) → ℕ → Option ℕ
 least_owner [] a = None
 least_owner (pair ∷ pairs) a = least (owner_in a pair) (least_owner pairs a)
 
--- the ranges of several lists, each owned by the place of its list, counted from a first one
+-- the ranges of several lists, each owned by the index of its list, counted from a first one
 abbrev pub numbered : ℕ → List (List Range) → List (Range × ℕ)
 numbered first [] = []
 numbered first (ranges ∷ lists) = map (λ range. (range, first)) ranges ++ numbered (first + 1) lists

@@ -53,7 +53,7 @@ pub record IsMerged (first second merged : List Segment) : Type 0 where
 
 -- ---- the index of ranges
 
--- where the segment at a place begins
+-- where the segment at an index begins
 abbrev pub begin_at : List Segment → ℕ → ℕ
 begin_at [] k = 0
 begin_at (segment ∷ segments) zero = segment.begin

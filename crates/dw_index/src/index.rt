@@ -117,9 +117,9 @@ impl Index {
         owner_of(&self.segments, a, steps)
     }
 
-    /// The least address above one at which `find` answers something else than there; 2^64 - 1
-    /// where there is none. So `find` answers the same from the address on up to, and without, the
-    /// one that is returned.
+    /// The least address above one at which `find` returns something else than there; 2^64 - 1
+    /// where there is none. So `find` returns the same from the address on and below the one that
+    /// is returned.
     pub fn steady(&self, a: u64) -> u64
         requires { a < last_address }
         ensures { IsSteady (owner_at self.now) a result }

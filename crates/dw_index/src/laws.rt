@@ -8,8 +8,8 @@ ghost use Rattle.dw_index.specs.Owners.{least_owner, IsLeastOwner, numbered};
 /// - `found`: the least owner of an address is the owner of a range that holds it, and no range
 ///   that holds it has a lesser;
 /// - `none`: there is none exactly where no range holds the address;
-/// - `first`: where the owners are the places of lists of ranges, it is the place of the first list
-///   with a range that holds the address.
+/// - `first`: where the owners are the indexes of lists of ranges, it is the index of the first
+///   list with a range that holds the address.
 pub fn law_of_least_owner()
     ensures found { (pairs : List (Range × ℕ)) (a owner : ℕ) → (least_owner pairs a ≡ Some owner)
         ↔ IsLeastOwner pairs a owner }

@@ -46,7 +46,7 @@ entry_shown tables bases entry = record {
   directory = entry.directory;
 }
 
--- the header as a unit sees it, whose texts stand there
+-- the header as a unit with these texts sees it
 abbrev pub header_in : Tables → Bases → Header → model.LineHeader
 header_in tables bases header = record {
   minimum_instruction_length = header.minimum_instruction_length;

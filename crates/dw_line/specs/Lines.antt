@@ -11,7 +11,7 @@ use Rattle.dw_model.specs.Answer.{Lines}
 use Rattle.dw_line.specs.declared.fault.LineFault.{LineFault}
 use Rattle.dw_line.specs.Fault.{line_fault}
 
--- a line table, with its place: a section and an offset there
+-- a line table, with where it begins: a section and an offset there
 pub record Table : Type 0 where
   pub section : List ℕ
   pub offset : ℕ
@@ -19,7 +19,7 @@ pub record Table : Type 0 where
   pub rows : List Row
   pub comp_dir : Option (List ℕ)
 
--- the same without its place
+-- the same without where it begins
 abbrev pub lines_shown : Table → Lines
 lines_shown table = record { header = table.header; rows = table.rows; comp_dir = table.comp_dir }
 
@@ -30,7 +30,7 @@ lines_of tables bases section comp_dir offset = do
   program ← instructions header
   Ok (record { section = section; offset = offset; header = header; rows = matrix header program; comp_dir = comp_dir })
 
--- whichever unit names the table, it can't be read, unless the error reports that it is out of memory
+-- whichever unit names the table, it can't be read, unless the error is that it is out of memory
 abbrev pub TellsEach : List ℕ → ℕ → LineFault → Type 0
 TellsEach section offset e =
     (tables : Tables) (bases : Bases) (comp_dir : Option (List ℕ)) → MatchOption (line_fault e) (Unit {0}) (λ fault. lines_of tables bases section comp_dir offset ≡ Err fault)

@@ -9,7 +9,7 @@ use Rattle.dw_line.specs.Lines.{Table, lines_of, matrix_of}
 use Rattle.dw_line.specs.Reached.{IsLast}
 use Rattle.dw_line.specs.Sequences.{used_sequences, number_among, AreKept}
 
--- as a unit sees it, whose texts stand there, and which was compiled in the directory
+-- as a unit sees it that has these texts and was compiled in the directory
 abbrev pub table_in : Inside → Tables → Bases → Option (List ℕ) → Table
 table_in lines tables bases comp_dir = record {
   section = lines.section.now;

@@ -42,12 +42,12 @@ registers_behind registers ends = if ends then initial else registers
 abbrev pub appended_row : Appended → Row
 appended_row appended = row (registers_shown appended.registers) appended.ends
 
--- The machine appends a row on its way from a state to a place, and no other.
+-- The machine appends this row on its way from a state to a place, and no other.
 pub record IsNext (header : LineHeader) (old : State) (next : Appended) (new : Place) : Type 0 where
   pub rows : rows_on header old ≡ row_before (appended_row next) (rows_on header (record { registers = registers_behind (registers_shown next.registers) next.ends; place = new }))
   pub spans : Spans (λ piece. 0 < length piece) old.place new
 
--- what a call answers that runs the machine to its next row
+-- what a call returns that runs the machine to its next row
 abbrev pub RunsToNext : LineHeader → State → Result (Option Appended) LineFault → Place → Type 0
 RunsToNext header old (Ok None) new = rows_on header old ≡ Ok []
 RunsToNext header old (Ok (Some next)) new = IsNext header old next new

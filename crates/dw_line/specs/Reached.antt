@@ -10,7 +10,7 @@ use Rattle.dw_line.specs.Machine.{rows_on}
 use Rattle.dw_line.specs.Search.{row_told, row_before_address, told_at}
 use Rattle.dw_line.specs.Sequences.{up_to_end, checkpoint_row, state_of, used_sequences, number_among, IsCheckpoint, HasCheckpoints}
 
--- what is told of it
+-- the row, as a caller sees it
 abbrev pub told_of : Reached → RowTold
 told_of reached = row_told (checkpoint_row reached.row)
 
@@ -20,7 +20,7 @@ pub record IsRow (header : LineHeader) (rows : List Row) (passed : ℕ) (reached
   pub is : IsCheckpoint header reached.row (drop passed rows)
   pub next : reached.next ≡ first_address (drop (passed + 1) rows)
 
--- One of these rows. At most 64 rows lie from it to the checkpoint whose number it tells.
+-- One of these rows. From it to the checkpoint whose number it has there are at most 64 rows.
 pub record IsReached (header : LineHeader) (rows : List Row) (reached : Reached) : Type 0 where
   pub passed : ℕ
   pub behind : 64 * reached.next_checkpoint ≤ passed + 64
@@ -79,7 +79,7 @@ abbrev pub IsLast : LineHeader → List (List Row) → Option Last → Type 0
 IsLast header used last = IfSome last (λ last. IfSome (slice_get used last.number) (λ rows. IsReached header rows last.reached))
 
 -- What is found is the row of the address in a matrix, and is a row of the used sequence whose
--- number it tells.
+-- number it has.
 abbrev pub FindsRow : LineHeader → List Row → ℕ → Option Last → Type 0
 FindsRow header rows a found =
     (option_map (λ last. told_of last.reached) found ≡ option_map row_told (row_of rows a)) × IsLast header (used_sequences rows) found

@@ -17,7 +17,7 @@ pub record Recorder : Type 0 where
 abbrev pub recorder_shown : Checkpoints → Recorder
 recorder_shown kept = record { checkpoints = kept.checkpoints.items; sequences = kept.sequences.items; pending = kept.pending }
 
--- no row is after so many checkpoints
+-- no row is pending after so many checkpoints
 abbrev pub none_pending : ℕ → Pending
 none_pending first_checkpoint = record { first_checkpoint = first_checkpoint; last_address = 0; rises = true; room = 0 }
 

@@ -72,7 +72,8 @@ pub record HasCheckpoints (header : LineHeader) (checkpoints : List Checkpoint) 
 abbrev pub checkpoints_in : List Checkpoint → Sequence → List Checkpoint
 checkpoints_in checkpoints sequence = drop sequence.first_checkpoint (take sequence.end_checkpoint checkpoints)
 
--- What is kept of a used sequence: its bounds, and its checkpoints, which lie before a place.
+-- What is kept of a used sequence: its bounds, and its checkpoints, whose indexes are below a
+-- bound.
 pub record IsSequence (header : LineHeader) (checkpoints : List Checkpoint) (end : ℕ) (sequence : Sequence) (rows : List Row) : Type 0 where
   pub ordered : sequence.first_checkpoint ≤ sequence.end_checkpoint
   pub within : sequence.end_checkpoint ≤ end

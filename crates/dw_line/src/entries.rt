@@ -133,9 +133,9 @@ fn entries_of<'a>(
     Ok(entries)
 }
 
-/// A list: how many formats, these, how many entries, and those. A number of entries above that of
-/// the bytes left is bad, so that entries of no bytes can't be without number. Offsets have a
-/// width.
+/// A list: the number of formats, the formats, the number of entries, and the entries. A list with
+/// more entries than bytes are left is bad, so that the file bounds entries that take no bytes.
+/// Offsets have a width.
 #[tactic(auto, unfolding(dw_model::specs::LineHeader::entry_list))]
 pub(crate) fn entry_list_of<'a>(
     alloc: Global,

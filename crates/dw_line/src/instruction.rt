@@ -84,8 +84,8 @@ fn extended_opcode(cursor: &mut Cursor<'_>) -> Result<Instruction, LineFault>
     extended_of(bytes)
 }
 
-/// The same of an opcode. They are read by a cursor of its own, so that the machine's, of which no
-/// address is taken, is kept in registers.
+/// The same of an opcode. They are read by a cursor of their own, so that the machine's, of which
+/// no address is taken, is kept in registers.
 #[inline(always)]
 fn unknown_behind(
     cursor: &mut Cursor<'_>,

@@ -30,8 +30,8 @@ use std::marker::{Brand, Model};
 use std::sync::ledger::{Blank, Ledger};
 
 /// A line table, for one unit after the other of those that name it. Contracts see where it begins,
-/// its header with the unit's texts, the rows of its program's matrix, and the directory in which the
-/// unit was compiled.
+/// its header with the unit's texts, the rows of its program's matrix, and the directory in which
+/// the unit was compiled.
 #[derive(Drop)]
 pub struct Lines<'a> {
     header: Header<'a>,
@@ -60,7 +60,7 @@ impl<'a> Model for Lines<'a> {
     ghost invariant = { AreRead };
 }
 
-/// How many bytes a path of these parts takes at most, so that it grows once.
+/// How many bytes a path of these parts takes at most, so that it is allocated once.
 fn room_for(top: &[u8], directory: Option<&[u8]>, name: &[u8]) -> usize {
     let inner = match directory {
         Some(directory) => directory.len(),
@@ -81,7 +81,8 @@ impl<'a> Lines<'a> {
     /// `Bad` where its header or its program can't be read: the table, the header or a list runs
     /// past its end, the version isn't 5, addresses aren't of 8 bytes, an instruction has more than
     /// one operation, line_range or opcode_base is 0, a form is unknown, an extended opcode has the
-    /// wrong length, or a number doesn't fit 64 bits. `Memory` comes only where an allocation was refused.
+    /// wrong length, or a number doesn't fit 64 bits. `Memory` comes only where an allocation was
+    /// refused.
     pub fn read(
         alloc: Global,
         line_section: &'a [u8],
@@ -120,8 +121,8 @@ impl<'a> Lines<'a> {
         })
     }
 
-    /// Turns to another unit that names the table, with these bases and the directory in which it was
-    /// compiled: paths are then those that this unit's table would have. The rows are the same.
+    /// Turns to another unit that names the table, with these bases and the directory in which it
+    /// was compiled: paths are then those that this unit's table would have. The rows are the same.
     pub fn turn_to(&mut self, tables: &Tables<'a>, bases: &Bases, comp_dir: Option<&'a [u8]>)
         ensures table { lines_of (tables_shown tables.now) (bases_shown bases.now) self.old.section
             (option_map (λ directory. directory.now) comp_dir.entry) self.old.offset ≡ Ok self.new }
@@ -266,9 +267,9 @@ impl<'a> Lines<'a> {
         Walk::new(self, low, high)
     }
 
-    /// The least address above one at which `row` answers something else than there; 2^64 - 1 where there is none. So
-    /// `row` answers the same from the address on up to, and without, the one that is returned. It runs the rows
-    /// between these two, and at most 64 before them. Takes no memory.
+    /// The least address above one at which `row` returns something else than there; 2^64 - 1 where
+    /// there is none. So `row` returns the same from the address on and below the one that is
+    /// returned. It runs the rows between these two, and at most 64 before them. Takes no memory.
     pub fn steady(&self, a: u64) -> u64
         requires { a < last_address }
         ensures { IsSteady (told_at self.now.rows) a result }

@@ -48,8 +48,8 @@ pub(crate) fn join_some(path: &mut Vec<u8>, part: Option<&[u8]>) -> Result<(), A
     }
 }
 
-/// What the unit that asks for a path says of it: where its texts are, and the directory in which it
-/// was compiled.
+/// What the unit that asks for a path says of it: where its texts are, and the directory in which
+/// it was compiled.
 #[derive(Clone, Copy, Debug)]
 pub(crate) struct AskingUnit<'a> {
     pub(crate) tables: Tables<'a>,

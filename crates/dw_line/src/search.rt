@@ -1,5 +1,5 @@
-//! The row of an address in a used sequence, from whose checkpoints rows are run again, or from the
-//! row that answered last.
+//! The row of an address in a used sequence: rows are run again from one of its checkpoints, or
+//! from the row that was found last.
 
 ghost use Rattle.std.specs.Prelude.{◌≡◌, ◌≤◌, ◌<◌, ◌+◌, Some, IfSome, length, drop, nat_le, option_map};
 ghost use Rattle.dw_line.specs.Header.{header_shown};
@@ -28,7 +28,7 @@ pub(crate) struct Reached {
 }
 
 impl Reached {
-    /// What is told of the row.
+    /// The row, as a caller sees it.
     pub(crate) fn told(self) -> Row
         ensures { result ≡ told_of self }
     {
@@ -97,9 +97,9 @@ fn cursor_at<'a>(program: &'a [u8], place: usize) -> Option<Cursor<'a>>
     Some(cursor)
 }
 
-/// The row of an address at or after that of a row: the last one in front of the first above the
-/// address. At most as many rows are run again as lie from one checkpoint to the next. The number
-/// is that of the checkpoint after the row.
+/// The row of an address that isn't below the address of a row: the last one before the first that
+/// is above the address. At most as many rows are run again as lie from one checkpoint to the next.
+/// The number is that of the checkpoint after the row.
 fn row_from<L: Ledger>(
     header: &Header<'_>,
     row: Checkpoint,

@@ -29,7 +29,7 @@ next_specification p = do
         Ok (Some (record { name = name.0; form = form.0; constant = Some constant.0 }), constant.1))
       else Ok (Some (record { name = name.0; form = form.0; constant = None }), form.1))
 
--- Code, tag, a byte that says whether there are children (any but 0 does, own), and the list of
+-- Code, tag, a byte that says whether there are children (any but 0 says so, own), and the list of
 -- pairs.
 unfoldable pub declaration_behind : ℕ → Place → Result (Declaration × Place) Fault
 declaration_behind code p = do
@@ -38,7 +38,7 @@ declaration_behind code p = do
   specifications ← items (λ q. q.left) next_specification children.1
   Ok (record { code = code; tag = tag.0; children = not (children.0 == 0); specifications = specifications.0 }, specifications.1)
 
--- the code 0 ends a table, and so does the section's end in a declaration's place (own)
+-- the code 0 ends a table, and so does the section's end where a declaration would begin (own)
 unfoldable pub next_declaration : Place → Result (Option Declaration × Place) Fault
 next_declaration p = if length p.left == 0 then Ok (None, p) else (do
   code ← uleb_at p

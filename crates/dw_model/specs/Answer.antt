@@ -34,7 +34,7 @@ pub data Code : Type 0 where
   tree_fault : TreeFault → Code
   line_fault : Code
 
--- addresses from `begin` on and before `end`, which have one location
+-- addresses from `begin` on and below `end`, which have one location
 pub record Piece : Type 0 where
   pub begin : ℕ
   pub end : ℕ
@@ -85,7 +85,7 @@ abbrev pub row_at : Option Lines → ℕ → Option Row
 row_at None a = None
 row_at (Some table) a = row_of table.rows a
 
--- Line 0 is no line, and without a line no column is told (own).
+-- Line 0 is no line, and without a line there is no column (own).
 abbrev pub location_at : Option (List ℕ) → Option ℕ → Option ℕ → Location
 location_at path None column = record { path = path; line = None; column = None }
 location_at path (Some line) column =
@@ -96,7 +96,7 @@ abbrev pub row_location : Option Lines → Option Row → Location
 row_location table None = record { path = None; line = None; column = None }
 row_location table (Some row) = location_at (file_path table row.file) (Some row.line) (Some row.column)
 
--- the location of a call that was inlined, as its entry tells it
+-- the location of a call that was inlined, as its entry says
 abbrev pub call_location : Option Lines → Entry → Location
 call_location table entry =
     location_at (option_and_then (file_path table) (number_of DW_AT_call_file entry)) (number_of DW_AT_call_line entry) (number_of DW_AT_call_column entry)

@@ -13,7 +13,7 @@ abbrev pub Tells : {Y F : Type 0} → Option F → Result Y F → Type 0
 Tells None given = ⊥
 Tells (Some fault) given = given ≡ Err fault
 
--- A call that takes no memory answers what the definition gives: its value, seen by `view`, or its
+-- A call that takes no memory returns what the definition gives: its value, seen by `view`, or its
 -- fault, which `told` finds in the error.
 abbrev pub Gives : {X Y E F : Type 0} → (X → Y) → (E → Option F) → Result X E → Result Y F → Type 0
 Gives view told (Ok x) given = given ≡ Ok (view x)
@@ -29,7 +29,7 @@ abbrev pub ReadsOrTells : {X Y E F : Type 0} → (X → Y) → (E → Option F) 
 ReadsOrTells view told (Ok x) given old new = given ≡ Ok (view x, new)
 ReadsOrTells view told (Err e) given old new = Tells (told e) given × (new ≡ old)
 
--- A call that takes memory: want of it may be told in place of any answer.
+-- A call that takes memory: it may report that it is out of memory instead of any answer.
 abbrev pub GivesUnlessMemory : {X Y E F : Type 0} → (X → Y) → (E → Option F) → Result X E → Result Y F → Type 0
 GivesUnlessMemory view told (Ok x) given = given ≡ Ok (view x)
 GivesUnlessMemory view told (Err e) given = MatchOption (told e) (Unit {0}) (λ fault. given ≡ Err fault)

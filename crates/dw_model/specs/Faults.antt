@@ -2,7 +2,7 @@
 use Rattle.std.specs.Prelude.{ℕ, List}
 
 -- Why a file is refused: the condition that fails, with the name of the section that it speaks of,
--- or the offset of the unit in .debug_info. Want of memory is none of them: it says nothing of the
+-- or the offset of the unit in .debug_info. Out of memory is none of them: it says nothing of the
 -- file.
 pub data Refusal : Type 0 where
   not_elf : Refusal

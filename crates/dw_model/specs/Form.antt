@@ -97,7 +97,7 @@ forms =
     ∷ []
 
 -- A value in its spelling. `size` is that of an offset; `constant` is the number that is in the
--- declaration, where one does.
+-- declaration, where one is.
 unfoldable pub spelled_at : (size : ℕ) → Spelling → (constant : Option ℤ) → Place → Result (Value × Place) Fault
 spelled_at size (fixed n make) constant p = made make (ok_or (number_at n p) ends_early)
 spelled_at size (offset make) constant p = made make (ok_or (number_at size p) ends_early)
@@ -156,8 +156,8 @@ pub data Spells (size : ℕ) : (form : ℕ) → (constant : Option ℤ) → List
 
 -- ---- why a value isn't read
 
--- The form is unknown, or its number isn't in the declaration, or so it is of the form that
--- DW_FORM_indirect names.
+-- The form is unknown, or its number isn't in the declaration; or one of these holds of the form
+-- that DW_FORM_indirect names.
 pub data IsUnknown : (form : ℕ) → (constant : Option ℤ) → List ℕ → Type 0 where
   missing : {form : ℕ} {constant : Option ℤ} {left : List ℕ}
       → form ≢ constants.DW_FORM_indirect → lookup (nat_eq form) forms ≡ None → IsUnknown form constant left

@@ -1,4 +1,4 @@
--- Initial lengths, and the two formats of which they tell one (DWARF 5, sections 7.2.2 and 7.4).
+-- Initial lengths, each in one of the two formats (DWARF 5, sections 7.2.2 and 7.4).
 use Rattle.std.specs.Prelude.{◌≡◌, ◌<◌, ◌++◌, ℕ, List, length, Option, Some, nat_le, ◌==◌, if◌then◌else◌}
 use Rattle.byteorder.specs.Endian.{little_number}
 use Rattle.dw_model.specs.declared.dwarf.TheConstants.{DW_LENGTH_RESERVED, DW_LENGTH_64BIT, OFFSET_SIZE_32, OFFSET_SIZE_64, LENGTH_SIZE_32, LENGTH_SIZE_64}

@@ -70,8 +70,8 @@ entries_at tables bases size formats (suc count) p = do
   others ← entries_at tables bases size formats count contents.1
   Ok (line_entry tables bases contents.0 ∷ others.0, others.1)
 
--- a list: how many formats, these, how many entries, and those; a number of entries above that of
--- the bytes left is bad (own)
+-- a list: the number of formats, the formats, the number of entries, the entries; more entries than
+-- bytes are left are bad (own)
 unfoldable pub entry_list : Tables → Bases → ℕ → Place → Result (List LineEntry × Place) Bad
 entry_list tables bases size p = do
   format_count ← ok_or (number_at 1 p) bad

@@ -126,7 +126,7 @@ last_address (row ∷ next ∷ rows) = last_address (next ∷ rows)
 abbrev pub is_used : List Row → Bool
 is_used rows = never_falls rows && nat_lt (first_address rows) (last_address rows)
 
--- the row at whose address or after which the address lies, before the next row's
+-- the row whose address is at most this one, while the next row's is above it
 unfoldable pub row_in : ℕ → List Row → Option Row
 row_in a [] = None
 row_in a (row ∷ []) = None

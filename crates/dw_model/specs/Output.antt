@@ -59,7 +59,7 @@ address_in text =
     let digits = without_prefix text in
     if nat_lt 0 (length digits) && (nat_le (length digits) 16 && list_all is_ascii_hexdigit digits) then Some (digits_value 16 digits) else None
 
--- a span from an address on and before another, where both are there and the first is below the
+-- a span from an address on and below another, where both are there and the first is below the
 -- second
 abbrev pub span_between : Option ℕ → Option ℕ → Option Query
 span_between (Some low) (Some high) = if nat_lt low high then Some (span low high) else None
@@ -129,7 +129,7 @@ abbrev pub piece_line : Piece → List ℕ
 piece_line piece =
     span_text piece.begin piece.end ++ (codes " " ++ (location_text piece.location.path piece.location.line ++ newline))
 
--- a span without pieces is told as an address of which nothing is known
+-- a span without pieces is written as an address of which nothing is known
 abbrev pub piece_lines : List Piece → List ℕ
 piece_lines [] = codes "??:0\n"
 piece_lines (piece ∷ pieces) = flat_map piece_line (piece ∷ pieces)

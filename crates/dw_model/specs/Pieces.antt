@@ -64,7 +64,7 @@ as_answer (Err found) = fault found.0 found.1
 abbrev pub pieces_in : Sections → ℕ → ℕ → Answer
 pieces_in sections low high = as_answer (pieces_from (place sections) low (high - low))
 
--- What the addresses from `low` on and before `high` mean: their pieces, or the fault of the first
+-- What the addresses from `low` on and below `high` mean: their pieces, or the fault of the first
 -- that has one.
 abbrev pub pieces : List ℕ → ℕ → ℕ → Answer
 pieces file low high = pieces_in (sections file) low high
@@ -76,7 +76,7 @@ abbrev pub IsApart : (end : ℕ) → Location → List Piece → Type 0
 IsApart end location [] = Unit {0}
 IsApart end location (next ∷ pieces) = end ≡ next.begin → location ≢ next.location
 
--- They lie in order from `low` on and before `high`, none is empty, and two that touch have
+-- They lie in order from `low` on and below `high`, none is empty, and two that touch have
 -- different locations.
 abbrev pub AreInOrder : (low high : ℕ) → List Piece → Type 0
 AreInOrder low high [] = Unit {0}
@@ -116,6 +116,6 @@ with_piece (piece ∷ []) next =
     piece ∷ next ∷ []
 with_piece (piece ∷ other ∷ pieces) next = piece ∷ with_piece (other ∷ pieces) next
 
--- the addresses from one on and before another have this location, or none
+-- the addresses from one on and below another have this location, or none
 abbrev pub HaveLocation : (location : ℕ → Result (Option Location) UnitFault) → (begin end : ℕ) → Option Location → Type 0
 HaveLocation location begin end here = (a : ℕ) → begin ≤ a → a < end → location a ≡ Ok here

@@ -3,7 +3,7 @@ use Rattle.std.specs.Prelude.{ℕ, List}
 use Rattle.dw_model.specs.Answer.{Answer, answer}
 use Rattle.dw_model.specs.Pieces.{pieces}
 
--- about an address; or about a span, the addresses from `low` on and before `high`
+-- about an address; or about a span, the addresses from `low` on and below `high`
 pub data Query : Type 0 where
   address : (a : ℕ) → Query
   span : (low high : ℕ) → Query

@@ -64,7 +64,7 @@ items_up_to next (suc most) s = do
 abbrev pub items : {S A E : Type 0} → (S → List ℕ) → (S → Result (Option A × S) E) → S → Result (List A × S) E
 items left next s = items_up_to next (suc (length (left s))) s
 
--- The items are those that `next` gives one after the other, and the last state that in which it
+-- The items are those that `next` gives one after the other, and the last state is that in which it
 -- gives none.
 abbrev pub AreItems : {S A E : Type 0} → (S → Result (Option A × S) E) → S → List A → S → Type 0
 AreItems next s [] t = next s ≡ Ok (None, t)
@@ -75,8 +75,8 @@ abbrev pub FailsAfter : {S A E : Type 0} → (S → Result (Option A × S) E) �
 FailsAfter next s [] fault = next s ≡ Err fault
 FailsAfter {S} next s (item ∷ others) fault = (t : S) × (next s ≡ Ok (Some item, t)) × FailsAfter next t others fault
 
--- All items are read exactly where they are the items, and the fault is the one before which there
--- are items.
+-- All items are read exactly where `next` gives just these and then none; a fault is read exactly
+-- where `next` gives items and then this fault.
 pub record AreRead {S A E : Type 0} (left : S → List ℕ) (next : S → Result (Option A × S) E) : Type 0 where
   pub read : (s t : S) (all : List A) → (items left next s ≡ Ok (all, t)) ↔ AreItems next s all t
   pub fails : (s : S) (fault : E) → (items left next s ≡ Err fault) ↔ ((before : List A) × FailsAfter next s before fault)

@@ -21,7 +21,7 @@ abbrev pub or_fault : {A E F : Type 0} → F → Result A E → Result A F
 or_fault fault (Ok x) = Ok x
 or_fault fault (Err e) = Err fault
 
--- the same value, and each fault as another tells it
+-- the same value, and another fault for each fault
 abbrev pub with_code : {A E F : Type 0} → (E → F) → Result A E → Result A F
 with_code code (Ok x) = Ok x
 with_code code (Err e) = Err (code e)

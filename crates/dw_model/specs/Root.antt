@@ -23,8 +23,7 @@ entry sections unit offset =
       declarations ← abbreviations sections.abbrevs unit.debug_abbrev_offset
       entry_at unit.offset_size declarations (place_in sections unit offset))
 
--- A unit's first entry, where it can be read; a null entry and the unit's end in its place aren't
--- one.
+-- A unit's first entry, where it can be read; a null entry or the unit's end there isn't one.
 unfoldable pub root : Sections → DwarfUnit → Option Entry
 root sections unit = option_and_then (λ found. found.0) (result_ok (entry sections unit unit.first_entry))
 

@@ -58,7 +58,7 @@ used_names =
 unfoldable pub lies_in : List ℕ → Table → List ℕ → Bool
 lies_in file table name = option_map_or (λ header. is_some (contents file header)) (header_named name table) true
 
--- the name of the same section, compressed in the older way: `.zdebug_..` in place of `.debug_..`
+-- the name of the same section, compressed in the older way: `.zdebug_..` instead of `.debug_..`
 abbrev pub compressed_name : List ℕ → List ℕ
 compressed_name name = codes ".z" ++ drop 1 name
 

@@ -15,7 +15,7 @@ use Rattle.dw_model.specs.Root.{place_in, root, bases}
 use Rattle.dw_model.specs.Ranges.{Range, ranges_of, covers}
 use Rattle.dw_model.specs.Faults.{TreeFault, entry_fault, depth_fault, ranges_fault, Bad}
 
--- an entry in the tree, with how many entries it is below; the unit's first entry has depth 0
+-- an entry in the tree, and below how many others it is; the unit's first entry has depth 0
 pub record Node : Type 0 where
   pub depth : ℕ
   pub entry : Entry

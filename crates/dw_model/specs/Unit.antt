@@ -26,7 +26,7 @@ is_skipped skeleton = false
 is_skipped skipped = true
 
 -- A unit: where it begins and ends, its version and kind, the size of its offsets, where its
--- abbreviations are in .debug_abbrev, and where its first entry does. Offsets count from the first
+-- abbreviations are in .debug_abbrev, and where its first entry is. Offsets count from the first
 -- byte of .debug_info. A skipped unit has no abbreviations, and no entry before its end.
 pub record DwarfUnit : Type 0 where
   pub offset : ℕ
@@ -54,8 +54,8 @@ dwo_id_size partial = 0
 dwo_id_size skeleton = DWO_ID_SIZE
 dwo_id_size skipped = 0
 
--- The header of a unit that isn't skipped, after its type. An address of another size is told only
--- where the whole header is there.
+-- The header of a unit that isn't skipped, after its type. An address of another size is reported
+-- only where the whole header is there.
 unfoldable pub kept_unit : Extent → ℕ → Kind → Place → Result DwarfUnit Refusal
 kept_unit extent offset_size kind p = do
   size ← ok_or (number_at 1 p) (unit_header extent.offset)
@@ -112,7 +112,7 @@ next_piece test p = if length p.left == 0 then Ok (None, p) else (do
   piece ← piece_at test p
   Ok (Some piece.0, piece.1))
 
--- the units from a place on, or the first fault in them
+-- the units from a place on, or their first fault
 unfoldable pub cut_from : Test → Place → Result (List DwarfUnit) Refusal
 cut_from test p = do
   pieces ← items (λ p. p.left) (next_piece test) p
@@ -128,7 +128,7 @@ units info = result_unwrap_or (cut info) []
 
 -- ---- whole pieces
 
--- what is after the length of a piece, and the width that the length tells
+-- what is after the length of a piece, and the width that the length gives
 pub record Content : Type 0 where
   pub width : Width
   pub bytes : List ℕ

@@ -59,7 +59,7 @@ pub const DW_TAG_skeleton_unit: u64 = 0x4a;
 /// The name as it is in the source.
 pub const DW_AT_name: u64 = 0x03;
 
-/// The place of the unit's line table.
+/// The offset of the unit's line table.
 pub const DW_AT_stmt_list: u64 = 0x10;
 
 /// The first address.

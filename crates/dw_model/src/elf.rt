@@ -15,7 +15,7 @@ pub const ET_REL: u16 = 1;
 /// Bytes of one entry of the section header table: the size of `Elf64_Shdr` (section 4).
 pub const SHDR_SIZE: u64 = 64;
 
-/// Index that stands for no section (section 4).
+/// The index of no section (section 4).
 pub const SHN_UNDEF: u32 = 0;
 
 /// `e_shstrndx` where the index is too large for it and is in `sh_link` of header 0

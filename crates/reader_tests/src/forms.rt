@@ -301,8 +301,8 @@ fn tables_that_end(rt: HostRuntime) {
     }
 }
 
-/// Declarations without pairs at 0, 5, 10 and 15, and the end of their table at 20. What begins at 1
-/// is a declaration with the pairs 0, 2 and 0x2e, 0, so it ends before the one at 10.
+/// Declarations without pairs at 0, 5, 10 and 15, and the end of their table at 20. What begins at
+/// 1 is a declaration with the pairs 0, 2 and 0x2e, 0, so it ends before the one at 10.
 const INSIDE: &[u8] = &[
     1, 0x11, 0, 0, 0, 2, 0x2e, 0, 0, 0, 2, 0x34, 0, 0, 0, 7, 0x35, 0, 0, 0, 0,
 ];

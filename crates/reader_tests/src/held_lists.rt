@@ -12,16 +12,17 @@ const ABBREVS: &[u8] = &[
     1, 0x11, 1, 0, 0, 2, 0x2e, 1, 0x55, 0x17, 0, 0, 3, 0x1d, 0, 0x55, 0x17, 0, 0, 0,
 ];
 
-/// Subprograms at 13, 29 and 45, of the lists at 54, 0 and 61; of functions inlined in the first one at 18
-/// and 23 of the lists at 57 and 0, and in the second at 34 and 39 of those at 3 and 61. The unit has 52
-/// bytes, so 13 ranges may be kept of lists that have more than one: the lists at 0 and 3 are too long.
+/// Subprograms at 13, 29 and 45, of the lists at 54, 0 and 61; of functions inlined in the first
+/// one at 18 and 23 of the lists at 57 and 0, and in the second at 34 and 39 of those at 3 and 61.
+/// The unit has 52 bytes, so 13 ranges may be kept of lists that have more than one: the lists at 0
+/// and 3 are too long.
 const ENTRIES: &[u8] = &[
     1, 2, 54, 0, 0, 0, 3, 57, 0, 0, 0, 3, 0, 0, 0, 0, 0, 2, 0, 0, 0, 0, 3, 3, 0, 0, 0, 3, 61, 0, 0,
     0, 0, 2, 61, 0, 0, 0, 0, 0,
 ];
 
-/// Twenty ranges: two addresses from 4 on, two from 8 on, and so on to those from 80 on; the list at 3 * n
-/// has all but the first n. At 61 is a list of the two addresses from 8 on.
+/// Twenty ranges: two addresses from 4 on, two from 8 on, and so on to those from 80 on; the list
+/// at 3 * n has all but the first n. At 61 is a list of the two addresses from 8 on.
 fn lists(alloc: Global) -> Result<Vec<u8>, AllocError> {
     let mut lists = Vec::new(alloc);
     for i in 1..21u8 {

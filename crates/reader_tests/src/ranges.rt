@@ -99,7 +99,7 @@ fn are_expected(ranges: &[Range], expected: Expected) -> bool {
 }
 
 /// The ranges of an entry of the unit at an index are as expected, where .debug_rnglists has these
-/// bytes: read by themselves, and in place of others.
+/// bytes: read by themselves, and into a list of others.
 fn has_ranges(
     alloc: Global,
     units: &Units<'_>,
@@ -393,7 +393,7 @@ fn faults_show_themselves(rt: HostRuntime) -> Result<(), Fail> {
 }
 
 /// An entry of the first unit has these ranges, where they are read once more after an allocation
-/// was refused, by themselves and in place of others.
+/// was refused, by themselves and into a list of others.
 fn has_ranges_at_last(
     alloc: Global,
     units: &Units<'_>,

@@ -14,8 +14,8 @@ const ABBREVS: &[u8] = &[
     1, 0x11, 1, 0, 0, 2, 0x2e, 1, 0x55, 0x17, 0, 0, 3, 0x1d, 0, 0x55, 0x17, 0, 0, 0,
 ];
 
-/// Lists at 0: 0x10 to 0x20 and 0x40 to 0x50; at 7: 0x10 to 0x18; at 11: 0x40 to 0x48; at 15: a range without
-/// addresses; at 19 one that has no end.
+/// Lists at 0: 0x10 to 0x20 and 0x40 to 0x50; at 7: 0x10 to 0x18; at 11: 0x40 to 0x48; at 15: a
+/// range without addresses; at 19 one that has no end.
 const LISTS: &[u8] = &[
     4, 0x10, 0x20, 4, 0x40, 0x50, 0, 4, 0x10, 0x18, 0, 4, 0x40, 0x48, 0, 4, 5, 5, 0, 4, 5,
 ];
@@ -23,9 +23,9 @@ const LISTS: &[u8] = &[
 /// The bytes of a function that is inlined in none, with the list at 0.
 const LOOSE: &[u8] = &[3, 0, 0, 0, 0];
 
-/// The file of a unit whose first entry has so many of those below it and then these entries: the first at 13, where
-/// there are none of those. Three of them read as many bytes of lists as there are, so that lists are noted from then
-/// on.
+/// The file of a unit whose first entry has so many functions of `LOOSE` below it, and then these
+/// entries; the first is at 13, where there are none of `LOOSE`. Three of them read as many bytes
+/// of lists as there are, so that lists are noted from then on.
 fn file_of(alloc: Global, loose: usize, entries: &[u8]) -> Result<Vec<u8>, AllocError> {
     let mut all = Vec::from_slice(alloc, &[1])?;
     for _ in 0..loose {
@@ -43,8 +43,8 @@ fn file_of(alloc: Global, loose: usize, entries: &[u8]) -> Result<Vec<u8>, Alloc
     )
 }
 
-/// Subprograms at 13 and 34 of the list at 0, with functions inlined at 18, 23 and 28, and at 39; one at 45 of the
-/// list at 7, and two without addresses at 51 and 62, with one inlined at 56.
+/// Subprograms at 13 and 34 of the list at 0, with functions inlined at 18, 23 and 28, and at 39;
+/// one at 45 of the list at 7, and two without addresses at 51 and 62, with one inlined at 56.
 const LATER: &[u8] = &[
     2, 0, 0, 0, 0, 3, 7, 0, 0, 0, 3, 7, 0, 0, 0, 3, 11, 0, 0, 0, 0, 2, 0, 0, 0, 0, 3, 7, 0, 0, 0,
     0, 2, 7, 0, 0, 0, 0, 2, 15, 0, 0, 0, 3, 7, 0, 0, 0, 0, 2, 15, 0, 0, 0, 0, 0,
@@ -61,7 +61,8 @@ const OF_LATER: [(u64, &[u64]); 7] = [
     (0x50, &[]),
 ];
 
-/// The functions at addresses are these, whose offsets are told of a unit that has none before them.
+/// The functions at addresses are these, whose offsets are those in a unit that has none before
+/// them.
 fn expect_chains<A: Abort>(
     rt: &A,
     alloc: Global,
@@ -92,8 +93,8 @@ fn first_of_one_list(rt: HostRuntime) -> Result<(), Fail> {
     Ok(())
 }
 
-/// A subprogram at 13 of the list at 11, with one inlined at 18 of the list at 0; one at 24 of the list at 0, with two
-/// inlined at 29 and 34 of the same list.
+/// A subprogram at 13 of the list at 11, with one inlined at 18 of the list at 0; one at 24 of the
+/// list at 0, with two inlined at 29 and 34 of the same list.
 const CALLERS: &[u8] = &[
     2, 11, 0, 0, 0, 3, 0, 0, 0, 0, 0, 2, 0, 0, 0, 0, 3, 0, 0, 0, 0, 3, 0, 0, 0, 0, 0, 0,
 ];

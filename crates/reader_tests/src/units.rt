@@ -17,7 +17,7 @@ pub fn units_of<'a>(alloc: Global, file: &'a [u8]) -> Result<Units<'a>, OpenFaul
     Units::read(alloc, &elf)
 }
 
-/// How an entry is read: by itself, or in place of one that is kept.
+/// How an entry is read: by itself, or into one that is kept, reusing its memory.
 #[derive(Clone, Copy, Debug)]
 enum Way {
     Alone,
@@ -166,7 +166,8 @@ fn walk_of_a_unit(rt: HostRuntime) -> Result<(), Fail> {
         return Err(Fail::from("a unit"));
     }
     let mut entries = units.entries(0).ok_or("entries of the first unit")?;
-    // The unit's first entry and the lexical block are no functions; the abstract instance at 0x1d names no ranges.
+    // The unit's first entry and the lexical block are no functions; the abstract instance at 0x1d
+    // names no ranges.
     let rows = [None, None, Some(0x23), None, Some(0x36), Some(0x47)];
     for row in rows {
         assert!(rt; !entries.is_done());
@@ -447,7 +448,7 @@ fn units_at_last<'a>(alloc: Global, file: &'a [u8]) -> Result<Units<'a>, OpenFau
     units_of(alloc, file)
 }
 
-/// The entry at 13 of the first unit is whole, by itself and in place of another, where it is read
+/// The entry at 13 of the first unit is whole, by itself and read into another, where it is read
 /// once more after an allocation was refused.
 fn is_read_at_last(alloc: Global, units: &Units<'_>) -> Result<bool, Fail> {
     if units.len() == 0 {

@@ -152,7 +152,7 @@ pub fn line_table(alloc: Global, header: &[u8], program: &[u8]) -> Result<Vec<u8
     Ok(table)
 }
 
-/// Bytes with another one at a place.
+/// Bytes with another one at an offset.
 pub fn poked(alloc: Global, bytes: &[u8], at: usize, new: u8) -> Result<Vec<u8>, Fail> {
     let mut poked = Vec::from_slice(alloc, bytes)?;
     let place = poked.get_mut(at).ok_or("a place among the bytes")?;

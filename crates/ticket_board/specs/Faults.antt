@@ -22,7 +22,7 @@ number_of_ask Full = 1
 number_of_ask Closed = 2
 number_of_ask Exhausted = 3
 
--- a shape past its limits is told as that, and out of memory only of a shape within them
+-- a shape past its limits is reported as that, and out of memory only of a shape within them
 abbrev pub RefusesShape : BoardFault → Shape → Type 0
 RefusesShape BadShape shape = ¬ Fits shape
 RefusesShape Memory shape = Fits shape

@@ -1,4 +1,4 @@
--- What a client is told of its next number, and what a worker did.
+-- What a client learns of its next number, and what a worker did.
 use Rattle.std.specs.Prelude.{◌≡◌, ◌<◌, ℕ, List, [], ◌∷◌, ◌++◌, slice_index_or}
 use Rattle.std.specs.List.{Contains}
 use Rattle.ticket_core.specs.declared.query.Query.{Query}

@@ -24,7 +24,7 @@ AreAnswers shown meaning key queries answers = map shown answers ≡ map (meanin
 abbrev pub PoolFits : Shape → ℕ → Type 0
 PoolFits shape queries = Fits shape × (queries ≤ shape.senders * shape.most)
 
--- a shape that doesn't fit is told as that, and out of memory only of one that does
+-- a shape that doesn't fit is reported as that, and out of memory only of one that does
 abbrev pub RefusesPool : PoolFault → Shape → ℕ → Type 0
 RefusesPool BadShape shape queries = ¬ PoolFits shape queries
 RefusesPool Memory shape queries = PoolFits shape queries
@@ -37,7 +37,7 @@ every step k [] = []
 every step zero (query ∷ queries) = query ∷ every step (step - 1) queries
 every step (suc k) (query ∷ queries) = every step k queries
 
--- what holds of each and its place, where the first has the place k
+-- what holds of each and its index, where the first has the index k
 abbrev pub EachFrom : {V : Type 0} → (ℕ → V → Type 0) → ℕ → List V → Type 0
 EachFrom F k [] = Unit {0}
 EachFrom F k (x ∷ xs) = F k x × EachFrom F (suc k) xs
@@ -60,7 +60,7 @@ IsFresh client = (client.asked ≡ []) × (client.received ≡ []) × (client.cl
 abbrev pub IsNewSender : RingState → ℕ → ClientState → Type 0
 IsNewSender board sender client = IsClientOf board client × (client.seat.sender ≡ sender) × IsFresh client
 
--- a sender is told that all was asked and received
+-- a sender learns that all was asked and received
 abbrev pub IsEnd : Came → Type 0
 IsEnd End = Unit {0}
 IsEnd _ = ⊥

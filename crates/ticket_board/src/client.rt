@@ -50,7 +50,7 @@ impl<S: Solver> Client<S> {
         self.asker.ask(&board.ring, query)
     }
 
-    /// Whether the next number was found answered. Then `next` gives it. It waits for nobody and
+    /// Whether the next number was found answered. Then `next` returns it. It waits for nobody and
     /// takes no memory.
     pub fn ready<'a>(&mut self, board: &Board<'a, S>) -> bool
         requires { IsClientOf board.now self.old }
@@ -99,8 +99,8 @@ impl<S: Solver> Client<S> {
         self.asker.law_of_asker();
     }
 
-    /// Asks no more. What is outstanding is still received. Closed already, nothing changes. It
-    /// makes no step.
+    /// Asks no more. What is outstanding is still received. A client that is closed stays as it is.
+    /// It makes no step.
     pub fn close(&mut self)
         ensures seat { self.new.seat ≡ self.old.seat }
         ensures closed { self.new ≡ closes self.old }

@@ -1,4 +1,5 @@
-//! How a board is opened: its ring is, and each end of it becomes a client or a worker.
+//! How a board is opened: its ring is opened, and each end of the ring becomes a client or a
+//! worker.
 
 ghost use Rattle.std.specs.Prelude.{◌≡◌, false, IfOk, IfErr, OnOk, map};
 ghost use Rattle.std.specs.List.{AllByRecursion};

@@ -1,6 +1,6 @@
-//! What a client and a worker are told.
+//! What the calls of a client and of a worker return.
 
-/// What a client is told of its next number.
+/// What a client learns of its next number.
 #[derive(Debug, Drop, PartialEq, Eq)]
 pub enum Next<A: Drop> {
     /// It isn't answered yet, or wasn't asked yet.

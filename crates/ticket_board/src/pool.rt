@@ -34,10 +34,10 @@ use task::Task;
 use threads::{Pool, run};
 use ticket_core::{Shape, Solver};
 
-/// Answers all queries: the answer at `i` is that of `queries.asked[i]`, by the maker's key. There is a
-/// thread for each sender and each worker of the shape, and query `i` is asked by sender
-/// `i % senders`. Each worker's solver is made on its thread. When the call returns, all threads have
-/// ended.
+/// Answers all queries: the answer at `i` is that of `queries.asked[i]`, by the maker's key. There
+/// is a thread for each sender and each worker of the shape, and query `i` is asked by sender
+/// `i % senders`. Each worker's solver is made on its thread. When the call returns, all threads
+/// have ended.
 ///
 /// A worker answers the queries that are meant for it, and others only where none of its own has
 /// waited for tens of milliseconds. The answers are the same for all owners.

@@ -1,4 +1,4 @@
--- How a state is stored as a tree of numbers. Each part of it can be told from every other.
+-- How a state is stored as a tree of numbers. Different states have different trees.
 use Rattle.std.specs.Prelude.{ℕ, Bool, List, Option, refl, ◌≡◌, ◌⊎◌}
 use mathlib.Core.Logic.{inl, inr}
 use base.Stored.{coded_unit}

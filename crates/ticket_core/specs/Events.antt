@@ -29,7 +29,7 @@ asks query sender = record {
   places = sender.places ++ Waiting ∷ [];
 }
 
--- one number is at another place
+-- one number gets another place
 abbrev pub puts : ℕ → Place → Sender → Sender
 puts n place sender = record {
   asked = sender.asked;
@@ -38,7 +38,7 @@ puts n place sender = record {
   places = slice_set sender.places n place;
 }
 
--- the answer that is at a place
+-- the answer that a place has
 abbrev pub answer_in : Place → Shown
 answer_in (Answered answer) = answer
 answer_in _ = gnil

@@ -10,7 +10,7 @@ abbrev pub number_of_new : NewFault → ℕ
 number_of_new BadShape = 1
 number_of_new Memory = 2
 
--- a shape past its limits is told as that, and out of memory only of a shape within them
+-- a shape past its limits is reported as that, and out of memory only of a shape within them
 abbrev pub RefusesShape : NewFault → Shape → Type 0
 RefusesShape BadShape shape = ¬ Fits shape
 RefusesShape Memory shape = Fits shape

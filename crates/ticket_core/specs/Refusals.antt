@@ -38,7 +38,7 @@ abbrev pub take_refusal : Option Ticket → Place → Option CoreFault
 take_refusal (Some ticket) place = Some HandFull
 take_refusal None place = if is_waiting place then None else Some NotAsked
 
--- finishing and giving back want a number in the hand
+-- finishing and giving back need a number in the hand
 abbrev pub hand_refusal : Option Ticket → Option CoreFault
 hand_refusal hand = if is_empty hand then Some HandEmpty else None
 
@@ -71,6 +71,6 @@ IsOfShape (Close s) state = s < state.shape.senders
 abbrev pub Refuses : CoreFault → Option CoreFault → Type 0
 Refuses fault refused = refused ≡ Some fault
 
--- the same of a call that takes memory, which is refused for want of it where no condition fails
+-- the same of a call that takes memory, which may be out of memory where no condition fails
 abbrev pub RefusesOrMemory : CoreFault → Option CoreFault → Type 0
 RefusesOrMemory fault refused = MatchOption refused (fault ≡ Memory) (λ told. fault ≡ told)

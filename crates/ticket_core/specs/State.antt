@@ -40,7 +40,8 @@ pub record State : Type 0 where
   pub senders : List Sender
   pub hands : List (Option Ticket)
 
--- ---- reading a state. What isn't there is a sender that asked nothing, a number that wasn't asked, an empty hand
+-- ---- reading a state. What isn't there is a sender that asked nothing, a number that wasn't
+-- asked, an empty hand
 
 abbrev pub fresh : Sender
 fresh = record { asked = []; received = []; closed = false; places = [] }

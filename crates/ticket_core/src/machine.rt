@@ -22,7 +22,7 @@ use std::marker::{Model, PhantomData};
 /// who asked what, who received what, and where each number is.
 ///
 /// The work of a call doesn't grow with the number of queries that were asked: each call looks at
-/// one slot of one sender and at one hand. `ask` grows its lists by doubling.
+/// one slot of one sender and at one hand. `ask` doubles the allocation of a list that is full.
 #[derive(Drop)]
 pub struct Core<'a, S: Solver> {
     shape: Shape,
@@ -96,8 +96,8 @@ impl<'a, S: Solver> Core<'a, S> {
         })
     }
 
-    /// Whatever was called before, what holds of each state that a run reaches holds of this one.
-    /// It does nothing.
+    /// Whatever was called before, this state is sound: each sender is right and within its limits,
+    /// and hands and places agree. It does nothing.
     pub fn law_of_state(&self)
         ensures { IsSound S.meaning self.now }
     {
@@ -122,7 +122,7 @@ impl<'a, S: Solver> Core<'a, S> {
         self.lanes[sender].received()
     }
 
-    /// Asks a query for a sender, and gives its number. The sender's numbers rise from 0.
+    /// Asks a query for a sender, and returns its number. The sender's numbers rise from 0.
     ///
     /// The error is `Closed`, `Exhausted`, `Full` or `Memory`, in this order. It changes nothing.
     pub fn ask(&mut self, sender: usize, query: Query) -> Result<u64, CoreFault>
@@ -154,7 +154,7 @@ impl<'a, S: Solver> Core<'a, S> {
         Ok(())
     }
 
-    /// Answers the number that a worker holds, and gives its sender and the number.
+    /// Answers the number that a worker holds, and returns its sender and the number.
     ///
     /// The error is `HandEmpty`. It changes nothing, and the answer is dropped.
     pub fn finish(&mut self, worker: usize, answer: S::Answer) -> Result<(usize, u64), CoreFault>
@@ -174,7 +174,7 @@ impl<'a, S: Solver> Core<'a, S> {
         Ok((sender, number))
     }
 
-    /// Takes the number that a worker holds out of its hand: it waits again. Gives its sender and
+    /// Takes the number that a worker holds out of its hand: it waits again. Returns its sender and
     /// the number.
     ///
     /// The error is `HandEmpty`. It changes nothing.
@@ -193,7 +193,8 @@ impl<'a, S: Solver> Core<'a, S> {
         Ok((sender, number))
     }
 
-    /// Moves the answer of a sender's next number to those that it received, and gives the number.
+    /// Moves the answer of a sender's next number to those that it received, and returns the
+    /// number.
     ///
     /// The error is `Ended` or `NotReady`, in this order. It changes nothing.
     pub fn collect(&mut self, sender: usize) -> Result<u64, CoreFault>

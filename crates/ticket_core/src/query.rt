@@ -52,8 +52,8 @@ impl Query {
         }
     }
 
-    /// The query about the addresses from `low` on and below `high`, or `None` where `low` isn't below
-    /// `high`.
+    /// The query about the addresses from `low` on and below `high`, or `None` where `low` isn't
+    /// below `high`.
     pub fn range(low: u64, high: u64) -> Option<Query>
         ensures { result ≡ (if nat_lt low high then Some (Span low high) else None) }
     {

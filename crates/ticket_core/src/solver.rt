@@ -7,7 +7,7 @@ ghost use Rattle.ticket_core.specs.State.{Shown};
 use crate::query::Query;
 use std::alloc::AllocError;
 
-/// Want of memory.
+/// Out of memory.
 pub type NoMemory = AllocError;
 
 /// Answers queries: a query has one meaning under a key, whoever answers it and whenever.

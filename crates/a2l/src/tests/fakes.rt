@@ -1,4 +1,4 @@
-//! Ends in memory.
+//! Files and streams in memory.
 
 ghost use Rattle.std.specs.Prelude.{Some, None, option_copied};
 

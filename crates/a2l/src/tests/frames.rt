@@ -58,8 +58,8 @@ fn frames_of_samples(rt: HostRuntime) -> Result<(), Fail> {
     Ok(())
 }
 
-/// Bytes that are put into the sample at a place, what is asked of it then, and how that ends: the
-/// status, the lines that answer, and the line that reports an error.
+/// Bytes that are put into the sample at an offset, what is asked of it then, and how that ends:
+/// the status, the lines that answer, and the line that reports an error.
 type Damaged = (
     usize,
     &'static [u8],

@@ -11,7 +11,7 @@ pub const INLINED_LISTING: &str = "0x0 version 5 compile\n0x5b version 5 partial
 /// Where the header of .debug_line is in the sample: the size is at 32 of it.
 const LINE_HEADER: usize = 366 + 3 * 64;
 
-/// A sample, bytes that are put into it at a place, and its listing then.
+/// A sample, bytes that are put into it at an offset, and its listing then.
 const LISTINGS: [(&str, usize, &[u8], &str); 4] = [
     (SMALLEST, 0, &[], ""),
     (

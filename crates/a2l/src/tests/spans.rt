@@ -127,8 +127,8 @@ fn spans_of_samples(rt: HostRuntime) -> Result<(), Fail> {
     Ok(())
 }
 
-/// Bytes that are put into the sample at a place, the span that is asked then, the status, and the
-/// lines that answer.
+/// Bytes that are put into the sample at an offset, the span that is asked then, the status, and
+/// the lines that answer.
 type Damaged = (usize, &'static [u8], &'static str, u8, &'static str);
 
 const DAMAGED: [Damaged; 4] = [

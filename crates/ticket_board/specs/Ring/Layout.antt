@@ -27,7 +27,7 @@ first_field = 1
 abbrev pub second_field : ℕ
 second_field = 2
 
--- the place of a cell's word among all words
+-- the index of a cell's word among all words
 abbrev pub word_of : ℕ → ℕ → ℕ
 word_of cell field = cell * cell_words + field
 

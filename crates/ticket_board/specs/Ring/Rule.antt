@@ -78,7 +78,7 @@ read_of role = query_known (working_of role).read
 abbrev pub first_read_of : Role → ℕ
 first_read_of role = first_known (working_of role).read
 
--- ---- what a step tells the seat that made it
+-- ---- what a seat knows by a step that it makes
 
 -- the state word of a cell is of a number that uses this cell
 abbrev pub IsOfCell : Shape → ℕ → ℕ → Type 0

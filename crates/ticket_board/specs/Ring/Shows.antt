@@ -60,7 +60,7 @@ pub record SenderShows (shape : Shape) (state first second : ℕ → ℕ) (home 
   pub received : sender.received ≡ asking.received
   -- closing is in the client alone
   pub stays_open : sender.closed ≡ false
-  -- the cells stand for the numbers from the next one to be received on
+  -- the cells are those of the numbers from the next one to be received on
   pub cells : (n : ℕ) → next_received asking ≤ n → n < next_received asking + shape.window
       → CellShows n (next_received asking) asking.collecting (place_of sender n) (state n) (home n)
   -- and hold both words of each query that was asked

@@ -111,7 +111,7 @@ MayWork meaning shape key working (Answers s n query answer) =
     (working.hand ≡ Some (s, n)) × (working.read ≡ Whole query) × (answer ≡ meaning key query)
 MayWork meaning shape key working (GivesBack s n) = working.hand ≡ Some (s, n)
 
--- the place of the word on which it is made
+-- the index of the word on which it is made
 abbrev pub word_worked : Shape → WorkerStep → ℕ
 word_worked shape (LooksAt cell) = word_of cell state_field
 word_worked shape (Takes s n) = state_place shape s n

@@ -34,7 +34,7 @@ HasEmptyHand taker = taker.working.hand ≡ None
 abbrev pub knowing : Working → TakerState → TakerState
 knowing working taker = record taker { working = working }
 
--- ---- what it knows after it sought a query
+-- ---- what it knows after it looked for a query
 
 -- it is the same worker, and has answered what it had answered
 pub record HasSought (old new : TakerState) : Type 0 where

@@ -32,7 +32,7 @@ fn take_answer<S: Solver>(task: &Task<'_>, i: usize, lanes: &mut VecDeque<Lane<S
 }
 
 /// The answers in the order of the queries, out of a lane of each sender. The error says that an
-/// allocation of memory was refused.
+/// allocation was refused.
 pub fn gather<S: Solver>(
     alloc: Global,
     task: &Task<'_>,

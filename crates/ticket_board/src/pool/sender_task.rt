@@ -18,8 +18,8 @@ use ticket_core::{NoMemory, Query, Solver};
 /// How often in a row a sender gives way to others, before it sleeps.
 const AWAKE: u32 = 64;
 
-/// Asks every `step`-th query from the place `next` on, as far as the board takes them, and closes
-/// the client after the last. Gives the place of the next query.
+/// Asks every `step`-th query from the index `next` on, as far as the board takes them, and closes
+/// the client after the last. Returns the index of the next query.
 fn ask_on<'a, S: Solver>(
     board: &Board<'a, S>,
     client: &mut Client<S>,
@@ -92,7 +92,7 @@ pub struct Sending<'p, 'a, S: Solver> {
     pub stop: &'p Stop,
 }
 
-/// Asks all queries of the sender, and gives the answers in their order; the error says that the
+/// Asks all queries of the sender, and returns the answers in their order. The error says that the
 /// pool was stopped before all came, or that an allocation was refused.
 fn ask_all<S: Solver, R: Wait>(
     rt: &R,
@@ -134,8 +134,8 @@ fn ask_all<S: Solver, R: Wait>(
     unreachable!()
 }
 
-/// What a sender's thread does: it asks its queries and gives the answers in their order. Where it
-/// is out of memory, it stops the pool. The error says so, or that the pool was stopped before.
+/// What a sender's thread does: it asks its queries and returns the answers in their order. Where
+/// it is out of memory, it stops the pool. The error says so, or that the pool was stopped before.
 pub fn send<S: Solver, R: Wait>(
     rt: &R,
     alloc: Global,

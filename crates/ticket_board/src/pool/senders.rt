@@ -17,7 +17,7 @@ use std::sync::Wait;
 use std::thread::{PromisedHandle, Scope, Threads};
 use ticket_core::{NoMemory, Solver};
 
-/// A sender's thread, which gives its lane.
+/// A sender's thread, which returns its lane.
 pub type SenderThread<'q, S> = PromisedHandle<
     Result<VecDeque<<S as Solver>::Answer>, NoMemory>,
     Lot<'q, S>,
@@ -92,8 +92,8 @@ pub fn start_senders<'s, 'a: 's, E: 's, S: Solver + Drop + Send + Sync, R: Wait 
     Ok(())
 }
 
-/// Joins the threads of the senders, and gives their lanes, for which there is room. The error says
-/// that one of them was refused memory, or stopped.
+/// Joins the threads of the senders, and returns their lanes, for which there is room. The error
+/// says that one of them was refused memory, or stopped.
 pub fn join_senders<S: Solver, R: Threads>(
     rt: &R,
     threads: Vec<SenderThread<'_, S>>,

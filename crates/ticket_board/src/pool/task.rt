@@ -18,8 +18,8 @@ pub struct Task<'q> {
 /// The answers that one sender received, in the order of its queries.
 pub type Lane<S> = VecDeque<<S as Solver>::Answer>;
 
-/// What one sender answers of a task: the query at its own number, and from there on as many
-/// queries further as there are senders. Its thread promises that lane.
+/// What one sender has answered of a task: the query at its own number, and after it every n-th
+/// one, where n is the number of senders. Its thread promises that lane.
 #[derive(Drop)]
 pub struct Lot<'q, S> {
     pub task: Task<'q>,

@@ -91,7 +91,7 @@ fn run_in<
     lanes
 }
 
-/// Runs a pool, each client and each worker on a thread of its own, and gives the lanes of the
+/// Runs a pool, each client and each worker on a thread of its own, and returns the lanes of the
 /// senders. The error says that an allocation or a thread was refused; no thread is left.
 pub fn run<
     S: Solver + Drop + Send + Sync,

@@ -26,8 +26,8 @@ struct Desk<'p, 'a, S: Solver, G> {
     owned: Owned<'p>,
 }
 
-/// Takes a number that is meant for the worker, from this cell on. The error is the solver's want
-/// of memory.
+/// Takes a number that is meant for the worker, from this cell on. The error says that the solver
+/// is out of memory.
 fn take_own<S: Solver, G: Gate>(
     desk: &Desk<'_, '_, S, G>,
     worker: &mut Worker<S>,
@@ -45,8 +45,8 @@ fn take_own<S: Solver, G: Gate>(
     Ok(())
 }
 
-/// Takes any number that waits, and waits a moment where none does. The error is the solver's want
-/// of memory.
+/// Takes any number that waits, and waits a moment where none does. The error says that the solver
+/// is out of memory.
 fn take_any<S: Solver, R: Wait, G: Gate>(
     rt: &R,
     desk: &Desk<'_, '_, S, G>,

@@ -37,7 +37,8 @@ impl<S: Solver> Model for Asker<S> {
 }
 
 impl<S: Solver> Asker<S> {
-    /// Asks a query, and gives its number, counted from 0. It waits for nobody and takes no memory.
+    /// Asks a query, and returns its number, counted from 0. It waits for nobody and takes no
+    /// memory.
     ///
     /// The errors, tested in this order: `Exhausted` where as many were asked as the shape allows;
     /// `Full` where as many are outstanding as the window allows. They change nothing.

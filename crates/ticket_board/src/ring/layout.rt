@@ -9,13 +9,13 @@ use ticket_core::Shape;
 /// How many words a cell has: its state, then the two words of the query that was asked.
 pub const CELL_WORDS: usize = 3;
 
-/// The place of the state among the words of a cell.
+/// The index of the state among the words of a cell.
 pub const STATE: usize = 0;
 
-/// The place of the query's first word among the words of a cell.
+/// The index of the query's first word among the words of a cell.
 pub const FIRST: usize = 1;
 
-/// The place of the query's second word among the words of a cell.
+/// The index of the query's second word among the words of a cell.
 pub const SECOND: usize = 2;
 
 /// The cell of a sender's number.

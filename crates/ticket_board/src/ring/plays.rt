@@ -1,4 +1,4 @@
-//! What each step tells the seat that made it.
+//! What a seat knows by each step that it makes.
 
 ghost use Rattle.std.specs.Prelude.{◌/◌};
 ghost use Rattle.atomic_table.specs.Table.{rest};

@@ -18,7 +18,7 @@ impl Model for Knowledge {
     ghost view = { λ _. nobody };
 }
 
-/// What the table is told once: the ring's shape, and the key of its answers.
+/// What the table is given once: the ring's shape, and the key of its answers.
 #[derive(Drop)]
 pub struct Terms<'a> {
     /// The shape of the core that the ring shows.

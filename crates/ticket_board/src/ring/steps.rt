@@ -127,7 +127,7 @@ pub fn receive<'a, S: Solver>(shelf: &Shelf<'a, S>, seat: &mut Place<S>, word: u
     shelf.store::<Receive>(seat, word, free);
 }
 
-/// Loads the state word of a cell, whose hand is empty.
+/// Loads the state word of a cell, for a worker whose hand is empty.
 pub fn look_at<'a, S: Solver, L: Ledger>(
     shelf: &Shelf<'a, S>,
     seat: &mut Place<S>,

@@ -1,5 +1,4 @@
-//! What is done with the queries of one sender. What it takes memory for, it takes before it
-//! changes anything.
+//! What is done with the queries of one sender. A call takes its memory before it changes anything.
 
 ghost use Rattle.std.specs.Prelude.{◌≡◌, ◌<◌, false, None, OnOk, OnErr, IfOk, MatchResult, vec_len, vec_capacity};
 ghost use Rattle.ticket_core.specs.State.{Shown, fresh, Held, Waiting, place_of, next_of};
@@ -56,7 +55,7 @@ impl<A: Drop> Lane<A> {
         Ok(())
     }
 
-    /// Asks a query, and gives its number.
+    /// Asks a query, and returns its number.
     pub fn ask(&mut self, shape: &Shape, query: Query) -> Result<u64, CoreFault>
         ensures number { IfOk result (λ n. n ≡ vec_len self.old.asked) }
         ensures asked { OnOk result ((shown : A → Shown)
@@ -107,7 +106,7 @@ impl<A: Drop> Lane<A> {
         self.slots[number as usize] = slot;
     }
 
-    /// Moves the answer of the next number to those that were received, and gives the number.
+    /// Moves the answer of the next number to those that were received, and returns the number.
     pub fn collect(&mut self) -> Result<u64, CoreFault>
         ensures number { IfOk result (λ n. n ≡ vec_len self.old.received) }
         ensures collected { OnOk result ((shown : A → Shown)

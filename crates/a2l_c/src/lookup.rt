@@ -1,4 +1,4 @@
-//! The parts of answers by their places.
+//! The parts of answers by their indexes.
 
 ghost use Rattle.std.specs.Prelude.{◌≡◌, ◌<◌, ◌⊎◌, None, Some, length, map, option_map, slice_get, MatchOption};
 ghost use Rattle.dw_symbols.specs.Answer.{answer_shown, frame_shown, piece_shown};
@@ -9,7 +9,7 @@ use crate::status::Status;
 use crate::structs::{CAnswer, CFrame, CPiece, tell_answer, tell_frame, tell_piece};
 use dw_symbols::{Answer, Frame, Piece};
 
-/// The frame of an answer at a place, innermost first.
+/// The frame of an answer at an index, innermost first.
 fn frame_of<'b>(answer: &'b Answer<'static>, j: usize) -> Option<&'b Frame<'static>>
     ensures { option_map (λ frame. frame_shown frame.now) result ≡ model.frame_of j (answer_shown answer.now) }
 {
@@ -19,7 +19,7 @@ fn frame_of<'b>(answer: &'b Answer<'static>, j: usize) -> Option<&'b Frame<'stat
     }
 }
 
-/// The piece of an answer at a place.
+/// The piece of an answer at an index.
 fn piece_of<'b>(answer: &'b Answer<'static>, j: usize) -> Option<&'b Piece>
     ensures { option_map (λ piece. piece_shown piece.now) result ≡ model.piece_of j (answer_shown answer.now) }
 {
@@ -29,7 +29,7 @@ fn piece_of<'b>(answer: &'b Answer<'static>, j: usize) -> Option<&'b Piece>
     }
 }
 
-/// Tells what the answer at a place is.
+/// Fills in what the answer at an index is.
 pub(crate) fn answer_at(answers: &[Answer<'static>], i: usize, told: &mut CAnswer) -> Status
     ensures told { result ≡ Status.Done → option_map answer_told (slice_get (map answer_shown answers.now) i)
         ≡ Some told.new }
@@ -43,7 +43,7 @@ pub(crate) fn answer_at(answers: &[Answer<'static>], i: usize, told: &mut CAnswe
     Status::Done
 }
 
-/// The frame at place `j` of the answer at place `i`.
+/// Frame `j` of answer `i`.
 fn frame_in<'b>(answers: &'b [Answer<'static>], i: usize, j: usize) -> Option<&'b Frame<'static>>
     ensures { option_map (λ frame. frame_shown frame.now) result ≡ model.frame_in (map answer_shown answers.now) i j }
 {
@@ -51,7 +51,7 @@ fn frame_in<'b>(answers: &'b [Answer<'static>], i: usize, j: usize) -> Option<&'
     frame_of(answer, j)
 }
 
-/// The piece at place `j` of the first answer.
+/// Piece `j` of the first answer.
 fn piece_in<'b>(answers: &'b [Answer<'static>], j: usize) -> Option<&'b Piece>
     ensures { option_map (λ piece. piece_shown piece.now) result ≡ model.piece_in (map answer_shown answers.now) j }
 {
@@ -59,7 +59,7 @@ fn piece_in<'b>(answers: &'b [Answer<'static>], j: usize) -> Option<&'b Piece>
     piece_of(answer, j)
 }
 
-/// Tells the frame at place `j` of the answer at place `i`.
+/// Fills in frame `j` of answer `i`.
 pub(crate) fn frame_at(
     answers: &[Answer<'static>],
     i: usize,
@@ -81,7 +81,7 @@ pub(crate) fn frame_at(
     tell_frame(frame, buffer, told)
 }
 
-/// Tells the piece at place `j` of the first answer.
+/// Fills in piece `j` of the first answer.
 pub(crate) fn piece_at(
     answers: &[Answer<'static>],
     j: usize,

@@ -221,7 +221,7 @@ fn overlap_note<'a>(
     Ok(note)
 }
 
-/// Adds what is told of the units that answer.
+/// Adds the notes on the units that answer.
 fn push_answering<'a>(
     alloc: Global,
     notes: &mut Vec<Note<'a>>,
@@ -245,7 +245,7 @@ fn push_answering<'a>(
     Ok(())
 }
 
-/// What is told of a file, a note for each finding; none where there is nothing to tell.
+/// The notes on a file, one for each finding; none where nothing was found.
 pub fn notes_of<'a>(alloc: Global, findings: &Findings<'a>) -> Result<Vec<Note<'a>>, AllocError> {
     let mut notes = Vec::new(alloc);
     if findings.census.all() == 0 {
