@@ -4,7 +4,7 @@ ghost use Rattle.std.specs.Prelude.{◌≡◌};
 ghost use Rattle.dw_symbols.specs.Answer.{number_of};
 
 /// Where in the source an address comes from, as far as that is known.
-#[derive(Drop)]
+#[derive(Debug, Drop)]
 pub struct Location {
     /// The path of the source file, by its bytes.
     pub path: Option<Vec<u8>>,
@@ -15,7 +15,7 @@ pub struct Location {
 }
 
 /// A function at an address.
-#[derive(Drop)]
+#[derive(Debug, Drop)]
 pub struct Frame<'a> {
     /// Its name, as a slice of the file.
     pub name: Option<&'a [u8]>,
@@ -38,7 +38,7 @@ pub enum UnitFault {
 }
 
 /// Addresses from `begin` on and below `end`, which have one location.
-#[derive(Drop)]
+#[derive(Debug, Drop)]
 pub struct Piece {
     pub begin: u64,
     pub end: u64,
@@ -46,7 +46,7 @@ pub struct Piece {
 }
 
 /// What an address means, or a span of addresses. Units are told by their offset in .debug_info.
-#[derive(Drop)]
+#[derive(Debug, Drop)]
 pub enum Answer<'a> {
     /// No unit covers the address.
     NotCovered,
