@@ -1,7 +1,8 @@
 """Makes files of about so many bytes that are meant to ruin their reader: few bytes of the file that many others name.
 
     hostile.py KIND BYTES FILE     writes the file, and prints the addresses to ask, or a span of them, one a line
-    hostile.py                     prints the kinds, each with how its time may grow
+    hostile.py                     prints the kinds, each with how its time may grow, and with how many bytes of memory
+                                   it may take for each byte of the file
 """
 import os
 import sys
@@ -11,10 +12,11 @@ sys.path[:0] = [os.path.dirname(__file__), os.path.join(os.path.dirname(__file__
 from assemble import Section, elf_file, number, uleb
 from samples import file_of, line_table, unit
 
-LINEAR, SQUARE = 'linear', 'square'
+LINEAR, SQUARE, LONG = 'linear', 'square', 'long'
 
 COMPILE_UNIT, INLINED, SUBPROGRAM = 0x11, 0x1d, 0x2e
 NAME, STMT_LIST, LOW_PC, HIGH_PC, ORIGIN, RANGES, ADDR_BASE, LISTS_BASE = 0x03, 0x10, 0x11, 0x12, 0x31, 0x55, 0x73, 0x74
+CALL_FILE = 0x58
 ADDR, DATA1, DATA4, STRP, UDATA, REF4, SEC_OFFSET, FLAG_PRESENT = 0x01, 0x0b, 0x06, 0x0e, 0x0f, 0x13, 0x17, 0x19
 ADDRX, IMPLICIT_CONST, RNGLISTX = 0x1b, 0x21, 0x23
 COVERING = [(LOW_PC, ADDR), (HIGH_PC, DATA4)]
@@ -230,6 +232,22 @@ def small_files(size):
     return file_of(unit(b'\x01' + covered() + bytes(4)), first + b'\0', line_table(program(1), fields + lists))
 
 
+def lines_of_one_path(size, text):
+    """A line table of two files: one without a name, and one whose name takes so many bytes."""
+    fields = bytes.fromhex('010101fb0e0d000101010100000001000001')
+    lists = bytes(2) + b'\x01\x01\x08' + b'\x02' + b'\0' + b'x' * size + b'\0'
+    return line_table(text, fields + lists)
+
+
+def frames_of_one_path(size):
+    """Functions inlined in one another, each of which is called in one file with a long name."""
+    first = declaration(1, COMPILE_UNIT, 1, [*COVERING, (STMT_LIST, SEC_OFFSET)])
+    inlined = declaration(3, INLINED, 1, [*COVERING, (CALL_FILE, IMPLICIT_CONST, 1)])
+    declarations = first + declaration(2, SUBPROGRAM, 1, COVERING) + inlined + b'\0'
+    entries = b'\x02' + covered() + (b'\x03' + covered()) * 510
+    return file_of(unit(b'\x01' + covered() + bytes(4) + entries), declarations, lines_of_one_path(size, program(1)))
+
+
 def no_rows(size):
     """A line program that does nothing between two rows."""
     first = declaration(1, COMPILE_UNIT, 0, [*COVERING, (STMT_LIST, SEC_OFFSET)])
@@ -246,7 +264,11 @@ KINDS = {
     'functions_of_empty_values_after_a_number': SQUARE, 'units_of_empty_values': LINEAR,
     'references_of_empty_values': LINEAR, 'skipped_units': LINEAR, 'small_units': LINEAR, 'small_declarations': LINEAR,
     'small_functions': LINEAR, 'small_sequences': LINEAR, 'small_files': LINEAR, 'no_rows': LINEAR,
+    'frames_of_one_path': LONG,
 }
+# How many bytes of memory a kind may take for each byte of the file. The answer of a long one is itself longer than the
+# file: each of 511 frames has the path, and the text of the answer has it as often.
+LIMITS = {LINEAR: 64, SQUARE: 64, LONG: 2000}
 
 # how many bytes a unit of 16 addresses takes of the file, with what it names
 UNITS = {'units_of_one_line_table': 60, 'units_with_functions_of_one_list': 40}
@@ -254,7 +276,7 @@ UNITS = {'units_of_one_line_table': 60, 'units_with_functions_of_one_list': 40}
 if __name__ == '__main__':
     if len(sys.argv) == 1:
         for kind, growth in KINDS.items():
-            print(kind, growth)
+            print(kind, growth, LIMITS[growth])
         sys.exit()
     kind, size, path = sys.argv[1], int(sys.argv[2]), sys.argv[3]
     with open(path, 'wb') as out:
