@@ -2,7 +2,7 @@
 """What the prover doesn't look at in the sources.
 
 Each crate uses each crate that crates.txt names for it. No line of an .rt file is longer than 120 columns, but for
-attributes. The text that an edit of must-fail/ replaces is in its file just once, and what it puts there differs; there
+attributes, and no line of a comment longer than 100. The text that an edit of must-fail/ replaces is in its file just once, and what it puts there differs; there
 are no more edits than the gate has time for. Each file that docs/ARCHITECTURE.md names in the section of a crate is in
 that crate, or in the one that it names beside it. The last line counts crates and edits; it fails where one is wrong.
 """
@@ -12,9 +12,9 @@ import re
 import sys
 
 TOP = os.path.join(os.path.dirname(os.path.abspath(__file__)), '..')
-WIDEST = 120
+WIDEST, WIDEST_COMMENT = 120, 100
 # An edit takes the gate some 40 seconds of a processor.
-MOST_EDITS = 220
+MOST_EDITS = 180
 # `thiserror` is used by its attribute, and these by what stands for them in the sources.
 USES = {'thiserror': r'#\[derive\([^)]*\bError\b|\bthiserror\b'}
 
@@ -86,8 +86,9 @@ def main():
     wrong.extend(missing([name.split()[0] for name, _ in crates]))
     for path in files(os.path.join(TOP, 'crates'), '.rt'):
         for number, line in enumerate(read(path).split('\n'), 1):
+            most = WIDEST_COMMENT if line.lstrip().startswith('//') else WIDEST
             # `rt fmt` leaves an attribute on one line
-            if len(line) > WIDEST and not line.startswith('#['):
+            if len(line) > most and not line.startswith('#['):
                 wrong.append(f'{os.path.relpath(path, TOP)}:{number}: {len(line)} columns')
     wrong = [line for line in wrong if line]
     print('\n'.join(wrong + [f'{len(crates)} crates and {tried} edits are in order']))
