@@ -1,5 +1,6 @@
 pub mod IndirectLemmas
 pub mod SizeLemmas
+pub mod StepsLemmas
 pub mod StoreLemmas
 pub mod TextLemmas
 pub mod FirstValueLemmas

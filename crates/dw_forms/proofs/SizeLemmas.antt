@@ -17,10 +17,10 @@ use Rattle.dw_forms.specs.Size.{spelling_size, value_size, values_size, size_in,
 
 -- ---- bytes, and then further bytes
 
-abbrev Behind : Type 0
+abbrev pub Behind : Type 0
 Behind = Result (Unit {0} × Place) Fault
 
-abbrev bytes_behind : ℕ → Place → Behind
+abbrev pub bytes_behind : ℕ → Place → Behind
 bytes_behind n p = place_behind (ok_or (bytes_at n p) ends_early)
 
 few : (n : ℕ) (p : Place) → nat_le n (length p.left) ≡ false → bytes_behind n p ≡ Err ends_early
@@ -34,7 +34,7 @@ past-past m n p =
     let at : p.at + m + n ≡ p.at + (m + n) = omega arith in
     rw (at, drop-drop n m p.left) refl
 
-on : (m n : ℕ) (p : Place) (first second : Bool) → nat_le m (length p.left) ≡ first → nat_le n (length (drop m p.left)) ≡ second → (bytes_behind m p >>= λ q. bytes_behind n q.1) ≡ bytes_behind (m + n) p
+pub on : (m n : ℕ) (p : Place) (first second : Bool) → nat_le m (length p.left) ≡ first → nat_le n (length (drop m p.left)) ≡ second → (bytes_behind m p >>= λ q. bytes_behind n q.1) ≡ bytes_behind (m + n) p
 on m n p false second e f =
     let less = leb-false m (length p.left) e in
     rw (few m p e) (sym (few (m + n) p (lt-leb (m + n) (length p.left) (omega (arith, less)))))
@@ -51,11 +51,11 @@ on m n p true true e f =
 
 -- ---- values, one after the other
 
-same-behind : (read : Behind) (f g : Unit {0} × Place → Behind) → ((q : Unit {0} × Place) → f q ≡ g q) → (read >>= f) ≡ (read >>= g)
+pub same-behind : (read : Behind) (f g : Unit {0} × Place → Behind) → ((q : Unit {0} × Place) → f q ≡ g q) → (read >>= f) ≡ (read >>= g)
 same-behind (Ok q) f g h = h q
 same-behind (Err e) f g h = refl
 
-behind-cons : (name : ℕ) (value : Result (Value × Place) Fault) (others : Place → Result (List Attribute × Place) Fault)
+pub behind-cons : (name : ℕ) (value : Result (Value × Place) Fault) (others : Place → Result (List Attribute × Place) Fault)
     → place_behind (value >>= λ value. others value.1 >>= λ others. Ok (record { name = name; value = value.0 } ∷ others.0, others.1)) ≡ (place_behind value >>= λ q. place_behind (others q.1))
 behind-cons name (Err e) others = refl
 behind-cons name (Ok value) others = last (others value.1)
@@ -106,7 +106,7 @@ module _ (w : ℕ) where
   unfolding spelled_at
   block-skips n constant p = block-there n p (nat_le n (length p.left)) refl
 
-  nothing-read : (p : Place) → Ok (tt, p) ≡ bytes_behind 0 p
+  pub nothing-read : (p : Place) → Ok (tt, p) ≡ bytes_behind 0 p
   nothing-read p =
       let at : p.at ≡ p.at + 0 = omega arith in
       ap (λ (n : ℕ). Ok (tt, record { at = n; left = p.left })) at ∙ sym (enough 0 p (le-leb 0 (length p.left) (omega arith)))

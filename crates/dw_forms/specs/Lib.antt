@@ -10,6 +10,7 @@ pub mod RunInside
 pub mod Size
 pub mod Spec
 pub mod Spelling
+pub mod Steps
 pub mod Table
 pub mod Tables
 pub mod Store

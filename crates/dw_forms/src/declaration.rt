@@ -5,12 +5,14 @@ ghost use Rattle.dw_model.specs.declared.dwarf.TheConstants.{OFFSET_SIZE_32, OFF
 ghost use Rattle.dw_forms.specs.Size.{size_in};
 ghost use Rattle.dw_forms.specs.Positions.{known_of, ArePositions};
 ghost use Rattle.dw_forms.specs.Ranged.{may_have_ranges};
+ghost use Rattle.dw_forms.specs.Steps.{AreSteps};
 
 mod first_value;
 mod reading;
 
 use crate::pairs::Specs;
 use crate::positions::Positions;
+use crate::steps::Steps;
 pub(crate) use reading::{next_decl, next_spec};
 
 /// An attribute's name and form, and its number where that is in the declaration.
@@ -48,4 +50,7 @@ pub struct Decl<'a> {
     /// Where the values are that tell of a function.
     positions: Positions,
     ghost positions_are: { ArePositions (known_of positions) specs },
+    /// How its entries are passed over in the 32-bit format, where that is known.
+    steps: Option<Steps>,
+    ghost steps_are: { AreSteps steps specs },
 }

@@ -3,14 +3,18 @@
 ghost use Rattle.std.specs.Prelude.{◌≡◌, ◌==◌, ◌∷◌, ℕ, None, Ok, Some, List, IfSome, find, map, option_map};
 ghost use Rattle.dw_model.specs.declared.dwarf.TheConstants.{OFFSET_SIZE_32};
 ghost use Rattle.dw_model.specs.Abbrev.{Specification};
+ghost use Rattle.dw_model.specs.Answers.{ReadsOn};
 ghost use Rattle.dw_model.specs.Entry.{Attribute, attributes_at};
 ghost use Rattle.dw_model.specs.Reading.{Place};
 ghost use Rattle.dw_forms.specs.Declaration.{spec_shown};
 ghost use Rattle.dw_forms.specs.Positions.{fixed_in, fixed_shown, known_of, position_in};
 ghost use Rattle.dw_forms.specs.Positions.{ArePositions, IsPosition, IsPassed};
+ghost use Rattle.dw_forms.specs.Fault.{form_fault};
+ghost use Rattle.dw_forms.specs.Steps.{step_passed};
 ghost use Rattle.dw_forms.specs.Value.{value_shown};
 
 use crate::declaration::Spec;
+use crate::fault::FormFault;
 use crate::size::size_of;
 use crate::value::{Value, read_value};
 use dw_bytes::{Cursor, Width};
@@ -19,9 +23,9 @@ use dw_model::dwarf::{
     DW_AT_linkage_name, DW_AT_low_pc, DW_AT_name, DW_AT_ranges, DW_AT_specification,
 };
 
-/// The value of an attribute that is as far after the first value in every entry of a declaration,
-/// in units of the 32-bit format.
-#[derive(Clone, Copy, Debug, PartialEq, Eq)]
+/// The value of an attribute that is as far after a place in every entry of a declaration, in units
+/// of the 32-bit format.
+#[derive(Clone, Copy, Debug, Default, PartialEq, Eq)]
 pub(crate) struct FixedValue {
     /// How many bytes the values before it take.
     offset: u16,
@@ -32,7 +36,7 @@ pub(crate) struct FixedValue {
 impl FixedValue {
     /// The value of an attribute before which so many bytes are; `None` where its number is in the
     /// declaration, or 16 bits don't hold its offset or its form.
-    fn of(spec: &Spec, offset: usize) -> Option<Self>
+    pub(crate) fn of(spec: &Spec, offset: usize) -> Option<Self>
         ensures form { IfSome result (λ fixed. fixed.form ≡ spec.now.form) }
         ensures offset { IfSome result (λ fixed. fixed.offset ≡ offset) }
         ensures constant { IfSome result (λ _. spec.now.implicit ≡ None) }
@@ -61,6 +65,17 @@ impl FixedValue {
             return None;
         };
         Some(value)
+    }
+
+    /// Passes over the bytes before it and over the value. After a refusal the cursor may be
+    /// anywhere.
+    #[inline(always)]
+    pub(crate) fn pass(self, cursor: &mut Cursor<'_>) -> Result<(), FormFault>
+        ensures { ReadsOn (λ done. done) form_fault result (step_passed self cursor.old) cursor.new }
+    {
+        let _before = cursor.take(self.offset as usize).ok_or(FormFault::End)?;
+        let _value = read_value(cursor, self.form as u64, None, Width::Four)?;
+        Ok(())
     }
 }
 

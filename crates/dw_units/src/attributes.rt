@@ -4,9 +4,10 @@ ghost use Rattle.std.specs.Prelude.{◌≡◌, ◌==◌, [], Err, IfErr, MatchOp
 ghost use Rattle.dw_model.specs.Entry.{attributes_at};
 ghost use Rattle.dw_model.specs.Answers.{ReadsUnlessMemory};
 ghost use Rattle.dw_bytes.specs.Width.{size_of};
-ghost use Rattle.dw_forms.specs.Fault.{form_fault, HidesNoFault, Passes};
+ghost use Rattle.dw_forms.specs.Fault.{form_fault, HidesNoFault};
 ghost use Rattle.dw_units.specs.Attribute.{attribute_shown};
 
+use crate::passing::pass_attributes;
 use dw_bytes::{Cursor, Width};
 use dw_forms::{Decl, FormFault, Specs, Value, read_value};
 use std::alloc::Global;
@@ -35,38 +36,6 @@ impl<'a> Model for Attributes<'a> {
     ghost view = { attributes_in };
 
     ghost invariant = { λ attributes. Unit {0} };
-}
-
-/// Passes over the values that a declaration asks for, where offsets have a width.
-pub(crate) fn pass_attributes(
-    cursor: &mut Cursor<'_>,
-    specs: &Specs<'_>,
-    width: Width,
-) -> Result<(), FormFault>
-    ensures { Passes result (attributes_at (size_of width) specs.now cursor.old) cursor.new }
-{
-    let mut left = specs.fork();
-    while let Some(spec) = left.take_first() {
-        read_value(cursor, spec.form, spec.implicit, width)?;
-    }
-    Ok(())
-}
-
-/// Passes over the values of an entry, in one step where its declaration tells how far.
-#[inline(always)]
-pub(crate) fn pass_values(
-    cursor: &mut Cursor<'_>,
-    declaration: &Decl<'_>,
-    width: Width,
-) -> Result<(), FormFault>
-    ensures { Passes result (attributes_at (size_of width) declaration.now.specs cursor.old)
-        cursor.new }
-{
-    let Some(size) = declaration.size(width) else {
-        return pass_attributes(cursor, &declaration.specs, width);
-    };
-    let _values = cursor.take(size).ok_or(FormFault::End)?;
-    Ok(())
 }
 
 /// Why values can't be read where memory was refused: their first fault, or `Memory` where they

@@ -6,7 +6,7 @@ ghost use Rattle.dw_bytes.specs.Width.{size_of};
 ghost use Rattle.dw_forms.specs.Table.{declarations_of};
 ghost use Rattle.dw_units.specs.Entries.{ReadsNext, ranged_at};
 
-use crate::attributes::pass_values;
+use crate::passing::pass_values;
 use crate::view::EntryView;
 use dw_bytes::{Cursor, Width};
 use dw_forms::{AbbrevTable, FormFault};

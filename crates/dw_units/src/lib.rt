@@ -9,6 +9,7 @@ mod entry;
 mod header;
 mod named_ranges;
 mod open_unit;
+mod passing;
 mod sections;
 mod unit;
 mod units;

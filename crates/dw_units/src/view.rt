@@ -14,10 +14,10 @@ ghost use Rattle.dw_units.specs.Header.{header_shown};
 ghost use Rattle.dw_units.specs.Sections.{sections_shown};
 ghost use Rattle.dw_units.specs.View.{found_in};
 
-use crate::attributes::pass_values;
 use crate::class::counts;
 use crate::entry::cursor_at;
 use crate::header::Header;
+use crate::passing::pass_values;
 use crate::sections::Sections;
 use dw_bytes::{Cursor, Width};
 use dw_forms::{AbbrevTable, Decl, FormFault, Value};

@@ -241,6 +241,53 @@ fn sizes_of_declarations(rt: HostRuntime) -> Result<(), Fail> {
     Ok(())
 }
 
+/// Values of which some have no one size are passed over by steps, up to the first fault; a seventh
+/// of them has no step, and offsets of eight bytes have none.
+#[test]
+fn steps_of_declarations(rt: HostRuntime) -> Result<(), Fail> {
+    let bytes = &[
+        1, 0x34, 0, 0x3b, 0x0b, 0x39, 0x0f, 3, 0x0e, 2, 0x18, 0x1b, 8, 0x3a, 5, 0, 0, // 1
+        2, 0x34, 0, 1, 15, 2, 15, 3, 15, 4, 15, 5, 15, 6, 15, 7, 15, 0, 0, // 2
+        3, 0x34, 0, 0x3b, 0x0b, 0x39, 0x7f, 0, 0, // 3
+        0,
+    ];
+    let table = Abbrevs::read(rt.alloc(), bytes, 0)?;
+    let rows: &[(u64, &[u8], Result<usize, FormFault>)] = &[
+        (
+            1,
+            &[7, 0x85, 1, 1, 2, 3, 4, 2, 9, 9, b'a', 0, 1, 2, 9],
+            Ok(14),
+        ),
+        (
+            1,
+            &[7, 0x85, 1, 1, 2, 3, 4, 2, 9, 9, b'a', 0, 1],
+            Err(FormFault::End),
+        ),
+        (1, &[7, 5, 1, 2, 3, 4, 3, 9], Err(FormFault::End)),
+        (
+            1,
+            &[7, 255, 255, 255, 255, 255, 255, 255, 255, 255, 2],
+            Err(FormFault::Wide),
+        ),
+        (3, &[1, 1], Err(FormFault::Form)),
+        (3, &[], Err(FormFault::End)),
+    ];
+    for (code, values, passed) in rows {
+        let declaration = table.get(*code).ok_or("a declaration")?;
+        let steps = declaration.steps(Width::Four).ok_or("steps")?;
+        let mut cursor = Cursor::new(values);
+        let found = match steps.pass(&mut cursor) {
+            Ok(()) => Ok(cursor.at()),
+            Err(fault) => Err(fault),
+        };
+        assert_eq!(rt; found, *passed, "of {code}");
+        assert!(rt; declaration.steps(Width::Eight).is_none());
+    }
+    let many = table.get(2).ok_or("a declaration")?;
+    assert!(rt; many.steps(Width::Four).is_none());
+    Ok(())
+}
+
 /// The first value of a name: after values of one size, after a text, of two, and of none.
 #[test]
 fn first_values(rt: HostRuntime) -> Result<(), Fail> {

@@ -10,6 +10,7 @@ ghost use Rattle.dw_forms.specs.Fault.{form_fault};
 ghost use Rattle.dw_forms.specs.Declaration.{spec_shown, declaration_shown};
 ghost use Rattle.dw_forms.specs.Size.{size_in, Skips};
 ghost use Rattle.dw_forms.specs.Ranged.{may_have_ranges, NamesNone};
+ghost use Rattle.dw_forms.specs.Steps.{PassesBy};
 
 use crate::declaration::{Decl, Spec};
 use crate::fault::FormFault;
@@ -17,6 +18,7 @@ use crate::pairs::Specs;
 use crate::positions::Positions;
 use crate::ranged::may_have_ranges;
 use crate::size::size_of_all;
+use crate::steps::Steps;
 use dw_bytes::{Cursor, Width};
 use dw_model::dwarf::DW_FORM_implicit_const;
 use smallvec::SmallVec;
@@ -34,6 +36,17 @@ impl<'a> Decl<'a> {
         match width {
             Width::Four => self.size_32,
             Width::Eight => self.size_64,
+        }
+    }
+
+    /// How an entry is passed over in a unit whose offsets have a width, without a look at the pairs;
+    /// `None` where that isn't known.
+    pub fn steps(&self, width: Width) -> Option<&Steps>
+        ensures { IfSome result (λ steps. PassesBy steps.now (attributes_at (size_of width) self.now.specs)) }
+    {
+        match width {
+            Width::Four => self.steps.as_ref(),
+            Width::Eight => None,
         }
     }
 
@@ -108,6 +121,7 @@ fn declaration_of<'a>(
     let size_64 = size_of_all(specs.as_slice(), Width::Eight);
     let ranged = may_have_ranges(specs.as_slice());
     let positions = Positions::of(specs.as_slice());
+    let steps = Steps::of(specs.as_slice());
     Ok(Decl {
         offset,
         code,
@@ -118,6 +132,7 @@ fn declaration_of<'a>(
         size_64,
         ranged,
         positions,
+        steps,
     })
 }
 

@@ -1,12 +1,16 @@
 use Rattle.std.proofs.Common.{◌∙◌, List, map, sym, ap, subst}
 use Rattle.dw_model.specs.declared.dwarf.TheConstants.{OFFSET_SIZE_32, OFFSET_SIZE_64}
+use Rattle.dw_model.specs.Abbrev.{Specification}
+use Rattle.dw_model.specs.Entry.{attributes_at}
 use Rattle.dw_forms.specs.declared.declaration.Spec.{Spec}
 use Rattle.dw_forms.specs.Declaration.{spec_shown}
 use Rattle.dw_forms.specs.Size.{size_in}
 use Rattle.dw_forms.specs.Positions.{known_of, ArePositions}
 use Rattle.dw_forms.specs.Pairs.{AreAt}
 use Rattle.dw_forms.specs.Ranged.{may_have_ranges}
+use Rattle.dw_forms.specs.Steps.{PassesBy}
 use Rattle.dw_forms.proofs.PairsLemmas.{all_at, counted, those}
+use Rattle.dw_forms.proofs.StepsLemmas.{told-steps}
 use Rattle.dw_forms.proofs.declaration.reading.declaration_of.Goals as goal
 
 pub new-requires : goal.new-requires
@@ -23,4 +27,5 @@ invariant_of-result c =
       size_64_is = c.size_of_all-size_64.ensures ∙ ap (λ (specs : List Spec). size_in OFFSET_SIZE_64 (map spec_shown specs)) c.as_slice-2.ensures ∙ ap (size_in OFFSET_SIZE_64) (sym same);
       ranged_is = c.may_have_ranges-ranged.ensures ∙ ap (λ (specs : List Spec). may_have_ranges (map spec_shown specs)) c.as_slice-3.ensures ∙ ap may_have_ranges (sym same);
       positions_are = subst (ArePositions (known_of c.of-positions.result)) (sym same) (subst (λ (specs : List Spec). ArePositions (known_of c.of-positions.result) (map spec_shown specs)) c.as_slice-4.ensures c.of-positions.ensures);
+      steps_are = λ steps told. subst (λ (specs : List Specification). PassesBy steps (attributes_at OFFSET_SIZE_32 specs)) (sym same) (subst (λ (specs : List Spec). PassesBy steps (attributes_at OFFSET_SIZE_32 (map spec_shown specs))) c.as_slice-5.ensures (told-steps (attributes_at OFFSET_SIZE_32 (map spec_shown c.as_slice-5.result.now)) c.of-steps.result steps c.of-steps.ensures told));
     }

@@ -1,0 +1,91 @@
+//! Passing over the values of an entry of which some have no one size.
+
+ghost use Rattle.std.specs.Prelude.{◌≡◌, map, take, IfSome};
+ghost use Rattle.dw_model.specs.declared.dwarf.TheConstants.{OFFSET_SIZE_32};
+ghost use Rattle.dw_model.specs.Answers.{ReadsOn};
+ghost use Rattle.dw_model.specs.Entry.{attributes_at};
+ghost use Rattle.dw_forms.specs.Declaration.{spec_shown};
+ghost use Rattle.dw_forms.specs.Fault.{form_fault};
+ghost use Rattle.dw_forms.specs.Steps.{passed_by, PassesBy};
+
+use crate::declaration::Spec;
+use crate::fault::FormFault;
+use crate::positions::FixedValue;
+use crate::size::size_of;
+use dw_bytes::{Cursor, Width};
+
+/// How many values of no one size a declaration has room for.
+const MOST: usize = 6;
+
+/// How the values of an entry are passed over in a unit of the 32-bit format: from each value of no
+/// one size to the next, without a look at the pairs of the declaration.
+#[derive(Drop)]
+pub struct Steps {
+    /// The values of no one size in order, each so far after the one before it.
+    list: [FixedValue; MOST],
+    /// How many of them there are.
+    count: u8,
+    /// How many bytes the values after the last of them take.
+    rest: u16,
+}
+
+impl Steps {
+    /// Those of the attributes for which a declaration asks; `None` where more of them have no one
+    /// size than there is room for, or 16 bits don't hold how far one is or its form.
+    pub(crate) fn of(specs: &[Spec]) -> Option<Self>
+        ensures { IfSome result (λ steps. PassesBy steps (attributes_at OFFSET_SIZE_32 (map spec_shown specs.now))) }
+    {
+        let mut list = [FixedValue::default(); MOST];
+        let mut count: usize = 0;
+        let mut rest: usize = 0;
+        for spec in specs {
+            if let Some(size) = size_of(spec, Width::Four) {
+                rest = rest.checked_add(size)?;
+                continue;
+            }
+            if count >= MOST {
+                return None;
+            }
+            let step = FixedValue::of(spec, rest)?;
+            list[count] = step;
+            count += 1;
+            rest = 0;
+        }
+        if rest > 0xffff {
+            return None;
+        }
+        Some(Steps {
+            list,
+            count: count as u8,
+            rest: rest as u16,
+        })
+    }
+
+    /// Passes over the values of an entry. The error is their first fault; after it the cursor may
+    /// be anywhere. This takes no memory.
+    pub fn pass(&self, cursor: &mut Cursor<'_>) -> Result<(), FormFault>
+        ensures { ReadsOn (λ done. done) form_fault result (passed_by self.now cursor.old) cursor.new }
+    {
+        // A cursor of its own stays in registers.
+        let mut place = cursor.fork();
+        for step in first_steps(&self.list, self.count as usize) {
+            step.pass(&mut place)?;
+        }
+        let Some(_) = place.take(self.rest as usize) else {
+            return Err(FormFault::End);
+        };
+        *cursor = place;
+        Ok(())
+    }
+}
+
+/// The first of some steps, so many where there are as many.
+#[inline(always)]
+pub(crate) fn first_steps(steps: &[FixedValue], count: usize) -> &[FixedValue]
+    ensures { result.now ≡ take count steps.now }
+{
+    if count >= steps.len() {
+        return steps;
+    }
+    &steps[..count]
+}
