@@ -5,7 +5,7 @@ use a2l_reasons::{DW_AT_producer, Stop, UnitHeader, entry_at, unit_header};
 use dw_bytes::Width;
 use dw_forms::{Abbrevs, Bases, FormFault, Tables, Value};
 use dw_model::dwarf::{ADDRESS_SIZE, DW_AT_name, DW_AT_str_offsets_base};
-use dw_units::{Attribute, Entry, OpenUnit, Sections};
+use dw_units::{Attribute, OpenUnit, Sections};
 use std::alloc::{AllocError, Global};
 
 /// A unit, as it is reported.
@@ -19,16 +19,10 @@ pub struct UnitAt<'a> {
     pub producer: Option<&'a [u8]>,
 }
 
-/// The value of the first attribute of a name, of whatever kind it is.
-pub(crate) fn value_of<'b, 'a>(entry: &'b Entry<'a>, name: u64) -> Option<&'b Value<'a>> {
-    let attribute = entry.attrs.first(name)?;
-    Some(&attribute.value)
-}
-
 /// The text of an attribute of the first entry of a unit.
 pub(crate) fn root_text<'a>(here: OpenUnit<'_, 'a>, name: u64) -> Option<&'a [u8]> {
     let root = here.unit().root.as_ref()?;
-    here.text(value_of(root, name)?)
+    here.text(&root.attrs.first(name)?)
 }
 
 /// A unit that isn't skipped.

@@ -12,7 +12,7 @@ use Rattle.dw_model.specs.Answers.{Tells}
 use Rattle.dw_forms.specs.declared.declaration.Spec.{Spec}
 use Rattle.dw_forms.specs.Declaration.{spec_shown}
 use Rattle.dw_units.specs.declared.attributes.Attribute.{Attribute as CodeAttribute}
-use Rattle.dw_units.specs.Entry.{attribute_shown}
+use Rattle.dw_units.specs.Attribute.{attribute_shown}
 
 abbrev Read : Type 0
 Read = Result (List Attribute × Place) Fault

@@ -1,6 +1,8 @@
+pub mod CountedLemmas
 pub mod CutLemmas
 pub mod EntryLemmas
 pub mod HoldingLemmas
+pub mod KeptLemmas
 pub mod OpenLemmas
 pub mod UnitsLemmas
 pub mod HeaderLemmas

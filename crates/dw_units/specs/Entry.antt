@@ -1,11 +1,10 @@
 -- Entries as the definitions have them.
-use Rattle.std.specs.Prelude.{◌≡◌, map, Bool, true, false, cond, [], Option, Some, None, option_map, IfSome, MatchOption, Result, Ok, Err}
+use Rattle.std.specs.Prelude.{◌≡◌, Bool, true, false, cond, [], Option, Some, None, option_map, IfSome, MatchOption, Result, Ok, Err}
 use Rattle.dw_model.specs.Reading.{Place}
 use Rattle.dw_model.specs.Faults.{Fault}
 use Rattle.dw_model.specs.Entry as model
 use Rattle.dw_forms.specs.declared.fault.FormFault.{FormFault}
 use Rattle.dw_forms.specs.Fault.{form_fault}
-pub use Rattle.dw_units.specs.Attribute.{attribute_shown}
 use Rattle.dw_units.specs.declared.entry.Entry.{Entry}
 
 abbrev pub entry_shown : Entry → model.Entry
@@ -13,7 +12,7 @@ entry_shown entry = record {
   offset = entry.offset;
   tag = entry.tag;
   children = entry.children;
-  attributes = map attribute_shown entry.attrs;
+  attributes = entry.attrs;
 }
 
 -- The entry is found as the definition has it, with the offset just past it; out of memory may be

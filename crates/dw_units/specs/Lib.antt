@@ -1,5 +1,7 @@
 pub mod Attribute
 pub mod AttributesInside
+pub mod Class
+pub mod Counted
 pub mod Entries
 pub mod Entry
 pub mod Header

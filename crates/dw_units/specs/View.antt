@@ -1,5 +1,5 @@
 -- Entries as they are found where it doesn't matter why there is none.
-use Rattle.std.specs.Prelude.{List, [], Option, Result, Ok, Err, option_and_then}
+use Rattle.std.specs.Prelude.{◌≡◌, List, [], Option, Result, Ok, Err, option_and_then}
 use Rattle.std.specs.Result.{result_ok}
 use Rattle.dw_model.specs.Reading.{Place}
 use Rattle.dw_model.specs.Faults.{Fault}
@@ -13,3 +13,7 @@ found_in given = option_and_then (λ (found : Option Entry × Place). found.0) (
 abbrev pub attributes_in : Result (List Attribute × Place) Fault → List Attribute
 attributes_in (Ok found) = found.0
 attributes_in (Err fault) = []
+
+-- the attributes can be read
+abbrev pub IsRead : Result (List Attribute × Place) Fault → Type 0
+IsRead given = (found : List Attribute × Place) × (given ≡ Ok found)

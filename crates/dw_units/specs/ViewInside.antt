@@ -1,11 +1,11 @@
 -- What an entry is seen as whose values are read when they are asked for.
-use Rattle.std.specs.Prelude.{◌≡◌, List, Result, Ok}
+use Rattle.std.specs.Prelude.{List, Result}
 use Rattle.dw_model.specs.Reading.{Place}
 use Rattle.dw_model.specs.Faults.{Fault}
 use Rattle.dw_model.specs.Entry as model
 use Rattle.dw_model.specs.Entry.{Attribute, attributes_at}
 use Rattle.dw_bytes.specs.Width.{size_of}
-use Rattle.dw_units.specs.View.{attributes_in}
+use Rattle.dw_units.specs.View.{attributes_in, IsRead}
 use Rattle.dw_units.specs.declared.view.EntryView.TheInside.{Inside}
 
 abbrev pub read_of : Inside → Result (List Attribute × Place) Fault
@@ -21,4 +21,4 @@ entry_in view = record {
 
 -- its values can be read
 abbrev pub IsReadable : Inside → Type 0
-IsReadable view = (found : List Attribute × Place) × (read_of view ≡ Ok found)
+IsReadable view = IsRead (read_of view)

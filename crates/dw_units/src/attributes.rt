@@ -1,16 +1,19 @@
 //! The attributes of entries, by section 7.5.3 of DWARF 5.
 
-ghost use Rattle.std.specs.Prelude.{◌≡◌, ◌==◌, [], Err, IfErr, MatchOption, find, length, map, option_map};
-ghost use Rattle.dw_model.specs.Entry.{attributes_at};
+ghost use Rattle.std.specs.Prelude.{◌≡◌, ◌≤◌, ◌==◌, [], IfErr, IfOk, find, length, map, option_map};
+ghost use Rattle.dw_model.specs.Entry.{attributes_at, classes};
 ghost use Rattle.dw_model.specs.Answers.{ReadsUnlessMemory};
 ghost use Rattle.dw_bytes.specs.Width.{size_of};
 ghost use Rattle.dw_forms.specs.Fault.{form_fault, HidesNoFault};
+ghost use Rattle.dw_forms.specs.Value.{value_shown};
 ghost use Rattle.dw_units.specs.Attribute.{attribute_shown};
+ghost use Rattle.dw_units.specs.Counted.{attribute_in, first_of};
 
-use crate::passing::pass_attributes;
+use crate::counted::read_counted;
+use crate::passing::pass_values;
 use dw_bytes::{Cursor, Width};
 use dw_forms::{Decl, FormFault, Specs, Value, read_value};
-use std::alloc::Global;
+use std::alloc::{AllocError, Global};
 use std::marker::Model;
 
 /// An attribute: its name, a DW_AT code, and its value.
@@ -20,63 +23,59 @@ pub struct Attribute<'a> {
     pub value: Value<'a>,
 }
 
-/// The attributes of an entry, in order. Contracts see them as a list.
+/// The attributes of an entry, in order. Each is decoded where it stands when it is asked for, so
+/// that an entry takes no memory for them; those whose values count are kept besides, at most one
+/// of each name. Contracts see all of them as a list.
 #[derive(Drop)]
 pub struct Attributes<'a> {
-    list: Vec<Attribute<'a>>,
+    /// What is asked for.
+    specs: Specs<'a>,
+    /// Where the values begin, all of which can be read.
+    values: Cursor<'a>,
+    /// How many bytes the offsets of its unit have.
+    width: Width,
+    /// The first of each name, where its value counts for the name.
+    counted: Vec<Attribute<'a>>,
 }
 
 impl<'a> Model for Attributes<'a> {
     ghost use Rattle.std.specs.Prelude.{List};
-    ghost use Rattle.dw_units.specs.declared.attributes.Attribute.{Attribute};
-    ghost use Rattle.dw_units.specs.AttributesInside.{attributes_in};
+    ghost use Rattle.dw_model.specs.Entry as model;
+    ghost use Rattle.dw_units.specs.AttributesInside.{all_in, AreKept};
 
-    ghost Value = { List Attribute };
+    ghost Value = { List model.Attribute };
 
-    ghost view = { attributes_in };
+    ghost view = { all_in };
 
-    ghost invariant = { λ attributes. Unit {0} };
+    ghost invariant = { AreKept };
 }
 
-/// Why values can't be read where memory was refused: their first fault, or `Memory` where they
-/// have none.
-fn fault_in_values(cursor: &mut Cursor<'_>, specs: &Specs<'_>, width: Width) -> FormFault
-    ensures fault { MatchOption (form_fault result) (Unit {0})
-        (λ told. attributes_at (size_of width) specs.now cursor.old ≡ Err told) }
-    ensures memory { HidesNoFault result (attributes_at (size_of width) specs.now cursor.old) }
-{
-    match pass_attributes(cursor, specs, width) {
-        Ok(()) => FormFault::Memory,
-        Err(fault) => fault,
-    }
-}
-
-/// Reads the values that a declaration asks for, where offsets have a width, in place of those that
-/// were kept.
-fn read_attributes<'a>(
-    attributes: &mut Vec<Attribute<'a>>,
+/// All attributes for which a declaration asks, where offsets have a width.
+fn read_all<'a>(
+    alloc: Global,
     cursor: &mut Cursor<'a>,
     specs: &Specs<'_>,
     width: Width,
-) -> Result<(), FormFault>
-    ensures read { ReadsUnlessMemory (λ _. map attribute_shown attributes.new.items) form_fault result
+) -> Result<Vec<Attribute<'a>>, FormFault>
+    ensures { ReadsUnlessMemory (λ attributes. map attribute_shown attributes.items) form_fault result
         (attributes_at (size_of width) specs.now cursor.old) cursor.new }
-    ensures memory { IfErr result (λ fault. HidesNoFault fault
-        (attributes_at (size_of width) specs.now cursor.old)) }
 {
-    attributes.clear();
-    // A cursor of its own stays in registers.
-    let mut place = cursor.fork();
+    let mut attributes = Vec::new(alloc);
     let mut left = specs.fork();
     while let Some(spec) = left.take_first() {
-        let value = read_value(&mut place, spec.form, spec.implicit, width)?;
+        let value = read_value(cursor, spec.form, spec.implicit, width)?;
         let name = spec.name;
-        let Ok(()) = attributes.push(Attribute { name, value }) else {
-            return Err(fault_in_values(&mut cursor.fork(), specs, width));
-        };
+        attributes.push(Attribute { name, value })?;
     }
-    *cursor = place;
-    Ok(())
+    Ok(attributes)
+}
+
+/// The first one of a name.
+#[inline(always)]
+fn find_named<'b, 'a>(attributes: &'b [Attribute<'a>], name: u64) -> Option<&'b Attribute<'a>>
+    ensures { option_map (λ found. found.now) result ≡ find (λ found. found.name == name) attributes.now }
+{
+    attributes.iter().find(|attribute| attribute.name == name)
 }
 
 impl<'a> Attributes<'a> {
@@ -85,59 +84,75 @@ impl<'a> Attributes<'a> {
         ensures { result ≡ [] }
     {
         Attributes {
-            list: Vec::new(alloc),
+            specs: Specs::none(),
+            values: Cursor::new(&[]),
+            width: Width::Four,
+            counted: Vec::new(alloc),
         }
-    }
-
-    /// These attributes, in order.
-    pub fn from_vec(list: Vec<Attribute<'a>>) -> Self
-        ensures { result ≡ list.entry.items }
-    {
-        Attributes { list }
-    }
-
-    /// All of them, in order.
-    pub fn into_vec(self) -> Vec<Attribute<'a>>
-        ensures { result.items ≡ self.entry }
-    {
-        let Attributes { list } = self;
-        list
-    }
-
-    /// All of them, in order.
-    pub fn as_slice(&self) -> &[Attribute<'a>]
-        ensures { result.now ≡ self.now }
-    {
-        self.list.as_slice()
     }
 
     /// How many there are.
     pub fn len(&self) -> usize
         ensures { result ≡ length self.now }
     {
-        self.list.len()
+        self.specs.len()
     }
 
-    /// Reads the values that a declaration asks for, in place of those that were kept. After a
-    /// refusal any may be kept, and the cursor may be anywhere.
+    /// How many are kept: at most one for each name of which some values count, whatever is declared.
+    pub fn kept(&self) -> usize
+        ensures { result ≤ length classes }
+    {
+        self.counted.len()
+    }
+
+    /// All of them, in order. The error comes only where an allocation was refused.
+    pub fn to_vec(&self, alloc: Global) -> Result<Vec<Attribute<'a>>, AllocError>
+        ensures { IfOk result (λ attributes. map attribute_shown attributes.items ≡ self.now) }
+    {
+        match read_all(alloc, &mut self.values.fork(), &self.specs, self.width) {
+            Ok(attributes) => Ok(attributes),
+            Err(_) => Err(AllocError),
+        }
+    }
+
+    /// The value of the first one of a name, of whatever kind it is. Those before it are read.
+    pub fn first(&self, name: u64) -> Option<Value<'a>>
+        ensures { option_map value_shown result ≡ first_of name self.now }
+    {
+        self.specs.first_value(name, &self.values, self.width)
+    }
+
+    /// The value of the first one of a name, where it counts for the name.
+    #[inline(always)]
+    pub(crate) fn counted(&self, name: u64) -> Option<&Value<'a>>
+        ensures { option_map (λ value. value_shown value.now) result ≡ attribute_in name self.now }
+    {
+        let found = find_named(self.counted.as_slice(), name)?;
+        Some(&found.value)
+    }
+
+    /// Reads the values that a declaration asks for, in place of those that were read. After a
+    /// refusal there may be none, and the cursor may be anywhere.
     pub(crate) fn read(
         &mut self,
         cursor: &mut Cursor<'a>,
-        declaration: &Decl<'_>,
+        declaration: &Decl<'a>,
         width: Width,
     ) -> Result<(), FormFault>
-        ensures read { ReadsUnlessMemory (λ _. map attribute_shown self.new) form_fault result
+        ensures read { ReadsUnlessMemory (λ _. self.new) form_fault result
             (attributes_at (size_of width) declaration.now.specs cursor.old) cursor.new }
         ensures memory { IfErr result (λ fault. HidesNoFault fault
             (attributes_at (size_of width) declaration.now.specs cursor.old)) }
     {
-        read_attributes(&mut self.list, cursor, &declaration.specs, width)
-    }
-
-    /// The first one of a name.
-    pub fn first(&self, name: u64) -> Option<&Attribute<'a>>
-        ensures { option_map (λ found. found.now) result ≡ find (λ found. found.name == name) self.now }
-    {
-        self.list.iter().find(|attribute| attribute.name == name)
+        let values = cursor.fork();
+        pass_values(cursor, declaration, width)?;
+        let Ok(()) = read_counted(&mut self.counted, &values, &declaration.specs, width) else {
+            self.specs = Specs::none();
+            return Err(FormFault::Memory);
+        };
+        self.specs = declaration.specs.fork();
+        self.values = values;
+        self.width = width;
+        Ok(())
     }
 }

@@ -16,7 +16,6 @@ ghost use Rattle.dw_units.specs.Sections.{sections_shown};
 ghost use Rattle.dw_units.specs.Null.{IsNull, IsPastNull};
 
 use crate::attributes::Attributes;
-use crate::class::counts;
 use crate::header::Header;
 use crate::sections::Sections;
 use dw_bytes::{Cursor, Width};
@@ -43,7 +42,7 @@ pub struct Entry<'a> {
 pub(crate) fn read_entry<'a>(
     kept: &mut Entry<'a>,
     cursor: &mut Cursor<'a>,
-    abbrevs: AbbrevTable<'_, '_>,
+    abbrevs: AbbrevTable<'_, 'a>,
     width: Width,
 ) -> Result<bool, FormFault>
     ensures entry { ReadsUnlessMemory (λ found. shown_where found kept.new) form_fault result
@@ -90,11 +89,7 @@ impl<'a> Entry<'a> {
     pub fn attr(&self, name: u64) -> Option<&Value<'a>>
         ensures { option_map (λ value. value_shown value.now) result ≡ model.attribute name (entry_shown self.now) }
     {
-        let found = self.attrs.first(name)?;
-        if !counts(name, &found.value) {
-            return None;
-        }
-        Some(&found.value)
+        self.attrs.counted(name)
     }
 }
 
@@ -127,7 +122,7 @@ pub(crate) fn read_in<'a>(
     kept: &mut Entry<'a>,
     sections: &Sections<'a>,
     unit: &Header,
-    abbrevs: AbbrevTable<'_, '_>,
+    abbrevs: AbbrevTable<'_, 'a>,
     offset: u64,
 ) -> Result<bool, FormFault>
     requires { abbreviations sections.now.abbrevs.now unit.now.debug_abbrev_offset ≡ Ok (declarations_of abbrevs) }
@@ -151,7 +146,7 @@ pub(crate) fn entry_in<'a>(
     alloc: Global,
     sections: &Sections<'a>,
     unit: &Header,
-    abbrevs: AbbrevTable<'_, '_>,
+    abbrevs: AbbrevTable<'_, 'a>,
     offset: u64,
 ) -> Result<Option<Entry<'a>>, FormFault>
     requires { abbreviations sections.now.abbrevs.now unit.now.debug_abbrev_offset ≡ Ok (declarations_of abbrevs) }

@@ -4,6 +4,7 @@
 mod attributes;
 mod bases;
 mod class;
+mod counted;
 mod entries;
 mod entry;
 mod header;

@@ -3,9 +3,9 @@
 
 use crate::units::units_of;
 use dw_forms::{Tables, Value};
-use dw_model::dwarf::{DW_AT_high_pc, DW_AT_low_pc, DW_AT_name, DW_AT_ranges, DW_TAG_subprogram};
+use dw_model::dwarf::{DW_AT_high_pc, DW_AT_low_pc, DW_AT_name, DW_AT_ranges};
 use dw_ranges::{Range, RangeFault, ranges_of, read_ranges};
-use dw_units::{Attribute, Attributes, Entry, Units};
+use dw_units::{Entry, Units};
 use std::alloc::{AllocError, Global};
 use std::process::Abort;
 use std::test::Fail;
@@ -69,21 +69,69 @@ fn tables(rnglists: &[u8]) -> Tables<'_> {
     }
 }
 
-fn entry_of<'a>(alloc: Global, pairs: &[(u64, Value<'a>)]) -> Result<Entry<'a>, AllocError> {
-    let mut attrs: Vec<Attribute<'a>> = Vec::new(alloc);
-    for (name, value) in pairs {
-        attrs.push(Attribute {
-            name: *name,
-            value: *value,
-        })?;
+/// The form that spells a value.
+fn form_of(value: &Value<'_>) -> u8 {
+    match value {
+        Value::Address(_) => 0x01,
+        Value::Unsigned(_) => 0x07,
+        Value::Signed(_) => 0x0d,
+        Value::SectionOffset(_) => 0x17,
+        Value::AddressIndex(_) => 0x1b,
+        Value::RangeIndex(_) => 0x23,
+        _ => 0x19,
     }
-    Ok(Entry {
-        offset: 0,
-        next: 0,
-        tag: DW_TAG_subprogram as u64,
-        children: false,
-        attrs: Attributes::from_vec(attrs),
-    })
+}
+
+/// Adds a number in ten bytes of LEB128.
+fn push_uleb(bytes: &mut Vec<u8>, n: u64) -> Result<(), AllocError> {
+    let mut rest = n;
+    for _ in 0..9 {
+        bytes.push((rest % 128) as u8 + 128)?;
+        rest /= 128;
+    }
+    bytes.push((rest % 128) as u8)?;
+    Ok(())
+}
+
+/// Adds a value in this form, in a unit of the 64-bit format. A signed number has one byte.
+fn push_value(bytes: &mut Vec<u8>, value: &Value<'_>) -> Result<(), AllocError> {
+    match *value {
+        Value::Address(n) | Value::Unsigned(n) | Value::SectionOffset(n) => {
+            bytes.extend_from_slice(&n.to_le_bytes())
+        }
+        Value::AddressIndex(n) | Value::RangeIndex(n) => push_uleb(bytes, n),
+        Value::Signed(n) => {
+            bytes.push(n.to_le_bytes()[0] % 128)?;
+            Ok(())
+        }
+        _ => Ok(()),
+    }
+}
+
+/// A file of one unit of the 64-bit format, whose first entry has these attributes.
+fn file_of_entry(alloc: Global, pairs: &[(u64, Value<'_>)]) -> Result<Vec<u8>, AllocError> {
+    let mut declarations = vec![in alloc; 1, 0x11, 0]?;
+    let mut entry = vec![in alloc; 1]?;
+    for (name, value) in pairs {
+        declarations.push(u8::try_from(*name).unwrap_or(0))?;
+        declarations.push(form_of(value))?;
+        push_value(&mut entry, value)?;
+    }
+    declarations.extend_from_slice(&[0, 0, 0])?;
+    let mut info = vec![in alloc; 0xff, 0xff, 0xff, 0xff]?;
+    let size = entry.len().saturating_add(12) as u64;
+    info.extend_from_slice(&size.to_le_bytes())?;
+    info.extend_from_slice(&[5, 0, 1, 8, 0, 0, 0, 0, 0, 0, 0, 0])?;
+    info.extend_from_slice(&entry)?;
+    file_of(alloc, &info, &declarations)
+}
+
+/// The first entry of the first unit.
+fn first_entry<'b, 'a>(units: &'b Units<'a>) -> Option<&'b Entry<'a>> {
+    if units.len() == 0 {
+        return None;
+    }
+    units.unit(0).root.as_ref()
 }
 
 /// The ranges are these, and no allocation was refused.
@@ -111,9 +159,11 @@ fn has_ranges(
     if i >= units.len() {
         return Err(Fail::from("a unit at the index"));
     }
-    let entry = entry_of(alloc, pairs)?;
+    let file = file_of_entry(alloc, pairs)?;
+    let others = units_of(alloc, &file)?;
+    let entry = first_entry(&others).ok_or("an entry")?;
     let tables = tables(rnglists);
-    let alone = match ranges_of(alloc, &entry, units.unit(i), &tables) {
+    let alone = match ranges_of(alloc, entry, units.unit(i), &tables) {
         Ok(found) => are_expected(&found, expected),
         Err(fault) => fault == RangeFault::Bad && expected.is_none(),
     };
@@ -433,15 +483,23 @@ fn each_allocation_refused(rt: HostRuntime) -> Result<(), Fail> {
     let Ok(units) = units_of(alloc, &file) else {
         return Ok(());
     };
-    let Ok(by_list) = entry_of(alloc, &LIST) else {
+    let Ok(list_file) = file_of_entry(alloc, &LIST) else {
         return Ok(());
     };
-    let Ok(by_pair) = entry_of(alloc, &pairs) else {
+    let Ok(list_units) = units_of(alloc, &list_file) else {
         return Ok(());
     };
+    let Ok(pair_file) = file_of_entry(alloc, &pairs) else {
+        return Ok(());
+    };
+    let Ok(pair_units) = units_of(alloc, &pair_file) else {
+        return Ok(());
+    };
+    let by_list = first_entry(&list_units).ok_or("an entry")?;
+    let by_pair = first_entry(&pair_units).ok_or("an entry")?;
     let list = &[4, 1, 2, 4, 3, 4, 4, 5, 6, 4, 7, 8, 4, 9, 10, 0];
     let rows: Expected = Some(&[(1, 2), (3, 4), (5, 6), (7, 8), (9, 10)]);
-    assert!(rt; has_ranges_at_last(alloc, &units, &by_list, list, rows)?);
-    assert!(rt; has_ranges_at_last(alloc, &units, &by_pair, &[], Some(&[(5, 13)]))?);
+    assert!(rt; has_ranges_at_last(alloc, &units, by_list, list, rows)?);
+    assert!(rt; has_ranges_at_last(alloc, &units, by_pair, &[], Some(&[(5, 13)]))?);
     Ok(())
 }

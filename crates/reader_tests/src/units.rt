@@ -6,7 +6,7 @@ use dw_model::dwarf::{
     DW_AT_abstract_origin, DW_AT_call_column, DW_AT_call_file, DW_AT_call_line, DW_AT_high_pc,
     DW_AT_low_pc, DW_AT_name, DW_TAG_compile_unit, DW_TAG_inlined_subroutine, DW_TAG_partial_unit,
 };
-use dw_units::{Entry, Kind, Next, Units};
+use dw_units::{Attribute, Entry, Kind, Next, Units};
 use std::alloc::{AllocError, Global};
 use std::test::Fail;
 use test_inputs::files::{ABBREVS, INFO, file_of, poked, sample, unit_of};
@@ -217,7 +217,9 @@ fn first_of_two_attributes_decides(rt: HostRuntime) -> Result<(), Fail> {
         let entry = found.ok_or("no null entry")?;
         assert_eq!(rt; (entry.next, entry.attrs.len()), (18, 3));
         assert_eq!(rt; entry.attr(DW_AT_name), None);
+        assert_eq!(rt; entry.attrs.first(DW_AT_name), Some(Value::Unsigned(5)));
         assert_eq!(rt; entry.attr(DW_AT_high_pc), Some(&Value::Signed(-3)));
+        assert_eq!(rt; (entry.attrs.first(DW_AT_low_pc), entry.attrs.kept()), (None, 1));
     }
     Ok(())
 }
@@ -427,16 +429,40 @@ fn skeleton_and_skipped_units(rt: HostRuntime) -> Result<(), Fail> {
     Ok(())
 }
 
-/// A unit and a function of 13 attributes.
+/// A unit and a function of 13 attributes, of which the last three count.
 const MANY: &[u8] = &[
     1, 0x11, 1, 0, 0, 2, 0x2e, 0, 3, 0x0b, 4, 0x0b, 5, 0x0b, 6, 0x0b, 7, 0x0b, 8, 0x0b, 9, 0x0b,
-    10, 0x0b, 11, 0x0b, 12, 0x0b, 13, 0x0b, 14, 0x0b, 15, 0x0b, 0, 0, 0,
+    10, 0x0b, 11, 0x0b, 12, 0x0b, 0x57, 0x0b, 0x58, 0x0b, 0x59, 0x0b, 0, 0, 0,
 ];
 
-/// Has the 13 attributes, of which the last is 12.
-fn is_whole(entry: &Entry<'_>) -> bool {
-    let last = entry.attrs.as_slice().last();
-    entry.attrs.len() == 13 && last.map(|last| last.value) == Some(Value::Unsigned(12))
+/// The attributes of an entry, gathered once more where an allocation was refused.
+fn all_at_last<'a>(alloc: Global, entry: &Entry<'a>) -> Result<Vec<Attribute<'a>>, AllocError> {
+    let gathered = entry.attrs.to_vec(alloc);
+    let Err(_) = gathered else {
+        return gathered;
+    };
+    entry.attrs.to_vec(alloc)
+}
+
+/// Has the 13 attributes, whose values are 0 to 12.
+fn is_whole(alloc: Global, entry: &Entry<'_>) -> Result<bool, AllocError> {
+    let all = all_at_last(alloc, entry)?;
+    let mut wanted = 0;
+    for attribute in &all {
+        if attribute.value != Value::Unsigned(wanted) {
+            return Ok(false);
+        }
+        wanted = wanted.saturating_add(1);
+    }
+    let counted = [
+        (DW_AT_name, None),
+        (DW_AT_call_column, Some(&Value::Unsigned(10))),
+        (DW_AT_call_line, Some(&Value::Unsigned(12))),
+    ];
+    let same = counted
+        .iter()
+        .all(|(name, value)| entry.attr(*name) == *value);
+    Ok(wanted == 13 && entry.attrs.len() == 13 && same)
 }
 
 /// The units of a file, read once more where an allocation was refused.
@@ -463,7 +489,8 @@ fn is_read_at_last(alloc: Global, units: &Units<'_>) -> Result<bool, Fail> {
         Err(FormFault::Memory) => units.read_entry(0, 13, &mut kept)?,
         read => read?,
     };
-    Ok(read && is_whole(&kept) && is_whole(&found.ok_or("no null entry")?))
+    let found = found.ok_or("no null entry")?;
+    Ok(read && is_whole(alloc, &kept)? && is_whole(alloc, &found)?)
 }
 
 /// Where an allocation is refused, units and an entry are out of memory, and the same call, with

@@ -37,10 +37,22 @@ fn first_value<'a>(
     None
 }
 
-impl<'a> Decl<'a> {
+impl<'a> Specs<'a> {
     /// The value of the first attribute of a name in an entry whose values begin at a cursor, where
-    /// all of them can be read; `None` where no attribute of this name is declared. This takes no
-    /// memory.
+    /// all of them can be read; `None` where no attribute of this name is declared. Those before it
+    /// are read. This takes no memory.
+    pub fn first_value<'b>(&self, name: u64, values: &Cursor<'b>, width: Width) -> Option<Value<'b>>
+        ensures { (found : List Attribute × Place)
+            → attributes_at (size_of width) self.now values.now ≡ Ok found
+            → option_map value_shown result ≡ option_map
+            (λ first. first.value) (find (λ first. first.name == name) found.0) }
+    {
+        first_value(&mut values.fork(), self, width, name)
+    }
+}
+
+impl<'a> Decl<'a> {
+    /// The same in an entry of the declaration, mostly without a look at the values before it.
     pub fn first_value<'b>(&self, name: u64, values: &Cursor<'b>, width: Width) -> Option<Value<'b>>
         ensures { (found : List Attribute × Place)
             → attributes_at (size_of width) self.now.specs values.now ≡ Ok found
@@ -50,7 +62,7 @@ impl<'a> Decl<'a> {
         match (self.positions.get(name), width) {
             (Position::Absent, _) => None,
             (Position::Fixed(fixed), Width::Four) => fixed.read(values),
-            _ => first_value(&mut values.fork(), &self.specs, width, name),
+            _ => self.specs.first_value(name, values, width),
         }
     }
 }

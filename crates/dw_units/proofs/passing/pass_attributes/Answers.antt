@@ -5,7 +5,7 @@ use Rattle.dw_bytes.specs.Width.{size_of}
 use Rattle.dw_forms.specs.Value.{value_shown}
 use Rattle.dw_forms.specs.Fault.{form_fault}
 use Rattle.dw_units.specs.declared.attributes.Attribute.{Attribute}
-use Rattle.dw_units.specs.Entry.{attribute_shown}
+use Rattle.dw_units.specs.Attribute.{attribute_shown}
 use Rattle.dw_units.proofs.EntryLemmas.{starts, goes_on, stops-exactly, ends, fewer}
 use Rattle.dw_units.proofs.passing.pass_attributes.Goals as goal
 

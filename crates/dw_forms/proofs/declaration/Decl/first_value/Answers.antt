@@ -17,5 +17,4 @@ returns-in-Fixed-Four c found e =
     c.read.ensures c.args.name specs found told (ap (λ width. attributes_at (size_of width) specs c.args.values.now) (sym c.in-Fixed-Four.is-1) ∙ e)
 
 pub returns-in_default : goal.returns-in_default
-returns-in_default c found e =
-    c.first_value.ensures found (ap (attributes_at (size_of c.args.width) c.args.self.now.specs) c.fork.ensures ∙ e)
+returns-in_default c found e = c.first_value.ensures found e
