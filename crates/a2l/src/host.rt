@@ -113,8 +113,7 @@ fn words_of(rt: &HostRuntime) -> Result<Vec<String>, Fault> {
     }
 }
 
-/// Runs the program on the disk and the standard streams, each with a count of its failures. The
-/// threads of the pool come from the same runtime.
+/// Runs the program on the disk and the standard streams, each with a count of its failures.
 fn served<T: Threads + Wait + Sync, I: Ledger, O: Ledger, E: Ledger>(
     rt: &HostRuntime,
     threads: &T,
@@ -154,8 +153,8 @@ fn served<T: Threads + Wait + Sync, I: Ledger, O: Ledger, E: Ledger>(
     )
 }
 
-/// Runs the program with the words, the streams, the files and the threads of the process, and
-/// returns its status.
-pub fn run_on_host(rt: &HostRuntime) -> u8 {
-    served::<_, Brand, Brand, Brand>(rt, rt, Blank::new(1), Blank::new(1), Blank::new(1))
+/// Runs the program with the words, the streams and the files of the process, and returns its
+/// status. The threads of the pool come from the same runtime.
+pub fn run_on_host<T: Threads + Wait + Sync>(rt: &HostRuntime, threads: &T) -> u8 {
+    served::<_, Brand, Brand, Brand>(rt, threads, Blank::new(1), Blank::new(1), Blank::new(1))
 }

@@ -13,7 +13,7 @@ use crate::host::run_on_host;
 use std::process::ExitCode;
 
 fn main(rt: HostRuntime) -> ExitCode {
-    ExitCode::from(run_on_host(&rt))
+    ExitCode::from(run_on_host(&rt, &rt))
 }
 
 #[cfg(test)]
