@@ -148,12 +148,18 @@ def names_without_end(size):
     return front[:40] + number(64 + len(names), 8) + front[48:60] + number(0, 2) + number(0xffff, 2) + names + headers
 
 
+def addressed_unit(function, entries):
+    """A unit that covers the addresses, with functions of code 2 below its first entry that begin at index 0 of addresses."""
+    first = declaration(1, COMPILE_UNIT, 1, [*COVERING, (ADDR_BASE, SEC_OFFSET)])
+    return file_of(unit(b'\x01' + covered() + bytes(4) + entries), first + function + b'\0', addr=number(BEGIN + 5, 8))
+
+
 def functions_of_empty_values(size):
     """Functions whose declaration has a long list of values that take no bytes."""
     count = size // 3
     pairs = [(0x2000, FLAG_PRESENT)] * (count // 2)
     function = declaration(2, SUBPROGRAM, 0, [*pairs, (LOW_PC, ADDRX), (HIGH_PC, IMPLICIT_CONST, 1)])
-    return one_unit(function, b'\x02\0' * (count // 2))
+    return addressed_unit(function, b'\x02\0' * (count // 2))
 
 
 def functions_of_empty_values_after_a_number(size):
@@ -161,7 +167,7 @@ def functions_of_empty_values_after_a_number(size):
     count = size // 4
     pairs = [(0x2001, UDATA), *[(0x2000, FLAG_PRESENT)] * (count // 2)]
     function = declaration(2, SUBPROGRAM, 0, [*pairs, (LOW_PC, ADDRX), (HIGH_PC, IMPLICIT_CONST, 1)])
-    return one_unit(function, b'\x02\0\0' * (count // 2))
+    return addressed_unit(function, b'\x02\0\0' * (count // 2))
 
 
 def units_of_empty_values(size):
