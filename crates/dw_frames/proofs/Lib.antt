@@ -17,3 +17,4 @@ pub mod BuiltLemmas
 pub mod HeldLemmas
 pub mod InlinedLemmas
 pub mod LinkLemmas
+pub mod TailLemmas

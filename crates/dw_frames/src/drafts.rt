@@ -1,11 +1,13 @@
 //! The functions of a unit, while its entries are read.
 
-ghost use Rattle.std.specs.Prelude.{◌≡◌, ◌++◌, ℕ, false, Ok, OnOk, IfOk, length, map};
+ghost use Rattle.std.specs.Prelude.{◌≡◌, ◌++◌, ℕ, List, true, false, Ok, OnOk, IfOk, length, map};
+ghost use Rattle.dw_model.specs.Ranges as model_ranges;
 ghost use Rattle.dw_index.specs.Owners.{least_owner};
 ghost use Rattle.dw_index.specs.Segments.{owner_at};
 ghost use Rattle.dw_index.specs.Range.{pair_shown, range_shown};
 ghost use Rattle.dw_forms.specs.Tables.{tables_shown};
 ghost use Rattle.dw_ranges.specs.Lists.{ranges_of_list};
+ghost use Rattle.dw_ranges.specs.Owned.{AreOwned};
 ghost use Rattle.dw_frames.specs.Drafts as model;
 ghost use Rattle.dw_frames.specs.Drafts.{owned};
 ghost use Rattle.dw_frames.specs.Held.{pairs_held};
@@ -201,6 +203,42 @@ impl<'b, 'a> Drafts<'b, 'a> {
             self.left -= ranges.len();
         }
         self.push_ranges(is_subprogram, ranges, held.number)
+    }
+
+    /// Keeps ranges of a subprogram, where earlier subprograms own its other ranges.
+    fn push_front(&mut self, ranges: &[Range], number: usize) -> Result<(), AllocError>
+        ensures { OnOk result ((rest : List model_ranges.Range) → AreOwned self.old.outermost number rest
+            → Same (model.with_ranges true (owned (map range_shown ranges.now ++ rest) number) self.old) self.new) }
+    {
+        self.push_ranges(true, ranges, number)?;
+        Ok(())
+    }
+
+    /// Keeps ranges of a subprogram that are the first of a list, where earlier subprograms own the
+    /// other ranges of that; or holds the list by name, as `push_listed` does.
+    pub(crate) fn push_first(
+        &mut self,
+        ranges: &[Range],
+        held: HeldList<'b, 'a>,
+    ) -> Result<(), AllocError>
+        ensures { OnOk result ((rest : List model_ranges.Range)
+            → ranges_of_list (tables_shown held.entry.tables.now) held.entry.list
+            ≡ Ok (map range_shown ranges.now ++ rest)
+            → AreOwned self.old.outermost held.entry.number rest
+            → Same (model.with_ranges true (owned (map range_shown ranges.now ++ rest) held.entry.number) self.old)
+            self.new) }
+    {
+        if ranges.len() <= 1 {
+            self.push_front(ranges, held.number)?;
+            return Ok(());
+        }
+        if ranges.len() > self.left {
+            self.left = 0;
+            return self.hold(true, held);
+        }
+        self.left -= ranges.len();
+        self.push_front(ranges, held.number)?;
+        Ok(())
     }
 
     /// One more function, by its offset.

@@ -1,6 +1,8 @@
 //! Entries of a unit, read one after the other, of which the functions are kept.
 
-ghost use Rattle.std.specs.Prelude.{◌≡◌, ◌++◌, ◌∷◌, Bool, Option, Some, None, Ok, true, OnOk, length, map, nat_lt};
+ghost use Rattle.std.specs.Prelude.{◌≡◌, ◌==◌, ◌++◌, ◌∷◌, ◌⊎◌, [], ℕ, Bool, List, Option};
+ghost use Rattle.std.specs.Prelude.{Some, None, Ok, true, false, OnOk, length, map, nat_lt};
+ghost use Rattle.dw_model.specs.Ranges as model_ranges;
 ghost use Rattle.dw_model.specs.Results.{refuse_if};
 ghost use Rattle.dw_model.specs.Faults.{depth_fault};
 ghost use Rattle.dw_model.specs.Tree.{most_depth, entry_ranges_in, is_subprogram};
@@ -9,7 +11,9 @@ ghost use Rattle.dw_forms.specs.Tables.{tables_shown};
 ghost use Rattle.dw_index.specs.Range.{range_shown};
 ghost use Rattle.dw_ranges.specs.Held.{listed};
 ghost use Rattle.dw_ranges.specs.Lists.{ranges_of_list};
+ghost use Rattle.dw_ranges.specs.Owned.{AreOwned};
 ghost use Rattle.dw_ranges.specs.ReadLists.{Has};
+ghost use Rattle.dw_ranges.specs.Tails.{tail_at};
 ghost use Rattle.dw_model.specs.Entry.{Entry as ModelEntry};
 ghost use Rattle.dw_units.specs.Entries.{IsNext};
 ghost use Rattle.dw_units.specs.NamedRanges.{IsNamed};
@@ -25,7 +29,7 @@ use crate::fault::TreeFault;
 use crate::held::HeldList;
 use dw_forms::Tables;
 use dw_model::dwarf::DW_TAG_subprogram;
-use dw_ranges::{Range, RangeList, ReadLists, list_of, read_list, read_ranges};
+use dw_ranges::{Range, RangeList, ReadLists, list_of, read_list, read_new, read_ranges};
 use dw_units::{EntryView, NamedRanges, Next, OpenUnit};
 use std::alloc::{AllocError, Global};
 use std::marker::Model;
@@ -51,6 +55,7 @@ pub(crate) struct Reader<'b, 'a> {
     pub(crate) inlined: ReadLists,
     /// The lists that were read of functions that are inlined in none that is kept.
     pub(crate) loose: ReadLists,
+    pub(crate) alloc: Global,
 }
 
 impl<'b, 'a> Model for Reader<'b, 'a> {
@@ -135,6 +140,43 @@ fn keep_listed<'b, 'a>(
     Ok(())
 }
 
+/// Adds a subprogram with ranges that are the first of its list, where earlier ones own the others.
+fn keep_first<'b, 'a>(
+    drafts: &mut Drafts<'b, 'a>,
+    entry: &EntryView<'b, 'a>,
+    ranges: &[Range],
+    list: RangeList,
+    tables: &'b Tables<'a>,
+) -> Result<(), AllocError>
+    ensures { OnOk result ((rest : List model_ranges.Range)
+        → ranges_of_list (tables_shown tables.now) list ≡ Ok (map range_shown ranges.now ++ rest)
+        → AreOwned drafts.old.outermost (length drafts.old.functions) rest
+        → Same (model.with_list entry.now.children (Some (length drafts.old.functions))
+        (model.with_function entry.now.offset (model.with_ranges true
+        (owned (map range_shown ranges.now ++ rest) (length drafts.old.functions)) drafts.old))) drafts.new) }
+{
+    let number = drafts.count();
+    let held = HeldList {
+        tables,
+        list,
+        number,
+    };
+    drafts.push_first(ranges, held)?;
+    pass_function(drafts, entry)?;
+    Ok(())
+}
+
+/// No range of a list was read, and none of it was read before.
+fn has_none(tail: Option<RangeList>, ranges: &[Range]) -> bool
+    ensures none { result ≡ true → (tail ≡ None) × (map range_shown ranges.now ≡ []) }
+    ensures some { result ≡ false → tail ≡ None → (length (map range_shown ranges.now) == 0) ≡ false }
+{
+    if let Some(_) = tail {
+        return false;
+    }
+    ranges.is_empty()
+}
+
 /// Adds a function whose list is held by name.
 fn hold_function<'b, 'a>(
     drafts: &mut Drafts<'b, 'a>,
@@ -171,6 +213,7 @@ impl<'b, 'a> Reader<'b, 'a> {
             outermost: ReadLists::new(alloc),
             inlined: ReadLists::new(alloc),
             loose: ReadLists::new(alloc),
+            alloc,
         }
     }
 
@@ -281,6 +324,65 @@ impl<'b, 'a> Reader<'b, 'a> {
         self.inlined.note(list, number)
     }
 
+    /// Notes the tails of a list that was read for a subprogram, by the places where they begin.
+    fn note_tails(&mut self, list: RangeList, begins: &[u64]) -> Result<(), AllocError>
+        ensures same { self.new.of ≡ self.old.of }
+        ensures idle { self.new.idle ≡ self.old.idle }
+        ensures inlined { self.new.inlined ≡ self.old.inlined }
+        ensures loose { self.new.loose ≡ self.old.loose }
+        ensures outermost { OnOk result ((known : _) → Has self.new.outermost known
+            → ((begin : ℕ) × Has begins.now begin × (known ≡ (tail_at list begin, 0))) ⊎ Has self.old.outermost known) }
+    {
+        let size = self.unit.units().tables().rnglists.len();
+        self.outermost.note_tails(list, begins, size)
+    }
+
+    /// Keeps a subprogram that names a range list, where the list has ranges, once lists are noted. The list is read
+    /// up to where it goes on as one that was read for an earlier one, which owns the addresses from there on.
+    fn add_outermost(
+        &mut self,
+        drafts: &mut Drafts<'b, 'a>,
+        entry: &EntryView<'b, 'a>,
+        list: RangeList,
+    ) -> Result<(), TreeFault>
+        ensures same { self.new.of ≡ self.old.of }
+        ensures function { Knows self.old drafts.old → is_subprogram entry.now ≡ true
+            → entry_ranges_in self.old.of.sections self.old.of.unit entry.now
+            ≡ ranges_of_list self.old.of.sections.tables list
+            → AddsFunction self.old.of.sections self.old.of.unit entry.now result drafts.old drafts.new }
+        ensures known { Knows self.old drafts.old → is_subprogram entry.now ≡ true
+            → entry_ranges_in self.old.of.sections self.old.of.unit entry.now
+            ≡ ranges_of_list self.old.of.sections.tables list → OnOk result (Knows self.new drafts.new) }
+    {
+        let unit = self.unit;
+        let outer = drafts.innermost();
+        let mut begins = Vec::new(self.alloc);
+        let tail = read_new(
+            &mut self.ranges,
+            &mut begins,
+            list,
+            unit.units().tables(),
+            &self.outermost,
+        )?;
+        if has_none(tail, &self.ranges) {
+            self.idle.note(list, 0)?;
+            leave_out(drafts, entry)?;
+            return Ok(());
+        }
+        keep_first(drafts, entry, &self.ranges, list, unit.units().tables())?;
+        self.note(true, outer, list)?;
+        self.note_tails(list, &begins)?;
+        self.note_read(list, drafts.is_full())?;
+        Ok(())
+    }
+
+    /// Whether a list is one of a subprogram, read once lists are noted.
+    fn is_noted(&self, is_subprogram: bool) -> bool
+        ensures { result ≡ true → is_subprogram ≡ true }
+    {
+        is_subprogram && self.left == 0
+    }
+
     /// Keeps a function that names a range list, where the list has ranges. A list is read once for all subprograms,
     /// and once for all that are inlined in one function: of those the first owns all its addresses.
     fn add_listed(
@@ -312,6 +414,9 @@ impl<'b, 'a> Reader<'b, 'a> {
             if self.is_read(list) {
                 return self.add_read(drafts, entry, list);
             }
+        }
+        if self.is_noted(is_subprogram) {
+            return self.add_outermost(drafts, entry, list);
         }
         let unit = self.unit;
         let size = read_list(&mut self.ranges, list, unit.units().tables())?;

@@ -4,3 +4,7 @@ pub mod OnlyAddr
 pub mod ReadLemmas
 pub mod OwnedLemmas
 pub mod HeldLemmas
+pub mod PlaceLemmas
+pub mod MarkLemmas
+pub mod NewLemmas
+pub mod BaseLemmas

@@ -2,7 +2,8 @@
 use Rattle.std.proofs.Common.{◌≡◌, ℕ, ◌+◌, Bool, true, false, cond, List, [], ◌∷◌, ◌++◌, map, Option, Some, None, Result, Ok, Err, refl, sym, ap, subst, ◌∙◌, append_assoc}
 use Rattle.std.specs.Prelude.{option_map, option_to_list, filter, MatchOption, length, drop, nat_le}
 use Rattle.std.proofs.lemmas.Bool.{leb-false}
-use Rattle.std.proofs.Common.{◌≤◌, arith}
+use Rattle.std.proofs.Common.{◌≤◌, ◌<◌, arith}
+use Rattle.std.specs.Option.{option_map_or}
 use Rattle.std.proofs.Math.ListN.{drop_of_length-le}
 use Rattle.std.proofs.lemmas.List.{append-nil}
 use Rattle.dw_model.specs.Results.{◌>>=◌}
@@ -12,18 +13,17 @@ use Rattle.dw_model.specs.Faults.{Bad, bad}
 use Rattle.dw_model.specs.Answers.{Tells}
 use Rattle.dw_model.specs.Ranges.{Range, range, is_kept, RangeEntry, base_addressx, startx_endx, startx_length, offset_pair, base_address, start_end, start_length, next_range_entry, range_entries, onto_ranges, address_at, entry_ranges, list_offset, list_ranges}
 use Rattle.dw_model.specs.Form.{Value}
-use Rattle.dw_model.proofs.ItemsLemmas.{items-turn}
+use Rattle.dw_model.proofs.ItemsLemmas.{Advances, items-turn}
+use Rattle.dw_model.proofs.StepLemmas.{ok_is}
 use Rattle.dw_model.proofs.AdvanceLemmas.{range_entries_advance}
 use Rattle.dw_index.specs.declared.range.Range.{Range as CodeRange}
 use Rattle.dw_index.specs.Range.{range_shown}
 use Rattle.dw_ranges.specs.Step.{kept, all_kept, Outcome, step, ranges_from, list_place}
+use Rattle.dw_ranges.specs.NextOutcome.{done_by, next_outcome}
+use Rattle.dw_ranges.specs.Tails.{onto_front}
 
-abbrev Ranges : Type 0
+abbrev pub Ranges : Type 0
 Ranges = Result (List Range) Bad
-
--- ranges before those that are read later
-abbrev onto_front : List Range → Ranges → Ranges
-onto_front front later = later >>= λ ranges. Ok (front ++ ranges)
 
 pub front-nil : (later : Ranges) → onto_front [] later ≡ later
 front-nil (Ok ranges) = refl
@@ -103,6 +103,46 @@ ranges-fault tables bases base p f e =
     let read : items (λ r. r.left) next_range_entry p ≡ Err f = rw (items-turn next_range_entry (λ r. r.left) range_entries_advance p, e) refl in
     rw read refl
 
+-- ---- what the entries do, one after the other
+
+abbrev pub some_at : Place → Outcome → Result (Option Outcome × Place) Bad
+some_at q o = Ok (Some o, q)
+
+-- the ranges of an entry that was read, and of those after it
+abbrev pub behind_outcome : Tables → Bases → Option Outcome × Place → Ranges
+behind_outcome tables bases found =
+    option_map_or (λ o. onto_front (option_to_list o.range) (ranges_from tables bases o.base found.1)) found.0 (Ok [])
+
+pub from-outcome : (tables : Tables) (bases : Bases) (base : Result ℕ Bad) (p : Place) → ranges_from tables bases base p ≡ (next_outcome tables bases base p >>= behind_outcome tables bases)
+from-outcome tables bases base p = by_read (next_range_entry p) refl
+  where
+    by_step : (q : Place) (done : Result Outcome Bad) → (done >>= λ o. onto_front (option_to_list o.range) (ranges_from tables bases o.base q)) ≡ ((done >>= some_at q) >>= behind_outcome tables bases)
+    by_step q (Ok o) = refl
+    by_step q (Err f) = refl
+
+    by_read : (read : Result (Option RangeEntry × Place) Bad) → next_range_entry p ≡ read → ranges_from tables bases base p ≡ ((read >>= done_by tables bases base) >>= behind_outcome tables bases)
+    by_read (Err f) e = ranges-fault tables bases base p f e
+    by_read (Ok (None, q)) e = ranges-end tables bases base p q e
+    by_read (Ok (Some entry, q)) e =
+        ranges-turn tables bases base entry p q e ∙ by_step q (step tables bases base entry)
+
+-- each takes a byte at least
+pub outcomes_advance : (tables : Tables) (bases : Bases) (base : Result ℕ Bad) → Advances (λ p. p.left) (next_outcome tables bases base)
+outcomes_advance tables bases base p o q e = by_read (next_range_entry p) refl e
+  where
+    by_step : (entry : RangeEntry) (r : Place) (done : Result Outcome Bad) → next_range_entry p ≡ Ok (Some entry, r) → (done >>= some_at r) ≡ Ok (Some o, q) → length q.left < length p.left
+    by_step entry r (Ok x) read same =
+        let place : r ≡ q = ap (λ (found : Option Outcome × Place). found.1) (ok_is (Some x, r) (Some o, q) same) in
+        subst (λ (t : Place). length t.left < length p.left) place (range_entries_advance p entry r read)
+    by_step entry r (Err f) read same = absurd cc
+
+    by_read : (read : Result (Option RangeEntry × Place) Bad) → next_range_entry p ≡ read → (read >>= done_by tables bases base) ≡ Ok (Some o, q) → length q.left < length p.left
+    by_read (Err f) read same = absurd cc
+    by_read (Ok (None, r)) read same =
+        let none : None ≡ Some o = ap (λ (found : Option Outcome × Place). found.0) (ok_is (None, r) (Some o, q) same) in
+        absurd cc
+    by_read (Ok (Some entry, r)) read same = by_step entry r (step tables bases base entry) read same
+
 -- ---- as a loop reads them
 
 -- the ranges that were found, and then those of the entries that are left, are all
@@ -116,23 +156,20 @@ map-some [] (Some last) = refl
 map-some (first ∷ found) last = ap (λ (xs : List Range). range_shown first ∷ xs) (map-some found last)
 
 module _ (tables : Tables) (bases : Bases) (found : List CodeRange) (base : Result ℕ Bad) (p : Place) (all : Ranges) (so_far : SoFar tables bases found base p all) where
-  pub goes_on : (entry : RangeEntry) (q : Place) (behind : Result ℕ Bad) (last : Option CodeRange) → next_range_entry p ≡ Ok (Some entry, q) → step tables bases base entry ≡ Ok (record { base = behind; range = option_map range_shown last }) → SoFar tables bases (found ++ option_to_list last) behind q all
-  goes_on entry q behind last e done =
-      let turn : ranges_from tables bases base p ≡ onto_front (option_to_list (option_map range_shown last)) (ranges_from tables bases behind q) = ranges-turn tables bases base entry p q e ∙ rw done refl in
+  pub goes_on : (q : Place) (behind : Result ℕ Bad) (last : Option CodeRange) → next_outcome tables bases base p ≡ Ok (Some (record { base = behind; range = option_map range_shown last }), q) → SoFar tables bases (found ++ option_to_list last) behind q all
+  goes_on q behind last e =
+      let turn : ranges_from tables bases base p ≡ onto_front (option_to_list (option_map range_shown last)) (ranges_from tables bases behind q) = from-outcome tables bases base p ∙ rw e refl in
       rw (map-some found last)
       (sym (front-append (map range_shown found) (option_to_list (option_map range_shown last)) (ranges_from tables bases behind q)) ∙ ap (onto_front (map range_shown found)) (sym turn) ∙ so_far)
 
-  pub ends : (q : Place) → next_range_entry p ≡ Ok (None, q) → all ≡ Ok (map range_shown found)
+  pub ends : (q : Place) → next_outcome tables bases base p ≡ Ok (None, q) → all ≡ Ok (map range_shown found)
   ends q e =
-      let last : ranges_from tables bases base p ≡ Ok [] = ranges-end tables bases base p q e in
+      let last : ranges_from tables bases base p ≡ Ok [] = from-outcome tables bases base p ∙ rw e refl in
       sym so_far ∙ ap (onto_front (map range_shown found)) last ∙ ap Ok (append-nil (map range_shown found))
 
-  pub entry_bad : (f : Bad) → next_range_entry p ≡ Err f → all ≡ Err f
-  entry_bad f e = sym so_far ∙ ap (onto_front (map range_shown found)) (ranges-fault tables bases base p f e)
-
-  pub step_bad : (entry : RangeEntry) (q : Place) (f : Bad) → next_range_entry p ≡ Ok (Some entry, q) → step tables bases base entry ≡ Err f → all ≡ Err f
-  step_bad entry q f e done =
-      let turn : ranges_from tables bases base p ≡ Err f = ranges-turn tables bases base entry p q e ∙ rw done refl in
+  pub stops : (f : Bad) → next_outcome tables bases base p ≡ Err f → all ≡ Err f
+  stops f e =
+      let turn : ranges_from tables bases base p ≡ Err f = from-outcome tables bases base p ∙ rw e refl in
       sym so_far ∙ ap (onto_front (map range_shown found)) turn
 
 -- a fault that a part tells is the one of the whole

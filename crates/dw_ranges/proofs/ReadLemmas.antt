@@ -76,6 +76,16 @@ inserted cmp xs es k v x h = elim (has-parts xs (values_of (insert_entry cmp es 
   ]
 ]
 
+-- the same before others
+pub beside : {X : Type 0} (xs ys zs : List X) (new x : X) → (Has xs x → Has (new ∷ ys) x) → Has (xs ++ zs) x → Has (new ∷ (ys ++ zs)) x
+beside xs ys zs new x step h = elim (has-parts xs zs x h) [
+  | inl front ↦ elim (step front) [
+    | inl e ↦ inl e
+    | inr old ↦ inr (has-front ys zs x old)
+  ]
+  | inr back ↦ inr (has-back ys zs x back)
+]
+
 -- one that was read out of a list
 pub has-read : {X : Type 0} (xs ys : List X) (k : ℕ) (x : X) → ys ≡ xs → k < length ys → x ≡ get_or ys k x → Has xs x
 has-read xs ys k x same within is =

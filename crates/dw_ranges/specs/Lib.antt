@@ -1,6 +1,7 @@
 pub mod Fault
 pub mod RangeEntry
 pub mod Step
+pub mod NextOutcome
 pub mod OutcomeShown
 pub mod Named
 pub mod Lists
@@ -8,4 +9,5 @@ pub mod Held
 pub mod HeldInside
 pub mod ReadLists
 pub mod ReadListsInside
+pub mod Tails
 pub mod Owned

@@ -13,9 +13,8 @@ ghost use Rattle.dw_ranges.specs.Step.{ranges_from};
 
 use crate::fault::RangeFault;
 use crate::list::place_at;
-use crate::range_entry::next_range_entry;
+use crate::next_outcome::next_outcome;
 use crate::range_list::{RangeList, only_addr};
-use crate::step::step;
 use dw_bytes::Cursor;
 use dw_forms::{Bases, Tables};
 use dw_index::Range;
@@ -79,10 +78,9 @@ fn held_from(
     let mut held = nowhere();
     let mut base = first;
     loop {
-        let Some(entry) = next_range_entry(cursor)? else {
+        let Some(outcome) = next_outcome(cursor, tables, bases, base)? else {
             return Ok(held);
         };
-        let outcome = step(tables, bases, base, entry)?;
         held = with_range(held, outcome.range, a);
         base = outcome.base;
     }

@@ -5,6 +5,8 @@
 mod at_address;
 mod fault;
 mod list;
+mod new_ranges;
+mod next_outcome;
 mod range_entry;
 mod range_list;
 mod ranges;
@@ -14,6 +16,7 @@ mod step;
 pub use at_address::{Held, list_at};
 pub use dw_index::{Index, Range, law_of_least_owner};
 pub use fault::RangeFault;
+pub use new_ranges::read_new;
 pub use range_list::{RangeList, list_of, read_list};
 pub use ranges::{ranges_of, read_ranges};
 pub use read_lists::ReadLists;

@@ -13,8 +13,7 @@ ghost use Rattle.dw_ranges.specs.Step.{all_kept, list_place, place_at, ranges_fr
 ghost use Rattle.dw_ranges.specs.OutcomeShown.{base_shown};
 
 use crate::fault::RangeFault;
-use crate::range_entry::next_range_entry;
-use crate::step::step;
+use crate::next_outcome::next_outcome;
 use dw_bytes::{Cursor, Width};
 use dw_forms::{Bases, Tables, Value};
 use dw_index::Range;
@@ -71,7 +70,7 @@ pub(crate) fn list_place<'a>(
 }
 
 /// Adds a range where there is one.
-fn push_some(ranges: &mut Vec<Range>, range: Option<Range>) -> Result<(), AllocError>
+pub(crate) fn push_some(ranges: &mut Vec<Range>, range: Option<Range>) -> Result<(), AllocError>
     ensures { OnOk result (ranges.new.items ≡ ranges.old.items ++ option_to_list range) }
 {
     if let Some(range) = range {
@@ -95,10 +94,9 @@ pub(crate) fn ranges_at(
     ranges.clear();
     let mut base = first;
     loop {
-        let Some(entry) = next_range_entry(cursor)? else {
+        let Some(outcome) = next_outcome(cursor, tables, bases, base)? else {
             return Ok(());
         };
-        let outcome = step(tables, bases, base, entry)?;
         push_some(ranges, outcome.range)?;
         base = outcome.base;
     }

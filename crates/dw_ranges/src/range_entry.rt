@@ -5,6 +5,7 @@ ghost use Rattle.dw_model.specs.Ranges as model;
 ghost use Rattle.dw_model.specs.Answers.{ReadsOn};
 ghost use Rattle.dw_ranges.specs.Fault.{range_fault};
 ghost use Rattle.dw_ranges.specs.RangeEntry.{range_entry_shown};
+ghost use Rattle.dw_ranges.specs.NextOutcome.{entry_behind};
 
 use crate::fault::RangeFault;
 use dw_bytes::Cursor;
@@ -35,7 +36,7 @@ pub(crate) enum RangeEntry {
 
 /// An operand that is an unsigned LEB128 number.
 #[inline(always)]
-fn leb(cursor: &mut Cursor<'_>) -> Result<u64, RangeFault>
+pub(crate) fn leb(cursor: &mut Cursor<'_>) -> Result<u64, RangeFault>
     ensures { ReadsOn (λ x. x) range_fault result (model.leb cursor.old) cursor.new }
 {
     let number = cursor.uleb()?;
@@ -50,12 +51,13 @@ fn eight_bytes(cursor: &mut Cursor<'_>) -> Result<u64, RangeFault>
     Ok(number)
 }
 
-/// The next entry of a range list; `None` for the one that ends it.
-#[tactic(auto, unfolding(dw_model::specs::Ranges::next_range_entry))]
-pub(crate) fn next_range_entry(cursor: &mut Cursor<'_>) -> Result<Option<RangeEntry>, RangeFault>
-    ensures { ReadsOn (option_map range_entry_shown) range_fault result (model.next_range_entry cursor.old) cursor.new }
+/// The entry of a code, whose operands are at the cursor; `None` for the one that ends a list.
+pub(crate) fn entry_behind(
+    cursor: &mut Cursor<'_>,
+    code: u8,
+) -> Result<Option<RangeEntry>, RangeFault>
+    ensures { ReadsOn (option_map range_entry_shown) range_fault result (entry_behind code cursor.old) cursor.new }
 {
-    let code = cursor.u8().ok_or(RangeFault::Bad)?;
     let entry = match code {
         DW_RLE_end_of_list => return Ok(None),
         DW_RLE_base_addressx => RangeEntry::BaseAddressx(leb(cursor)?),

@@ -1,7 +1,8 @@
 //! Which range lists were read, each for an owner.
 
-ghost use Rattle.std.specs.Prelude.{◌≡◌, true, ◌∷◌, [], OnOk};
+ghost use Rattle.std.specs.Prelude.{◌≡◌, ◌⊎◌, ℕ, true, false, ◌∷◌, [], Some, OnOk, IfOk, slice_get, replicate};
 ghost use Rattle.dw_ranges.specs.ReadLists.{Has};
+ghost use Rattle.dw_ranges.specs.Tails.{tail_at};
 
 use crate::range_list::RangeList;
 use std::alloc::{AllocError, Global};
@@ -17,6 +18,12 @@ pub struct ReadLists {
     /// Those that begin behind all that were noted before.
     rising: Vec<(RangeList, usize)>,
     others: BTreeMap<(RangeList, usize), (RangeList, usize)>,
+    /// Of each place of .debug_rnglists whether a list that begins there was read for the owner 0,
+    /// with this base and this place of addresses; nothing before tails are noted.
+    marks: Vec<bool>,
+    base: Option<u64>,
+    addr: Option<u64>,
+    alloc: Global,
 }
 
 impl Model for ReadLists {
@@ -38,6 +45,41 @@ fn is_same(one: &(RangeList, usize), list: RangeList, owner: usize) -> bool
     one.0 == list && one.1 == owner
 }
 
+/// So many places, of which none is marked.
+fn no_marks(alloc: Global, size: usize) -> Result<Vec<bool>, AllocError>
+    ensures { IfOk result (λ marks. marks.items ≡ replicate size false) }
+{
+    let marks = vec![in alloc; false; size]?;
+    Ok(marks)
+}
+
+/// Marks a place, where there is one.
+fn mark(marks: &mut Vec<bool>, begin: u64)
+    ensures { (k : ℕ) → slice_get marks.new.items k ≡ Some true
+        → (begin ≡ k) ⊎ (slice_get marks.old.items k ≡ Some true) }
+{
+    if begin < marks.len() as u64 {
+        marks[begin as usize] = true;
+    }
+}
+
+/// Marks places.
+fn mark_all(marks: &mut Vec<bool>, begins: &[u64])
+    ensures { (k : ℕ) → slice_get marks.new.items k ≡ Some true
+        → Has begins.now k ⊎ (slice_get marks.old.items k ≡ Some true) }
+{
+    for begin in begins {
+        mark(marks, *begin);
+    }
+}
+
+/// Two bases are the same, or there is none.
+pub(crate) fn is_same_base(one: Option<u64>, other: Option<u64>) -> bool
+    ensures { result ≡ true → one ≡ other }
+{
+    one == other
+}
+
 impl ReadLists {
     /// None was read yet.
     pub fn new(alloc: Global) -> Self
@@ -46,7 +88,25 @@ impl ReadLists {
         ReadLists {
             rising: Vec::new(alloc),
             others: BTreeMap::new(alloc),
+            marks: Vec::new(alloc),
+            base: None,
+            addr: None,
+            alloc,
         }
+    }
+
+    /// Whether the list begins at a place that is marked.
+    #[inline(always)]
+    pub(crate) fn has_tail(&self, list: RangeList) -> bool
+        ensures { result ≡ true → Has self.now (list, 0) }
+    {
+        if list.begin >= self.marks.len() as u64 {
+            return false;
+        }
+        if !self.marks[list.begin as usize] {
+            return false;
+        }
+        is_same_base(self.base, list.base) && is_same_base(self.addr, list.addr)
     }
 
     /// A list begins behind all those that were noted.
@@ -61,6 +121,9 @@ impl ReadLists {
     pub fn has(&self, list: RangeList, owner: usize) -> bool
         ensures { result ≡ true → Has self.now (list, owner) }
     {
+        if owner == 0 && self.has_tail(list) {
+            return true;
+        }
         if self.is_behind(list) {
             return false;
         }
@@ -87,6 +150,41 @@ impl ReadLists {
             return Ok(());
         }
         self.others.insert((list, owner), (list, owner))?;
+        Ok(())
+    }
+
+    /// Makes room for marks, where there is none.
+    fn begin_tails(&mut self, list: RangeList, size: usize) -> Result<(), AllocError>
+        ensures { OnOk result ((read : _) → Has self.new read → Has self.old read) }
+    {
+        if !self.marks.is_empty() {
+            return Ok(());
+        }
+        self.marks = no_marks(self.alloc, size)?;
+        self.base = list.base;
+        self.addr = list.addr;
+        Ok(())
+    }
+
+    /// Notes that lists were read for the owner 0 that begin at these places of .debug_rnglists,
+    /// which has so many bytes, with the base and the place of addresses that a list has.
+    pub fn note_tails(
+        &mut self,
+        list: RangeList,
+        begins: &[u64],
+        size: usize,
+    ) -> Result<(), AllocError>
+        ensures { OnOk result ((read : _) → Has self.new read
+            → ((begin : ℕ) × Has begins.now begin × (read ≡ (tail_at list begin, 0))) ⊎ Has self.old read) }
+    {
+        self.begin_tails(list, size)?;
+        if !is_same_base(self.base, list.base) {
+            return Ok(());
+        }
+        if !is_same_base(self.addr, list.addr) {
+            return Ok(());
+        }
+        mark_all(&mut self.marks, begins);
         Ok(())
     }
 }

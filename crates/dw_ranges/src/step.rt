@@ -71,7 +71,9 @@ fn address_at(tables: &Tables<'_>, bases: &Bases, index: u64) -> Result<u64, Ran
 }
 
 /// What an entry does, where the base before it is this one.
+// With a known kind of entry the compiler leaves the others out.
 #[tactic(auto, unfolding(crate::specs::Step::step))]
+#[inline(always)]
 pub(crate) fn step(
     tables: &Tables<'_>,
     bases: &Bases,

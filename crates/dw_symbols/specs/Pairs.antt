@@ -39,3 +39,8 @@ pub record WasHeld (list : Option RangeList) (unit : ℕ) (old new : UnitRanges)
 
 abbrev pub Adds : Option RangeList → List CodeRange → ℕ → (old new : UnitRanges) → Type 0
 Adds list ranges unit old new = WasKept list ranges unit old new ⊎ WasHeld list unit old new
+
+-- The other list is the same, but counts from 0, where the one has a base.
+abbrev pub IsFromZero : (list other : RangeList) → Type 0
+IsFromZero list other =
+    (base : ℕ) × (list.base ≡ Some base) × (other ≡ record { begin = list.begin; base = Some 0; addr = list.addr })

@@ -1,6 +1,7 @@
 //! The ranges of all units that answer addresses.
 
-ghost use Rattle.std.specs.Prelude.{◌≡◌, ◌≤◌, ◌++◌, ◌<◌, true, OnOk, IfOk, IfErr, IfSome, MatchOption, map, length};
+ghost use Rattle.std.specs.Prelude.{◌≡◌, ◌≤◌, ◌++◌, ◌<◌, ◌⊎◌, ℕ, true, map, length};
+ghost use Rattle.std.specs.Prelude.{OnOk, IfOk, IfErr, IfSome, IsSome, MatchOption};
 ghost use Rattle.std.specs.Prelude.{option_map, option_to_list, slice_get};
 ghost use Rattle.dw_model.specs.Unit as model;
 ghost use Rattle.dw_model.specs.Answers.{GivesUnlessMemory};
@@ -13,7 +14,7 @@ ghost use Rattle.dw_ranges.specs.Lists.{IsOneAtMost, ranges_of_list};
 ghost use Rattle.dw_ranges.specs.ReadLists.{Has};
 ghost use Rattle.dw_index.specs.Range.{range_shown};
 ghost use Rattle.dw_symbols.specs.Held.{AreInOrder, most_ranges};
-ghost use Rattle.dw_symbols.specs.Pairs.{Adds, Owns, Refuses, all_pairs};
+ghost use Rattle.dw_symbols.specs.Pairs.{Adds, IsFromZero, Owns, Refuses, WasHeld, all_pairs};
 ghost use Rattle.dw_symbols.specs.Cover.{answering_ranges, checked_ranges, pairs_from, ranges_in};
 
 use crate::cover::HeldUnit;
@@ -136,6 +137,71 @@ fn note(read: &mut ReadLists, list: Option<RangeList>) -> Result<(), AllocError>
     read.note(list, 0)
 }
 
+/// The list as it is counted from 0, where it has a base: that can be read where the list can.
+fn from_zero(list: RangeList) -> Option<RangeList>
+    ensures { IfSome result (λ other. IsFromZero list other) }
+{
+    let Some(_) = list.base else {
+        return None;
+    };
+    Some(RangeList {
+        begin: list.begin,
+        base: Some(0),
+        addr: list.addr,
+    })
+}
+
+/// The list is one that was held for an earlier unit, counted from any base: so it can be read.
+fn was_held(good: &ReadLists, list: Option<RangeList>) -> bool
+    ensures { result ≡ true → MatchOption list ⊥
+        (λ list. (other : RangeList) × IsFromZero list other × Has good.now (other, 0)) }
+{
+    let Some(list) = list else {
+        return false;
+    };
+    let Some(other) = from_zero(list) else {
+        return false;
+    };
+    good.has(other, 0)
+}
+
+/// Notes the list of a unit, counted from any base, where the unit is held by it.
+fn note_held(
+    good: &mut ReadLists,
+    held: &[HeldUnit],
+    list: Option<RangeList>,
+    unit: usize,
+) -> Result<(), AllocError>
+    ensures { OnOk result ((known : RangeList × ℕ) → Has good.new known
+        → MatchOption list ⊥ (λ list. IsFromZero list known.0) ⊎ Has good.old known) }
+{
+    let Some(last) = held.last() else {
+        return Ok(());
+    };
+    if last.unit != unit {
+        return Ok(());
+    }
+    let Some(list) = list else {
+        return Ok(());
+    };
+    let Some(other) = from_zero(list) else {
+        return Ok(());
+    };
+    good.note(other, 0)
+}
+
+/// Holds a unit by its list.
+fn hold(kept: &mut UnitRanges, list: Option<RangeList>, unit: usize) -> Result<(), AllocError>
+    requires { IsSome list }
+    ensures { OnOk result (WasHeld list unit kept.old kept.new) }
+{
+    let Some(list) = list else {
+        return Ok(());
+    };
+    kept.held.push(HeldUnit { list, unit })?;
+    Ok(())
+}
+
 /// Keeps the ranges of a unit; where they are those of a list and more than what is kept, the unit
 /// alone.
 fn keep(
@@ -162,8 +228,8 @@ fn keep(
 /// however many units name it and count from the same bases. A list of which several units count
 /// from other bases has other ranges in each; so no more ranges of lists are kept than the bytes of
 /// .debug_rnglists can spell, and the units behind these are held by their lists, whose ranges were
-/// read for their faults alone. The error is `RootRanges`, of the first unit whose ranges can't be
-/// read, or `Memory`.
+/// read for their faults alone: once for each list, since no fault depends on the base. The error is
+/// `RootRanges`, of the first unit whose ranges can't be read, or `Memory`.
 pub(crate) fn unit_ranges(alloc: Global, units: &Units<'_>) -> Result<UnitRanges, OpenFault>
     ensures owns { IfOk result (λ kept. Owns (all_pairs units.now.tables kept)
         (pairs_from units.now 0 (model.units units.now.info))) }
@@ -178,15 +244,22 @@ pub(crate) fn unit_ranges(alloc: Global, units: &Units<'_>) -> Result<UnitRanges
         room: units.tables().rnglists.len() / 3,
     };
     let mut read = ReadLists::new(alloc);
+    let mut good = ReadLists::new(alloc);
     let mut ranges = Vec::new(alloc);
     for i in 0..units.len() {
         let list = unit_list(units, i);
         if was_read(&read, list) {
             continue;
         }
+        if was_held(&good, list) {
+            hold(&mut kept, list, i)?;
+            note(&mut read, list)?;
+            continue;
+        }
         read_at(&mut ranges, units, i)?;
         keep(&mut kept, &ranges, list, i)?;
         note(&mut read, list)?;
+        note_held(&mut good, &kept.held, list, i)?;
     }
     Ok(kept)
 }

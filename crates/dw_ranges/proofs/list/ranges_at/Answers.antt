@@ -1,45 +1,46 @@
 use Rattle.std.proofs.Common.{Option, Ok, ap, ◌∙◌}
 use Rattle.std.specs.Prelude.{option_map}
 use Rattle.std.proofs.lemmas.Result.{err_from_is_err_and}
-use Rattle.dw_model.specs.Ranges.{next_range_entry}
-use Rattle.dw_model.proofs.AdvanceLemmas.{range_entries_advance}
 use Rattle.dw_model.proofs.LoopLemmas.{smaller}
 use Rattle.dw_forms.specs.Tables.{tables_shown, bases_shown}
-use Rattle.dw_ranges.specs.declared.range_entry.RangeEntry.{RangeEntry}
+use Rattle.dw_ranges.specs.declared.step.Outcome.{Outcome}
 use Rattle.dw_ranges.specs.Fault.{range_fault}
-use Rattle.dw_ranges.specs.RangeEntry.{range_entry_shown}
-use Rattle.dw_ranges.specs.Step.{step, ranges_from}
-use Rattle.dw_ranges.specs.OutcomeShown.{base_shown}
-use Rattle.dw_ranges.proofs.ListLemmas.{goes_on, ends, entry_bad, step_bad, tells}
+use Rattle.dw_ranges.specs.NextOutcome.{next_outcome}
+use Rattle.dw_ranges.specs.Step.{ranges_from}
+use Rattle.dw_ranges.specs.OutcomeShown.{base_shown, outcome_shown}
+use Rattle.dw_ranges.proofs.ListLemmas.{outcomes_advance, goes_on, ends, stops, tells}
 use Rattle.dw_ranges.proofs.list.ranges_at.Goals as goal
-
-pub returns-in_err-entry : goal.returns-in_err-entry
-returns-in_err-entry c =
-    let p = err_from_is_err_and c.from_residual.result c.from_residual.ensures.1 in
-    let all = ranges_from (tables_shown c.args.tables.now) (bases_shown c.args.bases.now) (base_shown c.args.first) c.args.cursor.now in
-    rw (p.1) (tells (range_fault c.in_err-entry.field-0.0) (range_fault p.0) (next_range_entry c.loop-entry.cursor) all (ap range_fault p.2) c.in_err-entry.ensures
-    (entry_bad (tables_shown c.args.tables.now) (bases_shown c.args.bases.now) c.loop-entry.ranges.items (base_shown c.loop-entry.base) c.loop-entry.cursor all c.loop-entry.invariant))
-
-pub returns-in_default : goal.returns-in_default
-returns-in_default c =
-    let all = ranges_from (tables_shown c.args.tables.now) (bases_shown c.args.bases.now) (base_shown c.args.first) c.args.cursor.now in
-    ends (tables_shown c.args.tables.now) (bases_shown c.args.bases.now) c.loop-entry.ranges.items (base_shown c.loop-entry.base) c.loop-entry.cursor all c.loop-entry.invariant c.next_range_entry.new.cursor
-    (c.in_ok-entry.ensures ∙ ap (λ (found : Option RangeEntry). Ok (option_map range_entry_shown found, c.next_range_entry.new.cursor)) c.in_default.is)
 
 pub returns-in_err-outcome : goal.returns-in_err-outcome
 returns-in_err-outcome c =
-    let p = err_from_is_err_and c.from_residual-in_err-outcome.result c.from_residual-in_err-outcome.ensures.1 in
-    let all = ranges_from (tables_shown c.args.tables.now) (bases_shown c.args.bases.now) (base_shown c.args.first) c.args.cursor.now in
-    let read = smaller range_entry_shown next_range_entry (λ p. p.left) range_entries_advance c.in_ok-entry.field-0 c.in-Some.entry c.loop-entry.cursor c.next_range_entry.new.cursor c.in-Some.is c.in_ok-entry.ensures in
-    rw (p.1) (tells (range_fault c.in_err-outcome.field-0.0) (range_fault p.0) (step (tables_shown c.args.tables.now) (bases_shown c.args.bases.now) (base_shown c.loop-entry.base) (range_entry_shown c.in-Some.entry)) all (ap range_fault p.2) c.in_err-outcome.ensures
-    (λ f. step_bad (tables_shown c.args.tables.now) (bases_shown c.args.bases.now) c.loop-entry.ranges.items (base_shown c.loop-entry.base) c.loop-entry.cursor all c.loop-entry.invariant (range_entry_shown c.in-Some.entry) c.next_range_entry.new.cursor f read))
+    let p = err_from_is_err_and c.from_residual.result c.from_residual.ensures.1 in
+    let tables = tables_shown c.args.tables.now in
+    let bases = bases_shown c.args.bases.now in
+    let all = ranges_from tables bases (base_shown c.args.first) c.args.cursor.now in
+    rw (p.1) (tells (range_fault c.in_err-outcome.field-0.0) (range_fault p.0) (next_outcome tables bases (base_shown c.loop-outcome.base) c.loop-outcome.cursor) all (ap range_fault p.2) c.in_err-outcome.ensures
+    (stops tables bases c.loop-outcome.ranges.items (base_shown c.loop-outcome.base) c.loop-outcome.cursor all c.loop-outcome.invariant))
 
-pub loop-entry-smaller : goal.loop-entry-smaller
-loop-entry-smaller c =
-    range_entries_advance c.loop-entry.cursor (range_entry_shown c.in-Some.entry) c.next_range_entry.new.cursor (smaller range_entry_shown next_range_entry (λ p. p.left) range_entries_advance c.in_ok-entry.field-0 c.in-Some.entry c.loop-entry.cursor c.next_range_entry.new.cursor c.in-Some.is c.in_ok-entry.ensures)
+pub returns-in_default : goal.returns-in_default
+returns-in_default c =
+    let tables = tables_shown c.args.tables.now in
+    let bases = bases_shown c.args.bases.now in
+    let all = ranges_from tables bases (base_shown c.args.first) c.args.cursor.now in
+    ends tables bases c.loop-outcome.ranges.items (base_shown c.loop-outcome.base) c.loop-outcome.cursor all c.loop-outcome.invariant c.next_outcome.new.cursor
+    (c.in_ok-outcome.ensures ∙ ap (λ (found : Option Outcome). Ok (option_map outcome_shown found, c.next_outcome.new.cursor)) c.in_default.is)
 
-pub loop-entry-preserved : goal.loop-entry-preserved
-loop-entry-preserved c =
-    let all = ranges_from (tables_shown c.args.tables.now) (bases_shown c.args.bases.now) (base_shown c.args.first) c.args.cursor.now in
-    let read = smaller range_entry_shown next_range_entry (λ p. p.left) range_entries_advance c.in_ok-entry.field-0 c.in-Some.entry c.loop-entry.cursor c.next_range_entry.new.cursor c.in-Some.is c.in_ok-entry.ensures in
-    rw (c.in_ok-push_some.ensures) (goes_on (tables_shown c.args.tables.now) (bases_shown c.args.bases.now) c.loop-entry.ranges.items (base_shown c.loop-entry.base) c.loop-entry.cursor all c.loop-entry.invariant (range_entry_shown c.in-Some.entry) c.next_range_entry.new.cursor (base_shown c.in_ok-outcome.outcome.base) c.in_ok-outcome.outcome.range read c.in_ok-outcome.ensures)
+pub loop-outcome-smaller : goal.loop-outcome-smaller
+loop-outcome-smaller c =
+    let tables = tables_shown c.args.tables.now in
+    let bases = bases_shown c.args.bases.now in
+    let base = base_shown c.loop-outcome.base in
+    outcomes_advance tables bases base c.loop-outcome.cursor (outcome_shown c.in-Some.outcome) c.next_outcome.new.cursor
+    (smaller outcome_shown (next_outcome tables bases base) (λ p. p.left) (outcomes_advance tables bases base) c.in_ok-outcome.field-0 c.in-Some.outcome c.loop-outcome.cursor c.next_outcome.new.cursor c.in-Some.is c.in_ok-outcome.ensures)
+
+pub loop-outcome-preserved : goal.loop-outcome-preserved
+loop-outcome-preserved c =
+    let tables = tables_shown c.args.tables.now in
+    let bases = bases_shown c.args.bases.now in
+    let base = base_shown c.loop-outcome.base in
+    let all = ranges_from tables bases (base_shown c.args.first) c.args.cursor.now in
+    let read = smaller outcome_shown (next_outcome tables bases base) (λ p. p.left) (outcomes_advance tables bases base) c.in_ok-outcome.field-0 c.in-Some.outcome c.loop-outcome.cursor c.next_outcome.new.cursor c.in-Some.is c.in_ok-outcome.ensures in
+    rw (c.in_ok-push_some.ensures) (goes_on tables bases c.loop-outcome.ranges.items base c.loop-outcome.cursor all c.loop-outcome.invariant c.next_outcome.new.cursor (base_shown c.in-Some.outcome.base) c.in-Some.outcome.range read)

@@ -5,9 +5,9 @@ use Rattle.dw_ranges.specs.OutcomeShown.{base_shown}
 use Rattle.dw_ranges.proofs.ListLemmas.{SoFar}
 use Rattle.dw_ranges.proofs.list.ranges_at.Given as goal
 
-abbrev pub invariant-loop-entry : goal.invariant-loop-entry
-invariant-loop-entry l =
+abbrev pub invariant-loop-outcome : goal.invariant-loop-outcome
+invariant-loop-outcome l =
     SoFar (tables_shown l.fn.tables) (bases_shown l.fn.bases) l.ranges.items (base_shown l.base) l.cursor (ranges_from (tables_shown l.fn.tables) (bases_shown l.fn.bases) (base_shown l.fn.first) l.fn.cursor)
 
-abbrev pub decreases-loop-entry : goal.decreases-loop-entry
-decreases-loop-entry l = length l.cursor.left
+abbrev pub decreases-loop-outcome : goal.decreases-loop-outcome
+decreases-loop-outcome l = length l.cursor.left

@@ -1,4 +1,4 @@
-use Rattle.std.proofs.Common.{◌≡◌, length, List, map, arith, ap, subst, Ok, Err}
+use Rattle.std.proofs.Common.{◌≡◌, ℕ, length, List, map, arith, ap, subst, Ok, Err}
 use Rattle.std.specs.Prelude.{MatchOption, ◌/◌}
 use Rattle.std.proofs.lemmas.Result.{err_from_is_err_and}
 use Rattle.dw_model.specs.Text.{Tables}
@@ -6,16 +6,20 @@ use Rattle.dw_model.specs.Unit as model
 use Rattle.dw_elf.specs.OpenFault.{refusal_of}
 use Rattle.dw_index.specs.declared.range.Range.{Range}
 use Rattle.dw_index.specs.Range.{range_shown}
+use Rattle.dw_ranges.specs.declared.range_list.RangeList.{RangeList}
 use Rattle.dw_ranges.specs.Lists.{IsOneAtMost, ranges_of_list}
+use Rattle.dw_ranges.specs.ReadLists.{Has}
 use Rattle.dw_symbols.specs.Cover.{checked_ranges, ranges_in}
 use Rattle.dw_symbols.specs.Pairs.{Adds}
 use Rattle.dw_symbols.proofs.CoverLemmas.{some-at, known}
-use Rattle.dw_symbols.proofs.PairsLemmas.{none-kept, again-some, further, fault-told, all-kept}
+use Rattle.dw_symbols.proofs.PairsLemmas.{none-kept, again-some, read-on, held-again, fault-told, all-kept}
 use Rattle.dw_symbols.proofs.unit_ranges.unit_ranges.Goals as goal
 
 pub loop-i-init : goal.loop-i-init
-loop-i-init c =
-    none-kept c.args.units.now (length c.args.units.now.tables.rnglists / 3) _ c.new-read.result c.new.ensures.items c.new-2.ensures.items (ap (λ (tables : Tables). length tables.rnglists / 3) c.tables.ensures) c.new-read.ensures
+loop-i-init c = record {
+  kept_is = none-kept c.args.units.now (length c.args.units.now.tables.rnglists / 3) _ c.new-read.result c.new.ensures.items c.new-2.ensures.items (ap (λ (tables : Tables). length tables.rnglists / 3) c.tables.ensures) c.new-read.ensures;
+  good_is = λ known h. absurd (subst (λ (good : List (RangeList × ℕ)). Has good known) c.new-good.ensures h);
+}
 
 pub loop-i-preserved-then-was_read : goal.loop-i-preserved-then-was_read
 loop-i-preserved-then-was_read c =
@@ -23,7 +27,18 @@ loop-i-preserved-then-was_read c =
     let most = length s.tables.rnglists / 3 in
     let unit = some-at (model.units s.info) c.loop-i.i (omega (arith, c.loop-i-test.true, c.len-i-end.ensures)) in
     let list = known (λ unit. MatchOption c.unit_list-list.result (IsOneAtMost (ranges_in s unit)) (λ list. ranges_in s unit ≡ ranges_of_list s.tables list)) _ unit.0 unit.1 c.unit_list-list.ensures in
-    again-some s most c.loop-i.kept c.loop-i.read c.loop-i.i unit.0 unit.1 c.loop-i.invariant c.unit_list-list.result list (c.was_read.ensures c.if-was_read.true)
+    record {
+      kept_is = again-some s most c.loop-i.kept c.loop-i.read c.loop-i.i unit.0 unit.1 c.loop-i.invariant.kept_is c.unit_list-list.result list (c.was_read.ensures c.if-was_read.true);
+      good_is = c.loop-i.invariant.good_is;
+    }
+
+pub loop-i-preserved-then-was_held : goal.loop-i-preserved-then-was_held
+loop-i-preserved-then-was_held c =
+    let s = c.args.units.now in
+    let most = length s.tables.rnglists / 3 in
+    let unit = some-at (model.units s.info) c.loop-i.i (omega (arith, c.loop-i-test.true, c.len-i-end.ensures)) in
+    let list = known (λ unit. MatchOption c.unit_list-list.result (IsOneAtMost (ranges_in s unit)) (λ list. ranges_in s unit ≡ ranges_of_list s.tables list)) _ unit.0 unit.1 c.unit_list-list.ensures in
+    held-again s most c.loop-i.kept c.hold.new.kept c.loop-i.read c.note.new.read c.loop-i.good c.loop-i.i unit.0 unit.1 c.loop-i.invariant c.unit_list-list.result list (c.was_held.ensures c.if-was_held.true) c.in_ok-note.ensures c.in_ok-hold.ensures
 
 pub returns-in_err-read_at-clause-refused : goal.returns-in_err-read_at-clause-refused
 returns-in_err-read_at-clause-refused c =
@@ -31,8 +46,8 @@ returns-in_err-read_at-clause-refused c =
     let most = length s.tables.rnglists / 3 in
     let unit = some-at (model.units s.info) c.loop-i.i (omega (arith, c.loop-i-test.true, c.len-i-end.ensures)) in
     let fault = known (λ unit. MatchOption (refusal_of c.in_err-read_at.field-0.0) (Unit {0}) (λ told. checked_ranges s unit ≡ Err told)) _ unit.0 unit.1 c.in_err-read_at.ensures in
-    let told = fault-told s most c.loop-i.kept c.loop-i.read c.loop-i.i unit.0 unit.1 c.loop-i.invariant (refusal_of c.in_err-read_at.field-0.0) fault in
-    let p = err_from_is_err_and c.from_residual.result c.from_residual.ensures.1 in
+    let told = fault-told s most c.loop-i.kept c.loop-i.read c.loop-i.i unit.0 unit.1 c.loop-i.invariant.kept_is (refusal_of c.in_err-read_at.field-0.0) fault in
+    let p = err_from_is_err_and c.from_residual-in_err-read_at.result c.from_residual-in_err-read_at.ensures.1 in
     rw (p.1, p.2) told
 
 pub loop-i-preserved : goal.loop-i-preserved
@@ -43,12 +58,12 @@ loop-i-preserved c =
     let list = known (λ unit. MatchOption c.unit_list-list.result (IsOneAtMost (ranges_in s unit)) (λ list. ranges_in s unit ≡ ranges_of_list s.tables list)) _ unit.0 unit.1 c.unit_list-list.ensures in
     let read = known (λ unit. checked_ranges s unit ≡ Ok (map range_shown c.read_at.new.ranges.items)) _ unit.0 unit.1 c.in_ok-read_at.ensures in
     let adds = subst (λ (ranges : List Range). Adds c.unit_list-list.result ranges c.loop-i.i c.loop-i.kept c.keep.new.kept) c.deref.ensures.value c.in_ok-keep.ensures in
-    further s most c.loop-i.kept c.loop-i.read c.loop-i.i unit.0 unit.1 c.loop-i.invariant c.unit_list-list.result c.read_at.new.ranges.items c.keep.new.kept c.note.new.read list read c.in_ok-note.ensures adds
+    read-on s most c.loop-i.kept c.keep.new.kept c.loop-i.read c.note-in-loop-i.new.read c.loop-i.good c.note_held.new.good c.loop-i.i unit.0 unit.1 c.loop-i.invariant c.unit_list-list.result c.read_at.new.ranges.items list read c.in_ok-note-2.ensures c.in_ok-note_held.ensures adds
 
 pub returns-clause-owns : goal.returns-clause-owns
 returns-clause-owns c =
     let s = c.args.units.now in
-    all-kept s (length s.tables.rnglists / 3) c.loop-i.kept c.loop-i.read c.loop-i.i (omega (arith, c.loop-i-test.false, c.len-i-end.ensures)) c.loop-i.invariant
+    all-kept s (length s.tables.rnglists / 3) c.loop-i.kept c.loop-i.read c.loop-i.i (omega (arith, c.loop-i-test.false, c.len-i-end.ensures)) c.loop-i.invariant.kept_is
 
 pub returns-clause-order : goal.returns-clause-order
-returns-clause-order c = (c.loop-i.i, c.loop-i.invariant.order)
+returns-clause-order c = (c.loop-i.i, c.loop-i.invariant.kept_is.order)
