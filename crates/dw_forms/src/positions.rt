@@ -90,7 +90,8 @@ pub(crate) enum Position {
     Unknown,
 }
 
-/// The position of the value of an attribute, where it is known how many bytes those before it take.
+/// The position of the value of an attribute, where it is known how many bytes those before it
+/// take.
 fn position_at(spec: &Spec, offset: Option<usize>) -> Position
     ensures { (name : ℕ) (specs others : List Specification) → spec.now.name ≡ name
         → IsPassed name specs offset (spec_shown spec.now ∷ others) → IsPosition name result specs }
@@ -128,8 +129,8 @@ fn position_of(specs: &[Spec], name: u64) -> Position
     Position::Absent
 }
 
-/// Where the value of the first attribute of each name is that tells of a function. So most are read
-/// without a look at those before them.
+/// Where the value of the first attribute of each name is that tells of a function. So most are
+/// read without a look at those before them.
 #[derive(Clone, Copy, Debug, PartialEq, Eq)]
 pub(crate) struct Positions {
     ranges: Position,

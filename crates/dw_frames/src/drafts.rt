@@ -182,8 +182,8 @@ impl<'b, 'a> Drafts<'b, 'a> {
         Ok(())
     }
 
-    /// Keeps the ranges of a function that are those of a list, or holds the list by name where too many ranges
-    /// of lists are kept already. One range takes no more than the name.
+    /// Keeps the ranges of a function that are those of a list, or holds the list by name where too
+    /// many ranges of lists are kept already. One range takes no more than the name.
     #[inline(always)]
     pub(crate) fn push_listed(
         &mut self,

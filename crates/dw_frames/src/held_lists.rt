@@ -14,8 +14,8 @@ use std::alloc::{AllocError, Global};
 pub(crate) struct HeldLists<'b, 'a> {
     /// Those of subprograms.
     pub(crate) outermost: Vec<HeldList<'b, 'a>>,
-    /// Those of functions that are inlined in others, each with the number of that in which it was inlined
-    /// directly.
+    /// Those of functions that are inlined in others, each with the number of that in which it was
+    /// inlined directly.
     pub(crate) inlined: Vec<(usize, HeldList<'b, 'a>)>,
 }
 

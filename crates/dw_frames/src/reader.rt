@@ -43,15 +43,16 @@ pub(crate) struct Reader<'b, 'a> {
     pub(crate) unit: OpenUnit<'b, 'a>,
     /// The ranges of the function that was read last.
     pub(crate) ranges: Vec<Range>,
-    /// How many bytes of lists may still be read before lists are noted: as many as .debug_rnglists has in all, so
-    /// that no look-up is paid for where few functions name one list, as in what compilers write.
+    /// How many bytes of lists may still be read before lists are noted: as many as .debug_rnglists
+    /// has in all, so that no look-up is paid for where few functions name one list, as in what
+    /// compilers write.
     pub(crate) left: usize,
     /// The lists without ranges that were read.
     pub(crate) idle: ReadLists,
     /// The lists of subprograms that were read.
     pub(crate) outermost: ReadLists,
-    /// The lists that were read of functions that are inlined in others, each with the number of that in which
-    /// its function lies.
+    /// The lists that were read of functions that are inlined in others, each with the number of
+    /// that in which its function lies.
     pub(crate) inlined: ReadLists,
     /// The lists that were read of functions that are inlined in none that is kept.
     pub(crate) loose: ReadLists,
@@ -86,8 +87,8 @@ fn leave_out(drafts: &mut Drafts<'_, '_>, entry: &EntryView<'_, '_>) -> Result<(
     drafts.begin_list(entry.children(), None)
 }
 
-/// Adds a function that is seen to have ranges, but owns no address: those are all an earlier one's. What lies in
-/// it lies in a function all the same.
+/// Adds a function that is seen to have ranges, but owns no address: those are all an earlier
+/// one's. What lies in it lies in a function all the same.
 #[inline(always)]
 fn pass_function(drafts: &mut Drafts<'_, '_>, entry: &EntryView<'_, '_>) -> Result<(), AllocError>
     ensures { OnOk result (drafts.new ≡ model.with_list entry.now.children (Some (length drafts.old.functions))
@@ -279,8 +280,9 @@ impl<'b, 'a> Reader<'b, 'a> {
         Ok(())
     }
 
-    /// An earlier function owns each address of a list: a subprogram, or else one that is inlined in the same
-    /// function. Or the list is that of an earlier function that is inlined, as this one, in none that is kept.
+    /// An earlier function owns each address of a list: a subprogram, or else one that is inlined
+    /// in the same function. Or the list is that of an earlier function that is inlined, as this
+    /// one, in none that is kept.
     fn is_known(&self, is_subprogram: bool, outer: Option<usize>, list: RangeList) -> bool
         ensures { result ≡ true → IsKnown self.now is_subprogram outer list }
     {
@@ -337,8 +339,9 @@ impl<'b, 'a> Reader<'b, 'a> {
         self.outermost.note_tails(list, begins, size)
     }
 
-    /// Keeps a subprogram that names a range list, where the list has ranges, once lists are noted. The list is read
-    /// up to where it goes on as one that was read for an earlier one, which owns the addresses from there on.
+    /// Keeps a subprogram that names a range list, where the list has ranges, once lists are noted.
+    /// The list is read up to where it goes on as one that was read for an earlier one, which owns
+    /// the addresses from there on.
     fn add_outermost(
         &mut self,
         drafts: &mut Drafts<'b, 'a>,
@@ -383,8 +386,9 @@ impl<'b, 'a> Reader<'b, 'a> {
         is_subprogram && self.left == 0
     }
 
-    /// Keeps a function that names a range list, where the list has ranges. A list is read once for all subprograms,
-    /// and once for all that are inlined in one function: of those the first owns all its addresses.
+    /// Keeps a function that names a range list, where the list has ranges. A list is read once for
+    /// all subprograms, and once for all that are inlined in one function: of those the first owns
+    /// all its addresses.
     fn add_listed(
         &mut self,
         drafts: &mut Drafts<'b, 'a>,
@@ -477,8 +481,8 @@ impl<'b, 'a> Reader<'b, 'a> {
         self.add_listed(drafts, entry, list)
     }
 
-    /// Keeps the next entry, where it is a function that has ranges. The error is `Depth` where it is too deep,
-    /// `Ranges` where it is a function whose ranges can't be read, or `Memory`.
+    /// Keeps the next entry, where it is a function that has ranges. The error is `Depth` where it
+    /// is too deep, `Ranges` where it is a function whose ranges can't be read, or `Memory`.
     pub(crate) fn keep(
         &mut self,
         next: Next<'b, 'a>,

@@ -23,7 +23,8 @@ use dw_index::Range;
 #[derive(Clone, Copy, Debug, PartialEq, Eq)]
 pub struct Held {
     pub holds: bool,
-    /// The next border above the address, where a range begins or ends; 2^64 - 1 where there is none.
+    /// The next border above the address, where a range begins or ends; 2^64 - 1 where there is
+    /// none.
     pub until: u64,
 }
 
@@ -96,8 +97,8 @@ fn read_at(list: RangeList, tables: &Tables<'_>, a: u64) -> Result<Held, RangeFa
 }
 
 /// Whether a list has a range that holds an address, and up to where it has, or hasn't, all
-/// addresses as this one. A list that can't be read, by the conditions of `read_list`, has none. The
-/// list is read anew, and nothing of it is kept: this takes no memory.
+/// addresses as this one. A list that can't be read, by the conditions of `read_list`, has none.
+/// The list is read anew, and nothing of it is kept: this takes no memory.
 pub fn list_at(list: RangeList, tables: &Tables<'_>, a: u64) -> Held
     ensures holds { result.holds ≡ model.covers a (told.listed (tables_shown tables.now) list) }
     ensures until { result.until ≡ told.next_border a (told.listed (tables_shown tables.now) list) }

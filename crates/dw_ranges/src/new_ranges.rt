@@ -75,9 +75,9 @@ fn new_from(
 }
 
 /// Reads the ranges of a list that count, in place of those that were kept, up to where the list
-/// goes on as one that was read, and returns that one; `None` where it comes to its end. The places,
-/// as offsets of .debug_rnglists, are those where lists begin that have ranges and end as this one.
-/// After an error any may be kept.
+/// goes on as one that was read, and returns that one; `None` where it comes to its end. The
+/// places, as offsets of .debug_rnglists, are those where lists begin that have ranges and end as
+/// this one. After an error any may be kept.
 ///
 /// The error is `Bad` by the conditions of `read_list`, or `Memory`.
 pub fn read_new(

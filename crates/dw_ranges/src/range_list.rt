@@ -30,13 +30,13 @@ pub struct RangeList {
     pub begin: u64,
     /// The base before any entry sets one; `None` where it can't be read.
     pub base: Option<u64>,
-    /// Where the addresses begin that entries name by index, as an offset of .debug_addr; `None` where the unit
-    /// names no such place.
+    /// Where the addresses begin that entries name by index, as an offset of .debug_addr; `None`
+    /// where the unit names no such place.
     pub addr: Option<u64>,
 }
 
-/// The list that a value names in a unit with these bases and this first entry; `None` where that isn't within
-/// .debug_rnglists.
+/// The list that a value names in a unit with these bases and this first entry; `None` where that
+/// isn't within .debug_rnglists.
 fn list_by<'a>(
     value: &Value<'a>,
     bases: &Bases,
@@ -60,8 +60,8 @@ fn list_by<'a>(
     })
 }
 
-/// The list that the entries of a unit name that name their ranges so. `None` where they name no list, so have one
-/// range at most, or one that isn't within .debug_rnglists, so can't be read.
+/// The list that the entries of a unit name that name their ranges so. `None` where they name no
+/// list, so have one range at most, or one that isn't within .debug_rnglists, so can't be read.
 #[inline]
 pub fn list_of<'a>(
     named: &NamedRanges<'a>,
@@ -94,11 +94,11 @@ pub(crate) fn only_addr(addr: Option<u64>) -> Bases
     }
 }
 
-/// Reads the ranges of a list that count, in place of those that were kept, whose memory serves them, and returns how
-/// many bytes the list takes. After an error any ranges may be kept.
+/// Reads the ranges of a list that count, in place of those that were kept, whose memory serves
+/// them, and returns how many bytes the list takes. After an error any ranges may be kept.
 ///
-/// The error is `Bad` where an address that is used can't be read, or the list has an unknown entry, a number that
-/// doesn't fit 64 bits, or no end within .debug_rnglists; or `Memory`.
+/// The error is `Bad` where an address that is used can't be read, or the list has an unknown
+/// entry, a number that doesn't fit 64 bits, or no end within .debug_rnglists; or `Memory`.
 pub fn read_list(
     ranges: &mut Vec<Range>,
     list: RangeList,

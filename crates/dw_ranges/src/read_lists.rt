@@ -9,10 +9,11 @@ use std::alloc::{AllocError, Global};
 use std::collections::BTreeMap;
 use std::marker::Model;
 
-/// Range lists that were read, each for an owner. Contracts see them as a list, in no order that matters.
+/// Range lists that were read, each for an owner. Contracts see them as a list, in no order that
+/// matters.
 ///
-/// Compilers write lists in the order in which entries name them: such a list is noted behind the others, and
-/// seen to be a further one by one comparison.
+/// Compilers write lists in the order in which entries name them: such a list is noted behind the
+/// others, and seen to be a further one by one comparison.
 #[derive(Drop)]
 pub struct ReadLists {
     /// Those that begin behind all that were noted before.

@@ -61,8 +61,8 @@ fn offset_of(image: &Image<'_>, i: usize) -> u64
 }
 
 impl<'b, 'a> Context<'b, 'a> {
-    /// A context that keeps the functions of so many units, and as many line tables. Nothing of them
-    /// is read yet.
+    /// A context that keeps the functions of so many units, and as many line tables. Nothing of
+    /// them is read yet.
     pub fn new(
         alloc: Global,
         image: &'b Image<'a>,

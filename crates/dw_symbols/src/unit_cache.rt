@@ -85,8 +85,8 @@ pub(crate) fn kept_location<'a>(
     Some(location_by(lines, alloc, image, i, a))
 }
 
-/// Adds the pieces of a span, of which a unit answers all addresses by a line table that is kept, or
-/// returns why it can't answer them; `None` where it isn't kept.
+/// Adds the pieces of a span, of which a unit answers all addresses by a line table that is kept,
+/// or returns why it can't answer them; `None` where it isn't kept.
 pub(crate) fn kept_pieces<'a>(
     kept: &mut Tables<'a>,
     alloc: Global,

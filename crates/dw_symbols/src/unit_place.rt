@@ -50,8 +50,8 @@ impl<'a> Image<'a> {
         Some(self.place_of(place))
     }
 
-    /// The unit that answers the first address of a span that a unit covers. `None` where no address from
-    /// `low` on and below `high` is covered. Nothing of the unit is read.
+    /// The unit that answers the first address of a span that a unit covers. `None` where no
+    /// address from `low` on and below `high` is covered. Nothing of the unit is read.
     pub fn first_unit_place(&self, low: u64, high: u64) -> Option<UnitPlace>
         ensures unit { IsFirstUnit (sections self.now) low high (option_map (λ found. found.place) result) }
         ensures within { IfSome result (λ found. found.place < length (units (sections self.now).info)) }

@@ -224,12 +224,12 @@ fn keep(
 }
 
 /// The ranges of all units that answer addresses, each with the place of its unit, but for those of
-/// units whose ranges are all an earlier one's: such a unit owns no address. So a list is read once,
-/// however many units name it and count from the same bases. A list of which several units count
-/// from other bases has other ranges in each; so no more ranges of lists are kept than the bytes of
-/// .debug_rnglists can spell, and the units behind these are held by their lists, whose ranges were
-/// read for their faults alone: once for each list, since no fault depends on the base. The error is
-/// `RootRanges`, of the first unit whose ranges can't be read, or `Memory`.
+/// units whose ranges are all an earlier one's: such a unit owns no address. So a list is read
+/// once, however many units name it and count from the same bases. A list of which several units
+/// count from other bases has other ranges in each; so no more ranges of lists are kept than the
+/// bytes of .debug_rnglists can spell, and the units behind these are held by their lists, whose
+/// ranges were read for their faults alone: once for each list, since no fault depends on the base.
+/// The error is `RootRanges`, of the first unit whose ranges can't be read, or `Memory`.
 pub(crate) fn unit_ranges(alloc: Global, units: &Units<'_>) -> Result<UnitRanges, OpenFault>
     ensures owns { IfOk result (λ kept. Owns (all_pairs units.now.tables kept)
         (pairs_from units.now 0 (model.units units.now.info))) }

@@ -39,8 +39,8 @@ impl<'a> Decl<'a> {
         }
     }
 
-    /// How an entry is passed over in a unit whose offsets have a width, without a look at the pairs;
-    /// `None` where that isn't known.
+    /// How an entry is passed over in a unit whose offsets have a width, without a look at the
+    /// pairs; `None` where that isn't known.
     pub fn steps(&self, width: Width) -> Option<&Steps>
         ensures { IfSome result (λ steps. PassesBy steps.now (attributes_at (size_of width) self.now.specs)) }
     {
