@@ -129,7 +129,8 @@ impl<'a> Attributes<'a> {
         self.specs.len()
     }
 
-    /// How many are kept: at most one for each name of which some values count, whatever is declared.
+    /// How many are kept: at most one for each name of which some values count, however many are
+    /// declared.
     pub fn kept(&self) -> usize
         ensures { result ≤ length classes }
     {
