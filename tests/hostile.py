@@ -257,7 +257,7 @@ def no_rows(size):
 
 KINDS = {
     'tables_in_one_another': LINEAR, 'falling_tables_in_one_another': LINEAR, 'functions_of_one_list': LINEAR,
-    'inlined_of_one_list': LINEAR, 'functions_of_tails': SQUARE, 'callers_of_one_list': SQUARE,
+    'inlined_of_one_list': LINEAR, 'functions_of_tails': LINEAR, 'callers_of_one_list': SQUARE,
     'units_with_functions_of_one_list': SQUARE, 'units_of_one_list': LINEAR, 'units_with_bases_of_one_list': SQUARE,
     'span_over_units_with_bases': SQUARE,
     'units_of_one_line_table': LINEAR, 'names_without_end': LINEAR, 'functions_of_empty_values': LINEAR,
