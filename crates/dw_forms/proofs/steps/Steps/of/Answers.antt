@@ -1,4 +1,4 @@
-use Rattle.std.proofs.Common.{◌+◌, ◌∷◌, ◌∙◌, ℕ, List, None, drop, length, map, refl, sym, subst, take, arith}
+use Rattle.std.proofs.Common.{◌+◌, ◌∙◌, ℕ, List, None, drop, map, refl, sym, subst, take, arith}
 use Rattle.std.proofs.lemmas.List.{drop_all, length-set, take_more_set}
 use Rattle.dw_forms.specs.Declaration.{spec_shown}
 use Rattle.dw_forms.specs.declared.declaration.Spec.{Spec}
