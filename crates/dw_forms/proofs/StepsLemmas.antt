@@ -18,7 +18,7 @@ use Rattle.dw_forms.specs.declared.steps.Steps.{Steps}
 use Rattle.dw_forms.specs.Steps.{PassesBy, Passed, bytes_passed, step_passed, steps_passed}
 use Rattle.dw_forms.proofs.SizeLemmas.{on, same-behind, behind-cons, nothing-read, value-skips}
 
-abbrev Then : Type 0
+abbrev pub Then : Type 0
 Then = Unit {0} × Place → Passed
 
 -- what is left of an entry
@@ -26,17 +26,17 @@ abbrev values_passed : List Specification → Place → Passed
 values_passed specs p = place_behind (attributes_at OFFSET_SIZE_32 specs p)
 
 -- one step after the other
-in-turn : (read : Passed) (f g : Then) → ((read >>= f) >>= g) ≡ (read >>= λ q. f q >>= g)
+pub in-turn : (read : Passed) (f g : Then) → ((read >>= f) >>= g) ≡ (read >>= λ q. f q >>= g)
 in-turn (Ok q) f g = refl
 in-turn (Err e) f g = refl
 
-same-last : (steps : List FixedValue) (f g : Place → Passed) → ((p : Place) → f p ≡ g p) → (p : Place) → steps_passed steps f p ≡ steps_passed steps g p
+pub same-last : (steps : List FixedValue) (f g : Place → Passed) → ((p : Place) → f p ≡ g p) → (p : Place) → steps_passed steps f p ≡ steps_passed steps g p
 unfolding steps_passed
 same-last [] f g h p = h p
 same-last (step ∷ steps) f g h p =
     same-behind (step_passed step p) (λ q. steps_passed steps f q.1) (λ q. steps_passed steps g q.1) (λ q. same-last steps f g h q.1)
 
-one-more : (steps : List FixedValue) (step : FixedValue) (last : Place → Passed) (p : Place) → steps_passed (steps ++ step ∷ []) last p ≡ steps_passed steps (λ q. step_passed step q >>= λ r. last r.1) p
+pub one-more : (steps : List FixedValue) (step : FixedValue) (last : Place → Passed) (p : Place) → steps_passed (steps ++ step ∷ []) last p ≡ steps_passed steps (λ q. step_passed step q >>= λ r. last r.1) p
 unfolding steps_passed
 one-more [] step last p = refl
 one-more (first ∷ steps) step last p =
@@ -119,7 +119,7 @@ so-far-split steps rest i all specs spec h so_far =
 abbrev pub LeadsTo : List FixedValue → ℕ → Place → Passed → Type 0
 LeadsTo left rest p all = steps_passed left (bytes_passed rest) p ≡ all
 
-first-step : (steps : List FixedValue) (rest i : ℕ) (step : FixedValue) (p : Place) → i < length steps → steps_passed (drop i steps) (bytes_passed rest) p ≡ (step_passed (get_or steps i step) p >>= λ q. steps_passed (drop (i + 1) steps) (bytes_passed rest) q.1)
+pub first-step : (steps : List FixedValue) (rest i : ℕ) (step : FixedValue) (p : Place) → i < length steps → steps_passed (drop i steps) (bytes_passed rest) p ≡ (step_passed (get_or steps i step) p >>= λ q. steps_passed (drop (i + 1) steps) (bytes_passed rest) q.1)
 unfolding steps_passed
 first-step steps rest i step p h = ap (λ (left : List FixedValue). steps_passed left (bytes_passed rest) p) (drop_more steps i step h)
 

@@ -5,6 +5,7 @@ pub mod Pairs
 pub mod PairsInside
 pub mod Positions
 pub mod Ranged
+pub mod Reached
 pub mod Run
 pub mod RunInside
 pub mod Size

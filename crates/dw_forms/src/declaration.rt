@@ -3,7 +3,7 @@
 ghost use Rattle.std.specs.Prelude.{◌≡◌};
 ghost use Rattle.dw_model.specs.declared.dwarf.TheConstants.{OFFSET_SIZE_32, OFFSET_SIZE_64};
 ghost use Rattle.dw_forms.specs.Size.{size_in};
-ghost use Rattle.dw_forms.specs.Positions.{known_of, ArePositions};
+ghost use Rattle.dw_forms.specs.Positions.{known_of, steps_in, ArePositions};
 ghost use Rattle.dw_forms.specs.Ranged.{may_have_ranges};
 ghost use Rattle.dw_forms.specs.Steps.{AreSteps};
 
@@ -47,10 +47,10 @@ pub struct Decl<'a> {
     /// Its entries may have ranges.
     ranged: bool,
     ghost ranged_is: { ranged ≡ may_have_ranges specs },
-    /// Where the values are that tell of a function.
-    positions: Positions,
-    ghost positions_are: { ArePositions (known_of positions) specs },
     /// How its entries are passed over in the 32-bit format, where that is known.
     steps: Option<Steps>,
     ghost steps_are: { AreSteps steps specs },
+    /// Where the values are that tell of a function.
+    positions: Positions,
+    ghost positions_are: { ArePositions (steps_in steps) (known_of positions) specs },
 }

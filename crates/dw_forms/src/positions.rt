@@ -1,17 +1,14 @@
 //! Where values are in the entries of a declaration.
 
-ghost use Rattle.std.specs.Prelude.{◌≡◌, ◌==◌, ◌∷◌, ℕ, None, Ok, Some, List, IfSome, find, map, option_map};
-ghost use Rattle.dw_model.specs.declared.dwarf.TheConstants.{OFFSET_SIZE_32};
+ghost use Rattle.std.specs.Prelude.{◌≡◌, ◌∷◌, ℕ, [], None, Some, List, IfSome, map, option_map};
 ghost use Rattle.dw_model.specs.Abbrev.{Specification};
 ghost use Rattle.dw_model.specs.Answers.{ReadsOn};
-ghost use Rattle.dw_model.specs.Entry.{Attribute, attributes_at};
-ghost use Rattle.dw_model.specs.Reading.{Place};
 ghost use Rattle.dw_forms.specs.Declaration.{spec_shown};
-ghost use Rattle.dw_forms.specs.Positions.{fixed_in, fixed_shown, known_of, position_in};
-ghost use Rattle.dw_forms.specs.Positions.{ArePositions, IsPosition, IsPassed};
+ghost use Rattle.dw_forms.specs.Positions.{known_of, position_in, value_after, ArePositions, IsPosition};
 ghost use Rattle.dw_forms.specs.Fault.{form_fault};
 ghost use Rattle.dw_forms.specs.Steps.{step_passed};
 ghost use Rattle.dw_forms.specs.Value.{value_shown};
+ghost use Rattle.dw_forms.specs.Reached.{IsPassed};
 
 use crate::declaration::Spec;
 use crate::fault::FormFault;
@@ -50,14 +47,11 @@ impl FixedValue {
         })
     }
 
-    /// Reads it in an entry whose values begin at a cursor, where all of them can be read.
+    /// Reads it where it is as far after a cursor; `None` where it can't be read.
+    #[tactic(auto, unfolding(crate::specs::Steps::steps_passed))]
     #[inline(always)]
     pub(crate) fn read<'a>(self, values: &Cursor<'a>) -> Option<Value<'a>>
-        ensures { (name : ℕ) (specs : List Specification) (found : List Attribute × Place)
-            → fixed_in name specs ≡ Some (fixed_shown self)
-            → attributes_at OFFSET_SIZE_32 specs values.now ≡ Ok found
-            → option_map value_shown result ≡ option_map
-            (λ first. first.value) (find (λ first. first.name == name) found.0) }
+        ensures { option_map value_shown result ≡ value_after [] self values.now }
     {
         let mut place = values.fork();
         place.take(self.offset as usize)?;
@@ -86,45 +80,82 @@ pub(crate) enum Position {
     Absent,
     /// As far after the first value in every entry of the 32-bit format.
     Fixed(FixedValue),
+    /// As far after so many steps.
+    After(u8, FixedValue),
     /// That isn't told: the values before it are read.
     Unknown,
 }
 
-/// The position of the value of an attribute, where it is known how many bytes those before it
-/// take.
-fn position_at(spec: &Spec, offset: Option<usize>) -> Position
-    ensures { (name : ℕ) (specs others : List Specification) → spec.now.name ≡ name
-        → IsPassed name specs offset (spec_shown spec.now ∷ others) → IsPosition name result specs }
-{
-    let Some(offset) = offset else {
-        return Position::Unknown;
-    };
-    match FixedValue::of(spec, offset) {
-        Some(fixed) => Position::Fixed(fixed),
-        None => Position::Unknown,
-    }
+/// How far some values of an entry reach: so many steps, and so many bytes more.
+#[derive(Clone, Copy)]
+pub(crate) struct Reached {
+    count: usize,
+    offset: usize,
 }
 
-/// How many bytes the values up to one and this one take, where that is known.
-fn offset_after(spec: &Spec, offset: Option<usize>) -> Option<usize>
-    ensures { (name : ℕ) (specs others : List Specification) → (spec.now.name ≡ name → ⊥)
-        → IsPassed name specs offset (spec_shown spec.now ∷ others) → IsPassed name specs result others }
+/// The position of the value of an attribute, where it is known how far the values before it reach.
+fn position_at(spec: &Spec, steps: &[FixedValue], reached: Option<Reached>) -> Position
+    ensures { (name : ℕ) (specs others : List Specification) → spec.now.name ≡ name
+        → IsPassed name steps.now specs reached (spec_shown spec.now ∷ others)
+        → IsPosition steps.now name result specs }
 {
-    let size = size_of(spec, Width::Four)?;
-    let offset = offset?;
-    offset.checked_add(size)
+    let Some(reached) = reached else {
+        return Position::Unknown;
+    };
+    let Some(fixed) = FixedValue::of(spec, reached.offset) else {
+        return Position::Unknown;
+    };
+    if reached.count == 0 {
+        return Position::Fixed(fixed);
+    }
+    if reached.count > 0xff {
+        return Position::Unknown;
+    }
+    Position::After(reached.count as u8, fixed)
+}
+
+/// How far the values up to one and this one reach, where that is known: a value of no one size is
+/// one step more.
+fn reached_after(spec: &Spec, steps: &[FixedValue], reached: Option<Reached>) -> Option<Reached>
+    ensures { (name : ℕ) (specs others : List Specification) → (spec.now.name ≡ name → ⊥)
+        → IsPassed name steps.now specs reached (spec_shown spec.now ∷ others)
+        → IsPassed name steps.now specs result others }
+{
+    let Reached { count, offset } = reached?;
+    if let Some(size) = size_of(spec, Width::Four) {
+        let offset = offset.checked_add(size)?;
+        return Some(Reached { count, offset });
+    }
+    if count >= steps.len() {
+        return None;
+    }
+    let step = FixedValue::of(spec, offset)?;
+    let told = steps[count];
+    if told.form != step.form {
+        return None;
+    }
+    if told.offset != step.offset {
+        return None;
+    }
+    Some(Reached {
+        count: count + 1,
+        offset: 0,
+    })
 }
 
 /// Where the value of the first attribute of a name is.
-fn position_of(specs: &[Spec], name: u64) -> Position
-    ensures { IsPosition name result (map spec_shown specs.now) }
+fn position_of(specs: &[Spec], steps: &[FixedValue], name: u64) -> Position
+    ensures { IsPosition steps.now name result (map spec_shown specs.now) }
 {
-    let mut offset = Some(0);
+    let mut reached = Some(Reached {
+        count: 0,
+        offset: 0,
+    });
     for spec in specs {
         if spec.name == name {
-            return position_at(spec, offset);
+            return position_at(spec, steps, reached);
         }
-        offset = offset_after(spec, offset);
+        reached = reached_after(spec, steps, reached);
     }
     Position::Absent
 }
@@ -146,21 +177,21 @@ pub(crate) struct Positions {
 }
 
 impl Positions {
-    /// Those of the attributes for which a declaration asks.
-    pub(crate) fn of(specs: &[Spec]) -> Self
-        ensures { ArePositions (known_of result) (map spec_shown specs.now) }
+    /// Those of the attributes for which a declaration asks, where these are its steps.
+    pub(crate) fn of(specs: &[Spec], steps: &[FixedValue]) -> Self
+        ensures { ArePositions steps.now (known_of result) (map spec_shown specs.now) }
     {
         Positions {
-            ranges: position_of(specs, DW_AT_ranges),
-            low_pc: position_of(specs, DW_AT_low_pc),
-            high_pc: position_of(specs, DW_AT_high_pc),
-            call_file: position_of(specs, DW_AT_call_file),
-            call_line: position_of(specs, DW_AT_call_line),
-            call_column: position_of(specs, DW_AT_call_column),
-            linkage_name: position_of(specs, DW_AT_linkage_name),
-            name: position_of(specs, DW_AT_name),
-            abstract_origin: position_of(specs, DW_AT_abstract_origin),
-            specification: position_of(specs, DW_AT_specification),
+            ranges: position_of(specs, steps, DW_AT_ranges),
+            low_pc: position_of(specs, steps, DW_AT_low_pc),
+            high_pc: position_of(specs, steps, DW_AT_high_pc),
+            call_file: position_of(specs, steps, DW_AT_call_file),
+            call_line: position_of(specs, steps, DW_AT_call_line),
+            call_column: position_of(specs, steps, DW_AT_call_column),
+            linkage_name: position_of(specs, steps, DW_AT_linkage_name),
+            name: position_of(specs, steps, DW_AT_name),
+            abstract_origin: position_of(specs, steps, DW_AT_abstract_origin),
+            specification: position_of(specs, steps, DW_AT_specification),
         }
     }
 

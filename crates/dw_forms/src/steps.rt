@@ -6,6 +6,7 @@ ghost use Rattle.dw_model.specs.Answers.{ReadsOn};
 ghost use Rattle.dw_model.specs.Entry.{attributes_at};
 ghost use Rattle.dw_forms.specs.Declaration.{spec_shown};
 ghost use Rattle.dw_forms.specs.Fault.{form_fault};
+ghost use Rattle.dw_forms.specs.Positions.{steps_in};
 ghost use Rattle.dw_forms.specs.Steps.{passed_by, PassesBy};
 
 use crate::declaration::Spec;
@@ -88,4 +89,15 @@ pub(crate) fn first_steps(steps: &[FixedValue], count: usize) -> &[FixedValue]
         return steps;
     }
     &steps[..count]
+}
+
+/// The steps of a declaration, where they are known.
+#[inline(always)]
+pub(crate) fn known_steps(steps: &Option<Steps>) -> &[FixedValue]
+    ensures { result.now ≡ steps_in steps.now }
+{
+    match steps {
+        Some(steps) => first_steps(&steps.list, steps.count as usize),
+        None => &[],
+    }
 }

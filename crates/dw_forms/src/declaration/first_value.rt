@@ -4,11 +4,13 @@ ghost use Rattle.std.specs.Prelude.{◌≡◌, ◌==◌, Ok, List, find, option_
 ghost use Rattle.dw_model.specs.Entry.{Attribute, attributes_at};
 ghost use Rattle.dw_model.specs.Reading.{Place};
 ghost use Rattle.dw_bytes.specs.Width.{size_of};
+ghost use Rattle.dw_forms.specs.Positions.{value_after};
 ghost use Rattle.dw_forms.specs.Value.{value_shown};
 
 use crate::declaration::Decl;
 use crate::pairs::Specs;
-use crate::positions::Position;
+use crate::positions::{FixedValue, Position};
+use crate::steps::{first_steps, known_steps};
 use crate::value::{Value, read_value};
 use dw_bytes::{Cursor, Width};
 
@@ -37,6 +39,20 @@ fn first_value<'a>(
     None
 }
 
+/// The value that is as far after some steps, in an entry whose values begin at a cursor; `None`
+/// where it can't be read.
+fn read_after<'a>(steps: &[FixedValue], fixed: FixedValue, values: &Cursor<'a>) -> Option<Value<'a>>
+    ensures { option_map value_shown result ≡ value_after steps.now fixed values.now }
+{
+    let mut place = values.fork();
+    for step in steps {
+        let Ok(()) = step.pass(&mut place) else {
+            return None;
+        };
+    }
+    fixed.read(&place)
+}
+
 impl<'a> Specs<'a> {
     /// The value of the first attribute of a name in an entry whose values begin at a cursor, where
     /// all of them can be read; `None` where no attribute of this name is declared. Those before it
@@ -62,6 +78,13 @@ impl<'a> Decl<'a> {
         match (self.positions.get(name), width) {
             (Position::Absent, _) => None,
             (Position::Fixed(fixed), Width::Four) => fixed.read(values),
+            (Position::After(count, fixed), Width::Four) => {
+                read_after(
+                    first_steps(known_steps(&self.steps), count as usize),
+                    fixed,
+                    values,
+                )
+            }
             _ => self.specs.first_value(name, values, width),
         }
     }

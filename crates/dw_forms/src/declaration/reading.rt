@@ -18,7 +18,7 @@ use crate::pairs::Specs;
 use crate::positions::Positions;
 use crate::ranged::may_have_ranges;
 use crate::size::size_of_all;
-use crate::steps::Steps;
+use crate::steps::{Steps, known_steps};
 use dw_bytes::{Cursor, Width};
 use dw_model::dwarf::DW_FORM_implicit_const;
 use smallvec::SmallVec;
@@ -120,8 +120,8 @@ fn declaration_of<'a>(
     let size_32 = size_of_all(specs.as_slice(), Width::Four);
     let size_64 = size_of_all(specs.as_slice(), Width::Eight);
     let ranged = may_have_ranges(specs.as_slice());
-    let positions = Positions::of(specs.as_slice());
     let steps = Steps::of(specs.as_slice());
+    let positions = Positions::of(specs.as_slice(), known_steps(&steps));
     Ok(Decl {
         offset,
         code,
@@ -131,8 +131,8 @@ fn declaration_of<'a>(
         size_32,
         size_64,
         ranged,
-        positions,
         steps,
+        positions,
     })
 }
 

@@ -10,18 +10,18 @@ abbrev none : Spec
 none = record { name = 0; form = 0; implicit = None }
 
 pub loop-spec-init : goal.loop-spec-init
-loop-spec-init c = passed-none c.args.name (map spec_shown c.args.specs.now)
+loop-spec-init c = passed-none c.args.name c.args.steps.now (map spec_shown c.args.specs.now)
 
 pub returns-then-spec-name : goal.returns-then-spec-name
 returns-then-spec-name c =
     c.position_at.ensures c.args.name (map spec_shown c.args.specs.now) (map spec_shown (drop (c.loop-spec.spec-index + 1) c.args.specs.now)) c.if-spec-name.true
-    (passed-split c.args.name c.loop-spec.spec-index c.loop-spec.offset (map spec_shown c.args.specs.now) c.args.specs.now none c.loop-spec-test.true c.loop-spec.invariant)
+    (passed-split c.args.name c.args.steps.now c.loop-spec.spec-index c.loop-spec.reached (map spec_shown c.args.specs.now) c.args.specs.now none c.loop-spec-test.true c.loop-spec.invariant)
 
 pub loop-spec-preserved : goal.loop-spec-preserved
 loop-spec-preserved c =
-    c.offset_after-offset.ensures c.args.name (map spec_shown c.args.specs.now) (map spec_shown (drop (c.loop-spec.spec-index + 1) c.args.specs.now)) c.if-spec-name.false
-    (passed-split c.args.name c.loop-spec.spec-index c.loop-spec.offset (map spec_shown c.args.specs.now) c.args.specs.now none c.loop-spec-test.true c.loop-spec.invariant)
+    c.reached_after-reached.ensures c.args.name (map spec_shown c.args.specs.now) (map spec_shown (drop (c.loop-spec.spec-index + 1) c.args.specs.now)) c.if-spec-name.false
+    (passed-split c.args.name c.args.steps.now c.loop-spec.spec-index c.loop-spec.reached (map spec_shown c.args.specs.now) c.args.specs.now none c.loop-spec-test.true c.loop-spec.invariant)
 
 pub returns : goal.returns
 returns c =
-    absent c.args.name c.loop-spec.spec-index c.loop-spec.offset (map spec_shown c.args.specs.now) c.args.specs.now (drop_all c.loop-spec.spec-index c.args.specs.now c.loop-spec-test.false) c.loop-spec.invariant
+    absent c.args.name c.args.steps.now c.loop-spec.spec-index c.loop-spec.reached (map spec_shown c.args.specs.now) c.args.specs.now (drop_all c.loop-spec.spec-index c.args.specs.now c.loop-spec-test.false) c.loop-spec.invariant

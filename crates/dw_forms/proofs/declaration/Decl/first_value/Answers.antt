@@ -1,6 +1,8 @@
-use Rattle.std.proofs.Common.{◌∙◌, sym, ap}
+use Rattle.std.proofs.Common.{◌∙◌, List, ap, sym, take}
 use Rattle.dw_model.specs.Entry.{attributes_at}
 use Rattle.dw_bytes.specs.Width.{size_of}
+use Rattle.dw_forms.specs.declared.positions.FixedValue.{FixedValue}
+use Rattle.dw_forms.specs.Positions.{value_after}
 use Rattle.dw_forms.proofs.FirstValueLemmas.{undeclared}
 use Rattle.dw_forms.proofs.declaration.Decl.first_value.Goals as goal
 
@@ -14,7 +16,17 @@ returns-in-Fixed-Four c found e =
     let specs = c.args.self.now.specs in
     let known = c.args.self.now.positions_are c.args.name in
     let told = known.1 c.in-Fixed-Four.fixed (sym c.get.ensures ∙ c.in-Fixed-Four.is-0) in
-    c.read.ensures c.args.name specs found told (ap (λ width. attributes_at (size_of width) specs c.args.values.now) (sym c.in-Fixed-Four.is-1) ∙ e)
+    c.read.ensures ∙ sym (told c.args.values.now found (ap (λ width. attributes_at (size_of width) specs c.args.values.now) (sym c.in-Fixed-Four.is-1) ∙ e))
+
+pub returns-in-After-Four : goal.returns-in-After-Four
+returns-in-After-Four c found e =
+    let specs = c.args.self.now.specs in
+    let known = c.args.self.now.positions_are c.args.name in
+    let told = known.2 c.in-After-Four.count c.in-After-Four.fixed (sym c.get.ensures ∙ c.in-After-Four.is-0) in
+    let steps = c.first_steps.ensures ∙ ap (take c.in-After-Four.count) c.known_steps.ensures in
+    c.read_after.ensures
+    ∙ ap (λ (steps : List FixedValue). value_after steps c.in-After-Four.fixed c.args.values.now) steps
+    ∙ sym (told c.args.values.now found (ap (λ width. attributes_at (size_of width) specs c.args.values.now) (sym c.in-After-Four.is-1) ∙ e))
 
 pub returns-in_default : goal.returns-in_default
 returns-in_default c found e = c.first_value.ensures found e
