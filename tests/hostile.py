@@ -260,7 +260,7 @@ KINDS = {
     'inlined_of_one_list': LINEAR, 'functions_of_tails': LINEAR, 'callers_of_one_list': SQUARE,
     'units_with_functions_of_one_list': SQUARE, 'units_of_one_list': LINEAR, 'units_with_bases_of_one_list': SQUARE,
     'span_over_units_with_bases': SQUARE,
-    'units_of_one_line_table': LINEAR, 'names_without_end': LINEAR, 'functions_of_empty_values': LINEAR,
+    'units_of_one_line_table': LINEAR, 'names_without_end': LINEAR, 'functions_of_empty_values': SQUARE,
     'functions_of_empty_values_after_a_number': SQUARE, 'units_of_empty_values': SQUARE,
     'references_of_empty_values': LINEAR, 'skipped_units': LINEAR, 'small_units': LINEAR, 'small_declarations': LINEAR,
     'small_functions': LINEAR, 'small_sequences': LINEAR, 'small_files': LINEAR, 'no_rows': LINEAR,
