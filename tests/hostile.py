@@ -157,7 +157,7 @@ def addressed_unit(function, entries):
 
 
 def functions_of_empty_values(size):
-    """Functions whose declaration has a long list of values that take no bytes."""
+    """Functions whose declaration has a long list of values that take no bytes, and after it a number that no entry has."""
     count = size // 3
     pairs = [(0x2000, FLAG_PRESENT)] * (count // 2)
     function = declaration(2, SUBPROGRAM, 0, [*pairs, (LOW_PC, ADDRX), (HIGH_PC, IMPLICIT_CONST, 1)])
@@ -165,7 +165,7 @@ def functions_of_empty_values(size):
 
 
 def functions_of_empty_values_after_a_number(size):
-    """The same after a number of no fixed size, so each function's values are looked for among all of them."""
+    """The same after a number of no one size."""
     count = size // 4
     pairs = [(0x2001, UDATA), *[(0x2000, FLAG_PRESENT)] * (count // 2)]
     function = declaration(2, SUBPROGRAM, 0, [*pairs, (LOW_PC, ADDRX), (HIGH_PC, IMPLICIT_CONST, 1)])
@@ -180,7 +180,7 @@ def units_of_empty_values(size):
 
 
 def references_of_empty_values(size):
-    """Functions whose names lie behind 16 references, each in an entry with many values that take no bytes."""
+    """Functions whose names lie after 16 references, each in an entry with many values that take no bytes."""
     pairs = [(0x2000, FLAG_PRESENT)] * (size // 8)
     declarations = (declaration(2, SUBPROGRAM, 0, [(ORIGIN, REF4), *COVERING])
                     + declaration(3, SUBPROGRAM, 0, [*pairs, (ORIGIN, REF4)]))
