@@ -219,7 +219,10 @@ fn first_of_two_attributes_decides(rt: HostRuntime) -> Result<(), Fail> {
         assert_eq!(rt; entry.attr(DW_AT_name), None);
         assert_eq!(rt; entry.attrs.first(DW_AT_name), Some(Value::Unsigned(5)));
         assert_eq!(rt; entry.attr(DW_AT_high_pc), Some(&Value::Signed(-3)));
-        assert_eq!(rt; (entry.attrs.first(DW_AT_low_pc), entry.attrs.kept()), (None, 1));
+        assert_eq!(rt;
+            (entry.attrs.first(DW_AT_low_pc), entry.attrs.kept()),
+            (None, 1)
+        );
     }
     Ok(())
 }
