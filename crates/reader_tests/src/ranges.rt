@@ -5,7 +5,7 @@ use crate::units::units_of;
 use dw_forms::{Tables, Value};
 use dw_model::dwarf::{DW_AT_high_pc, DW_AT_low_pc, DW_AT_name, DW_AT_ranges};
 use dw_ranges::{Range, RangeFault, ranges_of, read_ranges};
-use dw_units::{Entry, Units};
+use dw_units::{Entry, Unit, Units};
 use std::alloc::{AllocError, Global};
 use std::process::Abort;
 use std::test::Fail;
@@ -146,8 +146,29 @@ fn are_expected(ranges: &[Range], expected: Expected) -> bool {
             .all(|(range, row)| range.begin == row.0 && range.end == row.1)
 }
 
-/// The ranges of an entry of the unit at an index are as expected, where .debug_rnglists has these
-/// bytes: read by themselves, and into a list of others.
+/// The ranges of an entry of a unit are as expected: read by themselves, and into a list of others.
+fn are_read(
+    alloc: Global,
+    entry: &Entry<'_>,
+    unit: &Unit<'_>,
+    tables: &Tables<'_>,
+    expected: Expected,
+) -> Result<bool, Fail> {
+    let alone = match ranges_of(alloc, entry, unit, tables) {
+        Ok(found) => are_expected(&found, expected),
+        Err(fault) => fault == RangeFault::Bad && expected.is_none(),
+    };
+    let named = entry.named_ranges();
+    let mut kept = vec![in alloc; Range { begin: 7, end: 8 }]?;
+    let in_place = match read_ranges(&mut kept, &named, unit, tables) {
+        Ok(()) => are_expected(&kept, expected),
+        Err(fault) => fault == RangeFault::Bad && expected.is_none(),
+    };
+    Ok(alone && in_place)
+}
+
+/// The ranges of an entry with these attributes, of the unit at an index, are as expected where
+/// .debug_rnglists has these bytes.
 fn has_ranges(
     alloc: Global,
     units: &Units<'_>,
@@ -162,17 +183,7 @@ fn has_ranges(
     let file = file_of_entry(alloc, pairs)?;
     let others = units_of(alloc, &file)?;
     let entry = first_entry(&others).ok_or("an entry")?;
-    let tables = tables(rnglists);
-    let alone = match ranges_of(alloc, entry, units.unit(i), &tables) {
-        Ok(found) => are_expected(&found, expected),
-        Err(fault) => fault == RangeFault::Bad && expected.is_none(),
-    };
-    let mut kept = vec![in alloc; Range { begin: 7, end: 8 }]?;
-    let in_place = match read_ranges(&mut kept, &entry.named_ranges(), units.unit(i), &tables) {
-        Ok(()) => are_expected(&kept, expected),
-        Err(fault) => fault == RangeFault::Bad && expected.is_none(),
-    };
-    Ok(alone && in_place)
+    are_read(alloc, entry, units.unit(i), &tables(rnglists), expected)
 }
 
 /// Lists, each with the ranges that it has, or bad.
