@@ -129,7 +129,21 @@ import answers
 tool, large, times = sys.argv[2], sys.argv[3], int(sys.argv[4])
 ALL = ['0', str(2 ** 64 - 1)]
 three = answers.Program('three-units')
-RANGES = [str(end) for unit in three.units if unit.is_read() for pair in three.ranges[unit.root.offset] for end in pair]
+
+
+def apart(ranges):
+    """Ranges with the same addresses that don't overlap: those of code that the linker has dropped all begin at 0."""
+    found = []
+    for begin, end in sorted(ranges):
+        if found and begin < found[-1][1]:
+            found[-1][1] = max(end, found[-1][1])
+        else:
+            found.append([begin, end])
+    return found
+
+
+RANGES = [str(end) for pair in apart(pair for unit in three.units if unit.is_read() for pair in three.ranges[unit.root.offset])
+          for end in pair]
 least, told = {}, {}
 
 def words(how, path, spans=(), count=1):
