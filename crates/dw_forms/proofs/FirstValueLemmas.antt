@@ -1,17 +1,21 @@
 -- The first value of a name, read one by one among those of an entry that can be read.
-use Rattle.std.proofs.Common.{◌≡◌, ◌∙◌, ℕ, suc, ◌<◌, Bool, true, false, cond, List, [], ◌∷◌, length, option_map, Option, Some, None, Result, Ok, refl, sym, ap, arith}
+use Rattle.std.proofs.Common.{◌≡◌, ◌∙◌, ℕ, ℤ, suc, ◌<◌, Bool, true, false, cond, List, [], ◌∷◌, length, option_map, Option, Some, None, Result, Ok, refl, sym, ap, arith}
 use Rattle.std.specs.Prelude.{find, ◌==◌}
-use Rattle.std.proofs.lemmas.Bool.{eq-eqb, ne_eqb, eqb-false}
+use Rattle.std.proofs.lemmas.Bool.{eq-eqb, ne_eqb, eqb-true, eqb-false}
+use Rattle.std.proofs.lemmas.Option.{same_Some}
+use Rattle.dw_model.specs.declared.dwarf.TheConstants.{DW_FORM_implicit_const}
 use Rattle.dw_model.specs.Answers.{Tells}
 use Rattle.dw_model.specs.Results.{◌>>=◌}
 use Rattle.dw_model.specs.Reading.{Place}
 use Rattle.dw_model.specs.Faults.{Fault}
-use Rattle.dw_model.specs.Form.{Value, value_at}
+use Rattle.dw_model.specs.Form.{Value, implicit, signed, spelled_at, value_at}
 use Rattle.dw_model.specs.Abbrev.{Specification}
 use Rattle.dw_model.specs.Entry.{Attribute, attributes_at}
 use Rattle.dw_model.proofs.StepLemmas.{bind_ok, ok_is, ok-err}
+use Rattle.dw_model.proofs.ValueLemmas.{has_spelling, value-here}
 use Rattle.dw_forms.specs.declared.declaration.Spec.{Spec}
 use Rattle.dw_forms.specs.Declaration.{spec_shown}
+use Rattle.dw_forms.specs.Positions.{numbered}
 
 -- the value of the first attribute of a name
 abbrev pub value_of : ℕ → List Attribute → Option Value
@@ -104,3 +108,28 @@ undeclared size name (one ∷ others) p found e none =
     by_test true same none rest = absurd cc
     by_test false other none rest =
         rest none ∙ sym (found-later size name step.0.0 one.name step.2.0 (eqb-false one.name name other)) ∙ ap (value_of name) (sym step.4)
+
+-- ---- a number that is in the declaration
+
+number-read : (size : ℕ) (z : ℤ) (p : Place) → value_at size DW_FORM_implicit_const (Some z) p ≡ Ok (signed z, p)
+unfolding spelled_at
+number-read size z p = value-here size DW_FORM_implicit_const (Some z) p (has_spelling DW_FORM_implicit_const implicit refl)
+
+pub value-declared : (size name : ℕ) (z : ℤ) (specs : List Specification) (p : Place) (found : List Attribute × Place) → attributes_at size specs p ≡ Ok found → find (λ (one : Specification). one.name == name) specs ≡ Some (numbered name z) → Some (signed z) ≡ value_of name found.0
+value-declared size name z [] p found e first = absurd cc
+value-declared size name z (one ∷ others) p found e first =
+    by_test (one.name == name) refl first (value-declared size name z others step.0.1 step.2 step.3)
+  where
+    step : (value : Value × Place) × (value_at size one.form one.constant p ≡ Ok value) × (rest : List Attribute × Place) × (attributes_at size others value.1 ≡ Ok rest) × (found.0 ≡ record { name = one.name; value = value.0 } ∷ rest.0)
+    step = first-read size one others p found e
+
+    here : one ≡ numbered name z → one.name ≡ name → Some (signed z) ≡ value_of name found.0
+    here is same =
+        let read : value_at size one.form one.constant p ≡ Ok (signed z, p) = ap (λ (one : Specification). value_at size one.form one.constant p) is ∙ number-read size z p in
+        let value : step.0 ≡ (signed z, p) = ok_is step.0 (signed z, p) (sym step.1 ∙ read) in
+        ap Some (ap (λ (x : Value × Place). x.0) (sym value)) ∙ sym (found-here size name step.0.0 one.name step.2.0 same) ∙ ap (value_of name) (sym step.4)
+
+    by_test : (b : Bool) → (one.name == name) ≡ b → cond b (Some one) (find (λ (one : Specification). one.name == name) others) ≡ Some (numbered name z) → (find (λ (one : Specification). one.name == name) others ≡ Some (numbered name z) → Some (signed z) ≡ value_of name step.2.0) → Some (signed z) ≡ value_of name found.0
+    by_test true same first rest = here (same_Some one (numbered name z) first) (eqb-true one.name name same)
+    by_test false other first rest =
+        rest first ∙ sym (found-later size name step.0.0 one.name step.2.0 (eqb-false one.name name other)) ∙ ap (value_of name) (sym step.4)

@@ -6,6 +6,7 @@ pub mod TextLemmas
 pub mod FirstValueLemmas
 pub mod PositionLemmas
 pub mod OntoLemmas
+pub mod NumberLemmas
 pub mod PairsLemmas
 pub mod PassLemmas
 pub mod RangedLemmas

@@ -3,7 +3,7 @@ use Rattle.std.proofs.Common.{◌≡◌, ◌∙◌, ℕ, ℤ, ◌+◌, ◌<◌, 
 use Rattle.std.specs.Prelude.{nat_eq, nat_le}
 use Rattle.std.specs.Map.{lookup}
 use Rattle.std.specs.Option.{option_map_or}
-use Rattle.std.proofs.lemmas.Bool.{ne_eqb, eqb-true}
+use Rattle.std.proofs.lemmas.Bool.{eq-eqb, ne_eqb, eqb-true}
 use Rattle.std.proofs.lemmas.List.{drop_more, take_more}
 use Rattle.dw_model.specs.declared.dwarf.TheConstants.{OFFSET_SIZE_32}
 use Rattle.dw_model.specs.Results.{◌>>=◌}
@@ -20,7 +20,7 @@ use Rattle.dw_forms.specs.declared.positions.Position.TheVariants.{Unknown}
 use Rattle.dw_forms.specs.Spec.{spec_shown}
 use Rattle.dw_forms.specs.Size.{value_size, place_behind}
 use Rattle.dw_forms.specs.Steps.{Passed, bytes_passed, step_passed, steps_passed}
-use Rattle.dw_forms.specs.Positions.{first_named, value_named, Known, position_in, ArePositions, IsPosition, value_in, value_after, IsFirstAfter}
+use Rattle.dw_forms.specs.Positions.{first_named, numbered, value_named, Known, position_in, ArePositions, IsDeclared, IsPosition, value_in, value_after, IsFirstAfter}
 use Rattle.dw_forms.specs.Reached.{Leaves, IsPassed}
 use Rattle.dw_forms.proofs.SizeLemmas.{on, same-behind, nothing-read, value-skips}
 use Rattle.dw_forms.proofs.StepsLemmas.{in-turn, same-last, one-more, first-step}
@@ -115,6 +115,12 @@ pub is-at-once : (name : ℕ) (steps : List FixedValue) (reached : Reached) (fix
 is-at-once name steps reached fixed one specs others first form at none same passed =
     subst (λ (n : ℕ). IsFirstAfter (take n steps) fixed name specs) first (is-after name steps reached fixed one specs others form at none same passed)
 
+-- the number is in the declaration
+pub is-declared : (name : ℕ) (steps : List FixedValue) (reached : Option Reached) (number : ℤ) (one : Specification) (specs others : List Specification) → one ≡ numbered one.name number → one.name ≡ name → IsPassed name steps specs reached (one ∷ others) → IsDeclared number name specs
+is-declared name steps reached number one specs others e same passed =
+    let first : first_named name (one ∷ others) ≡ Some one = rw (eq-eqb one.name name same) refl in
+    passed.none ∙ first ∙ ap Some (e ∙ ap (λ (n : ℕ). numbered n number) same)
+
 -- the first of those that are left
 pub passed-split : (name : ℕ) (steps : List FixedValue) (i : ℕ) (reached : Option Reached) (all : List Specification) (specs : List Spec) (spec : Spec) → i < length specs → IsPassed name steps all reached (map spec_shown (drop i specs)) → IsPassed name steps all reached (spec_shown (get_or specs i spec) ∷ map spec_shown (drop (i + 1) specs))
 passed-split name steps i reached all specs spec h passed =
@@ -143,7 +149,7 @@ module _ (steps : List FixedValue) where
   pub are-positions : (specs : List Specification) (known : Known) → AllPositions specs known → ArePositions steps known specs
   are-positions specs known right name =
       let is = is-position specs known right name in
-      (λ e. subst (λ (position : Position). IsPosition steps name position specs) e is, λ fixed e. subst (λ (position : Position). IsPosition steps name position specs) e is, λ count fixed e. subst (λ (position : Position). IsPosition steps name position specs) e is)
+      (λ e. subst (λ (position : Position). IsPosition steps name position specs) e is, λ number e. subst (λ (position : Position). IsPosition steps name position specs) e is, λ fixed e. subst (λ (position : Position). IsPosition steps name position specs) e is, λ count fixed e. subst (λ (position : Position). IsPosition steps name position specs) e is)
 
 -- ---- what the code finds
 

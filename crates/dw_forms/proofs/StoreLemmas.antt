@@ -88,7 +88,7 @@ at-last [] y d (suc k) h = absurd (omega (arith, h))
 at-last (x ∷ xs) y d zero h = absurd (omega (arith, h))
 at-last (x ∷ xs) y d (suc k) h = at-last xs y d k (omega (arith, h))
 
-get-pushed : {X : Type 0} (xs : List X) (y z : X) (k : ℕ) → slice_get (xs ++ y ∷ []) k ≡ Some z → ((k < length xs) × (slice_get xs k ≡ Some z)) ⊎ ((k ≡ length xs) × (y ≡ z))
+pub get-pushed : {X : Type 0} (xs : List X) (y z : X) (k : ℕ) → slice_get (xs ++ y ∷ []) k ≡ Some z → ((k < length xs) × (slice_get xs k ≡ Some z)) ⊎ ((k ≡ length xs) × (y ≡ z))
 get-pushed [] y z zero e = inr (refl, same_Some y z e)
 get-pushed [] y z (suc k) e = absurd cc
 get-pushed (x ∷ xs) y z zero e = inl (omega arith, e)

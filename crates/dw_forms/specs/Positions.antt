@@ -1,8 +1,8 @@
 -- Where values are in the entries of a declaration.
-use Rattle.std.specs.Prelude.{◌≡◌, ℕ, List, [], ◌∷◌, Option, Some, None, Result, Ok, Err, find, take, option_map, nat_eq, ◌==◌}
+use Rattle.std.specs.Prelude.{◌≡◌, ℕ, ℤ, List, [], ◌∷◌, Option, Some, None, Result, Ok, Err, find, take, option_map, nat_eq, ◌==◌}
 use Rattle.std.specs.Map.{lookup}
 use Rattle.std.specs.Option.{option_map_or}
-use Rattle.dw_model.specs.declared.dwarf.TheConstants.{OFFSET_SIZE_32, DW_AT_abstract_origin, DW_AT_call_column, DW_AT_call_file, DW_AT_call_line, DW_AT_high_pc, DW_AT_linkage_name, DW_AT_low_pc, DW_AT_name, DW_AT_ranges, DW_AT_specification}
+use Rattle.dw_model.specs.declared.dwarf.TheConstants.{OFFSET_SIZE_32, DW_AT_abstract_origin, DW_AT_call_column, DW_AT_call_file, DW_AT_call_line, DW_AT_high_pc, DW_AT_linkage_name, DW_AT_low_pc, DW_AT_name, DW_AT_ranges, DW_AT_specification, DW_FORM_implicit_const}
 use Rattle.dw_model.specs.Results.{◌>>=◌}
 use Rattle.dw_model.specs.Faults.{Fault}
 use Rattle.dw_model.specs.Reading.{Place}
@@ -13,7 +13,7 @@ use Rattle.dw_forms.specs.Steps.{bytes_passed, list_of, steps_passed}
 use Rattle.dw_forms.specs.declared.steps.Steps.{Steps}
 use Rattle.dw_forms.specs.declared.positions.FixedValue.{FixedValue}
 use Rattle.dw_forms.specs.declared.positions.Position.{Position}
-use Rattle.dw_forms.specs.declared.positions.Position.TheVariants.{Absent, Fixed, After, Unknown}
+use Rattle.dw_forms.specs.declared.positions.Position.TheVariants.{Absent, Declared, Fixed, After, Unknown}
 use Rattle.dw_forms.specs.declared.positions.Positions.{Positions}
 
 -- the value of the first attribute of a name
@@ -23,6 +23,14 @@ value_named name attributes = option_map (λ first. first.value) (find (λ first
 -- the first attribute of a name
 abbrev pub first_named : ℕ → List Specification → Option Specification
 first_named name specifications = find (λ one. one.name == name) specifications
+
+-- an attribute whose number is in the declaration
+abbrev pub numbered : ℕ → ℤ → Specification
+numbered name number = record { name = name; form = DW_FORM_implicit_const; constant = Some number }
+
+-- The first attribute of a name has this number in the declaration.
+abbrev pub IsDeclared : ℤ → ℕ → List Specification → Type 0
+IsDeclared number name specifications = first_named name specifications ≡ Some (numbered name number)
 
 -- the value that was read, where it can be
 abbrev pub value_in : Result (Value × Place) Fault → Option Value
@@ -42,6 +50,7 @@ IsFirstAfter steps fixed name specifications =
 -- The position is that of the first value of a name, where these are the steps.
 abbrev pub IsPosition : List FixedValue → ℕ → Position → List Specification → Type 0
 IsPosition steps name Absent specifications = first_named name specifications ≡ None
+IsPosition steps name (Declared number) specifications = IsDeclared number name specifications
 IsPosition steps name (Fixed fixed) specifications = IsFirstAfter [] fixed name specifications
 IsPosition steps name (After count fixed) specifications = IsFirstAfter (take count steps) fixed name specifications
 IsPosition steps name Unknown specifications = Unit {0}
@@ -77,5 +86,6 @@ abbrev pub ArePositions : List FixedValue → Known → List Specification → T
 ArePositions steps known specifications =
     (name : ℕ)
     → (position_in known name ≡ Absent → first_named name specifications ≡ None)
+    × ((number : ℤ) → position_in known name ≡ Declared number → IsDeclared number name specifications)
     × ((fixed : FixedValue) → position_in known name ≡ Fixed fixed → IsFirstAfter [] fixed name specifications)
     × ((count : ℕ) (fixed : FixedValue) → position_in known name ≡ After count fixed → IsFirstAfter (take count steps) fixed name specifications)

@@ -2,6 +2,7 @@
 
 ghost use Rattle.std.specs.Prelude.{◌≡◌};
 ghost use Rattle.dw_model.specs.declared.dwarf.TheConstants.{OFFSET_SIZE_32, OFFSET_SIZE_64};
+ghost use Rattle.dw_forms.specs.Numbers.{AreNumbers};
 ghost use Rattle.dw_forms.specs.Size.{size_in};
 ghost use Rattle.dw_forms.specs.Positions.{known_of, steps_in, ArePositions};
 ghost use Rattle.dw_forms.specs.Ranged.{may_have_ranges};
@@ -10,6 +11,7 @@ ghost use Rattle.dw_forms.specs.Steps.{AreSteps};
 mod first_value;
 mod reading;
 
+use crate::numbers::Number;
 use crate::pairs::Specs;
 use crate::positions::Positions;
 use crate::steps::Steps;
@@ -53,4 +55,7 @@ pub struct Decl<'a> {
     /// Where the values are that tell of a function.
     positions: Positions,
     ghost positions_are: { ArePositions (steps_in steps) (known_of positions) specs },
+    /// Numbers of the declaration, where 32 bits don't hold one of them.
+    numbers: Vec<Number>,
+    ghost numbers_are: { AreNumbers numbers.items specs },
 }

@@ -5,6 +5,7 @@ mod abbrevs;
 mod declaration;
 mod fault;
 mod form;
+mod numbers;
 mod pairs;
 mod passing;
 mod positions;

@@ -4,7 +4,8 @@ ghost use Rattle.std.specs.Prelude.{◌≡◌, ◌∷◌, ℕ, [], None, Some, L
 ghost use Rattle.dw_model.specs.Abbrev.{Specification};
 ghost use Rattle.dw_model.specs.Answers.{ReadsOn};
 ghost use Rattle.dw_forms.specs.Declaration.{spec_shown};
-ghost use Rattle.dw_forms.specs.Positions.{known_of, position_in, value_after, ArePositions, IsPosition};
+ghost use Rattle.dw_forms.specs.Positions.{known_of, numbered, position_in, value_after};
+ghost use Rattle.dw_forms.specs.Positions.{ArePositions, IsPosition};
 ghost use Rattle.dw_forms.specs.Fault.{form_fault};
 ghost use Rattle.dw_forms.specs.Steps.{step_passed};
 ghost use Rattle.dw_forms.specs.Value.{value_shown};
@@ -18,6 +19,7 @@ use dw_bytes::{Cursor, Width};
 use dw_model::dwarf::{
     DW_AT_abstract_origin, DW_AT_call_column, DW_AT_call_file, DW_AT_call_line, DW_AT_high_pc,
     DW_AT_linkage_name, DW_AT_low_pc, DW_AT_name, DW_AT_ranges, DW_AT_specification,
+    DW_FORM_implicit_const,
 };
 
 /// The value of an attribute that is as far after a place in every entry of a declaration, in units
@@ -78,6 +80,8 @@ impl FixedValue {
 pub(crate) enum Position {
     /// No attribute of the name is declared.
     Absent,
+    /// In the declaration, as a number that 32 bits hold.
+    Declared(i32),
     /// As far after the first value in every entry of the 32-bit format.
     Fixed(FixedValue),
     /// As far after so many steps.
@@ -93,8 +97,19 @@ pub(crate) struct Reached {
     offset: usize,
 }
 
-/// The position of the value of an attribute, where it is known how far the values before it reach.
-fn position_at(spec: &Spec, steps: &[FixedValue], reached: Option<Reached>) -> Position
+/// The number of an attribute, where it is in the declaration and 32 bits hold it.
+fn short_number(spec: &Spec) -> Option<i32>
+    ensures { IfSome result (λ n. spec_shown spec.now ≡ numbered spec.now.name n) }
+{
+    if spec.form != DW_FORM_implicit_const {
+        return None;
+    }
+    i32::try_from(spec.implicit?).ok()
+}
+
+/// The position of the value of an attribute that is in the entries, where it is known how far the
+/// values before it reach.
+fn position_in_entry(spec: &Spec, steps: &[FixedValue], reached: Option<Reached>) -> Position
     ensures { (name : ℕ) (specs others : List Specification) → spec.now.name ≡ name
         → IsPassed name steps.now specs reached (spec_shown spec.now ∷ others)
         → IsPosition steps.now name result specs }
@@ -112,6 +127,18 @@ fn position_at(spec: &Spec, steps: &[FixedValue], reached: Option<Reached>) -> P
         return Position::Unknown;
     }
     Position::After(reached.count as u8, fixed)
+}
+
+/// The position of the value of an attribute, where the values before it reach so far.
+fn position_at(spec: &Spec, steps: &[FixedValue], reached: Option<Reached>) -> Position
+    ensures { (name : ℕ) (specs others : List Specification) → spec.now.name ≡ name
+        → IsPassed name steps.now specs reached (spec_shown spec.now ∷ others)
+        → IsPosition steps.now name result specs }
+{
+    match short_number(spec) {
+        Some(number) => Position::Declared(number),
+        None => position_in_entry(spec, steps, reached),
+    }
 }
 
 /// How far the values up to one and this one reach, where that is known: a value of no one size is

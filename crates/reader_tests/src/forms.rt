@@ -3,15 +3,16 @@
 use dw_bytes::{Cursor, Width};
 use dw_forms::{AbbrevStore, Abbrevs, Bases, Decl, FormFault, Spec, Tables, Value, read_value};
 use dw_model::dwarf::{
-    DW_AT_high_pc, DW_AT_low_pc, DW_AT_name, DW_FORM_GNU_ref_alt, DW_FORM_GNU_strp_alt,
-    DW_FORM_addr, DW_FORM_addrx, DW_FORM_addrx1, DW_FORM_addrx2, DW_FORM_addrx3, DW_FORM_addrx4,
-    DW_FORM_block, DW_FORM_block1, DW_FORM_block2, DW_FORM_block4, DW_FORM_data1, DW_FORM_data2,
-    DW_FORM_data4, DW_FORM_data8, DW_FORM_data16, DW_FORM_exprloc, DW_FORM_flag,
-    DW_FORM_flag_present, DW_FORM_implicit_const, DW_FORM_indirect, DW_FORM_line_strp,
-    DW_FORM_loclistx, DW_FORM_ref_addr, DW_FORM_ref_sig8, DW_FORM_ref_sup4, DW_FORM_ref_sup8,
-    DW_FORM_ref_udata, DW_FORM_ref1, DW_FORM_ref2, DW_FORM_ref4, DW_FORM_ref8, DW_FORM_rnglistx,
-    DW_FORM_sdata, DW_FORM_sec_offset, DW_FORM_string, DW_FORM_strp, DW_FORM_strp_sup,
-    DW_FORM_strx, DW_FORM_strx1, DW_FORM_strx2, DW_FORM_strx3, DW_FORM_strx4, DW_FORM_udata,
+    DW_AT_call_column, DW_AT_call_file, DW_AT_call_line, DW_AT_high_pc, DW_AT_low_pc, DW_AT_name,
+    DW_FORM_GNU_ref_alt, DW_FORM_GNU_strp_alt, DW_FORM_addr, DW_FORM_addrx, DW_FORM_addrx1,
+    DW_FORM_addrx2, DW_FORM_addrx3, DW_FORM_addrx4, DW_FORM_block, DW_FORM_block1, DW_FORM_block2,
+    DW_FORM_block4, DW_FORM_data1, DW_FORM_data2, DW_FORM_data4, DW_FORM_data8, DW_FORM_data16,
+    DW_FORM_exprloc, DW_FORM_flag, DW_FORM_flag_present, DW_FORM_implicit_const, DW_FORM_indirect,
+    DW_FORM_line_strp, DW_FORM_loclistx, DW_FORM_ref_addr, DW_FORM_ref_sig8, DW_FORM_ref_sup4,
+    DW_FORM_ref_sup8, DW_FORM_ref_udata, DW_FORM_ref1, DW_FORM_ref2, DW_FORM_ref4, DW_FORM_ref8,
+    DW_FORM_rnglistx, DW_FORM_sdata, DW_FORM_sec_offset, DW_FORM_string, DW_FORM_strp,
+    DW_FORM_strp_sup, DW_FORM_strx, DW_FORM_strx1, DW_FORM_strx2, DW_FORM_strx3, DW_FORM_strx4,
+    DW_FORM_udata,
 };
 use std::alloc::{AllocError, Global};
 use std::test::Fail;
@@ -311,6 +312,36 @@ fn first_values(rt: HostRuntime) -> Result<(), Fail> {
         for width in [Width::Four, Width::Eight] {
             assert_eq!(rt;
                 declaration.first_value(*name, &values, width),
+                *value,
+                "of {name}"
+            );
+        }
+    }
+    Ok(())
+}
+
+/// The numbers of a declaration: one of 32 bits, the least that needs more, one below 0, and a large
+/// one. No entry is looked at for them.
+#[test]
+fn declared_numbers(rt: HostRuntime) -> Result<(), Fail> {
+    let bytes = &[
+        1, 0x1d, 0, 0x3f, 0x19, 0x58, 0x21, 0xff, 0xff, 0xff, 0xff, 7, 0x59, 0x21, 0x80, 0x80, 0x80,
+        0x80, 8, 0x57, 0x21, 0x7f, 0x12, 0x21, 0x80, 0x80, 0x80, 0x80, 0x80, 0x20, 0x58, 0x21, 1, 0,
+        0, 0,
+    ];
+    let table = Abbrevs::read(rt.alloc(), bytes, 0)?;
+    let declaration = table.get(1).ok_or("a declaration")?;
+    let rows: &[(u64, Option<Value<'static>>)] = &[
+        (DW_AT_call_file, Some(Value::Signed(0x7fff_ffff))),
+        (DW_AT_call_line, Some(Value::Signed(0x8000_0000))),
+        (DW_AT_call_column, Some(Value::Signed(-1))),
+        (DW_AT_high_pc, Some(Value::Signed(1 << 40))),
+        (DW_AT_low_pc, None),
+    ];
+    for (name, value) in rows {
+        for width in [Width::Four, Width::Eight] {
+            assert_eq!(rt;
+                declaration.first_value(*name, &Cursor::new(&[]), width),
                 *value,
                 "of {name}"
             );

@@ -8,6 +8,7 @@ ghost use Rattle.dw_forms.specs.Positions.{value_after};
 ghost use Rattle.dw_forms.specs.Value.{value_shown};
 
 use crate::declaration::Decl;
+use crate::numbers::number_named;
 use crate::pairs::Specs;
 use crate::positions::{FixedValue, Position};
 use crate::steps::{first_steps, known_steps};
@@ -68,7 +69,22 @@ impl<'a> Specs<'a> {
 }
 
 impl<'a> Decl<'a> {
-    /// The same in an entry of the declaration, mostly without a look at the values before it.
+    /// The same, which is a long number of the declaration, or else one for which those before it
+    /// are read.
+    fn number_or_value<'b>(&self, name: u64, values: &Cursor<'b>, width: Width) -> Option<Value<'b>>
+        ensures { (found : List Attribute × Place)
+            → attributes_at (size_of width) self.now.specs values.now ≡ Ok found
+            → option_map value_shown result ≡ option_map
+            (λ first. first.value) (find (λ first. first.name == name) found.0) }
+    {
+        match number_named(&self.numbers, name) {
+            Some(number) => Some(Value::Signed(number)),
+            None => self.specs.first_value(name, values, width),
+        }
+    }
+
+    /// The same in an entry of the declaration, mostly without a look at the values before it. An
+    /// absent value, and one that is a number of the declaration, takes no look at the entry.
     pub fn first_value<'b>(&self, name: u64, values: &Cursor<'b>, width: Width) -> Option<Value<'b>>
         ensures { (found : List Attribute × Place)
             → attributes_at (size_of width) self.now.specs values.now ≡ Ok found
@@ -77,6 +93,7 @@ impl<'a> Decl<'a> {
     {
         match (self.positions.get(name), width) {
             (Position::Absent, _) => None,
+            (Position::Declared(number), _) => Some(Value::Signed(number as i64)),
             (Position::Fixed(fixed), Width::Four) => fixed.read(values),
             (Position::After(count, fixed), Width::Four) => {
                 read_after(
@@ -85,7 +102,7 @@ impl<'a> Decl<'a> {
                     values,
                 )
             }
-            _ => self.specs.first_value(name, values, width),
+            _ => self.number_or_value(name, values, width),
         }
     }
 }

@@ -14,6 +14,7 @@ ghost use Rattle.dw_forms.specs.Steps.{PassesBy};
 
 use crate::declaration::{Decl, Spec};
 use crate::fault::FormFault;
+use crate::numbers::long_numbers;
 use crate::pairs::Specs;
 use crate::positions::Positions;
 use crate::ranged::may_have_ranges;
@@ -122,6 +123,7 @@ fn declaration_of<'a>(
     let ranged = may_have_ranges(specs.as_slice());
     let steps = Steps::of(specs.as_slice());
     let positions = Positions::of(specs.as_slice(), known_steps(&steps));
+    let numbers = long_numbers(alloc, specs.as_slice())?;
     Ok(Decl {
         offset,
         code,
@@ -133,6 +135,7 @@ fn declaration_of<'a>(
         ranged,
         steps,
         positions,
+        numbers,
     })
 }
 

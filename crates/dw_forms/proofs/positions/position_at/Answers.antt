@@ -1,16 +1,10 @@
-use Rattle.std.proofs.Common.{◌∷◌, Option, subst}
+use Rattle.std.proofs.Common.{w32, SFits, rules}
+use Rattle.std.proofs.lemmas.Int.{to_z-of_z}
 use Rattle.dw_forms.specs.Declaration.{spec_shown}
-use Rattle.dw_forms.specs.declared.positions.Reached.{Reached}
-use Rattle.dw_forms.specs.Reached.{IsPassed}
-use Rattle.dw_forms.proofs.PositionLemmas.{is-after, is-at-once}
+use Rattle.dw_forms.proofs.PositionLemmas.{is-declared}
 use Rattle.dw_forms.proofs.positions.position_at.Goals as goal
 
-pub returns-then-reached-eq0 : goal.returns-then-reached-eq0
-returns-then-reached-eq0 c name specs others same passed =
-    is-at-once name c.args.steps.now c.in-Some.reached c.in-Some-of.fixed (spec_shown c.args.spec.now) specs others c.if-reached-eq0.true c.in-Some-of.ensures.form c.in-Some-of.ensures.offset c.in-Some-of.ensures.constant same
-    (subst (λ (reached : Option Reached). IsPassed name c.args.steps.now specs reached (spec_shown c.args.spec.now ∷ others)) c.in-Some.is passed)
-
-pub returns : goal.returns
-returns c name specs others same passed =
-    is-after name c.args.steps.now c.in-Some.reached c.in-Some-of.fixed (spec_shown c.args.spec.now) specs others c.in-Some-of.ensures.form c.in-Some-of.ensures.offset c.in-Some-of.ensures.constant same
-    (subst (λ (reached : Option Reached). IsPassed name c.args.steps.now specs reached (spec_shown c.args.spec.now ∷ others)) c.in-Some.is passed)
+pub returns-in-Some : goal.returns-in-Some
+returns-in-Some c name specs others same passed =
+    let fits : SFits w32 c.in-Some.number = search rules in
+    rw (to_z-of_z w32 c.in-Some.number fits) (is-declared name c.args.steps.now c.args.reached c.in-Some.number (spec_shown c.args.spec.now) specs others c.in-Some.ensures same passed)

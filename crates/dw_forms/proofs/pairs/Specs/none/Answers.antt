@@ -1,4 +1,3 @@
-use Rattle.std.proofs.Common.{◌∙◌}
 use Rattle.dw_forms.proofs.PairsLemmas.{none-at, none-there}
 use Rattle.dw_forms.proofs.pairs.Specs.none.Goals as goal
 
