@@ -1,6 +1,7 @@
 pub mod IndirectLemmas
 pub mod SizeLemmas
 pub mod StepsLemmas
+pub mod StartLemmas
 pub mod StoreLemmas
 pub mod TextLemmas
 pub mod FirstValueLemmas

@@ -1,6 +1,6 @@
 -- Declarations that are read once, and the tables that begin among them.
 use Rattle.std.proofs.Common.{◌≡◌, ◌⊎◌, inl, inr, ◌∙◌, ℕ, zero, suc, ◌<◌, ◌≤◌, Bool, true, false, cond, List, [], ◌∷◌, ◌++◌, length, drop, take, get_or, map, Option, Some, None, Result, Ok, Err, refl, sym, ap, subst, arith}
-use Rattle.std.specs.Prelude.{IfErr, IfSome, IsOk, MatchOption, slice_get, nat_le, option_map, ◌==◌}
+use Rattle.std.specs.Prelude.{IfErr, IfSome, IsOk, MatchOption, slice_get, nat_le, option_map, sum, ◌==◌}
 use Rattle.std.specs.Ordering.{nat_cmp}
 use Rattle.std.specs.BTreeMap as tree
 use Rattle.std.proofs.lemmas.Bool.{le-leb, leb-true}
@@ -20,10 +20,12 @@ use Rattle.dw_forms.specs.declared.run.Start.{Start}
 use Rattle.dw_forms.specs.Fault.{form_fault, HidesNoFault}
 use Rattle.dw_forms.specs.Declaration.{declaration_shown}
 use Rattle.dw_forms.specs.Run.{ReadRun}
-use Rattle.dw_forms.specs.Store.{Read, table_from, HasTable, IsKept, AreChained, EndsAt, IsRunAt, AreAdded}
+use Rattle.dw_forms.specs.Starts.{AreAdded, AreApart}
+use Rattle.dw_forms.specs.Store.{Read, table_from, HasTable, IsKept, AreChained, EndsAt, IsRunAt}
 use Rattle.dw_forms.specs.declared.store.AbbrevStore.TheInside.{Inside}
 use Rattle.dw_forms.specs.StoreInside.{rest_in, whole, grown, tables_of, sizes_of, IsTabled, AreTabled, IsStored}
 use Rattle.dw_forms.proofs.OntoLemmas.{place_at, Stands, next-stands}
+use Rattle.dw_forms.proofs.StartLemmas.{in-section, sum-more}
 
 abbrev all_at : Place → Result (List Declaration × Place) Fault
 all_at p = items (λ p. p.left) next_declaration p
@@ -94,6 +96,14 @@ get-pushed [] y z (suc k) e = absurd cc
 get-pushed (x ∷ xs) y z zero e = inl (omega arith, e)
 get-pushed (x ∷ xs) y z (suc k) e =
     elim (get-pushed xs y z k e) [ inl h ↦ inl (omega (arith, h.0), h.1) | inr h ↦ inr (omega (arith, h.0), h.1) ]
+
+pub apart-more : (starts : tree.BTreeMap ℕ Start) (ds : List Decl) (d : Decl) (q : Place) → AreApart starts (map (λ (d : Decl). d.offset) ds) → d.offset ≡ q.at → tree.get nat_cmp starts q.at ≡ None → AreApart starts (map (λ (d : Decl). d.offset) (ds ++ d ∷ []))
+apart-more starts ds d q apart same none k offset e =
+    let pushed = map_push (λ (d : Decl). d.offset) ds d in
+    elim (get-pushed (map (λ (d : Decl). d.offset) ds) d.offset offset k (ap (λ (xs : List ℕ). slice_get xs k) (sym pushed) ∙ e)) [
+      | inl old ↦ apart k offset old.1
+      | inr new ↦ ap (tree.get nat_cmp starts) (sym new.1 ∙ same) ∙ none
+    ]
 
 -- ---- a run is added to others
 
@@ -203,11 +213,11 @@ module _ (section : List ℕ) (runs : List ReadRun) (run : ReadRun) (count : len
       (omega (arith, more, grows), omega arith, table-at section p t (map declaration_shown ds ++ rest_in (tables_of runs) run.rest) s (chained-items p q t ds (rest_in (tables_of runs) run.rest) h e) ∙ ap Ok (sym table))
 
   pub starts-more : (p q t : Place) (ds : List Decl) (n : ℕ) (offsets : List ℕ) (old new : tree.BTreeMap ℕ Start) → run.declarations ≡ map declaration_shown ds → n ≡ length runs → offsets ≡ map (λ (d : Decl). d.offset) ds → Stands section p → AreChained p ds q
-      → all_at q ≡ Ok (rest_in (tables_of runs) run.rest, t) → AreAdded n offsets old new → HaveTables section runs old → HaveTables section (runs ++ run ∷ []) new
+      → all_at q ≡ Ok (rest_in (tables_of runs) run.rest, t) → AreAdded n (length offsets) offsets old new → HaveTables section runs old → HaveTables section (runs ++ run ∷ []) new
   starts-more p q t ds n offsets old new is last those s h e added have offset start found =
-      elim (added offset start found) [
+      elim (added.each offset start found) [
         | inl before ↦ still offset start (have offset start before)
-        | inr mine ↦ own p q t ds offset start is s h e (mine.0 ∙ last) (ap (λ (xs : List ℕ). slice_get xs start.index) (sym those) ∙ mine.1)
+        | inr mine ↦ own p q t ds offset start is s h e (mine.0 ∙ last) (ap (λ (xs : List ℕ). slice_get xs start.index) (sym those) ∙ mine.2)
       ]
 
   -- the run that was added
@@ -269,9 +279,30 @@ hides (Err fault) given read = by_told (form_fault fault)
     by_told None = read
     by_told (Some told) = tt
 
-pub stored : (store : Inside) (runs : List ReadRun) → store.runs.items ≡ runs → AreTabled runs → HaveTables store.section.now runs store.starts → IsStored store
-stored store runs same are starts = record {
+-- each start is in the section
+abbrev pub AreBelow : List ℕ → tree.BTreeMap ℕ Start → Type 0
+AreBelow section starts = (offset : ℕ) (start : Start) → tree.get nat_cmp starts offset ≡ Some start → offset < length section
+
+pub below-more : (section : List ℕ) (p q : Place) (ds : List Decl) (run count : ℕ) (offsets : List ℕ) (old new : tree.BTreeMap ℕ Start) → offsets ≡ map (λ (d : Decl). d.offset) ds → Stands section p → AreChained p ds q → AreAdded run count offsets old new → AreBelow section old → AreBelow section new
+below-more section p q ds run count offsets old new those s h added below offset start found =
+    elim (added.each offset start found) [
+      | inl before ↦ below offset start before
+      | inr mine ↦ (in-section section p q ds start.index offset s h (ap (λ (xs : List ℕ). slice_get xs start.index) (sym those) ∙ mine.2)).1
+    ]
+
+-- as many starts as declarations
+pub counted-more : (runs : List ReadRun) (run : ReadRun) (ds : List Decl) (n : ℕ) (offsets : List ℕ) (old new : tree.BTreeMap ℕ Start) → run.declarations ≡ map declaration_shown ds → offsets ≡ map (λ (d : Decl). d.offset) ds → AreAdded n (length offsets) offsets old new → tree.btree_map_len old ≡ sum (sizes_of runs)
+    → tree.btree_map_len new ≡ sum (sizes_of (runs ++ run ∷ []))
+counted-more runs run ds n offsets old new is those added counted =
+    let declarations : length run.declarations ≡ length ds = ap (λ (ds : List Declaration). length ds) is ∙ length-map ds declaration_shown in
+    let places : length offsets ≡ length ds = ap (λ (xs : List ℕ). length xs) those ∙ length-map ds (λ (d : Decl). d.offset) in
+    omega (arith, declarations, places, added.counted, counted, sum-more runs run)
+
+pub stored : (store : Inside) (runs : List ReadRun) → store.runs.items ≡ runs → AreTabled runs → tree.btree_map_len store.starts ≡ sum (sizes_of runs) → AreBelow store.section.now store.starts → HaveTables store.section.now runs store.starts → IsStored store
+stored store runs same are counted below starts = record {
   tabled = subst AreTabled (sym same) are;
+  counted = counted ∙ ap (λ (runs : List ReadRun). sum (sizes_of runs)) (sym same);
+  below = below;
   starts = subst (λ (runs : List ReadRun). HaveTables store.section.now runs store.starts) (sym same) starts;
 }
 

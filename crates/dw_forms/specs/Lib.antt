@@ -12,6 +12,7 @@ pub mod RunInside
 pub mod Size
 pub mod Spec
 pub mod Spelling
+pub mod Starts
 pub mod Steps
 pub mod Table
 pub mod Tables

@@ -1,5 +1,5 @@
 -- The declarations that were read of .debug_abbrev, and the tables that begin among them.
-use Rattle.std.specs.Prelude.{◌≡◌, ◌⊎◌, ◌≤◌, ◌<◌, ℕ, List, [], ◌∷◌, Option, Some, None, Ok, drop, length, slice_get, slice_index_or}
+use Rattle.std.specs.Prelude.{◌≡◌, ◌≤◌, ◌<◌, ℕ, List, [], ◌∷◌, Option, Some, None, Ok, drop, length, slice_index_or}
 use Rattle.std.specs.Ordering.{nat_cmp}
 use Rattle.std.specs.BTreeMap as tree
 use Rattle.dw_model.specs.Reading.{Place}
@@ -52,8 +52,3 @@ EndsAt starts q (Some start) = tree.get nat_cmp starts q.at ≡ Some start
 -- The run from a place on was read.
 abbrev pub IsRunAt : tree.BTreeMap ℕ Start → Place → List Decl → Option Start → Type 0
 IsRunAt starts p declarations rest = (q : Place) × AreChained p declarations q × EndsAt starts q rest
-
--- Starts of a run were added: each is where a declaration of the run begins.
-abbrev pub AreAdded : (run : ℕ) → (offsets : List ℕ) → tree.BTreeMap ℕ Start → tree.BTreeMap ℕ Start → Type 0
-AreAdded run offsets old new =
-    (offset : ℕ) (start : Start) → tree.get nat_cmp new offset ≡ Some start → (tree.get nat_cmp old offset ≡ Some start) ⊎ ((start.run ≡ run) × (slice_get offsets start.index ≡ Some offset))

@@ -1,5 +1,5 @@
 -- What the declarations that were read are seen as, and how their tables are found.
-use Rattle.std.specs.Prelude.{◌≡◌, ◌≤◌, ◌<◌, ◌++◌, ℕ, List, [], ◌∷◌, Option, Some, None, IfSome, drop, fold, length, map, slice_get, slice_index_or}
+use Rattle.std.specs.Prelude.{◌≡◌, ◌≤◌, ◌<◌, ◌++◌, ℕ, List, [], ◌∷◌, Option, Some, None, IfSome, drop, fold, length, map, slice_get, slice_index_or, sum}
 use Rattle.std.specs.Ordering.{nat_cmp}
 use Rattle.std.specs.BTreeMap as tree
 use Rattle.dw_model.specs.Abbrev.{Declaration}
@@ -46,4 +46,6 @@ pub record AreTabled (runs : List ReadRun) : Type 0 where
 
 pub record IsStored (store : Inside) : Type 0 where
   pub tabled : AreTabled store.runs.items
+  pub counted : tree.btree_map_len store.starts ≡ sum (sizes_of store.runs.items)
+  pub below : (offset : ℕ) (start : Start) → tree.get nat_cmp store.starts offset ≡ Some start → offset < length store.section.now
   pub starts : (offset : ℕ) (start : Start) → tree.get nat_cmp store.starts offset ≡ Some start → HasTable (read_in store) offset start

@@ -1,12 +1,15 @@
 //! The declarations of .debug_abbrev: each is read once, whichever tables it belongs to.
 
-ghost use Rattle.std.specs.Prelude.{◌≡◌, ◌≤◌, [], Err, IfOk, IfErr, MatchOption, drop, option_map, slice_index_or};
+ghost use Rattle.std.specs.Prelude.{◌≡◌, ◌≤◌, [], Err, IfOk, IfErr, OnOk, OnErr, MatchOption, drop, length, map};
+ghost use Rattle.std.specs.Prelude.{option_map, slice_index_or, sum};
 ghost use Rattle.dw_model.specs.Abbrev.{abbreviations, declared, next_declaration};
 ghost use Rattle.dw_model.specs.Reading.{items};
 ghost use Rattle.dw_forms.specs.Fault.{form_fault, HidesNoFault};
 ghost use Rattle.dw_forms.specs.Declaration.{declaration_shown};
+ghost use Rattle.dw_forms.specs.declared.run.Start.{Start};
 ghost use Rattle.dw_forms.specs.StoreInside.{sizes_of, tables_of, AreTabled};
-ghost use Rattle.dw_forms.specs.Store.{table_from, AreAdded, HasTable, IsKept, IsRunAt, IsWithin};
+ghost use Rattle.dw_forms.specs.Starts.{AreAdded, AreApart, AreRising, AreTaken, IsAsBefore};
+ghost use Rattle.dw_forms.specs.Store.{table_from, HasTable, IsKept, IsRunAt, IsWithin};
 
 use crate::declaration::{Decl, next_decl};
 use crate::fault::FormFault;
@@ -30,13 +33,15 @@ fn fault_in_table(cursor: &mut Cursor<'_>) -> FormFault
 }
 
 /// The declarations of a run, up to one that was read before, or to the end of their table; and
-/// where that one is.
+/// where that one is. So none of them was read before.
 fn read_run<'a>(
     alloc: Global,
     cursor: &mut Cursor<'a>,
     starts: &BTreeMap<usize, Start>,
 ) -> Result<(Vec<Decl<'a>>, Option<Start>), FormFault>
-    ensures { IfOk result (λ found. IsRunAt starts.now cursor.old found.0.items found.1) }
+    ensures run { IfOk result (λ found. IsRunAt starts.now cursor.old found.0.items found.1) }
+    ensures apart { IfOk result (λ found. AreApart starts.now
+        (map (λ declaration. declaration.offset) found.0.items)) }
 {
     let mut declarations = Vec::new(alloc);
     loop {
@@ -50,16 +55,32 @@ fn read_run<'a>(
     }
 }
 
-/// Adds where each declaration of a run begins.
+/// Takes away where the first declarations of a run begin, so many.
+fn take_starts(starts: &mut BTreeMap<usize, Start>, read: &Run<'_>, count: usize)
+    requires { count ≤ length read.now.offsets }
+    ensures { AreTaken count read.now.offsets starts.old starts.new }
+{
+    for index in 0..count {
+        let _start = starts.remove(&read.offset(index));
+    }
+}
+
+/// Adds where each declaration of a run begins, all of them or none.
 fn add_starts(
     starts: &mut BTreeMap<usize, Start>,
     read: &Run<'_>,
     run: usize,
 ) -> Result<(), AllocError>
-    ensures { AreAdded run read.now.offsets starts.old starts.new }
+    requires apart { AreApart starts.now read.now.offsets }
+    requires rising { AreRising read.now.offsets }
+    ensures added { OnOk result (AreAdded run (length read.now.offsets) read.now.offsets starts.old starts.new) }
+    ensures undone { OnErr result (IsAsBefore starts.old starts.new) }
 {
     for index in 0..read.len() {
-        starts.insert(read.offset(index), Start { run, index })?;
+        let Ok(_) = starts.insert(read.offset(index), Start { run, index }) else {
+            take_starts(starts, read, index);
+            return Err(AllocError);
+        };
     }
     Ok(())
 }
@@ -163,7 +184,21 @@ impl<'a> AbbrevStore<'a> {
         let run = self.runs.len();
         let read = Run::new(alloc, declarations, rest)?;
         self.runs.push(read)?;
-        add_starts(&mut self.starts, &self.runs[run], run)?;
+        let Ok(()) = add_starts(&mut self.starts, &self.runs[run], run) else {
+            self.runs.truncate(run);
+            return Err(FormFault::Memory);
+        };
         Ok(Start { run, index: 0 })
+    }
+
+    /// How many declarations are kept: those of all runs, among which are those of each table. No
+    /// two begin at one offset, so there are at most as many as the section has bytes, whichever
+    /// tables were read, in whatever order, and whichever allocation was refused.
+    pub fn kept(&self) -> usize
+        ensures counted { result ≡ sum self.now.sizes }
+        ensures tables { (start : Start) → length (table_from self.now start) ≤ result }
+        ensures bound { result ≤ length self.now.section }
+    {
+        self.starts.len()
     }
 }

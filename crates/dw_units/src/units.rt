@@ -1,8 +1,9 @@
 //! The units of a file, in order of offset.
 
 ghost use Rattle.std.specs.Prelude.{◌≡◌, ◌≤◌, ◌<◌, true, false, nat_le, option_and_then, None, OnOk, IfOk, IfErr};
-ghost use Rattle.std.specs.Prelude.{IfSome, MatchOption, Some, length, option_map, slice_get};
+ghost use Rattle.std.specs.Prelude.{ℕ, List, IfSome, MatchOption, Some, length, option_map, slice_get};
 ghost use Rattle.std.specs.List.Sorted.{IsNonDecreasingBy, IsPartitionPoint};
+ghost use Rattle.dw_model.specs.Abbrev.{Declaration};
 ghost use Rattle.dw_model.specs.Section as model_sections;
 ghost use Rattle.dw_model.specs.Unit.{units};
 ghost use Rattle.dw_model.specs.Name.{holding};
@@ -93,6 +94,16 @@ impl<'a> Units<'a> {
         ensures { result ≡ length (units self.now.info) }
     {
         self.units.len()
+    }
+
+    /// How many declarations of .debug_abbrev are kept for all of them, each once: at least those of
+    /// each unit that has entries, and at most one for each byte of the section.
+    pub fn declarations(&self) -> usize
+        ensures tables { (i : ℕ) (declarations : List Declaration) → i < length (units self.now.info)
+            → HasEntriesBy self.now (unit_at self.now i) declarations → length declarations ≤ result }
+        ensures bound { result ≤ length self.now.abbrevs }
+    {
+        self.abbrevs.kept()
     }
 
     /// The unit at a place, in order of offset.
