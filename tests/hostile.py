@@ -24,10 +24,8 @@ BEGIN, LENGTH = 0x1000, 0x10000000
 
 
 def declaration(code, tag, children, pairs):
-    text = uleb(code) + uleb(tag) + bytes([children])
-    for name, form, *constant in pairs:
-        text += uleb(name) + uleb(form) + bytes(constant)
-    return text + bytes(2)
+    listed = (uleb(name) + uleb(form) + bytes(constant) for name, form, *constant in pairs)
+    return uleb(code) + uleb(tag) + bytes([children]) + b''.join(listed) + bytes(2)
 
 
 def covered(begin=BEGIN, length=LENGTH):
@@ -165,10 +163,10 @@ def functions_of_empty_values(size):
 
 
 def functions_of_empty_values_after_a_number(size):
-    """The same after a number of no one size."""
+    """The same after a number of no one size, and before a number that 32 bits don't hold."""
     count = size // 4
     pairs = [(0x2001, UDATA), *[(0x2000, FLAG_PRESENT)] * (count // 2)]
-    function = declaration(2, SUBPROGRAM, 0, [*pairs, (LOW_PC, ADDRX), (HIGH_PC, IMPLICIT_CONST, 1)])
+    function = declaration(2, SUBPROGRAM, 0, [*pairs, (LOW_PC, ADDRX), (HIGH_PC, IMPLICIT_CONST, *[0x80] * 5, 1)])
     return addressed_unit(function, b'\x02\0\0' * (count // 2))
 
 
