@@ -96,8 +96,8 @@ impl<'a> Units<'a> {
         self.units.len()
     }
 
-    /// How many declarations of .debug_abbrev are kept for all of them, each once: at least those of
-    /// each unit that has entries, and at most one for each byte of the section.
+    /// How many declarations of .debug_abbrev are kept for all of them, each once: at least those
+    /// of each unit that has entries, and at most one for each byte of the section.
     pub fn declarations(&self) -> usize
         ensures tables { (i : ℕ) (declarations : List Declaration) → i < length (units self.now.info)
             → HasEntriesBy self.now (unit_at self.now i) declarations → length declarations ≤ result }

@@ -320,8 +320,8 @@ fn first_values(rt: HostRuntime) -> Result<(), Fail> {
     Ok(())
 }
 
-/// The numbers of a declaration: one of 32 bits, the least that needs more, one below 0, and a large
-/// one. No entry is looked at for them.
+/// The numbers of a declaration: one of 32 bits, the least that needs more, one below 0, and a
+/// large one. No entry is looked at for them.
 #[test]
 fn declared_numbers(rt: HostRuntime) -> Result<(), Fail> {
     let bytes = &[
