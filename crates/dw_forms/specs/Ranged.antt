@@ -1,4 +1,4 @@
--- Whether entries may have ranges, as their declaration tells it (DWARF 5, sections 2.17, 7.5.4 and
+-- Whether entries may have ranges, as their declaration says (DWARF 5, sections 2.17, 7.5.4 and
 -- 7.5.5).
 use Rattle.std.specs.Prelude.{◌≡◌, ℕ, Bool, false, List, [], ◌∷◌, Ok, find, is_some, nat_eq, ◌==◌, ◌||◌, ◌&&◌}
 use Rattle.std.specs.List.{list_any}

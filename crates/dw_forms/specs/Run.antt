@@ -7,7 +7,7 @@ use Rattle.dw_model.specs.Abbrev.{Declaration}
 use Rattle.dw_forms.specs.declared.declaration.Decl.{Decl}
 use Rattle.dw_forms.specs.declared.run.Start.{Start}
 
--- The declarations of a run, where they begin in .debug_abbrev, and where the table goes on behind
+-- The declarations of a run, where they begin in .debug_abbrev, and where the table goes on after
 -- them; it ends there where it doesn't.
 pub record ReadRun : Type 0 where
   pub declarations : List Declaration

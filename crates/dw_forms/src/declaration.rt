@@ -1,4 +1,4 @@
-//! What abbreviations stand for, by section 7.5.3 of DWARF 5.
+//! What abbreviations mean, by section 7.5.3 of DWARF 5.
 
 ghost use Rattle.std.specs.Prelude.{◌≡◌};
 ghost use Rattle.dw_model.specs.declared.dwarf.TheConstants.{OFFSET_SIZE_32, OFFSET_SIZE_64};
@@ -9,13 +9,13 @@ ghost use Rattle.dw_forms.specs.Ranged.{may_have_ranges};
 ghost use Rattle.dw_forms.specs.Steps.{AreSteps};
 
 mod first_value;
-mod reading;
+mod reader;
 
 use crate::numbers::Number;
 use crate::pairs::Specs;
 use crate::positions::Positions;
 use crate::steps::Steps;
-pub(crate) use reading::{next_decl, next_spec};
+pub(crate) use reader::{next_decl, next_spec};
 
 /// An attribute's name and form, and its number where that is in the declaration.
 #[derive(Clone, Copy, Debug, Default, PartialEq, Eq)]
@@ -28,7 +28,7 @@ pub struct Spec {
     pub implicit: Option<i64>,
 }
 
-/// What an abbreviation stands for: an entry's tag, whether a list of children follows it, and its
+/// What an abbreviation means: an entry's tag, whether a list of children follows it, and its
 /// attributes in order.
 #[derive(Drop)]
 pub struct Decl<'a> {
@@ -40,7 +40,7 @@ pub struct Decl<'a> {
     pub tag: u64,
     pub children: bool,
     pub specs: Specs<'a>,
-    /// How many bytes the values of an entry take in the 32-bit format, where the forms tell it.
+    /// How many bytes the values of an entry take in the 32-bit format, where the forms fix it.
     size_32: Option<usize>,
     ghost size_32_is: { size_32 ≡ size_in OFFSET_SIZE_32 specs },
     /// The same in the 64-bit format.
@@ -52,7 +52,7 @@ pub struct Decl<'a> {
     /// How its entries are passed over in the 32-bit format, where that is known.
     steps: Option<Steps>,
     ghost steps_are: { AreSteps steps specs },
-    /// Where the values are that tell of a function.
+    /// Where the values are that describe a function.
     positions: Positions,
     ghost positions_are: { ArePositions (steps_in steps) (known_of positions) specs },
     /// Numbers of the declaration, where 32 bits don't hold one of them.

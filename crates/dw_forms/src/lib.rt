@@ -4,10 +4,10 @@
 mod abbrevs;
 mod declaration;
 mod fault;
+mod first_fault;
 mod form;
 mod numbers;
 mod pairs;
-mod passing;
 mod positions;
 mod ranged;
 mod run;

@@ -14,7 +14,7 @@ use dw_model::dwarf::{
 };
 use std::alloc::{AllocError, Global};
 
-/// The names whose values tell of a function.
+/// The names whose values describe a function.
 const NAMES: [u64; 10] = [
     DW_AT_ranges,
     DW_AT_low_pc,
@@ -78,7 +78,7 @@ fn numbers_of(alloc: Global, specs: &[Spec], names: &[u64]) -> Result<Vec<Number
     Ok(numbers)
 }
 
-/// The numbers that are in a declaration, of the names whose values tell of a function, where 32
+/// The numbers that are in a declaration, of the names whose values describe a function, where 32
 /// bits don't hold one of its numbers; else none.
 pub(crate) fn long_numbers(alloc: Global, specs: &[Spec]) -> Result<Vec<Number>, AllocError>
     ensures { IfOk result (λ numbers. AreNumbers numbers.items (map spec_shown specs.now)) }

@@ -86,7 +86,7 @@ pub(crate) enum Position {
     Fixed(FixedValue),
     /// As far after so many steps.
     After(u8, FixedValue),
-    /// That isn't told: the values before it are read.
+    /// That isn't known: the values before it are read.
     Unknown,
 }
 
@@ -187,7 +187,7 @@ fn position_of(specs: &[Spec], steps: &[FixedValue], name: u64) -> Position
     Position::Absent
 }
 
-/// Where the value of the first attribute of each name is that tells of a function. So most are
+/// Where the value of the first attribute of each name is that describes a function. So most are
 /// read without a look at those before them.
 #[derive(Clone, Copy, Debug, PartialEq, Eq)]
 pub(crate) struct Positions {

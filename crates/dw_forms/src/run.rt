@@ -68,7 +68,7 @@ fn first_place(places: &BTreeSet<(u64, usize)>, from: usize, code: u64) -> Optio
 }
 
 /// Declarations that were read one after the other. Contracts see them in order, with where their
-/// table goes on behind them.
+/// table goes on after them.
 #[derive(Drop)]
 pub(crate) struct Run<'a> {
     declarations: Vec<Decl<'a>>,
@@ -93,7 +93,7 @@ impl<'a> Model for Run<'a> {
 }
 
 impl<'a> Run<'a> {
-    /// The run of these declarations, behind which the table goes on or ends.
+    /// The run of these declarations, after which the table goes on or ends.
     pub(crate) fn new(
         alloc: Global,
         declarations: Vec<Decl<'a>>,
@@ -132,7 +132,7 @@ impl<'a> Run<'a> {
         self.declarations[index].offset
     }
 
-    /// Where the table goes on behind them; `None` where it ends.
+    /// Where the table goes on after them; `None` where it ends.
     pub(crate) fn rest(&self) -> Option<Start>
         ensures { result ≡ self.now.rest }
     {

@@ -1,4 +1,4 @@
-//! How many bytes the values of an entry take, where their forms tell it.
+//! How many bytes the values of an entry take, where their forms fix it.
 
 ghost use Rattle.std.specs.Prelude.{◌≡◌, map};
 ghost use Rattle.dw_bytes.specs.Width.{size_of as offset_size};

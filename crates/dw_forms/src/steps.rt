@@ -20,7 +20,7 @@ const MOST: usize = 6;
 
 /// How the values of an entry are passed over in a unit of the 32-bit format: from each value of no
 /// one size to the next, without a look at the pairs of the declaration.
-#[derive(Drop)]
+#[derive(Debug, Drop)]
 pub struct Steps {
     /// The values of no one size in order, each so far after the one before it.
     list: [FixedValue; MOST],

@@ -13,7 +13,7 @@ ghost use Rattle.dw_forms.specs.Store.{table_from, HasTable, IsKept, IsRunAt, Is
 
 use crate::declaration::{Decl, next_decl};
 use crate::fault::FormFault;
-use crate::passing::pass_table;
+use crate::first_fault::pass_table;
 use crate::run::{Run, Start};
 use dw_bytes::Cursor;
 use std::alloc::{AllocError, Global};

@@ -33,11 +33,11 @@ WalksFrom sections unit (Some walk) =
     × (is_skipped unit.kind ≡ false)
     × (walk.offset_size ≡ unit.offset_size)
 
--- what the declaration tells of the entry at a place; nothing where none is declared
+-- what the declaration says of the entry at a place; nothing where none is declared
 abbrev pub declaration_at : List Declaration → Place → Option Declaration
 declaration_at declarations p = option_and_then (λ code. declared declarations code.0) (result_ok (uleb_at p))
 
--- the entry at a place may have ranges, as its declaration tells it
+-- the entry at a place may have ranges, as its declaration says
 abbrev pub ranged_at : List Declaration → Place → Bool
 ranged_at declarations p = option_map_or (λ declaration. may_have_ranges declaration.specifications) (declaration_at declarations p) false
 

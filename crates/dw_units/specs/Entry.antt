@@ -16,12 +16,12 @@ entry_shown entry = record {
 }
 
 -- The entry is found as the definition has it, with the offset just past it; out of memory may be
--- told in place of it.
+-- reported instead of it.
 abbrev pub FindsEntry : Result (Option Entry) FormFault → Result (Option model.Entry × Place) Fault → Type 0
 FindsEntry (Ok found) given = (past : Place) × (given ≡ Ok (option_map entry_shown found, past)) × IfSome found (λ entry. entry.next ≡ past.at)
 FindsEntry (Err fault) given = MatchOption (form_fault fault) (Unit {0}) (λ told. given ≡ Err told)
 
--- The same of an entry that is read in place of another one: none is kept of a null entry.
+-- The same of an entry that is read instead of another one: none is kept of a null entry.
 abbrev pub ReadsEntry : Result Bool FormFault → Entry → Result (Option model.Entry × Place) Fault → Type 0
 ReadsEntry (Ok true) entry given = FindsEntry (Ok (Some entry)) given
 ReadsEntry (Ok false) entry given = FindsEntry (Ok None) given

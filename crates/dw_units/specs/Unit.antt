@@ -1,4 +1,4 @@
--- What a unit stands for.
+-- What a unit means.
 use Rattle.std.specs.Prelude.{◌≡◌, ◌≤◌, true, false, length, take, Option, Some, None, option_map, IsOk, MatchOption}
 use Rattle.dw_model.specs.Unit.{DwarfUnit, is_skipped}
 use Rattle.dw_model.specs.Section.{Sections}

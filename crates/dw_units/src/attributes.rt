@@ -10,7 +10,7 @@ ghost use Rattle.dw_units.specs.Attribute.{attribute_shown};
 ghost use Rattle.dw_units.specs.Counted.{attribute_in, first_of};
 
 use crate::counted::read_counted;
-use crate::passing::pass_values;
+use crate::values::pass_values;
 use dw_bytes::{Cursor, Width};
 use dw_forms::{Decl, FormFault, Specs, Value, read_value};
 use std::alloc::{AllocError, Global};
@@ -23,7 +23,7 @@ pub struct Attribute<'a> {
     pub value: Value<'a>,
 }
 
-/// The attributes of an entry, in order. Each is decoded where it stands when it is asked for, so
+/// The attributes of an entry, in order. Each is decoded where it is when it is asked for, so
 /// that an entry takes no memory for them; those whose values count are kept besides, at most one
 /// of each name. Contracts see all of them as a list.
 #[derive(Drop)]
@@ -132,7 +132,7 @@ impl<'a> Attributes<'a> {
         Some(&found.value)
     }
 
-    /// Reads the values that a declaration asks for, in place of those that were read. After a
+    /// Reads the values that a declaration asks for, instead of those that were read. After a
     /// refusal there may be none, and the cursor may be anywhere.
     pub(crate) fn read(
         &mut self,

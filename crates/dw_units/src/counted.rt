@@ -39,7 +39,7 @@ fn keep_first<'a>(
     Ok(())
 }
 
-/// Keeps the attributes that count of an entry whose values begin at a cursor, in place of those
+/// Keeps the attributes that count of an entry whose values begin at a cursor, instead of those
 /// that were kept: none where an allocation was refused. All values have to be readable.
 pub(crate) fn read_counted<'a>(
     kept: &mut Vec<Attribute<'a>>,

@@ -6,7 +6,7 @@ ghost use Rattle.dw_bytes.specs.Width.{size_of};
 ghost use Rattle.dw_forms.specs.Table.{declarations_of};
 ghost use Rattle.dw_units.specs.Entries.{ReadsNext, ranged_at};
 
-use crate::passing::pass_values;
+use crate::values::pass_values;
 use crate::view::EntryView;
 use dw_bytes::{Cursor, Width};
 use dw_forms::{AbbrevTable, FormFault};
@@ -18,7 +18,7 @@ use std::marker::Model;
 pub enum Next<'b, 'a> {
     /// A null entry, which ends a list of children.
     Null,
-    /// A subprogram or an inlined subroutine that may have ranges, as its declaration tells it.
+    /// A subprogram or an inlined subroutine that may have ranges, as its declaration says.
     Function(EntryView<'b, 'a>),
     /// A subprogram or an inlined subroutine that has none: its attributes were passed over.
     Unranged {

@@ -35,7 +35,7 @@ pub struct Entry<'a> {
     pub attrs: Attributes<'a>,
 }
 
-/// Reads the entry at the cursor, which goes just past it, in place of the one that was kept;
+/// Reads the entry at the cursor, which goes just past it, instead of the one that was kept;
 /// `false` for a null entry, which ends a list of children, and then what was kept stays. After a
 /// refusal the cursor may be anywhere.
 #[tactic(auto, unfolding(dw_model::specs::Entry::entry_at))]
@@ -67,7 +67,7 @@ pub(crate) fn read_entry<'a>(
 }
 
 impl<'a> Entry<'a> {
-    /// An entry that isn't read yet, in place of which others are read. The memory that its
+    /// An entry that isn't read yet, instead of which others are read. The memory that its
     /// attributes take serves them all.
     pub fn unread(alloc: Global) -> Self
         ensures unread { entry_shown result ≡ unread }
@@ -115,7 +115,7 @@ pub(crate) fn cursor_at<'a>(
 }
 
 /// Reads the entry at an offset of .debug_info that lies between a unit's first entry and its end,
-/// in place of the one that was kept; `false` for a null entry. Nothing past the unit's end is
+/// instead of the one that was kept; `false` for a null entry. Nothing past the unit's end is
 /// read.
 #[tactic(auto, unfolding(dw_model::specs::Root::entry))]
 pub(crate) fn read_in<'a>(

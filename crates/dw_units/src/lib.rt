@@ -10,10 +10,10 @@ mod entry;
 mod header;
 mod named_ranges;
 mod open_unit;
-mod passing;
 mod sections;
 mod unit;
 mod units;
+mod values;
 mod view;
 
 pub use attributes::{Attribute, Attributes};

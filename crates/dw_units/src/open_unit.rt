@@ -141,7 +141,7 @@ impl<'b, 'a> OpenUnit<'b, 'a> {
         entry_in(alloc, self.units.sections(), &header, abbrevs, offset)
     }
 
-    /// Reads the entry at an offset of .debug_info in place of the one that was kept; `false` for a
+    /// Reads the entry at an offset of .debug_info instead of the one that was kept; `false` for a
     /// null entry, and then what was kept stays. The error is that of `entry`; then any entry may
     /// be kept.
     #[inline(always)]

@@ -183,7 +183,7 @@ impl<'a> Units<'a> {
         self.at(i).entry(alloc, offset)
     }
 
-    /// Reads the entry at an offset of .debug_info, in the unit at a place, in place of the one
+    /// Reads the entry at an offset of .debug_info, in the unit at a place, instead of the one
     /// that was kept; `false` for a null entry, and then what was kept stays. The error is that of
     /// `entry`; then any entry may be kept.
     pub fn read_entry(&self, i: usize, offset: u64, kept: &mut Entry<'a>) -> Result<bool, FormFault>

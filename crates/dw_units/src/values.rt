@@ -23,7 +23,7 @@ pub(crate) fn pass_attributes(
 }
 
 /// Passes over the values of an entry of which some have no one size: from one to the next where
-/// its declaration tells how far that is.
+/// its declaration says how far that is.
 #[inline(never)]
 fn pass_by_steps(
     cursor: &mut Cursor<'_>,
@@ -39,7 +39,7 @@ fn pass_by_steps(
     steps.pass(cursor)
 }
 
-/// Passes over the values of an entry, in one step where its declaration tells how far.
+/// Passes over the values of an entry, in one step where its declaration says how far.
 #[inline(always)]
 pub(crate) fn pass_values(
     cursor: &mut Cursor<'_>,

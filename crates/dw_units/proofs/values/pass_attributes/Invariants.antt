@@ -3,7 +3,7 @@ use Rattle.dw_model.specs.Entry.{attributes_at}
 use Rattle.dw_bytes.specs.Width.{size_of}
 use Rattle.dw_units.specs.declared.attributes.Attribute.{Attribute}
 use Rattle.dw_units.proofs.EntryLemmas.{SoFar}
-use Rattle.dw_units.proofs.passing.pass_attributes.Given as goal
+use Rattle.dw_units.proofs.values.pass_attributes.Given as goal
 
 -- the attributes that were passed over are those of the entry so far
 abbrev pub invariant-loop-spec : goal.invariant-loop-spec

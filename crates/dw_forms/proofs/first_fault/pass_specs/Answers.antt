@@ -9,7 +9,7 @@ use Rattle.dw_model.proofs.LoopLemmas.{smaller}
 use Rattle.dw_forms.specs.Declaration.{spec_shown}
 use Rattle.dw_forms.specs.Fault.{form_fault}
 use Rattle.dw_forms.proofs.PassLemmas.{told-stops}
-use Rattle.dw_forms.proofs.passing.pass_specs.Goals as goal
+use Rattle.dw_forms.proofs.first_fault.pass_specs.Goals as goal
 
 pub loop-init : goal.loop-init
 loop-init c = ([], with_front-nil next_specification (items (λ p. p.left) next_specification c.args.cursor.now))

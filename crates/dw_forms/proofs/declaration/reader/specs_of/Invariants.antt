@@ -3,7 +3,7 @@ use Rattle.dw_model.specs.Reading.{items}
 use Rattle.dw_model.specs.Abbrev.{next_specification}
 use Rattle.dw_model.proofs.ItemsLemmas.{with_front}
 use Rattle.dw_forms.specs.Declaration.{spec_shown}
-use Rattle.dw_forms.proofs.declaration.reading.specs_of.Given as goal
+use Rattle.dw_forms.proofs.declaration.reader.specs_of.Given as goal
 
 abbrev pub invariant-loop-specs : goal.invariant-loop-specs
 invariant-loop-specs l =

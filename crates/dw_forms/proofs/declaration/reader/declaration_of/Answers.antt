@@ -13,7 +13,7 @@ use Rattle.dw_forms.specs.Ranged.{may_have_ranges}
 use Rattle.dw_forms.specs.Steps.{PassesBy}
 use Rattle.dw_forms.proofs.PairsLemmas.{all_at, counted, those}
 use Rattle.dw_forms.proofs.StepsLemmas.{told-steps}
-use Rattle.dw_forms.proofs.declaration.reading.declaration_of.Goals as goal
+use Rattle.dw_forms.proofs.declaration.reader.declaration_of.Goals as goal
 
 pub new-requires : goal.new-requires
 new-requires c =

@@ -2,7 +2,7 @@ use Rattle.std.proofs.Common.{◌≡◌, List, length}
 use Rattle.dw_model.specs.Reading.{items}
 use Rattle.dw_model.specs.Abbrev.{Declaration, next_declaration}
 use Rattle.dw_model.proofs.ItemsLemmas.{with_front}
-use Rattle.dw_forms.proofs.passing.pass_table.Given as goal
+use Rattle.dw_forms.proofs.first_fault.pass_table.Given as goal
 
 -- the declarations that were passed over, and then those that are left, are all
 abbrev pub invariant-loop : goal.invariant-loop

@@ -4,7 +4,7 @@ use Rattle.dw_model.specs.Entry.{attributes_at}
 use Rattle.dw_model.specs.Answers.{Reads}
 use Rattle.dw_bytes.specs.Width.{size_of}
 use Rattle.dw_units.proofs.SkipLemmas.{passed}
-use Rattle.dw_units.proofs.passing.pass_values.Goals as goal
+use Rattle.dw_units.proofs.values.pass_values.Goals as goal
 
 pub returns : goal.returns
 returns c =

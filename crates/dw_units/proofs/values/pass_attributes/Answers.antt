@@ -7,7 +7,7 @@ use Rattle.dw_forms.specs.Fault.{form_fault}
 use Rattle.dw_units.specs.declared.attributes.Attribute.{Attribute}
 use Rattle.dw_units.specs.Attribute.{attribute_shown}
 use Rattle.dw_units.proofs.EntryLemmas.{starts, goes_on, stops-exactly, ends, fewer}
-use Rattle.dw_units.proofs.passing.pass_attributes.Goals as goal
+use Rattle.dw_units.proofs.values.pass_attributes.Goals as goal
 
 pub loop-spec-init : goal.loop-spec-init
 loop-spec-init c = ([], starts (size_of c.args.width) c.fork-left.result c.args.specs.now c.args.cursor.now c.fork-left.ensures)

@@ -6,7 +6,7 @@ use Rattle.dw_model.proofs.AdvanceLemmas.{declarations_advance}
 use Rattle.dw_model.proofs.ItemsLemmas.{with_front-nil, loop_more, loop_done}
 use Rattle.dw_forms.specs.Fault.{form_fault}
 use Rattle.dw_forms.proofs.PassLemmas.{told-stops, made-fault, made-some, made-none}
-use Rattle.dw_forms.proofs.passing.pass_table.Goals as goal
+use Rattle.dw_forms.proofs.first_fault.pass_table.Goals as goal
 
 pub loop-init : goal.loop-init
 loop-init c = ([], with_front-nil next_declaration (items (λ p. p.left) next_declaration c.args.cursor.now))

@@ -6,7 +6,7 @@ use Rattle.dw_model.proofs.AdvanceLemmas.{specifications_advance}
 use Rattle.dw_model.proofs.LoopLemmas.{goes_on, ends, smaller, stops}
 use Rattle.dw_forms.specs.Declaration.{spec_shown}
 use Rattle.dw_forms.specs.Fault.{form_fault}
-use Rattle.dw_forms.proofs.declaration.reading.specs_of.Goals as goal
+use Rattle.dw_forms.proofs.declaration.reader.specs_of.Goals as goal
 
 pub returns-in_err-spec : goal.returns-in_err-spec
 returns-in_err-spec c =

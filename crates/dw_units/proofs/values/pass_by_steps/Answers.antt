@@ -2,7 +2,7 @@ use Rattle.dw_model.specs.Entry.{attributes_at}
 use Rattle.dw_bytes.specs.Width.{size_of}
 use Rattle.dw_forms.specs.Steps.{passed_by}
 use Rattle.dw_units.proofs.SkipLemmas.{passes}
-use Rattle.dw_units.proofs.passing.pass_by_steps.Goals as goal
+use Rattle.dw_units.proofs.values.pass_by_steps.Goals as goal
 
 pub returns : goal.returns
 returns c =
