@@ -20,7 +20,7 @@ use std::marker::Model;
 ///
 /// Each call reads what is at the place and moves just past it. A call that returns `None` leaves
 /// the place as it was. None of them takes memory.
-#[derive(Drop)]
+#[derive(Debug, Drop)]
 pub struct Cursor<'a> {
     left: &'a [u8],
     passed: usize,
