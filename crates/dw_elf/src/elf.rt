@@ -15,7 +15,7 @@ use dw_model::elf::{ELFCLASS64, ELFDATA2LSB, ELFMAG, ET_REL, SHF_COMPRESSED};
 use std::marker::Model;
 
 /// An ELF64 file. Contracts see it as the bytes of the file.
-#[derive(Drop)]
+#[derive(Debug, Drop)]
 pub struct Elf<'a> {
     file: &'a [u8],
     table: Table<'a>,

@@ -12,7 +12,7 @@ use dw_bytes::Cursor;
 use dw_model::elf::{SHDR_SIZE, SHN_UNDEF, SHN_XINDEX, SHT_NOBITS};
 
 /// The fields of the file header that are used, by their standard names (section 3).
-#[derive(Drop)]
+#[derive(Debug, Drop)]
 pub struct FileHeader<'a> {
     pub magic: &'a [u8],
     pub class: u8,
@@ -25,7 +25,7 @@ pub struct FileHeader<'a> {
 }
 
 /// The fields of a section header that are used, by their standard names (section 4).
-#[derive(Clone, Copy)]
+#[derive(Clone, Copy, Debug)]
 pub struct SectionHeader {
     pub sh_name: u32,
     pub sh_type: u32,
@@ -36,7 +36,7 @@ pub struct SectionHeader {
 }
 
 /// The section header table: `count` headers, and the bytes of the section that has the names.
-#[derive(Clone, Copy)]
+#[derive(Clone, Copy, Debug)]
 pub struct Table<'a> {
     pub headers: &'a [u8],
     pub count: u64,
