@@ -30,7 +30,7 @@ other_owner bound before (segment ∷ segments) a (suc n) s h passed behind = λ
     other_owner (segment.begin + 1) segment.owner segments a n s.2 (omega (arith, h)) (λ k b. passed (suc k) (omega (arith, b))) behind
     (sym (behind_border segment segments before (begin_at segments n) later) ∙ e ∙ behind_border segment segments before a first)
 
--- Behind the last border the owner stays.
+-- After the last border the owner stays.
 pub steady_to_the_end : (segments : List Segment) (a end n : ℕ) → a < end → last_address ≤ end → length segments ≤ n → ((k : ℕ) → k < n → begin_at segments k ≤ a)
     → IsSteady (owner_at segments) a end
 steady_to_the_end segments a end n order last all passed = record {

@@ -17,7 +17,7 @@ use std::marker::{Brand, Model};
 use std::sync::ledger::{Blank, Ledger};
 
 /// The segments of one range: its own, and the gap after it.
-fn lone(alloc: Global, range: Range, owner: usize) -> Result<Vec<Segment>, AllocError>
+fn segments_of_range(alloc: Global, range: Range, owner: usize) -> Result<Vec<Segment>, AllocError>
     ensures { IfOk result (λ segments. AreIndexOf (pair_shown (range, owner) ∷ []) segments.items) }
 {
     if range.begin >= range.end {
@@ -47,7 +47,7 @@ fn gather(alloc: Global, pairs: &[(Range, usize)]) -> Result<Vec<Segment>, Alloc
     }
     if pairs.len() == 1 {
         let (range, owner) = pairs[0];
-        return lone(alloc, range, owner);
+        return segments_of_range(alloc, range, owner);
     }
     if let Some(segments) = run_of(alloc, pairs)? {
         return Ok(segments);
@@ -60,7 +60,7 @@ fn gather(alloc: Global, pairs: &[(Range, usize)]) -> Result<Vec<Segment>, Alloc
 
 /// An index of ranges and their owners. Contracts see it as segments of addresses, each with the
 /// owner that `owner_at` finds.
-#[derive(Drop)]
+#[derive(Debug, Drop)]
 pub struct Index {
     segments: Vec<Segment>,
 }
@@ -96,7 +96,7 @@ impl Index {
         self.find_uncounted::<Brand>(a, Blank::new(1))
     }
 
-    /// The same with steps of its own.
+    /// The same as `find`, with a counter of its own.
     fn find_uncounted<L: Ledger>(&self, a: u64, blank: Blank) -> Option<usize>
         requires name { blank.name ≡ L.name }
         requires parts { blank.parts ≡ L.parts }
@@ -121,13 +121,13 @@ impl Index {
     /// where there is none. So `find` returns the same from the address on and below the one that
     /// is returned.
     pub fn steady(&self, a: u64) -> u64
-        requires { a < last_address }
-        ensures { IsSteady (owner_at self.now) a result }
+        requires above { a < last_address }
+        ensures steady { IsSteady (owner_at self.now) a result }
     {
         self.steady_uncounted::<Brand>(a, Blank::new(1))
     }
 
-    /// The same with steps of its own.
+    /// The same as `steady`, with a counter of its own.
     fn steady_uncounted<L: Ledger>(&self, a: u64, blank: Blank) -> u64
         requires name { blank.name ≡ L.name }
         requires parts { blank.parts ≡ L.parts }

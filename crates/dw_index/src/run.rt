@@ -38,7 +38,8 @@ fn close(run: &mut Run) -> Result<(), AllocError>
     Ok(())
 }
 
-/// Goes on to where the next range begins, with a gap where that lies after the last one's end.
+/// Extends the run to where the next range begins, with a gap where that is after the last one's
+/// end.
 fn reach(run: &mut Run, at: u64) -> Result<(), AllocError>
     ensures end { OnOk result (run.old.end ≤ at → run.new.end ≡ at) }
     ensures reached { OnOk result ((pairs : List (model.Range × ℕ))

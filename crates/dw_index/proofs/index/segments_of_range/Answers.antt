@@ -1,5 +1,5 @@
 use Rattle.dw_index.proofs.IndexLemmas.{index_of_empty, index_of_one}
-use Rattle.dw_index.proofs.index.lone.Goals as goal
+use Rattle.dw_index.proofs.index.segments_of_range.Goals as goal
 
 pub returns-then-range : goal.returns-then-range
 returns-then-range c =
