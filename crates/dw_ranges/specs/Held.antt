@@ -25,8 +25,8 @@ past_range a until range = nearer a range.end (nearer a range.begin until)
 abbrev pub next_border : ℕ → List Range → ℕ
 next_border a ranges = fold (past_range a) last_address ranges
 
--- Whether one of the ranges holds the address is told, and the next border, before which each
--- address is held exactly where this one is.
+-- What is known of an address: whether one of the ranges holds it, and the next border, before
+-- which each address is held exactly where this one is.
 pub record IsHeld (ranges : List Range) (a : ℕ) (held : Held) : Type 0 where
   pub holds : held.holds ≡ covers a ranges
   pub until : held.until ≡ next_border a ranges

@@ -28,7 +28,7 @@ pub struct Held {
     pub until: u64,
 }
 
-/// What is told where there is no range.
+/// What is known of an address where there is no range.
 fn nowhere() -> Held
     ensures holds { result.holds ≡ false }
     ensures until { result.until ≡ last_address }
@@ -50,7 +50,7 @@ fn nearer(a: u64, border: u64, until: u64) -> u64
     }
 }
 
-/// What is told of an address where there is one range more, or none.
+/// What is known of an address where there is one range more, or none.
 fn with_range(held: Held, range: Option<Range>, a: u64) -> Held
     ensures { (ranges : List model.Range) → told.IsHeld ranges a held
         → told.IsHeld (ranges ++ option_to_list (option_map range_shown range)) a result }
@@ -64,7 +64,7 @@ fn with_range(held: Held, range: Option<Range>, a: u64) -> Held
     }
 }
 
-/// What those ranges that count of the list at the cursor tell of an address, where the base before
+/// What those ranges that count of the list at the cursor say of an address, where the base before
 /// any entry is this one.
 fn held_from(
     tables: &Tables<'_>,
@@ -87,7 +87,7 @@ fn held_from(
     }
 }
 
-/// What the ranges of a list tell of an address, where they can be read.
+/// What the ranges of a list say of an address, where they can be read.
 fn read_at(list: RangeList, tables: &Tables<'_>, a: u64) -> Result<Held, RangeFault>
     ensures { TellsHeld a result (ranges_of_list (tables_shown tables.now) list) }
 {

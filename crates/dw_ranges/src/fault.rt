@@ -1,10 +1,10 @@
-//! Why the ranges of an entry can't be told.
+//! Why the ranges of an entry can't be read.
 
 use dw_bytes::Leb;
 use std::alloc::{AllocError, AllocFailed};
 use thiserror::Error;
 
-/// Why the ranges of an entry can't be told.
+/// Why the ranges of an entry can't be read.
 #[derive(Clone, Copy, Debug, PartialEq, Eq, Error)]
 pub enum RangeFault {
     /// An address that is used can't be read, or the range list has an unknown entry, a number that

@@ -79,7 +79,7 @@ pub(crate) fn push_some(ranges: &mut Vec<Range>, range: Option<Range>) -> Result
     Ok(())
 }
 
-/// Reads those ranges that count of the list at the cursor, in place of those that were kept, where
+/// Reads those ranges that count of the list at the cursor into `ranges`, reusing its memory, where
 /// the base before any entry is this one.
 pub(crate) fn ranges_at(
     ranges: &mut Vec<Range>,
@@ -102,8 +102,8 @@ pub(crate) fn ranges_at(
     }
 }
 
-/// Reads the ranges of the list that a value names, those that count, in place of those that were
-/// kept.
+/// Reads the ranges of the list that a value names, those that count, into `ranges`, reusing its
+/// memory.
 pub(crate) fn list_ranges<'a>(
     ranges: &mut Vec<Range>,
     tables: &Tables<'a>,

@@ -74,10 +74,10 @@ fn new_from(
     }
 }
 
-/// Reads the ranges of a list that count, in place of those that were kept, up to where the list
-/// goes on as one that was read, and returns that one; `None` where it comes to its end. The
-/// places, as offsets of .debug_rnglists, are those where lists begin that have ranges and end as
-/// this one. After an error any may be kept.
+/// Reads the ranges of a list that count into `ranges`, reusing its memory, up to where the list
+/// goes on as one that was read, and returns that one; `None` where it comes to its end. Reads into
+/// `begins`, as offsets of .debug_rnglists, where lists begin that have ranges and end as this one.
+/// After an error any may be in either.
 ///
 /// The error is `Bad` by the conditions of `read_list`, or `Memory`.
 pub fn read_new(

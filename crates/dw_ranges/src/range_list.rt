@@ -68,7 +68,7 @@ pub fn list_of<'a>(
     unit: &Unit<'a>,
     tables: &Tables<'a>,
 ) -> Option<RangeList>
-    ensures { MatchOption result
+    ensures same_ranges { MatchOption result
         ((entry : ModelEntry) → IsNamed named.now entry
         → IsOneAtMost (model.ranges_of (tables_shown tables.now) (bases_shown unit.now.bases)
         (option_map entry_shown unit.now.root) entry))
@@ -94,8 +94,8 @@ pub(crate) fn only_addr(addr: Option<u64>) -> Bases
     }
 }
 
-/// Reads the ranges of a list that count, in place of those that were kept, whose memory serves
-/// them, and returns how many bytes the list takes. After an error any ranges may be kept.
+/// Reads the ranges of a list that count into `ranges`, reusing its memory, and returns how many
+/// bytes the list takes. After an error any ranges may be in it.
 ///
 /// The error is `Bad` where an address that is used can't be read, or the list has an unknown
 /// entry, a number that doesn't fit 64 bits, or no end within .debug_rnglists; or `Memory`.

@@ -84,7 +84,7 @@ pub(crate) fn first_base<'a>(
     tables.address(low, bases)
 }
 
-/// Keeps one range, or none, in place of those that were kept.
+/// Puts one range, or none, into `ranges`, reusing its memory.
 fn keep_one(ranges: &mut Vec<Range>, range: Option<Range>) -> Result<(), AllocError>
     ensures { OnOk result (ranges.new.items ≡ option_to_list range) }
 {
@@ -118,8 +118,8 @@ pub fn ranges_of<'a>(
     }
 }
 
-/// Reads the ranges of the entries of a unit that name them so, in place of those that were kept,
-/// whose memory serves them. After an error any ranges may be kept.
+/// Reads the ranges of the entries of a unit that name them so into `ranges`, reusing its memory.
+/// After an error any ranges may be in it.
 pub fn read_ranges<'a>(
     ranges: &mut Vec<Range>,
     named: &NamedRanges<'a>,
@@ -134,8 +134,8 @@ pub fn read_ranges<'a>(
     read_named(ranges, named, &unit.bases, unit.root.as_ref(), tables)
 }
 
-/// Reads the ranges that are named so in a unit with these bases and this first entry, in place of
-/// those that were kept.
+/// Reads the ranges that are named so in a unit with these bases and this first entry into
+/// `ranges`, reusing its memory.
 fn read_named<'a>(
     ranges: &mut Vec<Range>,
     named: &NamedRanges<'a>,

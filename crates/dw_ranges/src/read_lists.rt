@@ -12,11 +12,11 @@ use std::marker::Model;
 /// Range lists that were read, each for an owner. Contracts see them as a list, in no order that
 /// matters.
 ///
-/// Compilers write lists in the order in which entries name them: such a list is noted behind the
+/// Compilers write lists in the order in which entries name them: such a list is noted after the
 /// others, and seen to be a further one by one comparison.
-#[derive(Drop)]
+#[derive(Debug, Drop)]
 pub struct ReadLists {
-    /// Those that begin behind all that were noted before.
+    /// Those that begin after all that were noted before.
     rising: Vec<(RangeList, usize)>,
     others: BTreeMap<(RangeList, usize), (RangeList, usize)>,
     /// Of each place of .debug_rnglists whether a list that begins there was read for the owner 0,
@@ -39,14 +39,14 @@ impl Model for ReadLists {
     ghost invariant = { λ reads. Unit {0} };
 }
 
-/// The same list, read for the same owner.
+/// Whether one that was read is the list, read for the owner.
 fn is_same(one: &(RangeList, usize), list: RangeList, owner: usize) -> bool
     ensures { result ≡ true → one.now ≡ (list, owner) }
 {
     one.0 == list && one.1 == owner
 }
 
-/// So many places, of which none is marked.
+/// `size` places, of which none is marked.
 fn no_marks(alloc: Global, size: usize) -> Result<Vec<bool>, AllocError>
     ensures { IfOk result (λ marks. marks.items ≡ replicate size false) }
 {
@@ -74,7 +74,7 @@ fn mark_all(marks: &mut Vec<bool>, begins: &[u64])
     }
 }
 
-/// Two bases are the same, or there is none.
+/// Whether two bases are the same, or both are none.
 pub(crate) fn is_same_base(one: Option<u64>, other: Option<u64>) -> bool
     ensures { result ≡ true → one ≡ other }
 {
@@ -110,7 +110,7 @@ impl ReadLists {
         is_same_base(self.base, list.base) && is_same_base(self.addr, list.addr)
     }
 
-    /// A list begins behind all those that were noted.
+    /// A list begins after all those that were noted.
     fn is_behind(&self, list: RangeList) -> bool {
         match self.rising.last() {
             Some(last) => last.0.begin < list.begin,
@@ -120,7 +120,7 @@ impl ReadLists {
 
     /// Whether the list was read for the owner.
     pub fn has(&self, list: RangeList, owner: usize) -> bool
-        ensures { result ≡ true → Has self.now (list, owner) }
+        ensures noted { result ≡ true → Has self.now (list, owner) }
     {
         if owner == 0 && self.has_tail(list) {
             return true;

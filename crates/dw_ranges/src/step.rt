@@ -18,7 +18,7 @@ use dw_index::Range;
 
 /// What is after an entry: the base in force, `None` where it can't be read, and the range that
 /// the entry makes, where that counts.
-#[derive(Clone, Copy)]
+#[derive(Clone, Copy, Debug)]
 pub(crate) struct Outcome {
     pub base: Option<u64>,
     pub range: Option<Range>,
@@ -34,7 +34,7 @@ pub(crate) fn range_between(begin: u64, end: u64) -> Option<Range>
     Some(Range { begin, end })
 }
 
-/// The range of so many addresses, where it counts.
+/// The range of `length` addresses from `begin` on, where it counts.
 pub(crate) fn range_of_length(begin: u64, length: u64) -> Option<Range>
     ensures { option_map range_shown result ≡ model.kept (range begin (begin + length)) }
 {

@@ -6,9 +6,13 @@ use Rattle.dw_ranges.proofs.OnlyAddr.{told-of, few-of}
 use Rattle.dw_ranges.proofs.range_list.list_of.Goals as goal
 
 pub returns-in_default : goal.returns-in_default
-returns-in_default c =
-    few-of (tables_shown c.args.tables.now) (bases_shown c.args.unit.now.bases) (option_map entry_shown c.args.unit.now.root) c.args.named.now c.in_default.not-List
+returns-in_default c = record {
+  same_ranges =
+      few-of (tables_shown c.args.tables.now) (bases_shown c.args.unit.now.bases) (option_map entry_shown c.args.unit.now.root) c.args.named.now c.in_default.not-List;
+}
 
 pub returns : goal.returns
-returns c =
-    told-of (tables_shown c.args.tables.now) (bases_shown c.args.unit.now.bases) (option_map entry_shown c.args.unit.now.root) c.in-List.value c.args.named.now c.in-List.is c.list_by.result (search rules)
+returns c = record {
+  same_ranges =
+      told-of (tables_shown c.args.tables.now) (bases_shown c.args.unit.now.bases) (option_map entry_shown c.args.unit.now.root) c.in-List.value c.args.named.now c.in-List.is c.list_by.result (search rules);
+}
