@@ -7,7 +7,7 @@ mod calls;
 use crate::query::Query;
 
 /// Where a query is that was asked.
-#[derive(Drop)]
+#[derive(Debug, Drop)]
 pub enum Slot<A: Drop> {
     /// It waits for a worker.
     Open,
@@ -20,7 +20,7 @@ pub enum Slot<A: Drop> {
 }
 
 /// The queries of one sender, by number. Nothing is searched: each call looks at one slot.
-#[derive(Drop)]
+#[derive(Debug, Drop)]
 pub struct Lane<A: Drop> {
     asked: Vec<Query>,
     received: Vec<A>,

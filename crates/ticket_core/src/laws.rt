@@ -42,7 +42,7 @@ pub fn law_of_runs()
 /// Whatever events happened, an event of the shape's senders and workers can happen next exactly
 /// where no condition refuses it.
 pub fn law_of_refusals()
-    ensures { (meaning : Meaning) (shape : Shape) (key : List ℕ) (events : List Event) (state : State)
+    ensures allowed { (meaning : Meaning) (shape : Shape) (key : List ℕ) (events : List Event) (state : State)
         → Reaches meaning shape key events state → (event : Event) → IsOfShape event state
         → (Can event state ↔ (refusal event state ≡ None)) }
 {}

@@ -24,6 +24,7 @@ use std::marker::{Model, PhantomData};
 /// The work of a call doesn't grow with the number of queries that were asked: each call looks at
 /// one slot of one sender and at one hand. `ask` doubles the allocation of a list that is full.
 #[derive(Drop)]
+#[derive_where(Debug; S::Answer)]
 pub struct Core<'a, S: Solver> {
     shape: Shape,
     key: &'a [u8],
@@ -99,14 +100,14 @@ impl<'a, S: Solver> Core<'a, S> {
     /// Whatever was called before, this state is sound: each sender is right and within its limits,
     /// and hands and places agree. It does nothing.
     pub fn law_of_state(&self)
-        ensures { IsSound S.meaning self.now }
+        ensures sound { IsSound S.meaning self.now }
     {
         let _ = &self.lanes;
     }
 
     /// The queries that a sender asked, by number.
     pub fn asked(&self, sender: usize) -> &[Query]
-        requires { sender < self.now.shape.senders }
+        requires sender { sender < self.now.shape.senders }
         ensures { result.now ≡ (sender_at self.now sender).asked }
     {
         self.lanes[sender].asked()
@@ -115,7 +116,7 @@ impl<'a, S: Solver> Core<'a, S> {
     /// The answers that a sender received, by number. They are right: each shows the meaning of
     /// the query that was asked at its number.
     pub fn received(&self, sender: usize) -> &[S::Answer]
-        requires { sender < self.now.shape.senders }
+        requires sender { sender < self.now.shape.senders }
         ensures received { map S.shown result.now ≡ (sender_at self.now sender).received }
         ensures right { IsRight S.meaning self.now.key (sender_at self.now sender) }
     {
@@ -126,7 +127,7 @@ impl<'a, S: Solver> Core<'a, S> {
     ///
     /// The error is `Closed`, `Exhausted`, `Full` or `Memory`, in this order. It changes nothing.
     pub fn ask(&mut self, sender: usize, query: Query) -> Result<u64, CoreFault>
-        requires { sender < self.old.shape.senders }
+        requires sender { sender < self.old.shape.senders }
         ensures event { OnOk result (Step S.meaning (Ask sender query) self.old self.new) }
         ensures number { IfOk result (λ n. n ≡ length (sender_at self.old sender).asked) }
         ensures refusal { IfErr result (λ fault. RefusesOrMemory fault (refusal (Ask sender query) self.old)) }
@@ -179,7 +180,7 @@ impl<'a, S: Solver> Core<'a, S> {
     ///
     /// The error is `HandEmpty`. It changes nothing.
     pub fn give_back(&mut self, worker: usize) -> Result<(usize, u64), CoreFault>
-        requires { worker < self.old.shape.workers }
+        requires worker { worker < self.old.shape.workers }
         ensures event { OnOk result (Step S.meaning (GiveBack worker) self.old self.new) }
         ensures ticket { IfOk result (λ ticket. hand_at self.old worker ≡ Some ticket) }
         ensures refusal { IfErr result (λ fault. Refuses fault (refusal (GiveBack worker) self.old)) }
@@ -198,7 +199,7 @@ impl<'a, S: Solver> Core<'a, S> {
     ///
     /// The error is `Ended` or `NotReady`, in this order. It changes nothing.
     pub fn collect(&mut self, sender: usize) -> Result<u64, CoreFault>
-        requires { sender < self.old.shape.senders }
+        requires sender { sender < self.old.shape.senders }
         ensures event { OnOk result (Step S.meaning (Collect sender) self.old self.new) }
         ensures number { IfOk result (λ n. n ≡ length (sender_at self.old sender).received) }
         ensures refusal { IfErr result (λ fault. Refuses fault (refusal (Collect sender) self.old)) }
@@ -209,8 +210,8 @@ impl<'a, S: Solver> Core<'a, S> {
 
     /// Closes a sender: it asks no more. What it asked is still answered.
     pub fn close(&mut self, sender: usize)
-        requires { sender < self.old.shape.senders }
-        ensures { Step S.meaning (Close sender) self.old self.new }
+        requires sender { sender < self.old.shape.senders }
+        ensures event { Step S.meaning (Close sender) self.old self.new }
     {
         self.lanes[sender].close();
     }

@@ -95,7 +95,7 @@ impl Query {
 
     /// The query that is kept in two words: the second is 0, or the first is below it.
     pub fn of_words(first: u64, second: u64) -> Query
-        requires { AreWords first second }
+        requires words { AreWords first second }
         ensures { result ≡ of_words first second }
     {
         Query { first, second }

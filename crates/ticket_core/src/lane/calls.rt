@@ -99,7 +99,7 @@ impl<A: Drop> Lane<A> {
 
     /// Puts a number that was asked into another slot.
     pub fn put(&mut self, number: u64, slot: Slot<A>)
-        requires { number < vec_len self.old.slots }
+        requires asked { number < vec_len self.old.slots }
         ensures { (shown : A → Shown) → sender_shown shown self.new
             ≡ puts number (place_shown shown slot) (sender_shown shown self.old) }
     {

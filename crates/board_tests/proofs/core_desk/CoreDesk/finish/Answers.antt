@@ -3,4 +3,4 @@ use Rattle.board_tests.proofs.core_desk.CoreDesk.finish.Goals as goal
 
 pub answer-requires-clause-held : goal.answer-requires-clause-held
 answer-requires-clause-held c κs =
-    held-read _ _ c.law_of_state.ensures _ c.args.self.now.shaped _ c.args.self.now.same_hands _ c.requires _ c.index.ensures _ c.in-Some.is
+    held-read _ _ c.law_of_state.ensures.sound _ c.args.self.now.shaped _ c.args.self.now.same_hands _ c.requires _ c.index.ensures _ c.in-Some.is
