@@ -36,7 +36,7 @@ impl<S: Solver> Client<S> {
     /// The errors, tested in this order: `Closed` after `close`; `Exhausted` where as many were
     /// asked as the shape allows; `Full` where as many are outstanding as the window allows.
     pub fn ask<'a>(&mut self, board: &Board<'a, S>, query: Query) -> Result<u64, AskFault>
-        requires { IsClientOf board.now self.old }
+        requires board { IsClientOf board.now self.old }
         ensures seat { self.new.seat ≡ self.old.seat }
         ensures number { IfOk result (λ n. n ≡ length self.old.asked) }
         ensures asked { OnOk result (self.new ≡ asks query self.old) }
@@ -53,7 +53,7 @@ impl<S: Solver> Client<S> {
     /// Whether the next number was found answered. Then `next` returns it. It waits for nobody and
     /// takes no memory.
     pub fn ready<'a>(&mut self, board: &Board<'a, S>) -> bool
-        requires { IsClientOf board.now self.old }
+        requires board { IsClientOf board.now self.old }
         ensures found { self.old.found ≡ true → result ≡ true }
         ensures looked { self.new ≡ finds result self.old }
     {
@@ -71,7 +71,7 @@ impl<S: Solver> Client<S> {
     /// there is none yet; or, exactly where the client is closed and received everything, the end.
     /// It waits for nobody and takes no memory.
     pub fn next<'a>(&mut self, board: &Board<'a, S>) -> Next<S::Answer>
-        requires { IsClientOf board.now self.old }
+        requires board { IsClientOf board.now self.old }
         ensures seat { self.new.seat ≡ self.old.seat }
         ensures ended { IsEnded result ↔ HasEnded self.old }
         ensures number { OnAnswer result (λ n answer. (n ≡ length self.old.received) × (n < length self.old.asked)) }
@@ -94,7 +94,7 @@ impl<S: Solver> Client<S> {
     /// Whatever was called before: what the client received is a beginning of the meanings of what
     /// it asked, in its order. It does nothing.
     pub fn law_of_client(&self)
-        ensures { IsRightClient S.meaning self.now }
+        ensures right { IsRightClient S.meaning self.now }
     {
         self.asker.law_of_asker();
     }

@@ -19,7 +19,7 @@ mod worker_task;
 mod workers;
 
 use crate::gate::Gate;
-use crate::opening::open;
+use crate::new_board::open;
 use answer_order::gather;
 pub use fault::PoolFault;
 pub use limits::pool_fits;

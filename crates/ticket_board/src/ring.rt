@@ -4,7 +4,7 @@ mod asker;
 mod board;
 mod laws;
 mod layout;
-mod opening;
+mod new_ring;
 mod plays;
 mod rule;
 mod slots;

@@ -35,7 +35,7 @@ impl<S: Solver> Model for Worker<S> {
 impl<S: Solver> Worker<S> {
     /// Has the next turn begin at this cell, and go round from there. It makes no step.
     pub fn begin_at(&mut self, cell: usize)
-        ensures { self.new ≡ self.old }
+        ensures stays { self.new ≡ self.old }
     {
         self.taker.begin_at(cell);
     }
@@ -66,7 +66,7 @@ impl<S: Solver> Worker<S> {
         self.turn_uncounted::<G, Brand>(board, solver, gate, Blank::new(1))
     }
 
-    /// The same with steps of its own.
+    /// The same as `turn`, with a counter of its own.
     fn turn_uncounted<'a, G: Gate, L: Ledger>(
         &mut self,
         board: &Board<'a, S>,

@@ -41,7 +41,7 @@ pub fn gather<S: Solver>(
     requires senders { (1 ≤ task.now.senders) × (deque_len lanes ≡ task.now.senders) }
     requires lanes { AreLanes S.shown S.meaning task.now.key.now task.now.senders task.now.queries.now
         (map (λ lane. lane.items) lanes.items) }
-    ensures { IfOk result (λ answers. AreAnswers S.shown S.meaning task.now.key.now task.now.queries.now
+    ensures answers { IfOk result (λ answers. AreAnswers S.shown S.meaning task.now.key.now task.now.queries.now
         answers.items) }
 {
     let mut lanes = lanes;

@@ -14,7 +14,7 @@ const LONG: u32 = 1000;
 
 /// A thread that gives way while it finds nothing to do, and sleeps where that lasts, so that it
 /// takes no processor from those that work. No proof rests on it.
-#[derive(Drop)]
+#[derive(Debug, Drop)]
 pub struct Idle {
     parker: Parker,
     /// How often in a row it waited.
@@ -24,7 +24,7 @@ pub struct Idle {
 }
 
 impl Idle {
-    /// It has found something to do so far, and gives way so often before it sleeps.
+    /// It has found something to do so far; it gives way `awake` times in a row, and then sleeps.
     pub fn new(awake: u32) -> Self {
         Idle {
             parker: Parker::new(),

@@ -5,8 +5,8 @@ ghost use Rattle.ticket_board.specs.Pool.{PoolFits};
 
 use ticket_core::Shape;
 
-/// Whether the shape is within its limits, and no sender has more of so many queries than it may
-/// ask.
+/// Whether the shape is within its limits, and no sender has to ask more than it may, where the
+/// senders share `queries` queries.
 pub fn pool_fits(shape: &Shape, queries: usize) -> bool
     ensures { IsTrue result ↔ PoolFits shape.now queries }
 {

@@ -4,7 +4,7 @@ use crate::board::Board;
 use ticket_core::{Query, Solver};
 
 /// The queries that a pool answers, and which worker each of them is meant for.
-#[derive(Clone, Copy)]
+#[derive(Clone, Copy, Debug)]
 pub struct Queries<'q> {
     /// The queries.
     pub asked: &'q [Query],
@@ -12,8 +12,8 @@ pub struct Queries<'q> {
     pub owners: &'q [u8],
 }
 
-/// What is meant for one worker, among the queries that so many senders ask in turn.
-#[derive(Clone, Copy)]
+/// What is meant for one worker, among the queries that are dealt to the senders in turn.
+#[derive(Clone, Copy, Debug)]
 pub struct Owned<'q> {
     /// For each query the number of its worker.
     pub owners: &'q [u8],

@@ -102,7 +102,7 @@ fn ask_all<S: Solver, R: Wait>(
     requires key { sending.task.key.now ≡ sending.board.now.key }
     requires senders { (1 ≤ sending.task.senders) × (sending.task.senders ≤ 64) }
     requires client { IsNewSender sending.board.now sending.sender sending.client }
-    ensures { IfOk result (λ lane. IsLane S.shown S.meaning sending.entry.task.key.now sending.entry.task.senders
+    ensures lane { IfOk result (λ lane. IsLane S.shown S.meaning sending.entry.task.key.now sending.entry.task.senders
         sending.entry.task.queries.now sending.entry.sender lane.items) }
 {
     let Sending {
@@ -144,7 +144,7 @@ pub fn send<S: Solver, R: Wait>(
     requires key { sending.task.key.now ≡ sending.board.now.key }
     requires senders { (1 ≤ sending.task.senders) × (sending.task.senders ≤ 64) }
     requires client { IsNewSender sending.board.now sending.sender sending.client }
-    ensures { IfOk result (λ lane. IsLane S.shown S.meaning sending.entry.task.key.now sending.entry.task.senders
+    ensures lane { IfOk result (λ lane. IsLane S.shown S.meaning sending.entry.task.key.now sending.entry.task.senders
         sending.entry.task.queries.now sending.entry.sender lane.items) }
 {
     let stop = sending.stop;

@@ -3,7 +3,7 @@
 use std::sync::atomic::{AtomicBool, Ordering};
 
 /// Whether the threads of a pool are to end. No proof rests on it.
-#[derive(Drop)]
+#[derive(Debug, Drop)]
 pub struct Stop {
     is_set: AtomicBool,
 }

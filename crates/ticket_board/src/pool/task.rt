@@ -7,8 +7,8 @@ use std::marker::PhantomData;
 use std::thread::Promise;
 use ticket_core::{NoMemory, Query, Solver};
 
-/// What a pool has to answer: these queries, under this key, dealt to so many senders in turn.
-#[derive(Clone, Copy)]
+/// What a pool has to answer: these queries, under this key, dealt to the senders in turn.
+#[derive(Clone, Copy, Debug)]
 pub struct Task<'q> {
     pub key: &'q [u8],
     pub queries: &'q [Query],

@@ -43,7 +43,7 @@ impl<S: Solver> Asker<S> {
     /// The errors, tested in this order: `Exhausted` where as many were asked as the shape allows;
     /// `Full` where as many are outstanding as the window allows. They change nothing.
     pub fn ask<'a>(&mut self, ring: &Ring<'a, S>, query: Query) -> Result<u64, AskFault>
-        requires { IsAskerOf ring.now self.old }
+        requires ring { IsAskerOf ring.now self.old }
         ensures number { IfOk result (λ n. n ≡ next_asked self.old.asking) }
         ensures asked { OnOk result (self.new ≡ record self.old { asking = asks_one query self.old.asking }) }
         ensures refused { OnErr result (self.new ≡ self.old) }
@@ -69,7 +69,7 @@ impl<S: Solver> Asker<S> {
     /// Whether the next number was found answered, as `collect` asks. It waits for nobody and takes
     /// no memory.
     pub fn ready<'a>(&mut self, ring: &Ring<'a, S>) -> bool
-        requires { IsAskerOf ring.now self.old }
+        requires ring { IsAskerOf ring.now self.old }
         ensures found { self.old.asking.found ≡ true → result ≡ true }
         ensures looked { self.new ≡ record self.old { asking = looks result self.old.asking } }
     {
@@ -118,7 +118,7 @@ impl<S: Solver> Asker<S> {
     /// Whatever was called before: what was received is a beginning of the meanings of what was
     /// asked, in its order. It does nothing.
     pub fn law_of_asker(&self)
-        ensures { IsRightAsker S.meaning self.now }
+        ensures right { IsRightAsker S.meaning self.now }
     {
         let _ = &self.received;
     }

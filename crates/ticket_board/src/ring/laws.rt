@@ -21,12 +21,12 @@ pub fn law_of_opening()
 
 /// A sender stores the first word of a query in the cell of the number that it asks next: no event.
 pub fn law_of_k1()
-    ensures { (meaning : Meaning) (word : ℕ) → SenderLaw meaning (WritesFirst word) }
+    ensures no_event { (meaning : Meaning) (word : ℕ) → SenderLaw meaning (WritesFirst word) }
 {}
 
 /// A sender stores that this number waits, of whose query both words are in the cell: it is asked.
 pub fn law_of_k2()
-    ensures { (meaning : Meaning) (query : Query) → SenderLaw meaning (Publishes query) }
+    ensures asked { (meaning : Meaning) (query : Query) → SenderLaw meaning (Publishes query) }
 {}
 
 /// A sender or a worker loads a state word: no event.
@@ -38,12 +38,12 @@ pub fn law_of_k3()
 /// A worker tries to exchange a state word, once: where that succeeds the number is taken, and else
 /// it is no event.
 pub fn law_of_k4()
-    ensures { (meaning : Meaning) (s n : ℕ) → WorkerLaw meaning (Takes s n) }
+    ensures taken { (meaning : Meaning) (s n : ℕ) → WorkerLaw meaning (Takes s n) }
 {}
 
 /// A worker loads the first word of the query of the number in its hand: no event.
 pub fn law_of_k5()
-    ensures { (meaning : Meaning) (s n : ℕ) → WorkerLaw meaning (ReadsFirst s n) }
+    ensures no_event { (meaning : Meaning) (s n : ℕ) → WorkerLaw meaning (ReadsFirst s n) }
 {}
 
 /// A worker stores that the number in its hand is answered, of whose query it read both words, with
@@ -57,22 +57,22 @@ pub fn law_of_k6()
 
 /// A sender stores that its next answer is on its way out of the slot: no event.
 pub fn law_of_k7()
-    ensures { (meaning : Meaning) → SenderLaw meaning BringsOut }
+    ensures no_event { (meaning : Meaning) → SenderLaw meaning BringsOut }
 {}
 
 /// A sender stores that the cell is free for the number a window later: the answer is collected.
 pub fn law_of_k8()
-    ensures { (meaning : Meaning) (answer : Shown) → SenderLaw meaning (Receives answer) }
+    ensures collected { (meaning : Meaning) (answer : Shown) → SenderLaw meaning (Receives answer) }
 {}
 
 /// A sender stores the second word of the query whose first word it wrote ahead: no event.
 pub fn law_of_k9()
-    ensures { (meaning : Meaning) (query : Query) → SenderLaw meaning (WritesSecond query) }
+    ensures no_event { (meaning : Meaning) (query : Query) → SenderLaw meaning (WritesSecond query) }
 {}
 
 /// A worker loads the second word of the query whose first word it read: no event.
 pub fn law_of_k10()
-    ensures { (meaning : Meaning) (s n first : ℕ) → WorkerLaw meaning (ReadsSecond s n first) }
+    ensures no_event { (meaning : Meaning) (s n first : ℕ) → WorkerLaw meaning (ReadsSecond s n first) }
 {}
 
 /// Any step, by any seat. With the core's law over all runs, what that says of each sender and of

@@ -19,7 +19,7 @@ impl Model for Knowledge {
 }
 
 /// What the table is given once: the ring's shape, and the key of its answers.
-#[derive(Drop)]
+#[derive(Debug, Drop)]
 pub struct Terms<'a> {
     /// The shape of the core that the ring shows.
     pub shape: Shape,

@@ -144,7 +144,7 @@ impl<S: Solver> Taker<S> {
         self.take_uncounted::<Brand>(ring, Blank::new(1))
     }
 
-    /// The same with steps of its own.
+    /// The same with a counter of its own.
     fn take_uncounted<'a, L: Ledger>(
         &mut self,
         ring: &Ring<'a, S>,
@@ -225,7 +225,7 @@ impl<S: Solver> Taker<S> {
         self.give_back_uncounted::<Brand>(ring, Blank::new(1))
     }
 
-    /// The same with steps of its own.
+    /// The same with a counter of its own.
     fn give_back_uncounted<'a, L: Ledger>(
         &mut self,
         ring: &Ring<'a, S>,
@@ -273,7 +273,7 @@ impl<S: Solver> Taker<S> {
 
     /// Has `take` begin at this cell, and go round from there. It makes no step.
     pub fn begin_at(&mut self, cell: usize)
-        ensures { self.new ≡ self.old }
+        ensures stays { self.new ≡ self.old }
     {
         self.begin = cell;
     }

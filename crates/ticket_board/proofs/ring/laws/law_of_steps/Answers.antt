@@ -28,8 +28,8 @@ any-worker meaning looks takes first second answers gives (GivesBack s n) = give
 
 pub returns : goal.returns
 returns c = record {
-  sender = λ meaning. any-sender meaning (c.law_of_k1.ensures meaning) (c.law_of_k9.ensures meaning) (c.law_of_k2.ensures meaning)
-      (c.law_of_k3.ensures.sender meaning) (c.law_of_k7.ensures meaning) (c.law_of_k8.ensures meaning);
-  worker = λ meaning. any-worker meaning (c.law_of_k3.ensures.worker meaning) (c.law_of_k4.ensures meaning) (c.law_of_k5.ensures meaning)
-      (c.law_of_k10.ensures meaning) (c.law_of_k6.ensures.answers meaning) (c.law_of_k6.ensures.gives_back meaning);
+  sender = λ meaning. any-sender meaning (c.law_of_k1.ensures.no_event meaning) (c.law_of_k9.ensures.no_event meaning) (c.law_of_k2.ensures.asked meaning)
+      (c.law_of_k3.ensures.sender meaning) (c.law_of_k7.ensures.no_event meaning) (c.law_of_k8.ensures.collected meaning);
+  worker = λ meaning. any-worker meaning (c.law_of_k3.ensures.worker meaning) (c.law_of_k4.ensures.taken meaning) (c.law_of_k5.ensures.no_event meaning)
+      (c.law_of_k10.ensures.no_event meaning) (c.law_of_k6.ensures.answers meaning) (c.law_of_k6.ensures.gives_back meaning);
 }

@@ -2,7 +2,7 @@ use Rattle.std.proofs.Common.{◌+◌, ◌<◌, refl, sym, subst, arith}
 use Rattle.ticket_core.specs.declared.shape.Shape.{Shape}
 use Rattle.ticket_board.specs.Ring.Views.{asking_of}
 use Rattle.ticket_board.proofs.RingTable.{asker-cut, desk-after, askers-then}
-use Rattle.ticket_board.proofs.ring.opening.open_askers.Goals as goal
+use Rattle.ticket_board.proofs.ring.new_ring.open_askers.Goals as goal
 
 pub loop-sender-preserved : goal.loop-sender-preserved
 loop-sender-preserved g c =

@@ -1,6 +1,6 @@
 use Rattle.std.proofs.Common.{arith}
 use Rattle.ticket_board.proofs.RingTable.{free-more}
-use Rattle.ticket_board.proofs.ring.opening.free_words.Goals as goal
+use Rattle.ticket_board.proofs.ring.new_ring.free_words.Goals as goal
 
 pub loop-cell-preserved : goal.loop-cell-preserved
 loop-cell-preserved c =

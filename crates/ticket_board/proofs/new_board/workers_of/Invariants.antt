@@ -4,7 +4,7 @@ use Rattle.std.specs.Vec.{vec_len, vec_capacity}
 use Rattle.std.specs.Vec.Iter.{into_iter_items, into_iter_len}
 use Rattle.ticket_board.specs.Ring.Takers.{HasEmptyHand}
 use Rattle.ticket_board.specs.Seats.{worker_shown}
-use Rattle.ticket_board.proofs.opening.workers_of.Given as goal
+use Rattle.ticket_board.proofs.new_board.workers_of.Given as goal
 
 abbrev pub invariant-loop-taker : goal.invariant-loop-taker
 invariant-loop-taker g l = record {

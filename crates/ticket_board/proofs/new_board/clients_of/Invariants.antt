@@ -2,7 +2,7 @@ use Rattle.std.proofs.Common.{◌≡◌, ◌+◌, ◌≤◌, ◌++◌, false, ma
 use Rattle.std.specs.Vec.{vec_len, vec_capacity}
 use Rattle.std.specs.Vec.Iter.{into_iter_items, into_iter_len}
 use Rattle.ticket_board.specs.Seats.{client_shown}
-use Rattle.ticket_board.proofs.opening.clients_of.Given as goal
+use Rattle.ticket_board.proofs.new_board.clients_of.Given as goal
 
 abbrev pub invariant-loop-asker : goal.invariant-loop-asker
 invariant-loop-asker g l = record {

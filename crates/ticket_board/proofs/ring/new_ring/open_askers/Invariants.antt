@@ -1,7 +1,7 @@
 use Rattle.std.proofs.Common.{◌≡◌, ◌≤◌}
 use Rattle.std.specs.Vec.{vec_len, vec_capacity}
 use Rattle.ticket_board.specs.Ring.Opened.{IsDesk, askers_from}
-use Rattle.ticket_board.proofs.ring.opening.open_askers.Given as goal
+use Rattle.ticket_board.proofs.ring.new_ring.open_askers.Given as goal
 
 abbrev pub invariant-loop-sender : goal.invariant-loop-sender
 invariant-loop-sender g l = record {

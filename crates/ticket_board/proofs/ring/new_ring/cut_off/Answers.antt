@@ -3,7 +3,7 @@ use Rattle.ticket_board.specs.Ring.Ends.{RingState}
 use Rattle.ticket_board.specs.Ring.Opened.{IsDesk}
 use Rattle.ticket_board.specs.Ring.Rule.{cut_of}
 use Rattle.ticket_board.proofs.RingTable.{desk-splits, some-words}
-use Rattle.ticket_board.proofs.ring.opening.cut_off.Goals as goal
+use Rattle.ticket_board.proofs.ring.new_ring.cut_off.Goals as goal
 
 pub split_seat-requires : goal.split_seat-requires
 split_seat-requires g c =

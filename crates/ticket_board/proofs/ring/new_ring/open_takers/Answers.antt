@@ -4,7 +4,7 @@ use Rattle.ticket_board.specs.Ring.Views.{working_of}
 use Rattle.ticket_board.specs.Ring.Rule.{cut_of, worker_of}
 use Rattle.ticket_board.specs.Ring.Opened.{takers_from}
 use Rattle.ticket_board.proofs.RingTable.{taker-cut, desk-after, takers-then}
-use Rattle.ticket_board.proofs.ring.opening.open_takers.Goals as goal
+use Rattle.ticket_board.proofs.ring.new_ring.open_takers.Goals as goal
 
 pub cut_off-seat-requires-clause-left : goal.cut_off-seat-requires-clause-left
 cut_off-seat-requires-clause-left g c κs within =

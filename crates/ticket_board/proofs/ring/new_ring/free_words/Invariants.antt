@@ -1,7 +1,7 @@
 use Rattle.std.proofs.Common.{◌≡◌, ℕ, ◌*◌, ◌%◌, ◌<◌, ◌≤◌, get_or}
 use Rattle.std.specs.Vec.{vec_len, vec_capacity}
 use Rattle.ticket_board.specs.Ring.Layout.{state_field, word_of, free_word}
-use Rattle.ticket_board.proofs.ring.opening.free_words.Given as goal
+use Rattle.ticket_board.proofs.ring.new_ring.free_words.Given as goal
 
 abbrev pub invariant-loop-cell : goal.invariant-loop-cell
 invariant-loop-cell l = record {

@@ -1,7 +1,7 @@
 use Rattle.std.proofs.Common.{refl, sym, subst}
 use Rattle.ticket_board.specs.Ring.Opening.{AreFree}
 use Rattle.ticket_board.proofs.RingTable.{opening-holds}
-use Rattle.ticket_board.proofs.ring.opening.lay.Goals as goal
+use Rattle.ticket_board.proofs.ring.new_ring.lay.Goals as goal
 
 pub vacant-requires : goal.vacant-requires
 vacant-requires g c =

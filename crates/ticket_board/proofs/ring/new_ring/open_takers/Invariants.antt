@@ -1,7 +1,7 @@
 use Rattle.std.proofs.Common.{◌≡◌, ◌+◌, ◌≤◌}
 use Rattle.std.specs.Vec.{vec_len, vec_capacity}
 use Rattle.ticket_board.specs.Ring.Opened.{IsDesk, takers_from}
-use Rattle.ticket_board.proofs.ring.opening.open_takers.Given as goal
+use Rattle.ticket_board.proofs.ring.new_ring.open_takers.Given as goal
 
 abbrev pub invariant-loop : goal.invariant-loop
 invariant-loop g l = record {

@@ -1,5 +1,4 @@
-//! How a board is opened: its ring is opened, and each end of the ring becomes a client or a
-//! worker.
+//! A new board: a client for each sender's end of its ring, and a worker for each worker's end.
 
 ghost use Rattle.std.specs.Prelude.{◌≡◌, false, IfOk, IfErr, OnOk, map};
 ghost use Rattle.std.specs.List.{AllByRecursion};
@@ -45,7 +44,7 @@ fn workers_of<S: Solver>(alloc: Global, takers: Vec<Taker<S>>) -> Result<Vec<Wor
 }
 
 /// A board of this shape, a client for each sender and a worker for each worker of the shape, in
-/// order. All that they share, they share through the board, on whatever threads they are.
+/// order. They share nothing but the board, on whatever threads they are.
 ///
 /// The error is `BadShape` for a shape past its limits, else `Memory` where an allocation was
 /// refused.

@@ -1,5 +1,4 @@
-//! How a ring is opened: its words are made, and the seats of senders and workers are cut off one
-//! by one.
+//! A new ring: its words, and the seats of senders and workers, which are cut off one by one.
 
 ghost use Rattle.std.specs.Prelude.{◌≡◌, ◌+◌, ◌<◌, [], IfOk, IfErr, OnOk};
 ghost use Rattle.ticket_core.specs.Shape.{Fits};
