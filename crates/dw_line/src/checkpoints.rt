@@ -51,7 +51,7 @@ pub(crate) struct Checkpoints {
 }
 
 impl Pending {
-    /// No row is pending after so many checkpoints.
+    /// No row is pending, after the first `first_checkpoint` checkpoints.
     fn none(first_checkpoint: usize) -> Self
         ensures { result ≡ none_pending first_checkpoint }
     {
@@ -94,7 +94,7 @@ impl Checkpoints {
         }
     }
 
-    /// One more row is pending, after which so many bytes of the program are passed.
+    /// One more row is pending, after which the first `place` bytes of the program are passed.
     #[inline(always)]
     fn push(&mut self, registers: Registers, place: usize) -> Result<(), AllocError>
         ensures { OnOk result (recorder_shown self.new ≡ pushed registers place (recorder_shown self.old)) }
@@ -141,7 +141,8 @@ impl Checkpoints {
         Ok(())
     }
 
-    /// The machine has appended a row, after which so many bytes of the program are passed.
+    /// The machine has appended a row, after which the first `place` bytes of the program are
+    /// passed.
     #[inline(always)]
     pub(crate) fn record(&mut self, appended: Appended, place: usize) -> Result<(), AllocError>
         ensures { OnOk result (recorder_shown self.new ≡ recorded appended place (recorder_shown self.old)) }

@@ -41,7 +41,7 @@ pub(crate) struct LineEntry<'a> {
     pub(crate) directory: u64,
 }
 
-/// So many formats.
+/// The next `count` formats.
 fn formats_of(
     alloc: Global,
     cursor: &mut Cursor<'_>,
@@ -110,7 +110,7 @@ fn directory_of(value: Option<Value<'_>>) -> u64
     }
 }
 
-/// The entries of a list of so many.
+/// The next `count` entries of a list.
 fn entries_of<'a>(
     alloc: Global,
     cursor: &mut Cursor<'a>,

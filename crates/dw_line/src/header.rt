@@ -9,7 +9,7 @@ mod parser;
 pub(crate) use parser::header_at;
 
 /// The fields of a header that are used, and the program after it.
-#[derive(Drop)]
+#[derive(Debug, Drop)]
 pub(crate) struct Header<'a> {
     /// The size of the smallest instruction of the machine, in bytes.
     pub(crate) minimum_instruction_length: u8,

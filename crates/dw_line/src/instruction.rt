@@ -39,7 +39,7 @@ pub(crate) enum Instruction {
     NoEffect,
 }
 
-/// So many operands of an opcode that the standard doesn't name, which are read over.
+/// Passes over `count` operands of an opcode that the standard doesn't name.
 #[tactic(auto, unfolding(dw_model::specs::Instruction::unknown_at))]
 #[inline(never)]
 fn unknown(cursor: &mut Cursor<'_>, count: u8) -> Result<Instruction, LineFault>

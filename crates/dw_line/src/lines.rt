@@ -32,7 +32,7 @@ use std::sync::ledger::{Blank, Ledger};
 /// A line table, for one unit after the other of those that name it. Contracts see where it begins,
 /// its header with the unit's texts, the rows of its program's matrix, and the directory in which
 /// the unit was compiled.
-#[derive(Drop)]
+#[derive(Debug, Drop)]
 pub struct Lines<'a> {
     header: Header<'a>,
     /// Those of all used sequences, one sequence after the other.
@@ -145,7 +145,7 @@ impl<'a> Lines<'a> {
         self.row_uncounted::<Brand>(address, Blank::new(1))
     }
 
-    /// The same with steps of its own.
+    /// The same as `row`, with a counter of its own.
     fn row_uncounted<L: Ledger>(&self, address: u64, blank: Blank) -> Option<Row>
         requires name { blank.name ≡ L.name }
         requires parts { blank.parts ≡ L.parts }
@@ -176,7 +176,7 @@ impl<'a> Lines<'a> {
         self.row_in_order_uncounted::<Brand>(address, Blank::new(1))
     }
 
-    /// The same with steps of its own.
+    /// The same as `row_in_order`, with a counter of its own.
     fn row_in_order_uncounted<L: Ledger>(&mut self, address: u64, blank: Blank) -> Option<Row>
         requires name { blank.name ≡ L.name }
         requires parts { blank.parts ≡ L.parts }
@@ -271,8 +271,8 @@ impl<'a> Lines<'a> {
     /// there is none. So `row` returns the same from the address on and below the one that is
     /// returned. It runs the rows between these two, and at most 64 before them. Takes no memory.
     pub fn steady(&self, a: u64) -> u64
-        requires { a < last_address }
-        ensures { IsSteady (told_at self.now.rows) a result }
+        requires above { a < last_address }
+        ensures steady { IsSteady (told_at self.now.rows) a result }
     {
         let mut walk = self.walk(a, u64::MAX);
         let Some(first) = walk.next() else {
@@ -291,7 +291,7 @@ impl<'a> Lines<'a> {
     /// How many checkpoints are kept: at most one for 64 rows of used sequences, and one for each
     /// of these sequences. Nothing else is kept of their rows.
     pub fn kept(&self) -> usize
-        ensures { result ≤ most_checkpoints (used_sequences self.now.rows) }
+        ensures bound { result ≤ most_checkpoints (used_sequences self.now.rows) }
     {
         self.checkpoints.len()
     }

@@ -38,7 +38,7 @@ pub(crate) fn join(path: &mut Vec<u8>, part: &[u8]) -> Result<(), AllocError>
     path.extend_from_slice(part)
 }
 
-/// The same with a part that may be absent.
+/// The same as `join`, with a part that may be absent.
 pub(crate) fn join_some(path: &mut Vec<u8>, part: Option<&[u8]>) -> Result<(), AllocError>
     ensures { OnOk result (path.new.items ≡ joined_some path.old.items (option_map (λ part. part.now) part.entry)) }
 {

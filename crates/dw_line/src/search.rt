@@ -88,7 +88,7 @@ fn next_counted<L: Ledger>(
     next_row(cursor, header, registers)
 }
 
-/// A cursor past so many bytes of a program, where they are there.
+/// A cursor past the first `place` bytes of a program, where they are there.
 fn cursor_at<'a>(program: &'a [u8], place: usize) -> Option<Cursor<'a>>
     ensures { place ≤ length program.now → result ≡ Some (record { at = place; left = drop place program.now }) }
 {

@@ -26,7 +26,7 @@ pub struct Stretch {
 /// Goes through a span of addresses of a line table, from one stretch to the next. Rows are run on
 /// from the row before; only where another sequence begins they are run anew from one of its
 /// checkpoints. Contracts see the table, the address that comes next, and the end of the span.
-#[derive(Drop)]
+#[derive(Debug, Drop)]
 pub struct Walk<'b, 'a> {
     lines: &'b Lines<'a>,
     at: u64,
