@@ -38,7 +38,7 @@ fn add(block: &mut Vec<u8>, piece: &[u8]) -> bool
 }
 
 /// Puts a piece after what is in a block. Where there is no room for it, the block is written
-/// first, and a piece that is longer than a block at once.
+/// first, and then a piece that is longer than a block by itself.
 fn put<W: Sink>(writer: &mut W, block: &mut Vec<u8>, piece: &[u8]) -> Result<(), Failed>
     ensures put { OnOk result (Puts (W.told writer.old) (W.told writer.new) block.old.items piece.now block.new.items) }
     ensures failed { OnErr result (W.failures writer.old < W.failures writer.new) }

@@ -40,7 +40,7 @@ impl From<std::io::Error> for LoadFault {
     }
 }
 
-/// An empty list with room for so many bytes and some more.
+/// An empty list with room for `size` bytes and some more.
 fn room_for(alloc: Global, size: u64) -> Result<Vec<u8>, AllocError> {
     let Ok(size) = usize::try_from(size) else {
         return Err(AllocError);

@@ -35,7 +35,7 @@ pub fn in_order(
     queries: &[Query],
     order: &[(Turn, usize)],
 ) -> Result<Vec<Query>, AllocError>
-    requires { All (λ pair. pair.1 < length queries.now) order.now }
+    requires within { All (λ pair. pair.1 < length queries.now) order.now }
     ensures { IfOk result (λ asked. asked.items ≡ asked_in queries.now order.now) }
 {
     let mut asked = Vec::new(alloc);
@@ -45,7 +45,7 @@ pub fn in_order(
     Ok(asked)
 }
 
-/// As many answers, to be replaced by those that are found.
+/// `count` answers, to be replaced by those that are found.
 fn unanswered<'a>(alloc: Global, count: usize) -> Result<Vec<Answer<'a>>, AllocError>
     ensures { IfOk result (λ answers. length answers.items ≡ count) }
 {

@@ -14,7 +14,7 @@ use ticket_core::Query;
 pub const BAD_ADDRESS: &[u8] = b"!bad address\n";
 
 /// Pieces of text. Contracts see them as a list.
-#[derive(Drop)]
+#[derive(Debug, Drop)]
 pub struct Pieces {
     /// All of them, one after the other.
     text: Vec<u8>,
@@ -37,7 +37,7 @@ impl Model for Pieces {
 impl Pieces {
     /// The piece at an index.
     pub fn piece(&self, place: usize) -> &[u8]
-        requires { place < length self.now }
+        requires within { place < length self.now }
         ensures { result.now ≡ slice_index_or self.now place [] }
     {
         let (start, len) = self.spans[place];
@@ -53,7 +53,7 @@ pub fn pieces_of(
     asked: &[Query],
     answers: Vec<Answer<'_>>,
 ) -> Result<Pieces, AllocError>
-    requires { length answers.items ≡ length asked.now }
+    requires each_answered { length answers.items ≡ length asked.now }
     ensures { IfOk result (ArePieces options.now asked.now answers.entry.items) }
 {
     let mut text = Vec::new(alloc);

@@ -81,8 +81,8 @@ pub fn answers_of<'a, R: Threads + Wait + Sync, G: Gate + Sync>(
     queries: &[Query],
     gate: &G,
 ) -> Result<Vec<Answer<'a>>, AllocError>
-    requires { PoolFits shape (length queries.now) }
-    ensures { IfOk result (λ answers. AreAnswersOf image.now queries.now answers.items) }
+    requires fits { PoolFits shape (length queries.now) }
+    ensures answers { IfOk result (λ answers. AreAnswersOf image.now queries.now answers.items) }
 {
     let order = order_of(alloc, image, queries)?;
     let asked = in_order(alloc, queries, &order)?;

@@ -12,7 +12,7 @@ use ticket_core::Query;
 const MOST: u64 = 1 << 60;
 
 /// The queries among some inputs, each once, and what each input picks of them.
-#[derive(Drop)]
+#[derive(Debug, Drop)]
 pub struct Sharing {
     /// The queries, in order of their first addresses. An address comes before the spans that begin
     /// with it, and of these the shorter one first.

@@ -5,7 +5,7 @@ use std::alloc::{AllocError, Global};
 use ticket_core::{Query, QueryKind};
 
 /// What is asked of a unit.
-#[derive(Clone, Copy)]
+#[derive(Clone, Copy, Debug)]
 pub struct Load {
     /// How many bytes the unit has.
     pub size: u64,
@@ -14,7 +14,7 @@ pub struct Load {
 }
 
 /// The units of some queries.
-#[derive(Drop)]
+#[derive(Debug, Drop)]
 pub struct Survey {
     /// For each query the index of its unit among the units of the file; `usize::MAX` where it has
     /// none.

@@ -18,7 +18,7 @@ pub type Turn = (u32, u32);
 const LAST: Turn = (u32::MAX, u32::MAX);
 
 /// The turns of queries, one after the other.
-#[derive(Drop)]
+#[derive(Debug, Drop)]
 pub struct Turns {
     survey: Survey,
     /// For each unit its rank by size; that of the largest is 0.
@@ -43,7 +43,7 @@ fn ranks_of(alloc: Global, loads: &[Load]) -> Result<Vec<usize>, AllocError> {
     Ok(ranks)
 }
 
-/// The turn of a unit's query after so many others of it: the first comes with the first of the
+/// The turn of a unit's query after `seen` others of it: the first comes with the first of the
 /// other units of its wave, the others are spread evenly over the rest of the wave.
 fn turn(rank: usize, seen: u64, count: u64) -> Turn {
     let wave = u32::try_from(rank / WAVE).unwrap_or(u32::MAX);
