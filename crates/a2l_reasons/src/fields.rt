@@ -62,7 +62,7 @@ impl<'a> Fields<'a> {
         stop_for(self.alloc, self.spot, field, found, wanted)
     }
 
-    /// The same with a number.
+    /// The same as `refuse`, with a number.
     pub(crate) fn refuse_number(&self, field: &str, found: u64, wanted: &str) -> Stop {
         match decimal(self.alloc, found) {
             Ok(found) => self.refuse(field, found, wanted),
@@ -76,7 +76,8 @@ impl<'a> Fields<'a> {
         joined(self.alloc, &["at ", &at, " of ", self.section])
     }
 
-    /// How a field of so many bytes isn't all there.
+    /// A stop at a field of `size` bytes that isn't all there; an error where an allocation was
+    /// refused.
     fn cut_stop(&self, field: &str, size: u64) -> Result<Stop, AllocError> {
         let alloc = self.alloc;
         let left = decimal(alloc, self.left())?;
@@ -87,7 +88,7 @@ impl<'a> Fields<'a> {
         Ok(stop_at(alloc, self.spot, field, found, wanted))
     }
 
-    /// A stop at a field of so many bytes that isn't all there.
+    /// A stop at a field of `size` bytes that isn't all there.
     fn too_short(&self, field: &str, size: u64) -> Stop {
         match self.cut_stop(field, size) {
             Ok(stop) => stop,
@@ -127,7 +128,7 @@ impl<'a> Fields<'a> {
         self.some(read, field, width.size() as u64)
     }
 
-    /// So many bytes.
+    /// The next `size` bytes.
     pub(crate) fn take(&mut self, size: u64, field: &str) -> Result<&'a [u8], Stop> {
         let read = self.cursor.take(size as usize);
         self.some(read, field, size)
@@ -160,7 +161,7 @@ impl<'a> Fields<'a> {
         }
     }
 
-    /// The same, where it may take memory to say so.
+    /// A stop at a value, by the fault of its form, or out of memory.
     pub(crate) fn refuse_value(&self, field: &str, fault: FormFault) -> Stop {
         match self.value_stop(field, fault) {
             Ok(stop) => stop,

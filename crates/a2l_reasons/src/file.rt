@@ -118,7 +118,7 @@ fn outside(alloc: Global, spot: Spot, field: &str, offset: u64, size: u64, file:
     stop_at(alloc, spot, field, found, wanted)
 }
 
-/// So many bytes from an offset on lie in a file.
+/// Whether `size` bytes from an offset on lie in a file.
 fn lies_in(file: &[u8], offset: u64, size: u64) -> bool {
     let len = file.len() as u64;
     offset <= len && size <= len - offset

@@ -16,7 +16,7 @@ pub struct FileEntry<'a> {
 }
 
 /// The header of a line table, as far as paths and the program need it.
-#[derive(Drop)]
+#[derive(Debug, Drop)]
 pub struct LineTable<'a> {
     pub version: u16,
     pub directories: Vec<FileEntry<'a>>,
@@ -47,7 +47,7 @@ fn value_stop(alloc: Global, fields: &Fields<'_>, format: Format, fault: FormFau
     }
 }
 
-/// So many formats.
+/// The next `count` formats.
 fn formats_of(alloc: Global, fields: &mut Fields<'_>, count: u8) -> Result<Vec<Format>, Stop> {
     let mut formats = Vec::new(alloc);
     for _ in 0..count {

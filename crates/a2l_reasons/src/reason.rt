@@ -73,7 +73,7 @@ pub(crate) fn stop_at(
     }
 }
 
-/// The same where what was wanted can be said in advance.
+/// The same as `stop_at`, where what was wanted can be said in advance.
 pub(crate) fn stop_for(
     alloc: Global,
     spot: Spot,
