@@ -27,6 +27,7 @@ use dw_frames::Tree;
 use dw_units::{Entry, Next, Units};
 use std::io::Write;
 use std::process::ExitCode;
+use std::sync::Arc;
 use std::{env, fs, io};
 
 /// Walks over the entries of a unit; how many entries there are.
@@ -68,8 +69,8 @@ fn entries(rt: &HostRuntime, units: &Units<'_>, i: usize) -> Option<usize>
     Some(count)
 }
 
-fn one(rt: &HostRuntime, how: &str, units: &Units<'_>, i: usize) -> Option<usize>
-    requires within { i < length (cut.units units.now.info) }
+fn one(rt: &HostRuntime, how: &str, units: &Arc<Units<'_>>, i: usize) -> Option<usize>
+    requires within { i < length (cut.units units.now.value.info) }
 {
     match how {
         "functions" => functions(units, i),
@@ -88,7 +89,7 @@ fn one(rt: &HostRuntime, how: &str, units: &Units<'_>, i: usize) -> Option<usize
 fn read(rt: &HostRuntime, how: &str, path: &str) -> Option<usize> {
     let file = fs::read(rt, path).ok()?;
     let elf = Elf::open(&file).ok()?;
-    let units = Units::read(rt.alloc(), &elf).ok()?;
+    let units = Arc::new(rt.alloc(), Units::read(rt.alloc(), &elf).ok()?).ok()?;
     let mut count: usize = 0;
     for i in 0..units.len() {
         if !units.unit(i).kind.is_skipped() {

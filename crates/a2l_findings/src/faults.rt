@@ -1,5 +1,8 @@
 //! The faults of units: an entry, or a line table, that can't be read.
 
+ghost use Rattle.std.specs.Prelude.{◌<◌, length};
+ghost use Rattle.dw_model.specs.Unit as cut;
+
 use crate::unit::UnitAt;
 use a2l_reasons::{Reason, line_reason, reason_in, tree_reason};
 use dw_forms::Value;
@@ -7,8 +10,9 @@ use dw_frames::{Tree, TreeFault};
 use dw_line::{LineFault, Lines};
 use dw_model::dwarf::DW_AT_stmt_list;
 use dw_symbols::UnitFault;
-use dw_units::{OpenUnit, Sections};
+use dw_units::{OpenUnit, Sections, Units};
 use std::alloc::{AllocError, Global};
+use std::sync::Arc;
 
 /// Units that have one fault.
 #[derive(Drop)]
@@ -54,15 +58,18 @@ pub fn read_lines<'a>(
     }
 }
 
-/// The functions of a unit that answers, where they can be read; and their fault.
-pub fn read_tree<'b, 'a>(
+/// The functions of the unit at an index that answers, where they can be read; and their fault.
+pub fn read_tree<'a>(
     alloc: Global,
-    here: OpenUnit<'b, 'a>,
-) -> Result<(Option<Tree<'b, 'a>>, Option<UnitFault>), AllocError> {
-    if here.unit().kind.is_skipped() {
+    units: &Arc<Units<'a>>,
+    index: usize,
+) -> Result<(Option<Tree<'a>>, Option<UnitFault>), AllocError>
+    requires { index < length (cut.units units.now.value.info) }
+{
+    if units.unit(index).kind.is_skipped() {
         return Ok((None, None));
     }
-    let fault = match Tree::read(alloc, here.units(), here.index()) {
+    let fault = match Tree::read(alloc, units, index) {
         Ok(tree) => return Ok((Some(tree), None)),
         Err(TreeFault::Entry) => UnitFault::Entry,
         Err(TreeFault::Depth) => UnitFault::Depth,

@@ -21,6 +21,7 @@ use dw_elf::{Elf, OpenFault};
 use dw_symbols::Image;
 use dw_units::{Sections, Units};
 use std::alloc::{AllocError, Global};
+use std::sync::Arc;
 
 /// What of a file can puzzle a user.
 #[derive(Drop)]
@@ -51,13 +52,13 @@ pub struct Findings<'a> {
 /// Looks at all units.
 fn gather<'a, P: Progress>(
     scene: Scene<'_, 'a>,
-    units: &Units<'a>,
+    units: &Arc<Units<'a>>,
     progress: &mut P,
 ) -> Result<Gathered<'a>, AllocError> {
     let mut gathered = Gathered::new(scene.alloc);
     for i in 0..units.len() {
         progress.reach(i, units.len());
-        gathered.look_at(scene, units.at(i))?;
+        gathered.look_at(scene, units, i)?;
     }
     Ok(gathered)
 }
@@ -68,10 +69,10 @@ fn findings_in<'a, P: Progress>(
     file: &'a [u8],
     headers: &[SectionHeader<'a>],
     sections: &Sections<'a>,
-    units: &Units<'a>,
+    units: &Arc<Units<'a>>,
     progress: &mut P,
 ) -> Result<Findings<'a>, AllocError>
-    ensures { IfOk result (λ findings. IsCensus (cut.units units.now.info) findings.census) }
+    ensures { IfOk result (λ findings. IsCensus (cut.units units.now.value.info) findings.census) }
 {
     let code = Code::new(headers);
     let scene = Scene {
@@ -124,6 +125,7 @@ pub fn findings_of<'a, P: Progress>(
     let image = Image::open(alloc, file)?;
     drop(image);
     let (sections, units) = units_of(alloc, file)?;
+    let units = Arc::new(alloc, units)?;
     let headers = section_headers(alloc, file)?;
     let findings = findings_in(alloc, file, &headers, &sections, &units, progress)?;
     Ok(findings)

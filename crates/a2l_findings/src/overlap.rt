@@ -54,7 +54,7 @@ pub(crate) fn unit_overlap<'a>(units: &Units<'a>, hidden: Hidden) -> Option<Over
 /// The claim of a subprogram of a unit.
 fn function_claim<'a>(
     here: OpenUnit<'_, 'a>,
-    tree: &Tree<'_, 'a>,
+    tree: &Tree<'a>,
     functions: &Subprograms,
     index: usize,
 ) -> Option<Claim<'a>> {
@@ -70,7 +70,7 @@ fn function_claim<'a>(
 /// Subprograms of a unit that hide one another.
 pub(crate) fn function_overlap<'a>(
     here: OpenUnit<'_, 'a>,
-    tree: &Tree<'_, 'a>,
+    tree: &Tree<'a>,
     functions: &Subprograms,
     hidden: Hidden,
 ) -> Option<Overlap<'a>> {

@@ -1,5 +1,8 @@
 //! Looking at the units that answer, one after the other.
 
+ghost use Rattle.std.specs.Prelude.{◌<◌, length};
+ghost use Rattle.dw_model.specs.Unit as cut;
+
 use crate::faults::{FaultyUnits, fault_reason, read_lines, read_tree};
 use crate::functions::{Subprograms, subprograms_of};
 use crate::group::{Group, with_unit};
@@ -11,8 +14,9 @@ use dw_frames::Tree;
 use dw_line::Lines;
 use dw_ranges::{Range, RangeFault, ranges_of};
 use dw_symbols::UnitFault;
-use dw_units::{Kind, OpenUnit, Sections};
+use dw_units::{Kind, OpenUnit, Sections, Units};
 use std::alloc::{AllocError, Global};
+use std::sync::Arc;
 
 /// What the units of a file are looked at by.
 #[derive(Clone, Copy)]
@@ -103,7 +107,7 @@ impl<'a> Gathered<'a> {
         &mut self,
         scene: Scene<'_, 'a>,
         here: OpenUnit<'_, 'a>,
-        tree: &Option<Tree<'_, 'a>>,
+        tree: &Option<Tree<'a>>,
         functions: &Subprograms,
     ) -> Result<(), AllocError> {
         let Some(tree) = tree else {
@@ -142,13 +146,17 @@ impl<'a> Gathered<'a> {
         }
     }
 
-    /// Looks at a unit.
+    /// Looks at the unit at an index.
     pub(crate) fn look_at(
         &mut self,
         scene: Scene<'_, 'a>,
-        here: OpenUnit<'_, 'a>,
-    ) -> Result<(), AllocError> {
+        units: &Arc<Units<'a>>,
+        index: usize,
+    ) -> Result<(), AllocError>
+        requires { index < length (cut.units units.now.value.info) }
+    {
         let alloc = scene.alloc;
+        let here = units.at(index);
         if here.unit().kind.is_skipped() {
             return Ok(());
         }
@@ -158,9 +166,9 @@ impl<'a> Gathered<'a> {
         }
         let ranges = unit_ranges(alloc, here)?;
         for range in ranges.as_slice() {
-            self.ranges.push((*range, here.index()))?;
+            self.ranges.push((*range, index))?;
         }
-        let (tree, tree_fault) = read_tree(alloc, here)?;
+        let (tree, tree_fault) = read_tree(alloc, units, index)?;
         let (lines, line_fault) = read_lines(alloc, here, &scene.sections)?;
         if let Some(fault) = tree_fault.or(line_fault) {
             add_fault(&mut self.faulty, scene, here, fault)?;

@@ -10,7 +10,7 @@ use dw_units::{Entry, OpenUnit};
 use std::alloc::{AllocError, Global};
 
 /// Adds where an inlined function was called.
-fn tell_call(note: &mut Note<'_>, tree: &Tree<'_, '_>, id: EntryId) -> Result<(), AllocError> {
+fn tell_call(note: &mut Note<'_>, tree: &Tree<'_>, id: EntryId) -> Result<(), AllocError> {
     let call = tree.call(id);
     note.begin_group("call");
     note.say(", called")?;
@@ -55,7 +55,7 @@ fn tell_range<'a>(
 fn function_note<'a>(
     alloc: Global,
     here: OpenUnit<'_, 'a>,
-    tree: &Tree<'_, 'a>,
+    tree: &Tree<'a>,
     id: EntryId,
     address: u64,
 ) -> Result<Note<'a>, AllocError> {
@@ -96,7 +96,7 @@ fn no_function_note<'a>(alloc: Global) -> Result<Note<'a>, AllocError> {
 fn push_others<'a>(
     alloc: Global,
     notes: &mut Vec<Note<'a>>,
-    tree: &Tree<'_, 'a>,
+    tree: &Tree<'a>,
     functions: &Subprograms,
     outermost: Option<EntryId>,
     address: u64,
@@ -135,7 +135,7 @@ pub(crate) fn push_functions<'a>(
     scene: &Scene<'_, 'a>,
     notes: &mut Vec<Note<'a>>,
     here: OpenUnit<'_, 'a>,
-    tree: &Tree<'_, 'a>,
+    tree: &Tree<'a>,
     address: u64,
 ) -> Result<(), AllocError> {
     let alloc = scene.alloc;

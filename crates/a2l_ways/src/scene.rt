@@ -9,6 +9,7 @@ use dw_ranges::{Range, RangeFault, ranges_of};
 use dw_symbols::Image;
 use dw_units::{OpenUnit, Sections, Units};
 use std::alloc::{AllocError, Global};
+use std::sync::Arc;
 
 /// What is read of a file beside its image. Every call that gives it a unit gives it one of the
 /// same file.
@@ -16,7 +17,7 @@ use std::alloc::{AllocError, Global};
 pub(crate) struct Scene<'b, 'a> {
     pub(crate) alloc: Global,
     pub(crate) image: &'b Image<'a>,
-    pub(crate) units: Units<'a>,
+    pub(crate) units: Arc<Units<'a>>,
     pub(crate) sections: Sections<'a>,
     /// All section headers, in order.
     pub(crate) headers: Vec<SectionHeader<'a>>,
@@ -43,6 +44,7 @@ impl<'b, 'a> Scene<'b, 'a> {
     {
         let file = image.bytes();
         let (sections, units) = units_of(alloc, file)?;
+        let units = Arc::new(alloc, units)?;
         let headers = section_headers(alloc, file)?;
         Ok(Scene {
             alloc,

@@ -135,7 +135,7 @@ fn steps_through<'a>(
     let here = scene.units.at(unit);
     steps.push(unit_note(scene, here, address)?)?;
     push_other_units(scene, &mut steps, unit, address)?;
-    let (tree, fault) = read_tree(scene.alloc, here)?;
+    let (tree, fault) = read_tree(scene.alloc, &scene.units, unit)?;
     if let Some(fault) = fault {
         steps.push(fault_note(scene, here, fault)?)?;
         return Ok(steps);

@@ -9,6 +9,7 @@ use Rattle.dw_model.specs.Entry.{Entry}
 use Rattle.dw_model.specs.Ranges.{Range, covers}
 use Rattle.dw_model.specs.Tree.{Node, is_function, is_subprogram, is_inlined, enclosing, chain, chain_in, holds_address}
 use Rattle.dw_model.specs.Tree as model
+use Rattle.dw_model.specs.Unit as cut
 use Rattle.dw_index.specs.Owners.{least_owner}
 use Rattle.dw_frames.specs.declared.chains.Chains.{Chains}
 use Rattle.dw_frames.specs.Inlined.{InlinedRange, inlined_in}
@@ -81,7 +82,7 @@ idle-holds [] a e = refl
 idle-holds (range ∷ ranges) a e = let no : suc (length ranges) ≡ 0 = eqb-true (suc (length ranges)) 0 e in absurd (omega (arith, no))
 
 module _ (of : UnitIn) (after : List Node) (drafts : Drafts) (bound : ℕ) (found : Chains)
-    (whole : model.tree of.sections of.unit ≡ Ok (reverse after)) (follows : Follows of.sections of.unit after drafts bound) (unit : found.unit ≡ of.index) (kept : found.functions.items ≡ drafts.functions) (inlined : all_inlined found ≡ drafts.inlined) (index : (a : ℕ) → outermost_at found a ≡ least_owner drafts.outermost a) where
+    (whole : model.tree of.sections of.unit ≡ Ok (reverse after)) (follows : Follows of.sections of.unit after drafts bound) (unit : found.unit ≡ of.index) (within : of.index < length (cut.units of.sections.info)) (kept : found.functions.items ≡ drafts.functions) (inlined : all_inlined of.sections.tables found ≡ drafts.inlined) (index : (a : ℕ) → outermost_at of.sections.tables found a ≡ least_owner drafts.outermost a) where
   abbrev keep : Entry → Bool
   keep = is_kept of.sections of.unit
 
@@ -123,9 +124,9 @@ module _ (of : UnitIn) (after : List Node) (drafts : Drafts) (bound : ℕ) (foun
 
     -- the number of the first function further inwards
     abbrev inner : ℕ → Option ℕ
-    inner k = least_owner (inlined_in k (all_inlined found)) a
+    inner k = least_owner (inlined_in k (all_inlined of.sections.tables found)) a
 
-    steps : Found keep holds idle after (outermost_at found a) inner
+    steps : Found keep holds idle after (outermost_at of.sections.tables found a) inner
     steps = record {
       rises = follows.rises;
       around = follows.around;
@@ -142,7 +143,7 @@ module _ (of : UnitIn) (after : List Node) (drafts : Drafts) (bound : ℕ) (foun
       | inr past ↦ inl (slice_get_past found.functions.items k (omega (arith, past, size)), slice_get_past (placed keep after) k past)
     ]
 
-    climbs-same : (most : ℕ) (number : Option ℕ) → map (function_at of) (inwards found a most number) ≡ map Some (climb keep holds idle after (outermost_at found a) inner steps most number)
+    climbs-same : (most : ℕ) (number : Option ℕ) → map (function_at of) (inwards of.sections.tables found a most number) ≡ map Some (climb keep holds idle after (outermost_at of.sections.tables found a) inner steps most number)
     unfolding inwards climb
     climbs-same zero number = refl
     climbs-same (suc most) None = refl
@@ -151,13 +152,13 @@ module _ (of : UnitIn) (after : List Node) (drafts : Drafts) (bound : ℕ) (foun
       | inr h ↦ rw (h.2, h.3, id-of-number k h.0 h.1 h.2 h.3) (ap (λ (rest : List (Option Node)). Some h.1.0 ∷ rest) (climbs-same most (inner k)))
     ]
 
-    chain-same : map (function_at of) (reverse (chain_at found a)) ≡ map Some (chain of.sections of.unit (nodes_of of.sections of.unit) a)
+    chain-same : map (function_at of) (reverse (chain_at of.sections.tables found a)) ≡ map Some (chain of.sections of.unit (nodes_of of.sections of.unit) a)
     chain-same =
-        map-reverse (function_at of) (chain_at found a)
-        ∙ ap (λ (nodes : List (Option Node)). reverse nodes) (climbs-same (length found.functions.items) (outermost_at found a) ∙ ap (λ (n : ℕ). map Some (climb keep holds idle after (outermost_at found a) inner steps n (outermost_at found a))) size)
-        ∙ sym (map-reverse Some (climb keep holds idle after (outermost_at found a) inner steps (length (placed keep after)) (outermost_at found a)))
-        ∙ ap (map Some) (sym (chain-climbs keep holds idle after (outermost_at found a) inner steps))
+        map-reverse (function_at of) (chain_at of.sections.tables found a)
+        ∙ ap (λ (nodes : List (Option Node)). reverse nodes) (climbs-same (length found.functions.items) (outermost_at of.sections.tables found a) ∙ ap (λ (n : ℕ). map Some (climb keep holds idle after (outermost_at of.sections.tables found a) inner steps n (outermost_at of.sections.tables found a))) size)
+        ∙ sym (map-reverse Some (climb keep holds idle after (outermost_at of.sections.tables found a) inner steps (length (placed keep after)) (outermost_at of.sections.tables found a)))
+        ∙ ap (map Some) (sym (chain-climbs keep holds idle after (outermost_at of.sections.tables found a) inner steps))
         ∙ ap (λ (nodes : List Node). map Some (chain_in holds nodes)) (sym nodes-are)
 
   pub is-tree : IsTreeOf of found
-  is-tree = record { read = whole ∙ ap Ok (sym nodes-are); chains = chain-same }
+  is-tree = record { within = rw unit within; read = whole ∙ ap Ok (sym nodes-are); chains = chain-same }

@@ -2,6 +2,7 @@
 use Rattle.std.proofs.Common.{◌≡◌, ◌∙◌, ℕ, zero, suc, ◌+◌, ◌≤◌, ◌<◌, Bool, true, false, cond, List, [], ◌∷◌, ◌++◌, length, take, get_or, subst, Option, Some, None, refl, sym, ap, arith, append_assoc}
 use Rattle.std.proofs.lemmas.List.{append-nil, take_more}
 use Rattle.dw_model.specs.Ranges.{Range, covers}
+use Rattle.dw_model.specs.Text.{Tables}
 use Rattle.dw_index.specs.Owners.{least, least_owner}
 use Rattle.dw_index.proofs.OwnerLemmas.{least-assoc, least_owner-append}
 use Rattle.dw_frames.specs.declared.held.HeldList.{HeldList}
@@ -9,20 +10,21 @@ use Rattle.dw_frames.specs.Drafts.{Drafts, owned, with_ranges, innermost}
 use Rattle.dw_frames.specs.Held.{all_held, all_held_in, pairs_held}
 use Rattle.dw_frames.specs.Inlined.{InlinedRange, inlined_in, all_in}
 use Rattle.dw_frames.specs.Known.{Same}
+use Rattle.dw_frames.specs.UnitIn.{UnitIn}
 use Rattle.dw_frames.proofs.FirstLemmas.{of_list}
 use Rattle.dw_frames.proofs.InlinedLemmas.{inlined-append, inlined-here, inlined-elsewhere}
 
 -- ---- one more list
 
-pub held-push : (lists : List HeldList) (held : HeldList) → all_held (lists ++ held ∷ []) ≡ all_held lists ++ pairs_held held
+pub held-push : (tables : Tables) (lists : List HeldList) (held : HeldList) → all_held tables (lists ++ held ∷ []) ≡ all_held tables lists ++ pairs_held tables held
 unfolding all_held
-held-push [] held = append-nil (pairs_held held)
-held-push (list ∷ lists) held = ap (λ (rest : List (Range × ℕ)). pairs_held list ++ rest) (held-push lists held) ∙ sym (append_assoc (pairs_held list) (all_held lists) (pairs_held held))
+held-push tables [] held = append-nil (pairs_held tables held)
+held-push tables (list ∷ lists) held = ap (λ (rest : List (Range × ℕ)). pairs_held tables list ++ rest) (held-push tables lists held) ∙ sym (append_assoc (pairs_held tables list) (all_held tables lists) (pairs_held tables held))
 
-pub held-in-push : (lists : List (ℕ × HeldList)) (outer : ℕ) (held : HeldList) → all_held_in (lists ++ (outer, held) ∷ []) ≡ all_held_in lists ++ all_in outer (pairs_held held)
+pub held-in-push : (tables : Tables) (lists : List (ℕ × HeldList)) (outer : ℕ) (held : HeldList) → all_held_in tables (lists ++ (outer, held) ∷ []) ≡ all_held_in tables lists ++ all_in outer (pairs_held tables held)
 unfolding all_held_in
-held-in-push [] outer held = append-nil (all_in outer (pairs_held held))
-held-in-push (list ∷ lists) outer held = ap (λ (rest : List InlinedRange). all_in list.0 (pairs_held list.1) ++ rest) (held-in-push lists outer held) ∙ sym (append_assoc (all_in list.0 (pairs_held list.1)) (all_held_in lists) (all_in outer (pairs_held held)))
+held-in-push tables [] outer held = append-nil (all_in outer (pairs_held tables held))
+held-in-push tables (list ∷ lists) outer held = ap (λ (rest : List InlinedRange). all_in list.0 (pairs_held tables list.1) ++ rest) (held-in-push tables lists outer held) ∙ sym (append_assoc (all_in list.0 (pairs_held tables list.1)) (all_held_in tables lists) (all_in outer (pairs_held tables held)))
 
 -- ---- the owner of an address
 
@@ -53,29 +55,32 @@ take-past (suc n) [] h = refl
 take-past zero (x ∷ xs) h = absurd (omega (arith, h))
 take-past (suc n) (x ∷ xs) h = ap (λ (rest : List _). x ∷ rest) (take-past n xs (omega (arith, h)))
 
-pub held-next : (lists : List HeldList) (i : ℕ) (d : HeldList) (found last next : Option ℕ) (a : ℕ) → i < length lists → last ≡ least found (least_owner (all_held (take i lists)) a) → next ≡ least last (least_owner (pairs_held (get_or lists i d)) a)
-    → next ≡ least found (least_owner (all_held (take (i + 1) lists)) a)
-held-next lists i d found last next a h before e =
-    rw (take_more lists i d h, held-push (take i lists) (get_or lists i d))
-    (found-next found next (all_held (take i lists)) (pairs_held (get_or lists i d)) a (e ∙ ap (λ (x : Option ℕ). least x (least_owner (pairs_held (get_or lists i d)) a)) before))
+pub held-next : (tables : Tables) (lists : List HeldList) (i : ℕ) (d : HeldList) (found last next : Option ℕ) (a : ℕ) → i < length lists → last ≡ least found (least_owner (all_held tables (take i lists)) a) → next ≡ least last (least_owner (pairs_held tables (get_or lists i d)) a)
+    → next ≡ least found (least_owner (all_held tables (take (i + 1) lists)) a)
+held-next tables lists i d found last next a h before e =
+    rw (take_more lists i d h, held-push tables (take i lists) (get_or lists i d))
+    (found-next found next (all_held tables (take i lists)) (pairs_held tables (get_or lists i d)) a (e ∙ ap (λ (x : Option ℕ). least x (least_owner (pairs_held tables (get_or lists i d)) a)) before))
 
-pub held-all : (lists : List HeldList) (i : ℕ) (found last : Option ℕ) (a : ℕ) → length lists ≤ i → last ≡ least found (least_owner (all_held (take i lists)) a) → last ≡ least found (least_owner (all_held lists) a)
-held-all lists i found last a h e = e ∙ ap (λ (all : List HeldList). least found (least_owner (all_held all) a)) (take-past i lists h)
+pub held-all : (tables : Tables) (lists : List HeldList) (i : ℕ) (found last : Option ℕ) (a : ℕ) → length lists ≤ i → last ≡ least found (least_owner (all_held tables (take i lists)) a) → last ≡ least found (least_owner (all_held tables lists) a)
+held-all tables lists i found last a h e = e ∙ ap (λ (all : List HeldList). least found (least_owner (all_held tables all) a)) (take-past i lists h)
 
-module _ (lists : List (ℕ × HeldList)) (i outer a : ℕ) (item : ℕ × HeldList) (found last next : Option ℕ) (within : i < length lists) (there : item ≡ get_or lists i item) (before : last ≡ least found (least_owner (inlined_in outer (all_held_in (take i lists))) a)) where
-  one-more : all_held_in (take (i + 1) lists) ≡ all_held_in (take i lists) ++ all_in item.0 (pairs_held item.1)
-  one-more = ap all_held_in (take_more lists i item within ∙ ap (λ (x : ℕ × HeldList). take i lists ++ x ∷ []) (sym there)) ∙ held-in-push (take i lists) item.0 item.1
+module _ (tables : Tables) (lists : List (ℕ × HeldList)) (i outer a : ℕ) (d : ℕ × HeldList) (found last next : Option ℕ) (within : i < length lists) (before : last ≡ least found (least_owner (inlined_in outer (all_held_in tables (take i lists))) a)) where
+  abbrev item : ℕ × HeldList
+  item = get_or lists i d
 
-  pub held-in-here : item.0 ≡ outer → next ≡ least last (least_owner (pairs_held item.1) a) → next ≡ least found (least_owner (inlined_in outer (all_held_in (take (i + 1) lists))) a)
+  one-more : all_held_in tables (take (i + 1) lists) ≡ all_held_in tables (take i lists) ++ all_in item.0 (pairs_held tables item.1)
+  one-more = ap (all_held_in tables) (take_more lists i d within) ∙ held-in-push tables (take i lists) item.0 item.1
+
+  pub held-in-here : item.0 ≡ outer → next ≡ least last (least_owner (pairs_held tables item.1) a) → next ≡ least found (least_owner (inlined_in outer (all_held_in tables (take (i + 1) lists))) a)
   held-in-here same e =
-      rw (one-more, inlined-here outer item.0 (all_held_in (take i lists)) (pairs_held item.1) same)
-      (found-next found next (inlined_in outer (all_held_in (take i lists))) (pairs_held item.1) a (e ∙ ap (λ (x : Option ℕ). least x (least_owner (pairs_held item.1) a)) before))
+      rw (one-more, inlined-here outer item.0 (all_held_in tables (take i lists)) (pairs_held tables item.1) same)
+      (found-next found next (inlined_in outer (all_held_in tables (take i lists))) (pairs_held tables item.1) a (e ∙ ap (λ (x : Option ℕ). least x (least_owner (pairs_held tables item.1) a)) before))
 
-  pub held-in-elsewhere : (item.0 ≡ outer → ⊥) → next ≡ last → next ≡ least found (least_owner (inlined_in outer (all_held_in (take (i + 1) lists))) a)
-  held-in-elsewhere apart e = rw (one-more, inlined-elsewhere outer item.0 (all_held_in (take i lists)) (pairs_held item.1) apart) (e ∙ before)
+  pub held-in-elsewhere : (item.0 ≡ outer → ⊥) → next ≡ last → next ≡ least found (least_owner (inlined_in outer (all_held_in tables (take (i + 1) lists))) a)
+  held-in-elsewhere apart e = rw (one-more, inlined-elsewhere outer item.0 (all_held_in tables (take i lists)) (pairs_held tables item.1) apart) (e ∙ before)
 
-pub held-in-all : (lists : List (ℕ × HeldList)) (i outer a : ℕ) (found last : Option ℕ) → length lists ≤ i → last ≡ least found (least_owner (inlined_in outer (all_held_in (take i lists))) a) → last ≡ least found (least_owner (inlined_in outer (all_held_in lists)) a)
-held-in-all lists i outer a found last h e = e ∙ ap (λ (all : List (ℕ × HeldList)). least found (least_owner (inlined_in outer (all_held_in all)) a)) (take-past i lists h)
+pub held-in-all : (tables : Tables) (lists : List (ℕ × HeldList)) (i outer a : ℕ) (found last : Option ℕ) → length lists ≤ i → last ≡ least found (least_owner (inlined_in outer (all_held_in tables (take i lists))) a) → last ≡ least found (least_owner (inlined_in outer (all_held_in tables lists)) a)
+held-in-all tables lists i outer a found last h e = e ∙ ap (λ (all : List (ℕ × HeldList)). least found (least_owner (inlined_in outer (all_held_in tables all)) a)) (take-past i lists h)
 
 -- ---- ranges that are kept before those of lists that are held
 
@@ -107,13 +112,14 @@ in-swapped kept held more k = (
   inlined-append k (kept ++ held) more ∙ ap (λ (front : List (Range × ℕ)). front ++ inlined_in k more) (inlined-append k kept held),
 )
 
-pub same-outermost : (functions : List ℕ) (kept held pairs : List (Range × ℕ)) (inlined : List InlinedRange) (lists : List (Option ℕ))
-    → Same (record { functions = functions; outermost = (kept ++ held) ++ pairs; inlined = inlined; lists = lists }) (record { functions = functions; outermost = (kept ++ pairs) ++ held; inlined = inlined; lists = lists })
-same-outermost functions kept held pairs inlined lists = record { functions = refl; lists = refl; outermost = swapped kept held pairs; inlined = λ k a. refl; unowned = λ k none. none }
+pub same-outermost : (of : UnitIn) (functions : List ℕ) (kept held pairs : List (Range × ℕ)) (inlined : List InlinedRange) (lists : List (Option ℕ))
+    → Same (record { of = of; functions = functions; outermost = (kept ++ held) ++ pairs; inlined = inlined; lists = lists }) (record { of = of; functions = functions; outermost = (kept ++ pairs) ++ held; inlined = inlined; lists = lists })
+same-outermost of functions kept held pairs inlined lists = record { of = refl; functions = refl; lists = refl; outermost = swapped kept held pairs; inlined = λ k a. refl; unowned = λ k none. none }
 
-pub same-inlined : (functions : List ℕ) (outermost : List (Range × ℕ)) (kept held more : List InlinedRange) (lists : List (Option ℕ))
-    → Same (record { functions = functions; outermost = outermost; inlined = (kept ++ held) ++ more; lists = lists }) (record { functions = functions; outermost = outermost; inlined = (kept ++ more) ++ held; lists = lists })
-same-inlined functions outermost kept held more lists = record {
+pub same-inlined : (of : UnitIn) (functions : List ℕ) (outermost : List (Range × ℕ)) (kept held more : List InlinedRange) (lists : List (Option ℕ))
+    → Same (record { of = of; functions = functions; outermost = outermost; inlined = (kept ++ held) ++ more; lists = lists }) (record { of = of; functions = functions; outermost = outermost; inlined = (kept ++ more) ++ held; lists = lists })
+same-inlined of functions outermost kept held more lists = record {
+  of = refl;
   functions = refl;
   lists = refl;
   outermost = λ a. refl;
@@ -123,18 +129,18 @@ same-inlined functions outermost kept held more lists = record {
 
 -- ---- drafts with what is pushed
 
-module _ (drafts : Drafts) (functions : List ℕ) (lists : List (Option ℕ)) (pairs : List (Range × ℕ)) where
+module _ (drafts : Drafts) (of : UnitIn) (functions : List ℕ) (lists : List (Option ℕ)) (pairs : List (Range × ℕ)) where
   abbrev parts : List (Range × ℕ) → List InlinedRange → Drafts
-  parts outermost inlined = record { functions = functions; outermost = outermost; inlined = inlined; lists = lists }
+  parts outermost inlined = record { of = of; functions = functions; outermost = outermost; inlined = inlined; lists = lists }
 
   pub kept-outermost : (kept held new : List (Range × ℕ)) (inlined : List InlinedRange) → parts (kept ++ held) inlined ≡ drafts → new ≡ kept ++ pairs → Same (with_ranges true pairs drafts) (parts (new ++ held) inlined)
   kept-outermost kept held new inlined is e =
-      subst (λ (d : Drafts). Same (with_ranges true pairs d) (parts (new ++ held) inlined)) is (rw e (same-outermost functions kept held pairs inlined lists))
+      subst (λ (d : Drafts). Same (with_ranges true pairs d) (parts (new ++ held) inlined)) is (rw e (same-outermost of functions kept held pairs inlined lists))
 
   pub kept-inlined : (outermost : List (Range × ℕ)) (kept held new : List InlinedRange) (outer : ℕ) → parts outermost (kept ++ held) ≡ drafts → innermost drafts ≡ Some outer → new ≡ kept ++ all_in outer pairs → Same (with_ranges false pairs drafts) (parts outermost (new ++ held))
   kept-inlined outermost kept held new outer is at e =
       subst (λ (d : Drafts). innermost d ≡ Some outer → Same (with_ranges false pairs d) (parts outermost (new ++ held))) is
-      (λ at. rw (at, e) (same-inlined functions outermost kept held (all_in outer pairs) lists)) at
+      (λ at. rw (at, e) (same-inlined of functions outermost kept held (all_in outer pairs) lists)) at
 
   pub held-outermost : (kept held new : List (Range × ℕ)) (inlined : List InlinedRange) → parts (kept ++ held) inlined ≡ drafts → new ≡ held ++ pairs → parts (kept ++ new) inlined ≡ with_ranges true pairs drafts
   held-outermost kept held new inlined is e =

@@ -3,43 +3,44 @@ use Rattle.std.proofs.Common.{◌≡◌, ℕ, zero, suc, ◌+◌, ◌-◌, ◌�
 use Rattle.std.specs.Prelude.{slice_get}
 use Rattle.std.proofs.lemmas.List.{append-nil, append_assoc}
 use Rattle.std.proofs.lemmas.Option.{slice_get_read, slice_get_past}
+use Rattle.dw_model.specs.Text.{Tables}
 use Rattle.dw_index.specs.Owners.{least_owner}
 use Rattle.dw_frames.specs.declared.function.EntryId.{EntryId}
 use Rattle.dw_frames.specs.declared.chains.Chains.{Chains}
 use Rattle.dw_frames.specs.Inlined.{inlined_in}
 use Rattle.dw_frames.specs.Tree.{id_of, all_inlined, inwards}
 
-pub inwards-zero : (chains : Chains) (a : ℕ) (number : Option ℕ) → inwards chains a 0 number ≡ []
+pub inwards-zero : (tables : Tables) (chains : Chains) (a : ℕ) (number : Option ℕ) → inwards tables chains a 0 number ≡ []
 unfolding inwards
-inwards-zero chains a number = refl
+inwards-zero tables chains a number = refl
 
-pub inwards-none : (chains : Chains) (a most : ℕ) → inwards chains a most None ≡ []
+pub inwards-none : (tables : Tables) (chains : Chains) (a most : ℕ) → inwards tables chains a most None ≡ []
 unfolding inwards
-inwards-none chains a zero = refl
-inwards-none chains a (suc most) = refl
+inwards-none tables chains a zero = refl
+inwards-none tables chains a (suc most) = refl
 
-pub inwards-nowhere : (chains : Chains) (a most k : ℕ) → slice_get chains.functions.items k ≡ None → inwards chains a most (Some k) ≡ []
+pub inwards-nowhere : (tables : Tables) (chains : Chains) (a most k : ℕ) → slice_get chains.functions.items k ≡ None → inwards tables chains a most (Some k) ≡ []
 unfolding inwards
-inwards-nowhere chains a zero k e = refl
-inwards-nowhere chains a (suc most) k e = rw e refl
+inwards-nowhere tables chains a zero k e = refl
+inwards-nowhere tables chains a (suc most) k e = rw e refl
 
-pub inwards-on : (chains : Chains) (a n i k : ℕ) (offset : ℕ) → i < n → slice_get chains.functions.items k ≡ Some offset → inwards chains a (n - i) (Some k) ≡ id_of chains offset ∷ inwards chains a (n - (i + 1)) (least_owner (inlined_in k (all_inlined chains)) a)
+pub inwards-on : (tables : Tables) (chains : Chains) (a n i k : ℕ) (offset : ℕ) → i < n → slice_get chains.functions.items k ≡ Some offset → inwards tables chains a (n - i) (Some k) ≡ id_of chains offset ∷ inwards tables chains a (n - (i + 1)) (least_owner (inlined_in k (all_inlined tables chains)) a)
 unfolding inwards
-inwards-on chains a n i k offset h e =
+inwards-on tables chains a n i k offset h e =
     let step : n - i ≡ suc (n - (i + 1)) = omega (arith, h) in
     rw (step, e) refl
 
 -- what was found so far, and what is still found further inwards, is all
-abbrev pub Found : Chains → ℕ → List EntryId → ℕ → Option ℕ → List EntryId → Type 0
-Found chains a ids most number all = ids ++ inwards chains a most number ≡ all
+abbrev pub Found : Tables → Chains → ℕ → List EntryId → ℕ → Option ℕ → List EntryId → Type 0
+Found tables chains a ids most number all = ids ++ inwards tables chains a most number ≡ all
 
-pub found-all : (chains : Chains) (a most : ℕ) (number : Option ℕ) (ids all : List EntryId) → inwards chains a most number ≡ [] → Found chains a ids most number all → ids ≡ all
-found-all chains a most number ids all e h = sym (append-nil ids) ∙ ap (λ (rest : List EntryId). ids ++ rest) (sym e) ∙ h
+pub found-all : (tables : Tables) (chains : Chains) (a most : ℕ) (number : Option ℕ) (ids all : List EntryId) → inwards tables chains a most number ≡ [] → Found tables chains a ids most number all → ids ≡ all
+found-all tables chains a most number ids all e h = sym (append-nil ids) ∙ ap (λ (rest : List EntryId). ids ++ rest) (sym e) ∙ h
 
-pub found-more : (chains : Chains) (a n i k : ℕ) (offset : ℕ) (ids all : List EntryId) → i < n → slice_get chains.functions.items k ≡ Some offset → Found chains a ids (n - i) (Some k) all → Found chains a (ids ++ id_of chains offset ∷ []) (n - (i + 1)) (least_owner (inlined_in k (all_inlined chains)) a) all
-found-more chains a n i k offset ids all h e f =
-    append_assoc ids (id_of chains offset ∷ []) (inwards chains a (n - (i + 1)) (least_owner (inlined_in k (all_inlined chains)) a))
-    ∙ ap (λ (rest : List EntryId). ids ++ rest) (sym (inwards-on chains a n i k offset h e)) ∙ f
+pub found-more : (tables : Tables) (chains : Chains) (a n i k : ℕ) (offset : ℕ) (ids all : List EntryId) → i < n → slice_get chains.functions.items k ≡ Some offset → Found tables chains a ids (n - i) (Some k) all → Found tables chains a (ids ++ id_of chains offset ∷ []) (n - (i + 1)) (least_owner (inlined_in k (all_inlined tables chains)) a) all
+found-more tables chains a n i k offset ids all h e f =
+    append_assoc ids (id_of chains offset ∷ []) (inwards tables chains a (n - (i + 1)) (least_owner (inlined_in k (all_inlined tables chains)) a))
+    ∙ ap (λ (rest : List EntryId). ids ++ rest) (sym (inwards-on tables chains a n i k offset h e)) ∙ f
 
 -- ---- offsets as they are read
 

@@ -32,10 +32,11 @@ use Rattle.dw_frames.proofs.InlinedLemmas.{inlined-here, inlined-elsewhere}
 -- ---- drafts of the same owners
 
 pub same-as : (drafts new : Drafts) → new ≡ drafts → Same drafts new
-same-as drafts new e = subst (Same drafts) (sym e) (record { functions = refl; lists = refl; outermost = λ a. refl; inlined = λ k a. refl; unowned = λ k none. none })
+same-as drafts new e = subst (Same drafts) (sym e) (record { of = refl; functions = refl; lists = refl; outermost = λ a. refl; inlined = λ k a. refl; unowned = λ k none. none })
 
 pub same-trans : (drafts other new : Drafts) → Same drafts other → Same other new → Same drafts new
 same-trans drafts other new one two = record {
+  of = two.of ∙ one.of;
   functions = two.functions ∙ one.functions;
   lists = two.lists ∙ one.lists;
   outermost = λ a. two.outermost a ∙ one.outermost a;
@@ -47,6 +48,7 @@ same-trans drafts other new one two = record {
 pub same-function : (drafts other new : Drafts) (children : Bool) (offset : ℕ) → Same drafts other → new ≡ with_list children (Some (length other.functions)) (with_function offset other)
     → Same (with_list children (Some (length drafts.functions)) (with_function offset drafts)) new
 same-function drafts other new children offset same e = rw e (record {
+  of = same.of;
   functions = ap (λ (functions : List ℕ). functions ++ offset ∷ []) same.functions;
   lists = rw (same.functions, same.lists) refl;
   outermost = same.outermost;
@@ -77,6 +79,7 @@ knows-same : (reading : Reading) (drafts new : Drafts) → Same drafts new → K
 knows-same reading drafts new same h =
     let count : length drafts.functions ≡ length new.functions = ap (λ (functions : List ℕ). length functions) (sym same.functions) in
     record {
+      of = same.of ∙ h.of;
       idle = h.idle;
       outermost = λ known has. (let old = h.outermost known has in (old.0, old.1, old.2, owned-same drafts.outermost new.outermost (length drafts.functions) (length new.functions) old.0 same.outermost count old.3));
       inlined = λ known has. (let old = h.inlined known has in (old.0, old.1, old.2, owned-same (inlined_in known.1 drafts.inlined) (inlined_in known.1 new.inlined) (length drafts.functions) (length new.functions) old.0 (same.inlined known.1) count old.3));
@@ -85,6 +88,7 @@ knows-same reading drafts new same h =
 
 -- what has owners still has them
 record Grows (drafts new : Drafts) : Type 0 where
+  of : new.of ≡ drafts.of
   outermost : (ranges : List Range) → AreOwned drafts.outermost (length drafts.functions) ranges → AreOwned new.outermost (length new.functions) ranges
   inlined : (k : ℕ) (ranges : List Range) → AreOwned (inlined_in k drafts.inlined) (length drafts.functions) ranges → AreOwned (inlined_in k new.inlined) (length new.functions) ranges
 
@@ -113,19 +117,21 @@ onto-others true outer all more k bound next ranges up h = raised (inlined_in k 
 onto-others false outer all more k bound next ranges up h = onto-inlined outer all more k bound next ranges up h
 
 grows-list : (drafts : Drafts) (children : Bool) (number : Option ℕ) → Grows drafts (with_list children number drafts)
-grows-list drafts children number = record { outermost = λ ranges h. h; inlined = λ k ranges h. h }
+grows-list drafts children number = record { of = refl; outermost = λ ranges h. h; inlined = λ k ranges h. h }
 
 grows-null : (drafts : Drafts) → Grows drafts (without_list drafts)
-grows-null drafts = record { outermost = λ ranges h. h; inlined = λ k ranges h. h }
+grows-null drafts = record { of = refl; outermost = λ ranges h. h; inlined = λ k ranges h. h }
 
 grows-function : (drafts : Drafts) (children : Bool) (number : Option ℕ) (offset : ℕ) → Grows drafts (with_list children number (with_function offset drafts))
 grows-function drafts children number offset = record {
+  of = refl;
   outermost = λ ranges h. raised drafts.outermost (length drafts.functions) (length (drafts.functions ++ offset ∷ [])) ranges (more drafts.functions offset) h;
   inlined = λ k ranges h. raised (inlined_in k drafts.inlined) (length drafts.functions) (length (drafts.functions ++ offset ∷ [])) ranges (more drafts.functions offset) h;
 }
 
 grows-kept : (drafts : Drafts) (children : Bool) (number : Option ℕ) (offset : ℕ) (subprogram : Bool) (pairs : List (Range × ℕ)) → Grows drafts (with_list children number (with_function offset (with_ranges subprogram pairs drafts)))
 grows-kept drafts children number offset subprogram pairs = record {
+  of = refl;
   outermost = λ ranges h. onto-some subprogram drafts.outermost pairs (length drafts.functions) (length (drafts.functions ++ offset ∷ [])) ranges (more drafts.functions offset) h;
   inlined = λ k ranges h. onto-others subprogram (innermost drafts) drafts.inlined pairs k (length drafts.functions) (length (drafts.functions ++ offset ∷ [])) ranges (more drafts.functions offset) h;
 }
@@ -146,6 +152,7 @@ still-ranges reading other list of h = (h.0, rw of (h.1), h.2)
 
 knows-on : (reading other : Reading) (drafts new : Drafts) → SameLists reading other → Grows drafts new → Knows reading drafts → Knows other new
 knows-on reading other drafts new same grows h = record {
+  of = grows.of ∙ h.of ∙ sym same.of;
   idle = λ known has. rw (same.of) (h.idle known (rw (← same.idle) has));
   outermost = λ known has. still-has reading other drafts new known.0 drafts.outermost new.outermost same.of grows.outermost (h.outermost known (rw (← same.outermost) has));
   inlined = λ known has. still-has reading other drafts new known.0 (inlined_in known.1 drafts.inlined) (inlined_in known.1 new.inlined) same.of (grows.inlined known.1) (h.inlined known (rw (← same.inlined) has));
@@ -239,6 +246,7 @@ module _ (s : Sections) (unit : DwarfUnit) (entry : Entry) (drafts new : Drafts)
       let e : entry_ranges_in s unit entry ≡ Ok ranges = is ∙ read.1 in
       let full = with_list entry.children (Some (length drafts.functions)) (with_function entry.offset (with_ranges (is_subprogram entry) (owned ranges (length drafts.functions)) drafts)) in
       let same : Same full (with_list entry.children (Some (length drafts.functions)) (with_function entry.offset drafts)) = record {
+        of = refl;
         functions = refl;
         lists = refl;
         outermost = passed-outermost (is_subprogram entry) (innermost drafts) reading list knows known ranges (read.1);
@@ -267,6 +275,7 @@ read-added s unit entry reading drafts new tables list tables_are knows known e 
 pub knows-read : (reading other : Reading) (drafts : Drafts) (list : RangeList) → other.of ≡ reading.of → other.idle ≡ reading.idle → other.outermost ≡ reading.outermost → other.inlined ≡ reading.inlined
     → ((known : RangeList × ℕ) → Has other.loose known → Has ((list, 0) ∷ reading.loose) known) → HasRanges reading list → Knows reading drafts → Knows other drafts
 knows-read reading other drafts list of idle outermost inlined noted has h = record {
+  of = h.of ∙ sym of;
   idle = λ known at. rw of (h.idle known (rw (← idle) at));
   outermost = λ known at. still-has reading other drafts drafts known.0 drafts.outermost drafts.outermost of (λ ranges owned. owned) (h.outermost known (rw (← outermost) at));
   inlined = λ known at. still-has reading other drafts drafts known.0 (inlined_in known.1 drafts.inlined) (inlined_in known.1 drafts.inlined) of (λ ranges owned. owned) (h.inlined known (rw (← inlined) at));
@@ -328,6 +337,7 @@ knows-noted-is : (reading other : Reading) (drafts new : Drafts) (subprogram : B
     → ranges_of_list reading.of.sections.tables list ≡ Ok ranges → (length ranges == 0) ≡ false → innermost drafts ≡ outer
     → new ≡ with_list children number (with_function offset (with_ranges subprogram (owned ranges (length drafts.functions)) drafts)) → Knows reading drafts → Knows other new
 knows-noted-is reading other drafts new subprogram outer list ranges children number offset of idle noted noted_inlined noted_loose e some at is h = record {
+  of = ap (λ (drafts : Drafts). drafts.of) is ∙ h.of ∙ sym of;
   idle = λ known has. rw of (h.idle known (rw (← idle) has));
   outermost = λ known has. noted-outermost reading other drafts new subprogram list ranges children number offset of e some is h known (noted known has);
   inlined = λ known has. noted-inlined reading other drafts new subprogram outer list ranges children number offset of e some at is h known (noted_inlined known has);
@@ -349,6 +359,7 @@ pub knows-idle : (reading other : Reading) (drafts new : Drafts) (list : RangeLi
     → ((known : RangeList × ℕ) → Has other.idle known → Has ((list, 0) ∷ reading.idle) known)
     → ranges_of_list reading.of.sections.tables list ≡ Ok [] → new ≡ with_list children number drafts → Knows reading drafts → Knows other new
 knows-idle reading other drafts new list children number of outermost inlined loose noted e is h = record {
+  of = ap (λ (drafts : Drafts). drafts.of) is ∙ h.of ∙ sym of;
   idle = λ known has. elim (noted known has) [
     | inl same ↦ (let one : list ≡ known.0 = ap (λ (known : RangeList × ℕ). known.0) same in subst (λ list. ranges_of_list other.of.sections.tables list ≡ Ok []) one (rw of e))
     | inr old ↦ rw of (h.idle known old)

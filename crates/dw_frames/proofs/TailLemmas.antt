@@ -22,6 +22,7 @@ use Rattle.dw_frames.specs.Drafts.{Drafts, innermost, owned, with_ranges, with_l
 use Rattle.dw_frames.specs.Inlined.{inlined_in}
 use Rattle.dw_frames.specs.Known.{HasOwners, HasRanges, Knows, Same, for_subprogram, for_inlined, for_loose}
 use Rattle.dw_frames.specs.Reading.{Reading}
+use Rattle.dw_frames.specs.UnitIn.{UnitIn}
 use Rattle.dw_frames.proofs.KnownLemmas.{knows-noted, same-as, same-trans}
 
 -- ---- what is left out
@@ -35,6 +36,7 @@ behind-owned pairs front rest number a h =
 
 front-same : (drafts : Drafts) (front rest : List Range) (number : ℕ) → AreOwned drafts.outermost number rest → Same (with_ranges true (owned (front ++ rest) number) drafts) (with_ranges true (owned front number) drafts)
 front-same drafts front rest number h = record {
+  of = refl;
   functions = refl;
   lists = refl;
   outermost = λ a. behind-owned drafts.outermost front rest number a h;
@@ -63,21 +65,27 @@ some-behind (one ∷ front) rest e = ne_eqb (length (one ∷ (front ++ rest))) 0
 pub record Read (reading : Reading) (drafts : Drafts) (list : RangeList) (front : List Range) : Type 0 where
   pub rest : List Range
   pub all : ranges_of_list reading.of.sections.tables list ≡ Ok (front ++ rest)
+  pub here : ranges_of_list drafts.of.sections.tables list ≡ Ok (front ++ rest)
   pub owned_rest : AreOwned drafts.outermost (length drafts.functions) rest
   pub some : (length (front ++ rest) == 0) ≡ false
 
 pub was-read : (reading : Reading) (drafts : Drafts) (list : RangeList) (tail : Option RangeList) (front : List Range) → Knows reading drafts → ReadsNew reading.of.sections.tables reading.outermost list (Ok tail) front → (tail ≡ None → (length front == 0) ≡ false) → Read reading drafts list front
-was-read reading drafts list None front knows e some = record {
-  rest = [];
-  all = e ∙ ap (λ (ranges : List Range). Ok ranges) (sym (append-nil front));
-  owned_rest = none-owned drafts.outermost (length drafts.functions);
-  some = rw (append-nil front) (some refl);
-}
+was-read reading drafts list None front knows e some =
+    let all : ranges_of_list reading.of.sections.tables list ≡ Ok (front ++ []) = e ∙ ap (λ (ranges : List Range). Ok ranges) (sym (append-nil front)) in
+    record {
+      rest = [];
+      all = all;
+      here = ap (λ (of : UnitIn). ranges_of_list of.sections.tables list) knows.of ∙ all;
+      owned_rest = none-owned drafts.outermost (length drafts.functions);
+      some = rw (append-nil front) (some refl);
+    }
 was-read reading drafts list (Some other) front knows told some =
     let has = knows.outermost (other, 0) told.0 in
+    let all : ranges_of_list reading.of.sections.tables list ≡ Ok (front ++ has.0) = told.1 ∙ ap (onto_front front) has.1 in
     record {
       rest = has.0;
-      all = told.1 ∙ ap (onto_front front) has.1;
+      all = all;
+      here = ap (λ (of : UnitIn). ranges_of_list of.sections.tables list) knows.of ∙ all;
       owned_rest = has.3;
       some = some-behind front has.0 has.2;
     }
@@ -106,7 +114,7 @@ tail-owned reading list other pairs bound ends h =
     let parts = front-of ends.front (ranges_of_list reading.of.sections.tables other) h.0 (sym ends.same ∙ h.1) in
     (parts.0, parts.1, ends.some parts.0 parts.1, owned-behind pairs bound ends.front parts.0 (subst (AreOwned pairs bound) parts.2 h.3))
 
-owners-same : (reading other : Reading) (list : RangeList) (pairs : List (Range × ℕ)) (bound : ℕ) → other.of ≡ reading.of → HasOwners reading list pairs bound → HasOwners other list pairs bound
+pub owners-same : (reading other : Reading) (list : RangeList) (pairs : List (Range × ℕ)) (bound : ℕ) → other.of ≡ reading.of → HasOwners reading list pairs bound → HasOwners other list pairs bound
 owners-same reading other list pairs bound of h = (h.0, rw of (h.1), h.2, h.3)
 
 ranges-same : (reading other : Reading) (list : RangeList) → other.of ≡ reading.of → HasRanges reading list → HasRanges other list
@@ -125,6 +133,7 @@ pub knows-tails : (reading other : Reading) (drafts : Drafts) (list : RangeList)
     → ((begin : ℕ) → Has begins begin → EndsAs reading.of.sections.tables list (tail_at list begin))
     → HasOwners reading list drafts.outermost (length drafts.functions) → Knows reading drafts → Knows other drafts
 knows-tails reading other drafts list begins of idle inlined loose noted ends owners h = record {
+  of = h.of ∙ sym of;
   idle = λ known has. rw of (h.idle known (rw (← idle) has));
   outermost = λ known has. elim (noted known has) [
     | inl new ↦ subst (λ (known : RangeList × ℕ). HasOwners other known.0 drafts.outermost (length drafts.functions)) (sym new.2)

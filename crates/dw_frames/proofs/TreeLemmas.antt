@@ -21,6 +21,7 @@ use Rattle.dw_frames.specs.Drafts.{Drafts, no_drafts, behind}
 use Rattle.dw_frames.specs.Known.{Same}
 use Rattle.dw_frames.specs.Placed.{placed, first, Follows}
 use Rattle.dw_frames.specs.Reader.{can_be_used, nodes_on}
+use Rattle.dw_frames.specs.UnitIn.{UnitIn}
 use Rattle.dw_frames.proofs.KnownLemmas.{follows-same}
 use Rattle.dw_frames.proofs.WalkLemmas.{next, state, behind-depth, next-ended, follows-entry}
 
@@ -31,9 +32,9 @@ found-some ranged (Unranged children) found is other = (is.0, is.1)
 found-some ranged (Passed children) found is other = (is.0, is.1)
 
 -- before any entry
-follows-none : (s : Sections) (unit : DwarfUnit) (bound : ℕ) → Follows s unit [] no_drafts bound
+follows-none : (s : Sections) (unit : DwarfUnit) (of : UnitIn) (bound : ℕ) → Follows s unit [] (no_drafts of) bound
 unfolding placed first least_owner
-follows-none s unit bound = record {
+follows-none s unit of bound = record {
   functions = refl;
   falls = tt;
   rises = λ i j x y h e f. absurd cc;
@@ -89,10 +90,10 @@ module _ (s : Sections) (unit : DwarfUnit) (walk : Walk) (size : walk.offset_siz
   pub root-null : (found : Option Entry) (q : Place) → entry_at walk.offset_size walk.declarations walk.place ≡ Ok (found, q) → found ≡ None → tree s unit ≡ Err entry_fault
   root-null found q e none = tree-is ∙ null q (e ∙ ap (λ (found : Option Entry). Ok (found, q)) none)
 
-  pub root-unused : (drafts : Drafts) (found : Option Entry) (q : Place) (told : Option TreeFault) → drafts ≡ no_drafts → entry_at walk.offset_size walk.declarations walk.place ≡ Ok (found, q)
+  pub root-unused : (of : UnitIn) (drafts : Drafts) (found : Option Entry) (q : Place) (told : Option TreeFault) → drafts ≡ no_drafts of → entry_at walk.offset_size walk.declarations walk.place ≡ Ok (found, q)
       → MatchOption told (Unit {0}) (λ told. can_be_used s unit (length drafts.lists) found ≡ Err told) → MatchOption told (Unit {0}) (λ told. tree s unit ≡ Err told)
-  root-unused drafts found q None is e h = tt
-  root-unused drafts found q (Some told) is e h =
+  root-unused of drafts found q None is e h = tt
+  root-unused of drafts found q (Some told) is e h =
       tree-is ∙ unused found q told e (ap (λ (drafts : Drafts). can_be_used s unit (length drafts.lists) found) (sym is) ∙ h)
 
   -- where the first entry was kept
@@ -101,19 +102,19 @@ module _ (s : Sections) (unit : DwarfUnit) (walk : Walk) (size : walk.offset_siz
     pub nodes : tree s unit ≡ (nodes_on s unit new (length new_drafts.lists) >>= λ others. Ok (record { depth = 0; entry = entry } ∷ others))
     pub follows : Follows s unit (record { depth = 0; entry = entry } ∷ []) new_drafts new.place.at
 
-  pub began : (drafts new_drafts : Drafts) (found : Option Entry) (entry : Entry) (new : Walk) → drafts ≡ no_drafts → new.declarations ≡ walk.declarations → new.offset_size ≡ walk.offset_size → entry_at walk.offset_size walk.declarations walk.place ≡ Ok (found, new.place) → found ≡ Some entry
+  pub began : (of : UnitIn) (drafts new_drafts : Drafts) (found : Option Entry) (entry : Entry) (new : Walk) → drafts ≡ no_drafts of → new.declarations ≡ walk.declarations → new.offset_size ≡ walk.offset_size → entry_at walk.offset_size walk.declarations walk.place ≡ Ok (found, new.place) → found ≡ Some entry
       → can_be_used s unit (length drafts.lists) found ≡ Ok tt → Same (behind s unit found drafts) new_drafts → Began drafts new_drafts new
-  began drafts new_drafts found entry new is kept sized e some used same =
+  began of drafts new_drafts found entry new is kept sized e some used same =
       let read : entry_at walk.offset_size walk.declarations walk.place ≡ Ok (Some entry, new.place) = e ∙ ap (λ (found : Option Entry). Ok (found, new.place)) some in
       let fits : can_be_used s unit 0 (Some entry) ≡ Ok tt = ap (can_be_used s unit 0) (sym some) ∙ ap (λ (drafts : Drafts). can_be_used s unit (length drafts.lists) found) (sym is) ∙ used in
-      let behind_is : Same (behind s unit (Some entry) no_drafts) new_drafts = subst (λ (full : Drafts). Same full new_drafts) (ap (λ (found : Option Entry). behind s unit found drafts) some ∙ ap (behind s unit (Some entry)) is) same in
-      let depth : length new_drafts.lists ≡ depth_behind 0 (Some entry) = ap (λ (lists : List (Option ℕ)). length lists) behind_is.lists ∙ behind-depth s unit (Some entry) no_drafts in
+      let behind_is : Same (behind s unit (Some entry) (no_drafts of)) new_drafts = subst (λ (full : Drafts). Same full new_drafts) (ap (λ (found : Option Entry). behind s unit found drafts) some ∙ ap (behind s unit (Some entry)) is) same in
+      let depth : length new_drafts.lists ≡ depth_behind 0 (Some entry) = ap (λ (lists : List (Option ℕ)). length lists) behind_is.lists ∙ behind-depth s unit (Some entry) (no_drafts of) in
       let at : new ≡ record { declarations = walk.declarations; offset_size = walk.offset_size; place = new.place } =
       ap (λ (ds : List Declaration). record { declarations = ds; offset_size = new.offset_size; place = new.place }) kept ∙ ap (λ (n : ℕ). record { declarations = walk.declarations; offset_size = n; place = new.place }) sized in
       record {
         entry = entry;
         nodes = tree-is ∙ below entry new.place read fits ∙ sym (ap (λ (new : Walk). nodes_on s unit new (length new_drafts.lists) >>= λ others. Ok (record { depth = 0; entry = entry } ∷ others)) at ∙ ap (λ (depth : ℕ). nodes_on s unit (record { declarations = walk.declarations; offset_size = walk.offset_size; place = new.place }) depth >>= λ others. Ok (record { depth = 0; entry = entry } ∷ others)) depth);
-        follows = follows-same s unit (record { depth = 0; entry = entry } ∷ []) (behind s unit (Some entry) no_drafts) new_drafts new.place.at behind_is (follows-entry s unit [] no_drafts walk.offset_size walk.declarations walk.place (Some entry, new.place) read (follows-none s unit walk.place.at));
+        follows = follows-same s unit (record { depth = 0; entry = entry } ∷ []) (behind s unit (Some entry) (no_drafts of)) new_drafts new.place.at behind_is (follows-entry s unit [] (no_drafts of) walk.offset_size walk.declarations walk.place (Some entry, new.place) read (follows-none s unit of walk.place.at));
       }
 
   pub below-faults : (drafts new_drafts : Drafts) (new : Walk) (told : Option TreeFault) → Began drafts new_drafts new → MatchOption told (Unit {0}) (λ told. nodes_on s unit new (length new_drafts.lists) ≡ Err told) → MatchOption told (Unit {0}) (λ told. tree s unit ≡ Err told)

@@ -7,18 +7,20 @@ use Rattle.dw_model.specs.Unit.{DwarfUnit}
 use Rattle.dw_model.specs.Ranges.{Range}
 use Rattle.dw_model.specs.Tree.{is_function, is_subprogram, entry_ranges_in}
 use Rattle.dw_frames.specs.Inlined.{InlinedRange, all_in_some}
+use Rattle.dw_frames.specs.UnitIn.{UnitIn}
 
--- The offsets of the functions that have ranges, in order; the ranges of all subprograms; those of
--- all inlined functions, each in the function in which it lies; and the lists of children that are
--- open, the outermost first, each with the number of the function in which its entries lie.
+-- The unit; the offsets of the functions that have ranges, in order; the ranges of all subprograms;
+-- those of all inlined functions, each in the function in which it lies; and the lists of children
+-- that are open, the outermost first, each with the number of the function in which its entries lie.
 pub record Drafts : Type 0 where
+  pub of : UnitIn
   pub functions : List ℕ
   pub outermost : List (Range × ℕ)
   pub inlined : List InlinedRange
   pub lists : List (Option ℕ)
 
-abbrev pub no_drafts : Drafts
-no_drafts = record { functions = []; outermost = []; inlined = []; lists = [] }
+abbrev pub no_drafts : UnitIn → Drafts
+no_drafts of = record { of = of; functions = []; outermost = []; inlined = []; lists = [] }
 
 -- the number of the function in which the next entry lies
 abbrev pub innermost : Drafts → Option ℕ
@@ -31,6 +33,7 @@ owned ranges number = map (λ range. (range, number)) ranges
 -- function in which it lies.
 abbrev pub with_ranges : Bool → List (Range × ℕ) → Drafts → Drafts
 with_ranges subprogram pairs drafts = record {
+  of = drafts.of;
   functions = drafts.functions;
   outermost = cond subprogram (drafts.outermost ++ pairs) drafts.outermost;
   inlined = cond subprogram drafts.inlined (drafts.inlined ++ all_in_some (innermost drafts) pairs);
@@ -40,6 +43,7 @@ with_ranges subprogram pairs drafts = record {
 -- one more function, by its offset
 abbrev pub with_function : ℕ → Drafts → Drafts
 with_function offset drafts = record {
+  of = drafts.of;
   functions = drafts.functions ++ offset ∷ [];
   outermost = drafts.outermost;
   inlined = drafts.inlined;
@@ -49,6 +53,7 @@ with_function offset drafts = record {
 -- a list of children begins, where there is one, or ends
 abbrev pub with_list : Bool → Option ℕ → Drafts → Drafts
 with_list children number drafts = record {
+  of = drafts.of;
   functions = drafts.functions;
   outermost = drafts.outermost;
   inlined = drafts.inlined;
@@ -62,7 +67,7 @@ without_last (x ∷ []) = []
 without_last (x ∷ y ∷ xs) = x ∷ without_last (y ∷ xs)
 
 abbrev pub without_list : Drafts → Drafts
-without_list drafts = record { functions = drafts.functions; outermost = drafts.outermost; inlined = drafts.inlined; lists = without_last drafts.lists }
+without_list drafts = record { of = drafts.of; functions = drafts.functions; outermost = drafts.outermost; inlined = drafts.inlined; lists = without_last drafts.lists }
 
 abbrev pub known_ranges : Sections → DwarfUnit → Entry → List Range
 known_ranges sections unit entry = result_unwrap_or (entry_ranges_in sections unit entry) []

@@ -1,14 +1,17 @@
 -- What the functions of a unit are seen as, while its entries are read.
 use Rattle.std.specs.Prelude.{map, ◌++◌}
 use Rattle.dw_index.specs.Range.{pair_shown}
+use Rattle.dw_units.specs.OpenUnit.{sections_of}
 use Rattle.dw_frames.specs.Drafts.{Drafts}
 use Rattle.dw_frames.specs.Held.{all_held, all_held_in}
+use Rattle.dw_frames.specs.UnitIn.{unit_in}
 use Rattle.dw_frames.specs.declared.drafts.Drafts.TheInside.{Inside}
 
 abbrev pub drafts_of : Inside → Drafts
 drafts_of drafts = record {
+  of = unit_in drafts.unit;
   functions = drafts.functions.items;
-  outermost = map pair_shown drafts.outermost.items ++ all_held drafts.held.outermost.items;
-  inlined = drafts.inlined ++ all_held_in drafts.held.inlined.items;
+  outermost = map pair_shown drafts.outermost.items ++ all_held (sections_of drafts.unit).tables drafts.held.outermost.items;
+  inlined = drafts.inlined ++ all_held_in (sections_of drafts.unit).tables drafts.held.inlined.items;
   lists = drafts.lists.items;
 }

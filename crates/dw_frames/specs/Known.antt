@@ -19,9 +19,10 @@ HasOwners reading list pairs bound =
 abbrev pub HasRanges : Reading → RangeList → Type 0
 HasRanges reading list = (ranges : List Range) × (ranges_of_list reading.of.sections.tables list ≡ Ok ranges) × ((length ranges == 0) ≡ false)
 
--- What is known of the lists that were read: those without ranges have none, and an earlier function
+-- The unit is the same, and what is known of the lists that were read: those without ranges have none, and an earlier function
 -- owns each address of the others, where there is one.
 pub record Knows (reading : Reading) (drafts : Drafts) : Type 0 where
+  pub of : drafts.of ≡ reading.of
   pub idle : (known : RangeList × ℕ) → Has reading.idle known → ranges_of_list reading.of.sections.tables known.0 ≡ Ok []
   pub outermost : (known : RangeList × ℕ) → Has reading.outermost known → HasOwners reading known.0 drafts.outermost (length drafts.functions)
   pub inlined : (known : RangeList × ℕ) → Has reading.inlined known → HasOwners reading known.0 (inlined_in known.1 drafts.inlined) (length drafts.functions)
@@ -46,9 +47,10 @@ for_loose true outer list = []
 for_loose false None list = (list, 0) ∷ []
 for_loose false (Some number) list = []
 
--- Of two drafts each has the same functions and open lists as the other, and each address the same
+-- Of two drafts each has the same unit, functions and open lists as the other, and each address the same
 -- owners.
 pub record Same (drafts other : Drafts) : Type 0 where
+  pub of : other.of ≡ drafts.of
   pub functions : other.functions ≡ drafts.functions
   pub lists : other.lists ≡ drafts.lists
   pub outermost : (a : ℕ) → least_owner other.outermost a ≡ least_owner drafts.outermost a

@@ -1,10 +1,12 @@
 -- What a tree knows of the functions of its unit, and that it is the unit's.
-use Rattle.std.specs.Prelude.{◌≡◌, ℕ, zero, suc, List, [], ◌∷◌, ◌++◌, length, map, reverse, find, Option, Some, None, Ok, cond, option_and_then, slice_get, ◌==◌, ◌&&◌, if◌then◌else◌}
+use Rattle.std.specs.Prelude.{◌≡◌, ◌<◌, ℕ, zero, suc, List, [], ◌∷◌, ◌++◌, length, map, reverse, find, Option, Some, None, Ok, cond, option_and_then, slice_get, ◌==◌, ◌&&◌, if◌then◌else◌}
 use Rattle.std.specs.Option.{option_map_or}
 use Rattle.std.specs.Result.{result_unwrap_or}
 use Rattle.dw_model.specs.Entry.{Entry}
 use Rattle.dw_model.specs.Section.{Sections}
+use Rattle.dw_model.specs.Text.{Tables}
 use Rattle.dw_model.specs.Unit.{DwarfUnit}
+use Rattle.dw_model.specs.Unit as cut
 use Rattle.dw_model.specs.Root as root
 use Rattle.dw_model.specs.Tree.{Node, is_function, chain}
 use Rattle.dw_model.specs.Tree as model
@@ -24,23 +26,23 @@ abbrev pub id_of : Chains → ℕ → EntryId
 id_of chains offset = record { unit = chains.unit; offset = offset }
 
 -- the number of the first subprogram that holds an address
-abbrev pub outermost_at : Chains → ℕ → Option ℕ
-outermost_at chains a = least (owner_at chains.outermost a) (least_owner (all_held chains.held.outermost.items) a)
+abbrev pub outermost_at : Tables → Chains → ℕ → Option ℕ
+outermost_at tables chains a = least (owner_at chains.outermost a) (least_owner (all_held tables chains.held.outermost.items) a)
 
 -- the ranges of all inlined functions
-abbrev pub all_inlined : Chains → List InlinedRange
-all_inlined chains = chains.inlined ++ all_held_in chains.held.inlined.items
+abbrev pub all_inlined : Tables → Chains → List InlinedRange
+all_inlined tables chains = chains.inlined ++ all_held_in tables chains.held.inlined.items
 
 -- the functions at an address from a number on inwards, at most so many
-unfoldable pub inwards : Chains → (a most : ℕ) → Option ℕ → List EntryId
-inwards chains a zero number = []
-inwards chains a (suc most) None = []
-inwards chains a (suc most) (Some number) =
-    option_map_or (λ offset. id_of chains offset ∷ inwards chains a most (least_owner (inlined_in number (all_inlined chains)) a)) (slice_get chains.functions.items number) []
+unfoldable pub inwards : Tables → Chains → (a most : ℕ) → Option ℕ → List EntryId
+inwards tables chains a zero number = []
+inwards tables chains a (suc most) None = []
+inwards tables chains a (suc most) (Some number) =
+    option_map_or (λ offset. id_of chains offset ∷ inwards tables chains a most (least_owner (inlined_in number (all_inlined tables chains)) a)) (slice_get chains.functions.items number) []
 
 -- the functions at an address, outermost first
-abbrev pub chain_at : Chains → ℕ → List EntryId
-chain_at chains a = inwards chains a (length chains.functions.items) (outermost_at chains a)
+abbrev pub chain_at : Tables → Chains → ℕ → List EntryId
+chain_at tables chains a = inwards tables chains a (length chains.functions.items) (outermost_at tables chains a)
 
 -- ---- the definitions
 
@@ -66,7 +68,9 @@ function_of of id =
 abbrev pub told_at : UnitIn → EntryId → Told
 told_at of id = option_map_or (told_of of.sections of.unit) (function_of of id) nothing
 
--- Chains are those of a unit: its entries can be read, and the functions at each address are found.
+-- Chains are those of a unit of the file: its entries can be read, and the functions at each address
+-- are found.
 pub record IsTreeOf (of : UnitIn) (found : Chains) : Type 0 where
+  pub within : found.unit < length (cut.units of.sections.info)
   pub read : model.tree of.sections of.unit ≡ Ok (nodes_of of.sections of.unit)
-  pub chains : (a : ℕ) → map (function_at of) (reverse (chain_at found a)) ≡ map Some (chain_in of a)
+  pub chains : (a : ℕ) → map (function_at of) (reverse (chain_at of.sections.tables found a)) ≡ map Some (chain_in of a)

@@ -1,11 +1,16 @@
 -- What a tree is seen as.
+use Rattle.dw_units.specs.UnitAt.{unit_at}
 use Rattle.dw_frames.specs.Tree.{IsTreeOf}
-use Rattle.dw_frames.specs.UnitIn.{UnitIn, unit_in}
+use Rattle.dw_frames.specs.UnitIn.{UnitIn}
 use Rattle.dw_frames.specs.declared.tree.Tree.TheInside.{Inside}
 
 abbrev pub unit_of_tree : Inside → UnitIn
-unit_of_tree tree = unit_in tree.unit
+unit_of_tree tree = record {
+  index = tree.chains.unit;
+  sections = tree.units.value;
+  unit = unit_at tree.units.value tree.chains.unit;
+}
 
 -- the chains are those of the unit
 abbrev pub IsTree : Inside → Type 0
-IsTree tree = IsTreeOf (unit_in tree.unit) tree.chains
+IsTree tree = IsTreeOf (unit_of_tree tree) tree.chains

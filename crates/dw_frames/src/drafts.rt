@@ -5,7 +5,6 @@ ghost use Rattle.dw_model.specs.Ranges as model_ranges;
 ghost use Rattle.dw_index.specs.Owners.{least_owner};
 ghost use Rattle.dw_index.specs.Segments.{owner_at};
 ghost use Rattle.dw_index.specs.Range.{pair_shown, range_shown};
-ghost use Rattle.dw_forms.specs.Tables.{tables_shown};
 ghost use Rattle.dw_ranges.specs.Lists.{ranges_of_list};
 ghost use Rattle.dw_ranges.specs.Owned.{AreOwned};
 ghost use Rattle.dw_frames.specs.Drafts as model;
@@ -13,6 +12,7 @@ ghost use Rattle.dw_frames.specs.Drafts.{owned};
 ghost use Rattle.dw_frames.specs.Held.{pairs_held};
 ghost use Rattle.dw_frames.specs.Known.{Same};
 ghost use Rattle.dw_frames.specs.Tree.{all_inlined, outermost_at};
+ghost use Rattle.dw_frames.specs.UnitIn.{unit_in};
 
 use crate::chains::Chains;
 use crate::held::HeldList;
@@ -20,6 +20,7 @@ use crate::held_lists::HeldLists;
 use crate::inlined::Inlined;
 use crate::links::Links;
 use dw_ranges::{Index, Range};
+use dw_units::OpenUnit;
 use std::alloc::{AllocError, Global};
 use std::marker::Model;
 
@@ -38,9 +39,16 @@ fn push_ranges(
     Ok(())
 }
 
+/// How many ranges of lists may be kept for a unit.
+fn most_ranges(unit: OpenUnit<'_, '_>) -> usize {
+    let unit = unit.unit();
+    unit.end.saturating_sub(unit.offset) as usize / 4
+}
+
 /// The functions of a unit, while its entries are read.
 #[derive(Drop)]
 pub(crate) struct Drafts<'b, 'a> {
+    unit: OpenUnit<'b, 'a>,
     /// The offsets of those that have ranges, in order. The number of a function is its index here.
     functions: Vec<u64>,
     /// The ranges of all subprograms, each with the number of its function.
@@ -48,7 +56,7 @@ pub(crate) struct Drafts<'b, 'a> {
     /// The ranges of all functions that are inlined in others.
     inlined: Links,
     /// The range lists of functions that are held by name.
-    held: HeldLists<'b, 'a>,
+    held: HeldLists,
     /// How many ranges of lists may still be kept.
     left: usize,
     /// The lists of children that are open, the outermost first: each has the number of the
@@ -70,15 +78,16 @@ impl<'b, 'a> Model for Drafts<'b, 'a> {
 
 impl<'b, 'a> Drafts<'b, 'a> {
     /// No entry was read yet.
-    pub(crate) fn new(alloc: Global, most: usize) -> Self
-        ensures { result ≡ model.no_drafts }
+    pub(crate) fn new(alloc: Global, unit: OpenUnit<'b, 'a>) -> Self
+        ensures { result ≡ model.no_drafts (unit_in unit.entry) }
     {
         Drafts {
+            unit,
             functions: Vec::new(alloc),
             outermost: Vec::new(alloc),
             inlined: Links::new(alloc),
             held: HeldLists::new(alloc),
-            left: most,
+            left: most_ranges(unit),
             lists: Vec::new(alloc),
         }
     }
@@ -164,12 +173,9 @@ impl<'b, 'a> Drafts<'b, 'a> {
     }
 
     /// Holds the list of a function by name.
-    pub(crate) fn hold(
-        &mut self,
-        is_subprogram: bool,
-        held: HeldList<'b, 'a>,
-    ) -> Result<(), AllocError>
-        ensures { OnOk result (self.new ≡ model.with_ranges is_subprogram (pairs_held held.entry) self.old) }
+    pub(crate) fn hold(&mut self, is_subprogram: bool, held: HeldList) -> Result<(), AllocError>
+        ensures { OnOk result (self.new ≡ model.with_ranges is_subprogram
+            (pairs_held self.old.of.sections.tables held) self.old) }
     {
         if is_subprogram {
             self.held.push(held)?;
@@ -189,11 +195,11 @@ impl<'b, 'a> Drafts<'b, 'a> {
         &mut self,
         is_subprogram: bool,
         ranges: &[Range],
-        held: HeldList<'b, 'a>,
+        held: HeldList,
     ) -> Result<(), AllocError>
-        requires { ranges_of_list (tables_shown held.tables.now) held.list ≡ Ok (map range_shown ranges.now) }
-        ensures { OnOk result (Same (model.with_ranges is_subprogram
-            (owned (map range_shown ranges.now) held.entry.number) self.old) self.new) }
+        ensures { OnOk result (ranges_of_list self.old.of.sections.tables held.list ≡ Ok (map range_shown ranges.now)
+            → Same (model.with_ranges is_subprogram
+            (owned (map range_shown ranges.now) held.number) self.old) self.new) }
     {
         if ranges.len() > 1 {
             if ranges.len() > self.left {
@@ -216,16 +222,11 @@ impl<'b, 'a> Drafts<'b, 'a> {
 
     /// Keeps ranges of a subprogram that are the first of a list, where earlier subprograms own the
     /// other ranges of that; or holds the list by name, as `push_listed` does.
-    pub(crate) fn push_first(
-        &mut self,
-        ranges: &[Range],
-        held: HeldList<'b, 'a>,
-    ) -> Result<(), AllocError>
+    pub(crate) fn push_first(&mut self, ranges: &[Range], held: HeldList) -> Result<(), AllocError>
         ensures { OnOk result ((rest : List model_ranges.Range)
-            → ranges_of_list (tables_shown held.entry.tables.now) held.entry.list
-            ≡ Ok (map range_shown ranges.now ++ rest)
-            → AreOwned self.old.outermost held.entry.number rest
-            → Same (model.with_ranges true (owned (map range_shown ranges.now ++ rest) held.entry.number) self.old)
+            → ranges_of_list self.old.of.sections.tables held.list ≡ Ok (map range_shown ranges.now ++ rest)
+            → AreOwned self.old.outermost held.number rest
+            → Same (model.with_ranges true (owned (map range_shown ranges.now ++ rest) held.number) self.old)
             self.new) }
     {
         if ranges.len() <= 1 {
@@ -251,15 +252,17 @@ impl<'b, 'a> Drafts<'b, 'a> {
 }
 
 impl<'b, 'a> Drafts<'b, 'a> {
-    /// The functions of the unit of an index.
-    pub(crate) fn chains(self, alloc: Global, unit: usize) -> Result<Chains<'b, 'a>, AllocError>
-        ensures unit { IfOk result (λ chains. chains.unit ≡ unit) }
+    /// The functions of the unit, all of whose entries were read.
+    pub(crate) fn chains(self, alloc: Global) -> Result<Chains, AllocError>
+        ensures unit { IfOk result (λ chains. chains.unit ≡ self.entry.of.index) }
         ensures functions { IfOk result (λ chains. chains.functions.items ≡ self.entry.functions) }
         ensures outermost { IfOk result (λ chains. (a : ℕ)
-            → outermost_at chains a ≡ least_owner self.entry.outermost a) }
-        ensures inlined { IfOk result (λ chains. all_inlined chains ≡ self.entry.inlined) }
+            → outermost_at self.entry.of.sections.tables chains a ≡ least_owner self.entry.outermost a) }
+        ensures inlined { IfOk result (λ chains.
+            all_inlined self.entry.of.sections.tables chains ≡ self.entry.inlined) }
     {
         let Drafts {
+            unit,
             functions,
             outermost,
             inlined,
@@ -269,7 +272,7 @@ impl<'b, 'a> Drafts<'b, 'a> {
         let outermost = Index::build(alloc, &outermost)?;
         let inlined = Inlined::new(alloc, inlined)?;
         Ok(Chains {
-            unit,
+            unit: unit.index(),
             outermost,
             functions,
             inlined,

@@ -1,29 +1,33 @@
 //! The functions of a unit whose range lists are held by name.
 
 ghost use Rattle.std.specs.Prelude.{◌≡◌, ◌++◌, [], OnOk};
+ghost use Rattle.dw_model.specs.Text.{Tables as ModelTables};
+ghost use Rattle.dw_forms.specs.Tables.{tables_shown};
 ghost use Rattle.dw_index.specs.Owners.{least, least_owner};
 ghost use Rattle.dw_frames.specs.Held.{all_held, all_held_in, pairs_held};
 ghost use Rattle.dw_frames.specs.Inlined.{all_in, inlined_in};
 
 use crate::held::HeldList;
+use dw_forms::Tables;
 use dw_ranges::list_at;
 use std::alloc::{AllocError, Global};
 
-/// The functions of a unit whose range lists are held by name.
+/// The functions of a unit whose range lists are held by name. Whoever asks for one passes the
+/// tables of the file.
 #[derive(Drop)]
-pub(crate) struct HeldLists<'b, 'a> {
+pub(crate) struct HeldLists {
     /// Those of subprograms.
-    pub(crate) outermost: Vec<HeldList<'b, 'a>>,
+    pub(crate) outermost: Vec<HeldList>,
     /// Those of functions that are inlined in others, each with the number of that in which it was
     /// inlined directly.
-    pub(crate) inlined: Vec<(usize, HeldList<'b, 'a>)>,
+    pub(crate) inlined: Vec<(usize, HeldList)>,
 }
 
 /// The function of a list, where the list holds an address.
-fn owner_of(held: &HeldList<'_, '_>, a: u64) -> Option<usize>
-    ensures { result ≡ least_owner (pairs_held held.now) a }
+fn owner_of(held: &HeldList, tables: &Tables<'_>, a: u64) -> Option<usize>
+    ensures { result ≡ least_owner (pairs_held (tables_shown tables.now) held.now) a }
 {
-    if list_at(held.list, held.tables, a).holds {
+    if list_at(held.list, tables, a).holds {
         return Some(held.number);
     }
     None
@@ -31,16 +35,16 @@ fn owner_of(held: &HeldList<'_, '_>, a: u64) -> Option<usize>
 
 /// The lesser of a number that was found, where there is one, and that of the function of a list,
 /// where the list holds an address. The list is read only where its function comes first.
-fn least_of(held: &HeldList<'_, '_>, a: u64, found: Option<usize>) -> Option<usize>
-    ensures { result ≡ least found (least_owner (pairs_held held.now) a) }
+fn least_of(held: &HeldList, tables: &Tables<'_>, a: u64, found: Option<usize>) -> Option<usize>
+    ensures { result ≡ least found (least_owner (pairs_held (tables_shown tables.now) held.now) a) }
 {
     let Some(other) = found else {
-        return owner_of(held, a);
+        return owner_of(held, tables, a);
     };
     if other <= held.number {
         return found;
     }
-    if list_at(held.list, held.tables, a).holds {
+    if list_at(held.list, tables, a).holds {
         return Some(held.number);
     }
     found
@@ -48,35 +52,36 @@ fn least_of(held: &HeldList<'_, '_>, a: u64, found: Option<usize>) -> Option<usi
 
 /// The lesser of a number that was found and the least number of a function whose list holds an
 /// address.
-fn least_held(held: &[HeldList<'_, '_>], a: u64, found: Option<usize>) -> Option<usize>
-    ensures { result ≡ least found (least_owner (all_held held.now) a) }
+fn least_held(held: &[HeldList], tables: &Tables<'_>, a: u64, found: Option<usize>) -> Option<usize>
+    ensures { result ≡ least found (least_owner (all_held (tables_shown tables.now) held.now) a) }
 {
     let mut least = found;
     for list in held {
-        least = least_of(list, a, least);
+        least = least_of(list, tables, a, least);
     }
     least
 }
 
 /// The same, of the functions that were inlined directly in another one.
 fn least_held_in(
-    held: &[(usize, HeldList<'_, '_>)],
+    held: &[(usize, HeldList)],
+    tables: &Tables<'_>,
     outer: usize,
     a: u64,
     found: Option<usize>,
 ) -> Option<usize>
-    ensures { result ≡ least found (least_owner (inlined_in outer (all_held_in held.now)) a) }
+    ensures { result ≡ least found (least_owner (inlined_in outer (all_held_in (tables_shown tables.now) held.now)) a) }
 {
     let mut least = found;
     for (number, list) in held {
         if *number == outer {
-            least = least_of(list, a, least);
+            least = least_of(list, tables, a, least);
         }
     }
     least
 }
 
-impl<'b, 'a> HeldLists<'b, 'a> {
+impl HeldLists {
     /// None is held.
     pub(crate) fn new(alloc: Global) -> Self
         ensures outermost { result.outermost.items ≡ [] }
@@ -89,9 +94,9 @@ impl<'b, 'a> HeldLists<'b, 'a> {
     }
 
     /// Holds the list of a subprogram.
-    pub(crate) fn push(&mut self, held: HeldList<'b, 'a>) -> Result<(), AllocError>
-        ensures outermost { OnOk result (all_held self.new.outermost.items
-            ≡ all_held self.old.outermost.items ++ pairs_held held.entry) }
+    pub(crate) fn push(&mut self, held: HeldList) -> Result<(), AllocError>
+        ensures outermost { OnOk result ((tables : ModelTables) → all_held tables self.new.outermost.items
+            ≡ all_held tables self.old.outermost.items ++ pairs_held tables held) }
         ensures inlined { self.new.inlined ≡ self.old.inlined }
     {
         self.outermost.push(held)?;
@@ -99,10 +104,10 @@ impl<'b, 'a> HeldLists<'b, 'a> {
     }
 
     /// Holds the list of a function that was inlined directly in another one.
-    pub(crate) fn push_in(&mut self, outer: usize, held: HeldList<'b, 'a>) -> Result<(), AllocError>
+    pub(crate) fn push_in(&mut self, outer: usize, held: HeldList) -> Result<(), AllocError>
         ensures outermost { self.new.outermost ≡ self.old.outermost }
-        ensures inlined { OnOk result (all_held_in self.new.inlined.items
-            ≡ all_held_in self.old.inlined.items ++ all_in outer (pairs_held held.entry)) }
+        ensures inlined { OnOk result ((tables : ModelTables) → all_held_in tables self.new.inlined.items
+            ≡ all_held_in tables self.old.inlined.items ++ all_in outer (pairs_held tables held)) }
     {
         self.inlined.push((outer, held))?;
         Ok(())
@@ -110,17 +115,25 @@ impl<'b, 'a> HeldLists<'b, 'a> {
 
     /// The lesser of a number that was found and the least number of a subprogram whose list holds
     /// an address.
-    pub(crate) fn find(&self, a: u64, found: Option<usize>) -> Option<usize>
-        ensures { result ≡ least found (least_owner (all_held self.now.outermost.items) a) }
+    pub(crate) fn find(&self, tables: &Tables<'_>, a: u64, found: Option<usize>) -> Option<usize>
+        ensures { result
+            ≡ least found (least_owner (all_held (tables_shown tables.now) self.now.outermost.items) a) }
     {
-        least_held(&self.outermost, a, found)
+        least_held(&self.outermost, tables, a, found)
     }
 
     /// The lesser of a number that was found and the least number of a function that was inlined
     /// directly in another one and whose list holds an address.
-    pub(crate) fn find_in(&self, outer: usize, a: u64, found: Option<usize>) -> Option<usize>
-        ensures { result ≡ least found (least_owner (inlined_in outer (all_held_in self.now.inlined.items)) a) }
+    pub(crate) fn find_in(
+        &self,
+        tables: &Tables<'_>,
+        outer: usize,
+        a: u64,
+        found: Option<usize>,
+    ) -> Option<usize>
+        ensures { result ≡ least found
+            (least_owner (inlined_in outer (all_held_in (tables_shown tables.now) self.now.inlined.items)) a) }
     {
-        least_held_in(&self.inlined, outer, a, found)
+        least_held_in(&self.inlined, tables, outer, a, found)
     }
 }

@@ -7,7 +7,6 @@ ghost use Rattle.dw_model.specs.Results.{refuse_if};
 ghost use Rattle.dw_model.specs.Faults.{depth_fault};
 ghost use Rattle.dw_model.specs.Tree.{most_depth, entry_ranges_in, is_subprogram};
 ghost use Rattle.dw_model.specs.Answers.{Gives};
-ghost use Rattle.dw_forms.specs.Tables.{tables_shown};
 ghost use Rattle.dw_index.specs.Range.{range_shown};
 ghost use Rattle.dw_ranges.specs.Held.{listed};
 ghost use Rattle.dw_ranges.specs.Lists.{ranges_of_list};
@@ -27,7 +26,6 @@ ghost use Rattle.dw_frames.specs.Reader.{AddsFunction, Keeps};
 use crate::drafts::Drafts;
 use crate::fault::TreeFault;
 use crate::held::HeldList;
-use dw_forms::Tables;
 use dw_model::dwarf::DW_TAG_subprogram;
 use dw_ranges::{Range, RangeList, ReadLists, list_of, read_list, read_new, read_ranges};
 use dw_units::{EntryView, NamedRanges, Next, OpenUnit};
@@ -118,50 +116,40 @@ fn keep_function(
 
 /// Adds a function with its ranges, which are those of a list.
 #[inline(always)]
-fn keep_listed<'b, 'a>(
-    drafts: &mut Drafts<'b, 'a>,
-    entry: &EntryView<'b, 'a>,
+fn keep_listed(
+    drafts: &mut Drafts<'_, '_>,
+    entry: &EntryView<'_, '_>,
     ranges: &[Range],
     list: RangeList,
-    tables: &'b Tables<'a>,
 ) -> Result<(), AllocError>
-    requires { ranges_of_list (tables_shown tables.now) list ≡ Ok (map range_shown ranges.now) }
-    ensures { OnOk result (Same (model.with_list entry.now.children (Some (length drafts.old.functions))
+    ensures { OnOk result (ranges_of_list drafts.old.of.sections.tables list ≡ Ok (map range_shown ranges.now)
+        → Same (model.with_list entry.now.children (Some (length drafts.old.functions))
         (model.with_function entry.now.offset (model.with_ranges (is_subprogram entry.now)
         (owned (map range_shown ranges.now) (length drafts.old.functions)) drafts.old))) drafts.new) }
 {
     let number = drafts.count();
-    let held = HeldList {
-        tables,
-        list,
-        number,
-    };
+    let held = HeldList { list, number };
     drafts.push_listed(entry.tag() == DW_TAG_subprogram, ranges, held)?;
     pass_function(drafts, entry)?;
     Ok(())
 }
 
 /// Adds a subprogram with ranges that are the first of its list, where earlier ones own the others.
-fn keep_first<'b, 'a>(
-    drafts: &mut Drafts<'b, 'a>,
-    entry: &EntryView<'b, 'a>,
+fn keep_first(
+    drafts: &mut Drafts<'_, '_>,
+    entry: &EntryView<'_, '_>,
     ranges: &[Range],
     list: RangeList,
-    tables: &'b Tables<'a>,
 ) -> Result<(), AllocError>
     ensures { OnOk result ((rest : List model_ranges.Range)
-        → ranges_of_list (tables_shown tables.now) list ≡ Ok (map range_shown ranges.now ++ rest)
+        → ranges_of_list drafts.old.of.sections.tables list ≡ Ok (map range_shown ranges.now ++ rest)
         → AreOwned drafts.old.outermost (length drafts.old.functions) rest
         → Same (model.with_list entry.now.children (Some (length drafts.old.functions))
         (model.with_function entry.now.offset (model.with_ranges true
         (owned (map range_shown ranges.now ++ rest) (length drafts.old.functions)) drafts.old))) drafts.new) }
 {
     let number = drafts.count();
-    let held = HeldList {
-        tables,
-        list,
-        number,
-    };
+    let held = HeldList { list, number };
     drafts.push_first(ranges, held)?;
     pass_function(drafts, entry)?;
     Ok(())
@@ -179,22 +167,17 @@ fn has_none(tail: Option<RangeList>, ranges: &[Range]) -> bool
 }
 
 /// Adds a function whose list is held by name.
-fn hold_function<'b, 'a>(
-    drafts: &mut Drafts<'b, 'a>,
-    entry: &EntryView<'b, 'a>,
+fn hold_function(
+    drafts: &mut Drafts<'_, '_>,
+    entry: &EntryView<'_, '_>,
     list: RangeList,
-    tables: &'b Tables<'a>,
 ) -> Result<(), AllocError>
     ensures { OnOk result (drafts.new ≡ model.with_list entry.now.children (Some (length drafts.old.functions))
         (model.with_function entry.now.offset (model.with_ranges (is_subprogram entry.now)
-        (owned (listed (tables_shown tables.now) list) (length drafts.old.functions)) drafts.old))) }
+        (owned (listed drafts.old.of.sections.tables list) (length drafts.old.functions)) drafts.old))) }
 {
     let number = drafts.count();
-    let held = HeldList {
-        tables,
-        list,
-        number,
-    };
+    let held = HeldList { list, number };
     drafts.hold(entry.tag() == DW_TAG_subprogram, held)?;
     pass_function(drafts, entry)?;
     Ok(())
@@ -204,7 +187,7 @@ impl<'b, 'a> Reader<'b, 'a> {
     /// No function of a unit was read yet.
     pub(crate) fn new(alloc: Global, unit: OpenUnit<'b, 'a>) -> Self
         ensures of { result.of ≡ unit_in unit.entry }
-        ensures knows { Knows result model.no_drafts }
+        ensures knows { Knows result (model.no_drafts (unit_in unit.entry)) }
     {
         Reader {
             unit,
@@ -274,8 +257,7 @@ impl<'b, 'a> Reader<'b, 'a> {
     {
         let is_subprogram = entry.tag() == DW_TAG_subprogram;
         let outer = drafts.innermost();
-        let unit = self.unit;
-        hold_function(drafts, entry, list, unit.units().tables())?;
+        hold_function(drafts, entry, list)?;
         self.note(is_subprogram, outer, list)?;
         Ok(())
     }
@@ -372,7 +354,7 @@ impl<'b, 'a> Reader<'b, 'a> {
             leave_out(drafts, entry)?;
             return Ok(());
         }
-        keep_first(drafts, entry, &self.ranges, list, unit.units().tables())?;
+        keep_first(drafts, entry, &self.ranges, list)?;
         self.note(true, outer, list)?;
         self.note_tails(list, &begins)?;
         self.note_read(list, drafts.is_full())?;
@@ -430,7 +412,7 @@ impl<'b, 'a> Reader<'b, 'a> {
             leave_out(drafts, entry)?;
             return Ok(());
         }
-        keep_listed(drafts, entry, &self.ranges, list, unit.units().tables())?;
+        keep_listed(drafts, entry, &self.ranges, list)?;
         self.note(is_subprogram, outer, list)?;
         self.note_read(list, drafts.is_full())?;
         Ok(())

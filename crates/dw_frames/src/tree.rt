@@ -22,18 +22,20 @@ use crate::function::{Call, Described, EntryId, call_of, no_call};
 use crate::name::{UnitEntry, name_of};
 use crate::walk::read_all;
 use dw_model::dwarf::{DW_TAG_inlined_subroutine, DW_TAG_subprogram};
-use dw_units::{OpenUnit, Units};
+use dw_units::Units;
 use std::alloc::{AllocError, Global};
 use std::marker::Model;
+use std::sync::Arc;
 
-/// The functions of a unit. Contracts see the unit.
+/// The functions of a unit. Contracts see the unit. It shares the units of the file with others, so
+/// it lasts as long as the file's bytes.
 #[derive(Drop)]
-pub struct Tree<'b, 'a> {
-    unit: OpenUnit<'b, 'a>,
-    chains: Chains<'b, 'a>,
+pub struct Tree<'a> {
+    units: Arc<Units<'a>>,
+    chains: Chains,
 }
 
-impl<'b, 'a> Model for Tree<'b, 'a> {
+impl<'a> Model for Tree<'a> {
     ghost use Rattle.dw_frames.specs.UnitIn.{UnitIn};
     ghost use Rattle.dw_frames.specs.TreeInside.{unit_of_tree, IsTree};
 
@@ -44,27 +46,27 @@ impl<'b, 'a> Model for Tree<'b, 'a> {
     ghost invariant = { IsTree };
 }
 
-impl<'b, 'a> Tree<'b, 'a> {
+impl<'a> Tree<'a> {
     /// Reads the entries of the unit at a place, which isn't skipped, in order from its first one
     /// to the end of the list below it.
     ///
     /// The error is the first in that order: `Entry` where an entry can't be read, `Depth` where
     /// one is below more than 512 others, `Ranges` where the ranges of a subprogram or an inlined
     /// subroutine can't be read; or `Memory`.
-    pub fn read(alloc: Global, units: &'b Units<'a>, i: usize) -> Result<Self, TreeFault>
-        requires within { i < length (cut.units units.now.info) }
-        requires kept { IfSome (slice_get (cut.units units.now.info) i) (λ unit. is_skipped unit.kind ≡ false) }
+    pub fn read(alloc: Global, units: &Arc<Units<'a>>, i: usize) -> Result<Self, TreeFault>
+        requires within { i < length (cut.units units.now.value.info) }
+        requires kept { IfSome (slice_get (cut.units units.now.value.info) i) (λ unit. is_skipped unit.kind ≡ false) }
         ensures unit { IfOk result (λ tree. tree
-            ≡ record { index = i; sections = units.now; unit = unit_at units.now i }) }
+            ≡ record { index = i; sections = units.now.value; unit = unit_at units.now.value i }) }
         ensures tree { IfOk result (λ tree. model.tree tree.sections tree.unit
             ≡ Ok (nodes_of tree.sections tree.unit)) }
         ensures fault { IfErr result (λ fault. MatchOption (tree_fault fault) (Unit {0})
-            (λ told. model.tree units.now (unit_at units.now i) ≡ Err told)) }
+            (λ told. model.tree units.now.value (unit_at units.now.value i) ≡ Err told)) }
     {
-        let unit = units.at(i);
-        let drafts = read_all(alloc, unit)?;
-        let chains = drafts.chains(alloc, i)?;
-        Ok(Tree { unit, chains })
+        let drafts = read_all(alloc, units.at(i))?;
+        let chains = drafts.chains(alloc)?;
+        let units = Arc::try_clone(units)?;
+        Ok(Tree { units, chains })
     }
 
     /// The functions at an address, innermost first: the outermost is the first subprogram with a
@@ -77,23 +79,23 @@ impl<'b, 'a> Tree<'b, 'a> {
             ≡ map (λ node. told_of self.now.sections self.now.unit node.entry) (chain_in self.now a)) }
         ensures named { IfOk result (λ ids. All (λ id. IsSome (function_at self.now id)) ids.items) }
     {
-        let mut ids = self.chains.at(alloc, a)?;
+        let mut ids = self.chains.at(alloc, self.units.tables(), a)?;
         ids.reverse();
         Ok(ids)
     }
 
     /// The function of an id.
-    fn function(&self, id: EntryId) -> Option<UnitEntry<'b, 'a>>
+    fn function(&self, id: EntryId) -> Option<UnitEntry<'_, 'a>>
         ensures function { option_map (λ found. found.entry) result ≡ function_of self.now id }
         ensures stands { (node : Node) → function_at self.now id ≡ Some node
             → function_of self.now id ≡ Some node.entry }
         ensures unit { IfSome result (λ found. unit_of found.unit ≡ self.now.unit) }
         ensures sections { IfSome result (λ found. sections_of found.unit ≡ self.now.sections) }
     {
-        if id.unit != self.unit.index() {
+        if id.unit != self.chains.unit {
             return None;
         }
-        let unit = self.unit;
+        let unit = self.units.at(self.chains.unit);
         let entry = unit.view(id.offset)?;
         let tag = entry.tag();
         if tag == DW_TAG_subprogram || tag == DW_TAG_inlined_subroutine {

@@ -1,12 +1,13 @@
 //! All entries of a unit, of which the functions are kept.
 
-ghost use Rattle.std.specs.Prelude.{◌≡◌, List, false, length};
+ghost use Rattle.std.specs.Prelude.{◌≡◌, List, false, OnOk, IfOk, length};
 ghost use Rattle.dw_model.specs.Unit.{is_skipped};
 ghost use Rattle.dw_model.specs.Tree.{Node};
 ghost use Rattle.dw_units.specs.OpenUnit.{sections_of, unit_of};
 ghost use Rattle.dw_frames.specs.Known.{Knows};
 ghost use Rattle.dw_frames.specs.Placed.{Follows};
 ghost use Rattle.dw_frames.specs.Reader.{nodes_on, FollowsOn, FollowsAll};
+ghost use Rattle.dw_frames.specs.UnitIn.{unit_in};
 
 use crate::drafts::Drafts;
 use crate::fault::TreeFault;
@@ -20,7 +21,8 @@ fn read_below<'b, 'a>(
     entries: &mut Entries<'b, 'a>,
     drafts: &mut Drafts<'b, 'a>,
 ) -> Result<(), TreeFault>
-    ensures { Knows reader.old drafts.old → (before : List Node)
+    ensures of { Knows reader.old drafts.old → OnOk result (drafts.new.of ≡ reader.old.of) }
+    ensures follows { Knows reader.old drafts.old → (before : List Node)
         → Follows reader.old.of.sections reader.old.of.unit before drafts.old entries.old.place.at
         → FollowsOn reader.old.of.sections reader.old.of.unit before
         (nodes_on reader.old.of.sections reader.old.of.unit entries.old (length drafts.old.lists)) result drafts.new }
@@ -32,25 +34,20 @@ fn read_below<'b, 'a>(
     Ok(())
 }
 
-/// How many ranges of lists may be kept for a unit.
-fn most_ranges(unit: OpenUnit<'_, '_>) -> usize {
-    let unit = unit.unit();
-    unit.end.saturating_sub(unit.offset) as usize / 4
-}
-
 /// Reads the entries of a unit that isn't skipped, and keeps its functions.
 pub(crate) fn read_all<'b, 'a>(
     alloc: Global,
     unit: OpenUnit<'b, 'a>,
 ) -> Result<Drafts<'b, 'a>, TreeFault>
     requires { is_skipped (unit_of unit).kind ≡ false }
-    ensures { FollowsAll (sections_of unit.entry) (unit_of unit.entry) result }
+    ensures of { IfOk result (λ drafts. drafts.of ≡ unit_in unit.entry) }
+    ensures follows { FollowsAll (sections_of unit.entry) (unit_of unit.entry) result }
 {
     let Some(mut entries) = unit.entries() else {
         return Err(TreeFault::Entry);
     };
     let mut reader = Reader::new(alloc, unit);
-    let mut drafts = Drafts::new(alloc, most_ranges(unit));
+    let mut drafts = Drafts::new(alloc, unit);
     let first = entries.next_function()?;
     if let Next::Null = first {
         return Err(TreeFault::Entry);

@@ -12,7 +12,7 @@ file_of image = image.file.now
 -- The units and the lines are those of the file, the first unit that has each address is found, and
 -- few ranges are kept.
 pub record IsOpen (image : Inside) : Type 0 where
-  pub units : image.units ≡ sections image.file.now
+  pub units : image.units.value ≡ sections image.file.now
   pub line : image.line.now ≡ (sections image.file.now).line
   pub unit_at : (a : ℕ) → option_and_then (slice_get (model.units (sections image.file.now).info)) (first_unit (sections image.file.now).tables image.cover a) ≡ unit_of (sections image.file.now) a
   pub within : (a : ℕ) → IfSome (first_unit (sections image.file.now).tables image.cover a) (λ i. i < length (model.units (sections image.file.now).info))

@@ -2,6 +2,7 @@ pub mod Answer
 pub mod Pieces
 pub mod Span
 pub mod Codes
+pub mod Source
 pub mod ContextState
 pub mod Context
 pub mod Told

@@ -6,12 +6,14 @@ ghost use Rattle.dw_model.specs.Section.{sections};
 ghost use Rattle.dw_model.specs.Unit.{units};
 ghost use Rattle.dw_model.specs.Pieces.{pieces};
 ghost use Rattle.dw_symbols.specs.Answer.{answer_shown, piece_shown};
+ghost use Rattle.dw_symbols.specs.Source.{file_in};
 ghost use Rattle.dw_symbols.specs.Span.{IsUnitOf, AddsUnit, AddsSpan};
 ghost use Rattle.dw_symbols.specs.Told.{means};
 
 use crate::answer::{Answer, Piece, UnitFault};
 use crate::image::Image;
 use crate::refusals::Refusals;
+use crate::source::Source;
 use crate::span::{Span, lesser};
 use crate::unit_answers::{location_by, push_pieces_by};
 use crate::unit_cache::{
@@ -23,6 +25,7 @@ use lru::LruCache;
 use std::alloc::{AllocError, Global};
 use std::marker::Model;
 use std::num::NonZeroUsize;
+use std::sync::Arc;
 use ticket_core::{Query, QueryKind};
 
 /// Answers the addresses of a file. Contracts see the file's bytes and how often `find_frames`, or
@@ -30,10 +33,10 @@ use ticket_core::{Query, QueryKind};
 /// memory refused changes no answer. Threads can each have one over the same image.
 #[derive(Drop)]
 pub struct Context<'b, 'a> {
-    image: &'b Image<'a>,
+    source: Source<'b, 'a>,
     alloc: Global,
     /// The functions of the units that were used last.
-    trees: Trees<'b, 'a>,
+    trees: Trees<'a>,
     /// The line tables that were used last. Units may name one table, which is kept once.
     tables: Tables<'a>,
     refusals: Refusals,
@@ -71,10 +74,44 @@ impl<'b, 'a> Context<'b, 'a> {
         ensures file { IfOk result (λ context. context.file ≡ image.now) }
         ensures refused { IfOk result (λ context. context.refused ≡ 0) }
     {
+        Context::over(alloc, Source::Borrowed(image), capacity)
+    }
+
+    /// The same, over an image that it shares with others. So it borrows nothing but the bytes of
+    /// the file, and the image is freed with the last context over it.
+    pub fn sharing(
+        alloc: Global,
+        image: Arc<Image<'a>>,
+        capacity: NonZeroUsize,
+    ) -> Result<Self, AllocError>
+        ensures file { IfOk result (λ context. context.file ≡ image.entry.value) }
+        ensures refused { IfOk result (λ context. context.refused ≡ 0) }
+    {
+        Context::over(alloc, Source::Shared(image), capacity)
+    }
+
+    /// Another context over the same image. Nothing of its units is read yet.
+    pub fn beside(&self, capacity: NonZeroUsize) -> Result<Self, AllocError>
+        ensures file { IfOk result (λ context. context.file ≡ self.now.file) }
+        ensures refused { IfOk result (λ context. context.refused ≡ 0) }
+    {
+        let source = self.source.again()?;
+        Context::over(self.alloc, source, capacity)
+    }
+
+    /// A context over an image.
+    fn over(
+        alloc: Global,
+        source: Source<'b, 'a>,
+        capacity: NonZeroUsize,
+    ) -> Result<Self, AllocError>
+        ensures file { IfOk result (λ context. context.file ≡ file_in source.entry) }
+        ensures refused { IfOk result (λ context. context.refused ≡ 0) }
+    {
         let trees = LruCache::sparse(alloc, capacity)?;
         let tables = LruCache::sparse(alloc, capacity)?;
         Ok(Context {
-            image,
+            source,
             alloc,
             trees,
             tables,
@@ -86,7 +123,7 @@ impl<'b, 'a> Context<'b, 'a> {
     pub fn bytes(&self) -> &'a [u8]
         ensures { result.now ≡ self.now.file }
     {
-        self.image.bytes()
+        self.source.image().bytes()
     }
 
     /// Where an address comes from, by the line table of its unit alone: one frame without a name.
@@ -94,15 +131,16 @@ impl<'b, 'a> Context<'b, 'a> {
         ensures answer { IfOk result (λ answer. answer_shown answer ≡ model.location self.old.file a) }
         ensures state { self.new ≡ self.old }
     {
-        let Some(i) = self.image.unit_at(a) else {
+        let (alloc, image) = (self.alloc, self.source.image());
+        let Some(i) = image.unit_at(a) else {
             return Ok(Answer::NotCovered);
         };
-        if let Some(answer) = kept_location(&mut self.tables, self.alloc, self.image, i, a) {
+        if let Some(answer) = kept_location(&mut self.tables, alloc, image, i, a) {
             return answer;
         }
-        let mut lines = read_lines(self.alloc, self.image, i)?;
-        let answer = location_by(&mut lines, self.alloc, self.image, i, a)?;
-        keep_lines(&mut self.tables, self.image, i, lines);
+        let mut lines = read_lines(alloc, image, i)?;
+        let answer = location_by(&mut lines, alloc, image, i, a)?;
+        keep_lines(&mut self.tables, image, i, lines);
         Ok(answer)
     }
 
@@ -121,19 +159,13 @@ impl<'b, 'a> Context<'b, 'a> {
             (map piece_shown pieces.new.items))) }
         ensures state { self.new ≡ self.old }
     {
-        if let Some(added) = kept_pieces(
-            &mut self.tables,
-            self.alloc,
-            self.image,
-            i,
-            span,
-            pieces,
-        ) {
+        let (alloc, image) = (self.alloc, self.source.image());
+        if let Some(added) = kept_pieces(&mut self.tables, alloc, image, i, span, pieces) {
             return added;
         }
-        let mut lines = read_lines(self.alloc, self.image, i)?;
-        let added = push_pieces_by(&mut lines, self.alloc, self.image, i, span, pieces)?;
-        keep_lines(&mut self.tables, self.image, i, lines);
+        let mut lines = read_lines(alloc, image, i)?;
+        let added = push_pieces_by(&mut lines, alloc, image, i, span, pieces)?;
+        keep_lines(&mut self.tables, image, i, lines);
         Ok(added)
     }
 
@@ -159,7 +191,7 @@ impl<'b, 'a> Context<'b, 'a> {
         let Some(code) = self.push_unit(i, span, pieces)? else {
             return Ok(None);
         };
-        Ok(Some((offset_of(self.image, i), code)))
+        Ok(Some((offset_of(self.source.image(), i), code)))
     }
 
     /// All locations of the addresses from `low` on and below `high`, in pieces, by the rows of the
@@ -177,7 +209,7 @@ impl<'b, 'a> Context<'b, 'a> {
         }
         let mut at = low;
         while at < high {
-            let owner = self.image.unit_from(at);
+            let owner = self.source.image().unit_from(at);
             let span = Span {
                 low: at,
                 high: lesser(owner.until, high),
@@ -195,10 +227,10 @@ impl<'b, 'a> Context<'b, 'a> {
         ensures answer { IfOk result (λ answer. answer_shown answer ≡ model.answer self.old.file a) }
         ensures state { self.new ≡ self.old }
     {
-        let Some(i) = self.image.unit_at(a) else {
+        let (alloc, image) = (self.alloc, self.source.image());
+        let Some(i) = image.unit_at(a) else {
             return Ok(Answer::NotCovered);
         };
-        let (alloc, image) = (self.alloc, self.image);
         if let Some(answer) = kept_answer(&mut self.trees, &mut self.tables, alloc, image, i, a) {
             return answer;
         }

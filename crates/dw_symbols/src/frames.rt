@@ -60,7 +60,7 @@ pub(crate) fn frames_of<'a>(
 pub(crate) fn answer_of<'a>(
     alloc: Global,
     unit: u64,
-    tree: &Tree<'_, 'a>,
+    tree: &Tree<'a>,
     lines: &Option<Lines<'_>>,
     location: Location,
     a: u64,

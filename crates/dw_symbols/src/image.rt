@@ -18,6 +18,7 @@ use dw_ranges::law_of_least_owner;
 use dw_units::Units;
 use std::alloc::Global;
 use std::marker::Model;
+use std::sync::Arc;
 
 /// A file whose addresses can be asked for. Contracts see its bytes.
 #[derive(Drop)]
@@ -25,7 +26,8 @@ pub struct Image<'a> {
     file: &'a [u8],
     /// .debug_line
     line: &'a [u8],
-    units: Units<'a>,
+    /// What is read of its units keeps them too.
+    units: Arc<Units<'a>>,
     /// The places of the units that answer addresses.
     cover: Cover,
 }
@@ -61,11 +63,12 @@ impl<'a> Image<'a> {
         let units = Units::read(alloc, &elf)?;
         let kept = unit_ranges(alloc, &units)?;
         let cover = Cover::build(alloc, kept)?;
+        let shared = Arc::new(alloc, units)?;
         law_of_least_owner();
         Ok(Image {
             file,
             line: elf.section(Name::DebugLine),
-            units,
+            units: shared,
             cover,
         })
     }
@@ -73,6 +76,13 @@ impl<'a> Image<'a> {
     /// Its units.
     pub(crate) fn units(&self) -> &Units<'a>
         ensures { result.now ≡ sections self.now }
+    {
+        &self.units
+    }
+
+    /// The same, for what is read of them and keeps them.
+    pub(crate) fn shared_units(&self) -> &Arc<Units<'a>>
+        ensures { result.now.value ≡ sections self.now }
     {
         &self.units
     }

@@ -10,6 +10,7 @@ mod location;
 mod pieces;
 mod refusals;
 mod solver;
+mod source;
 mod span;
 mod unit_answers;
 mod unit_cache;

@@ -53,7 +53,7 @@ pub(crate) fn location_by<'a>(
 /// What an address means, by the functions of its unit and the line table.
 pub(crate) fn frames_by<'a>(
     lines: &mut UnitLines<'a>,
-    tree: &Tree<'_, 'a>,
+    tree: &Tree<'a>,
     alloc: Global,
     image: &Image<'a>,
     i: usize,

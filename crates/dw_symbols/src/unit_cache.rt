@@ -19,14 +19,14 @@ use lru::LruCache;
 use std::alloc::{AllocError, Global};
 
 /// The functions of units by their places, the last used first.
-pub(crate) type Trees<'b, 'a> = LruCache<usize, UnitTree<'b, 'a>>;
+pub(crate) type Trees<'a> = LruCache<usize, UnitTree<'a>>;
 
 /// Line tables by their offsets in .debug_line, the last used first.
 pub(crate) type Tables<'a> = LruCache<u64, UnitLines<'a>>;
 
 /// Keeps the functions of a unit. Those for which there is no memory are read again when they are
 /// asked for.
-pub(crate) fn keep_tree<'b, 'a>(kept: &mut Trees<'b, 'a>, i: usize, tree: UnitTree<'b, 'a>)
+pub(crate) fn keep_tree<'a>(kept: &mut Trees<'a>, i: usize, tree: UnitTree<'a>)
     ensures { (s : Sections) → AreTrees s kept.old.entries → IsTreeAt s i tree.entry → AreTrees s kept.new.entries }
 {
     match kept.put(i, tree) {
@@ -114,7 +114,7 @@ pub(crate) fn kept_pieces<'a>(
 /// it isn't.
 fn kept_frames<'a>(
     kept: &mut Tables<'a>,
-    tree: &Tree<'_, 'a>,
+    tree: &Tree<'a>,
     alloc: Global,
     image: &Image<'a>,
     i: usize,
@@ -137,7 +137,7 @@ fn kept_frames<'a>(
 /// What an address means, by the functions of its unit.
 pub(crate) fn tree_answer<'a>(
     tables: &mut Tables<'a>,
-    tree: &UnitTree<'_, 'a>,
+    tree: &UnitTree<'a>,
     alloc: Global,
     image: &Image<'a>,
     i: usize,
@@ -167,11 +167,11 @@ pub(crate) fn tree_answer<'a>(
 
 /// What an address means, by the functions of its unit where they are kept; `None` where they
 /// aren't.
-pub(crate) fn kept_answer<'b, 'a>(
-    trees: &mut Trees<'b, 'a>,
+pub(crate) fn kept_answer<'a>(
+    trees: &mut Trees<'a>,
     tables: &mut Tables<'a>,
     alloc: Global,
-    image: &'b Image<'a>,
+    image: &Image<'a>,
     i: usize,
     a: u64,
 ) -> Option<Result<Answer<'a>, AllocError>>

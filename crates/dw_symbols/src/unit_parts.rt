@@ -17,24 +17,24 @@ use dw_units::Units;
 use std::alloc::{AllocError, Global};
 
 /// The functions of a unit, or why they can't be read.
-pub(crate) type UnitTree<'b, 'a> = Result<Tree<'b, 'a>, UnitFault>;
+pub(crate) type UnitTree<'a> = Result<Tree<'a>, UnitFault>;
 
 /// The line table of a unit, where the unit names one, or why it can't be read.
 pub(crate) type UnitLines<'a> = Result<Option<Lines<'a>>, UnitFault>;
 
 /// The functions of a unit that isn't skipped, or why they can't be read.
-pub(crate) fn read_tree<'b, 'a>(
+pub(crate) fn read_tree<'a>(
     alloc: Global,
-    image: &'b Image<'a>,
+    image: &Image<'a>,
     i: usize,
-) -> Result<UnitTree<'b, 'a>, AllocError>
+) -> Result<UnitTree<'a>, AllocError>
     requires unit { i < length (model.units (sections image.now).info) }
     requires answers { IfSome (slice_get (model.units (sections image.now).info) i)
         (λ unit. is_skipped unit.kind ≡ false) }
     ensures { IfOk result (λ read. (unit : DwarfUnit)
         → slice_get (model.units (sections image.now).info) i ≡ Some unit → HasTree (sections image.now) unit read) }
 {
-    match Tree::read(alloc, image.units(), i) {
+    match Tree::read(alloc, image.shared_units(), i) {
         Ok(tree) => Ok(Ok(tree)),
         Err(TreeFault::Entry) => Ok(Err(UnitFault::Entry)),
         Err(TreeFault::Depth) => Ok(Err(UnitFault::Depth)),

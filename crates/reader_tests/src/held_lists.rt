@@ -1,7 +1,6 @@
 //! Functions whose range lists have more ranges than a tree keeps, worked out by hand.
 
-use crate::trees::{expect_chain, tree_at};
-use crate::units::units_of;
+use crate::trees::{expect_chain, shared_units, tree_at};
 use dw_elf::Name;
 use std::alloc::{AllocError, Global};
 use std::test::Fail;
@@ -55,7 +54,7 @@ fn lists_read_for_each_address(rt: HostRuntime) -> Result<(), Fail> {
             (Name::DebugRnglists, &lists(rt.alloc())?),
         ],
     )?;
-    let units = units_of(rt.alloc(), &file)?;
+    let units = shared_units(rt.alloc(), &file)?;
     let tree = tree_at(rt.alloc(), &units, 0)??;
     for (a, offsets) in &CHAINS {
         expect_chain(&rt, rt.alloc(), &tree, *a, offsets)?;

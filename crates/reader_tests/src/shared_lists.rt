@@ -1,7 +1,6 @@
 //! Functions that name one range list, worked out by hand.
 
-use crate::trees::{expect_chain, read_first, tree_at};
-use crate::units::units_of;
+use crate::trees::{expect_chain, read_first, shared_units, tree_at};
 use dw_elf::Name;
 use dw_frames::TreeFault;
 use std::alloc::{AllocError, Global};
@@ -71,7 +70,7 @@ fn expect_chains<A: Abort>(
     chains: &[(u64, &[u64])],
 ) -> Result<(), Fail> {
     let file = file_of(alloc, loose, entries)?;
-    let units = units_of(alloc, &file)?;
+    let units = shared_units(alloc, &file)?;
     let tree = tree_at(alloc, &units, 0)??;
     let before = loose.saturating_mul(LOOSE.len()) as u64;
     for (a, offsets) in chains {

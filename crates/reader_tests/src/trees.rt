@@ -2,19 +2,26 @@
 //! succeed.
 
 use crate::units::units_of;
+use dw_elf::OpenFault;
 use dw_frames::{Call, EntryId, Tree, TreeFault};
 use dw_units::{Kind, Units};
 use std::alloc::{AllocError, Global};
 use std::process::Abort;
+use std::sync::Arc;
 use std::test::Fail;
 use test_inputs::files::{ABBREVS, INFO, file_of, poked, sample, unit_of};
 
+/// The units of a file, for trees that keep them.
+pub(crate) fn shared_units<'a>(alloc: Global, file: &'a [u8]) -> Result<Arc<Units<'a>>, OpenFault> {
+    Ok(Arc::new(alloc, units_of(alloc, file)?)?)
+}
+
 /// The functions of the unit at an index, which isn't skipped.
-pub(crate) fn tree_at<'b, 'a>(
+pub(crate) fn tree_at<'a>(
     alloc: Global,
-    units: &'b Units<'a>,
+    units: &Arc<Units<'a>>,
     i: usize,
-) -> Result<Result<Tree<'b, 'a>, TreeFault>, Fail> {
+) -> Result<Result<Tree<'a>, TreeFault>, Fail> {
     if i >= units.len() {
         return Err(Fail::from("a unit at the index"));
     }
@@ -26,7 +33,7 @@ pub(crate) fn tree_at<'b, 'a>(
 
 /// Reads the functions of the first unit of a file.
 pub(crate) fn read_first(alloc: Global, file: &[u8]) -> Result<Result<(), TreeFault>, Fail> {
-    let units = units_of(alloc, file)?;
+    let units = shared_units(alloc, file)?;
     match tree_at(alloc, &units, 0)? {
         Ok(_tree) => Ok(Ok(())),
         Err(fault) => Ok(Err(fault)),
@@ -51,7 +58,7 @@ fn expect_name<A: Abort>(
     wanted: Option<&[u8]>,
 ) -> Result<(), Fail> {
     let file = file_of(alloc, info, abbrevs)?;
-    let units = units_of(alloc, &file)?;
+    let units = shared_units(alloc, &file)?;
     let tree = tree_at(alloc, &units, 0)??;
     let id = EntryId { unit: 0, offset };
     assert!(rt; is_same(tree.name(id), wanted), "name at {offset:#x}");
@@ -62,7 +69,7 @@ fn expect_name<A: Abort>(
 pub(crate) fn expect_chain<A: Abort>(
     rt: &A,
     alloc: Global,
-    tree: &Tree<'_, '_>,
+    tree: &Tree<'_>,
     a: u64,
     wanted: &[u64],
 ) -> Result<(), Fail> {
@@ -93,7 +100,7 @@ const CHAINS: [(u64, &[u64]); 12] = [
 #[test]
 fn inlined_functions(rt: HostRuntime) -> Result<(), Fail> {
     let file = sample(rt.alloc())?;
-    let units = units_of(rt.alloc(), &file)?;
+    let units = shared_units(rt.alloc(), &file)?;
     let tree = tree_at(rt.alloc(), &units, 0)??;
     for (a, wanted) in CHAINS {
         expect_chain(&rt, rt.alloc(), &tree, a, wanted)?;
@@ -123,7 +130,7 @@ const CALLS: [(u64, Option<u64>, Option<u64>, Option<u64>); 3] = [
 #[test]
 fn names_and_calls(rt: HostRuntime) -> Result<(), Fail> {
     let file = sample(rt.alloc())?;
-    let units = units_of(rt.alloc(), &file)?;
+    let units = shared_units(rt.alloc(), &file)?;
     let tree = tree_at(rt.alloc(), &units, 0)??;
     for (unit, offset, name) in NAMES {
         let id = EntryId { unit, offset };
@@ -149,7 +156,7 @@ fn names_itself(rt: HostRuntime) -> Result<(), Fail> {
 #[test]
 fn unit_of_a_target(rt: HostRuntime) -> Result<(), Fail> {
     let file = sample(rt.alloc())?;
-    let units = units_of(rt.alloc(), &file)?;
+    let units = shared_units(rt.alloc(), &file)?;
     let tree = tree_at(rt.alloc(), &units, 1)??;
     let id = EntryId {
         unit: 1,
@@ -284,7 +291,7 @@ fn each_allocation_refused(rt: HostRuntime) -> Result<(), Fail> {
     let Ok(file) = sample(alloc) else {
         return Ok(());
     };
-    let Ok(units) = units_of(alloc, &file) else {
+    let Ok(units) = shared_units(alloc, &file) else {
         return Ok(());
     };
     let units = &units;

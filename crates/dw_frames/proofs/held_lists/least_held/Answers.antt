@@ -1,4 +1,5 @@
 use Rattle.std.proofs.Common.{sym}
+use Rattle.dw_forms.specs.Tables.{tables_shown}
 use Rattle.dw_index.specs.Owners.{least_owner}
 use Rattle.dw_index.proofs.OwnerLemmas.{least-none}
 use Rattle.dw_frames.specs.Held.{all_held}
@@ -10,7 +11,7 @@ unfolding all_held least_owner
 loop-list-init c = sym (least-none c.args.found)
 
 pub loop-list-preserved : goal.loop-list-preserved
-loop-list-preserved c = held-next c.args.held.now c.loop-list.list-index _ c.args.found c.loop-list.least c.least_of-least.result c.args.a c.loop-list-test.true c.loop-list.invariant c.least_of-least.ensures
+loop-list-preserved c = held-next (tables_shown c.args.tables.now) c.args.held.now c.loop-list.list-index _ c.args.found c.loop-list.least c.least_of-least.result c.args.a c.loop-list-test.true c.loop-list.invariant c.least_of-least.ensures
 
 pub returns : goal.returns
-returns c = held-all c.args.held.now c.loop-list.list-index c.args.found c.loop-list.least c.args.a c.loop-list-test.false c.loop-list.invariant
+returns c = held-all (tables_shown c.args.tables.now) c.args.held.now c.loop-list.list-index c.args.found c.loop-list.least c.args.a c.loop-list-test.false c.loop-list.invariant

@@ -1,4 +1,5 @@
 use Rattle.std.proofs.Common.{sym}
+use Rattle.dw_forms.specs.Tables.{tables_shown}
 use Rattle.dw_index.specs.Owners.{least_owner}
 use Rattle.dw_index.proofs.OwnerLemmas.{least-none}
 use Rattle.dw_frames.specs.Held.{all_held_in}
@@ -12,9 +13,9 @@ loop-number-init c = sym (least-none c.args.found)
 
 pub loop-number-preserved : goal.loop-number-preserved
 loop-number-preserved c = elim c.if-number-outer.branch [
-  | then-number-outer w ↦ held-in-here c.args.held.now c.loop-number.number-index c.args.outer c.args.a c.loop-number-item.result c.args.found c.loop-number.least c.if-number-outer.least c.loop-number-test.true c.loop-number-item.is c.loop-number.invariant w.if-number-outer.true (rw (w.least-is) w.least_of-least.ensures)
-  | else-number-outer w ↦ held-in-elsewhere c.args.held.now c.loop-number.number-index c.args.outer c.args.a c.loop-number-item.result c.args.found c.loop-number.least c.if-number-outer.least c.loop-number-test.true c.loop-number-item.is c.loop-number.invariant w.if-number-outer.false w.least-is
+  | then-number-outer w ↦ held-in-here (tables_shown c.args.tables.now) c.args.held.now c.loop-number.number-index c.args.outer c.args.a _ c.args.found c.loop-number.least c.if-number-outer.least c.loop-number-test.true c.loop-number.invariant w.if-number-outer.true (rw (w.least-is) w.least_of-least.ensures)
+  | else-number-outer w ↦ held-in-elsewhere (tables_shown c.args.tables.now) c.args.held.now c.loop-number.number-index c.args.outer c.args.a _ c.args.found c.loop-number.least c.if-number-outer.least c.loop-number-test.true c.loop-number.invariant w.if-number-outer.false w.least-is
 ]
 
 pub returns : goal.returns
-returns c = held-in-all c.args.held.now c.loop-number.number-index c.args.outer c.args.a c.args.found c.loop-number.least c.loop-number-test.false c.loop-number.invariant
+returns c = held-in-all (tables_shown c.args.tables.now) c.args.held.now c.loop-number.number-index c.args.outer c.args.a c.args.found c.loop-number.least c.loop-number-test.false c.loop-number.invariant

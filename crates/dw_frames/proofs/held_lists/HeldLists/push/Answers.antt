@@ -4,4 +4,4 @@ use Rattle.dw_frames.proofs.HeldLemmas.{held-push}
 use Rattle.dw_frames.proofs.held_lists.HeldLists.push.Goals as goal
 
 pub returns-clause-outermost : goal.returns-clause-outermost
-returns-clause-outermost c = ap all_held c.in_ok-push.ensures.items ∙ held-push c.args.self.now.outermost.items c.args.held
+returns-clause-outermost c = λ tables. ap (all_held tables) c.in_ok-push.ensures.items ∙ held-push tables c.args.self.now.outermost.items c.args.held

@@ -6,6 +6,7 @@ use Rattle.dw_ranges.specs.Lists.{ranges_of_list}
 use Rattle.dw_frames.specs.Known.{Knows}
 use Rattle.dw_frames.specs.Reading.{Reading}
 use Rattle.dw_frames.specs.ReaderInside.{reading_of}
+use Rattle.dw_frames.specs.UnitIn.{UnitIn}
 use Rattle.dw_frames.proofs.KnownLemmas.{passed-added, knows-idle, knows-noted, knows-read, none-shown, some-shown}
 use Rattle.dw_frames.proofs.reader.Reader.add_listed.Goals as goal
 
@@ -33,6 +34,6 @@ returns-clause-known c knows is =
     let read : ranges_of_list reading.of.sections.tables c.args.list ≡ Ok ranges = search rules in
     let some = some-shown c.read_list.new.ranges.items c.deref.result.now c.read_list.new.ranges.len c.deref.ensures.value c.read_list.new.ranges.ok.0 (sym c.is_empty.ensures ∙ c.if-is_empty.false) in
     let kept = knows-noted reading c.note-2.new.self drafts c.keep_listed.new.drafts (is_subprogram entry) c.innermost-outer.result c.args.list ranges entry.children (Some (length drafts.functions)) entry.offset c.in_ok-note-2.ensures.same c.in_ok-note-2.ensures.idle
-    (rw (c.tag-is_subprogram.ensures) at c.in_ok-note-2.ensures.outermost) (rw (c.tag-is_subprogram.ensures) at c.in_ok-note-2.ensures.inlined) (rw (c.tag-is_subprogram.ensures) at c.in_ok-note-2.ensures.loose) read some (sym c.innermost-outer.ensures) c.in_ok-keep_listed.ensures before in
+    (rw (c.tag-is_subprogram.ensures) at c.in_ok-note-2.ensures.outermost) (rw (c.tag-is_subprogram.ensures) at c.in_ok-note-2.ensures.inlined) (rw (c.tag-is_subprogram.ensures) at c.in_ok-note-2.ensures.loose) read some (sym c.innermost-outer.ensures) (c.in_ok-keep_listed.ensures (ap (λ (of : UnitIn). ranges_of_list of.sections.tables c.args.list) before.of ∙ read)) before in
     let told = c.in_ok-note_read.ensures in
     knows-read c.note-2.new.self c.note_read.new.self c.keep_listed.new.drafts c.args.list told.same told.idle told.outermost told.inlined told.loose (ranges, rw (c.in_ok-note-2.ensures.same) read, some) kept

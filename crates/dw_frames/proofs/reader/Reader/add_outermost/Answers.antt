@@ -12,7 +12,7 @@ use Rattle.dw_frames.specs.Reading.{Reading}
 use Rattle.dw_frames.specs.ReaderInside.{reading_of}
 use Rattle.dw_frames.specs.UnitIn.{UnitIn}
 use Rattle.dw_frames.proofs.KnownLemmas.{kept-added, knows-idle, knows-noted, knows-read}
-use Rattle.dw_frames.proofs.TailLemmas.{none-read, was-read, owners-of, knows-tails}
+use Rattle.dw_frames.proofs.TailLemmas.{none-read, was-read, owners-of, owners-same, knows-tails}
 use Rattle.dw_frames.proofs.reader.Reader.add_outermost.Goals as goal
 
 pub returns-then-has_none-clause-known : goal.returns-then-has_none-clause-known
@@ -36,11 +36,10 @@ returns-clause-function c knows sub is =
     let before : Knows reading drafts = subst (λ (reading : Reading). Knows reading drafts) (sym c.self.view_is) knows in
     let same_tables : reading.of.sections.tables ≡ s.tables = ap (λ (reading : Reading). reading.of.sections.tables) c.self.view_is in
     let tables : tables_shown c.tables.result.now ≡ reading.of.sections.tables = search rules in
-    let tables_2 : tables_shown c.tables-2.result.now ≡ reading.of.sections.tables = search rules in
     let front = map range_shown c.read_new.new.ranges.items in
     let told = subst (λ (tables : Tables). ReadsNew tables reading.outermost c.args.list (Ok c.in_ok-tail.tail) front) tables c.in_ok-tail.ensures.ranges in
     let read = was-read reading drafts c.args.list c.in_ok-tail.tail front before told (rw (c.deref.ensures.value) at (c.has_none.ensures.some c.if-has_none.false)) in
-    let kept = (rw (c.deref-2.ensures.value) at c.in_ok-keep_first.ensures) read.rest (ap (λ (tables : Tables). ranges_of_list tables c.args.list) tables_2 ∙ read.all) read.owned_rest in
+    let kept = (rw (c.deref-2.ensures.value) at c.in_ok-keep_first.ensures) read.rest read.here read.owned_rest in
     kept-added s c.args.self.now.of.unit entry drafts c.keep_first.new.drafts (front ++ read.rest) (is ∙ ap (λ (tables : Tables). ranges_of_list tables c.args.list) (sym same_tables) ∙ read.all) read.some (rw sub kept)
 
 pub returns-clause-known : goal.returns-clause-known
@@ -50,11 +49,10 @@ returns-clause-known c knows sub is =
     let reading = reading_of c.self.inside in
     let before : Knows reading drafts = subst (λ (reading : Reading). Knows reading drafts) (sym c.self.view_is) knows in
     let tables : tables_shown c.tables.result.now ≡ reading.of.sections.tables = search rules in
-    let tables_2 : tables_shown c.tables-2.result.now ≡ reading.of.sections.tables = search rules in
     let front = map range_shown c.read_new.new.ranges.items in
     let told = subst (λ (tables : Tables). ReadsNew tables reading.outermost c.args.list (Ok c.in_ok-tail.tail) front) tables c.in_ok-tail.ensures.ranges in
     let read = was-read reading drafts c.args.list c.in_ok-tail.tail front before told (rw (c.deref.ensures.value) at (c.has_none.ensures.some c.if-has_none.false)) in
-    let kept = (rw (c.deref-2.ensures.value) at c.in_ok-keep_first.ensures) read.rest (ap (λ (tables : Tables). ranges_of_list tables c.args.list) tables_2 ∙ read.all) read.owned_rest in
+    let kept = (rw (c.deref-2.ensures.value) at c.in_ok-keep_first.ensures) read.rest read.here read.owned_rest in
     let all = front ++ read.rest in
     let new = c.keep_first.new.drafts in
     let noted = c.in_ok-note-2.ensures in
@@ -65,6 +63,6 @@ returns-clause-known c knows sub is =
     let same_tables : tables_shown c.tables.result.now ≡ c.note-2.new.self.of.sections.tables = tables ∙ ap (λ (of : UnitIn). of.sections.tables) (sym noted.same) in
     let ends = λ (begin : ℕ) (h : Has c.read_new.new.begins.items begin). subst (λ (tables : Tables). EndsAs tables c.args.list (tail_at c.args.list begin)) same_tables (c.in_ok-tail.ensures.begins begin h) in
     let second = knows-tails c.note-2.new.self c.note_tails.new.self new c.args.list c.read_new.new.begins.items tails.same tails.idle tails.inlined tails.loose (rw (c.deref-3.ensures.value) at tails.outermost) ends
-    (owners.0, ap (λ (of : UnitIn). ranges_of_list of.sections.tables c.args.list) noted.same ∙ owners.1, owners.2, owners.3) first in
+    (owners-same reading c.note-2.new.self c.args.list new.outermost (length new.functions) noted.same owners) first in
     let last = c.in_ok-note_read.ensures in
     knows-read c.note_tails.new.self c.note_read.new.self new c.args.list last.same last.idle last.outermost last.inlined last.loose (all, ap (λ (of : UnitIn). ranges_of_list of.sections.tables c.args.list) tails.same ∙ here, read.some) second

@@ -1,10 +1,31 @@
-use Rattle.std.proofs.Common.{◌∙◌, sym}
-use Rattle.dw_frames.specs.UnitIn.{unit_in}
+use Rattle.std.proofs.Common.{◌≡◌, ◌∙◌, ℕ, sym, ap, subst}
+use Rattle.dw_model.specs.Section.{Sections}
+use Rattle.dw_index.specs.Owners.{least_owner}
+use Rattle.dw_units.specs.declared.open_unit.OpenUnit.{OpenUnit}
+use Rattle.dw_units.specs.OpenUnit.{sections_of}
+use Rattle.dw_units.specs.UnitAt.{unit_at}
+use Rattle.dw_frames.specs.declared.chains.Chains.{Chains}
+use Rattle.dw_frames.specs.Tree.{all_inlined, outermost_at, IsTreeOf}
+use Rattle.dw_frames.specs.UnitIn.{UnitIn, unit_in}
 use Rattle.dw_frames.proofs.BuiltLemmas.{is-tree}
 use Rattle.dw_frames.proofs.tree.Tree.read.Goals as goal
 
+-- the unit that was opened is the one of its index in the file
+of-file : (here : OpenUnit) (sections : Sections) (index : ℕ) (chains : Chains) → sections_of here ≡ sections → here.index ≡ index → IsTreeOf (unit_in here) chains → IsTreeOf (record { index = index; sections = sections; unit = unit_at sections index }) chains
+of-file here sections index chains file at tree =
+    subst (λ index. IsTreeOf (record { index = index; sections = sections; unit = unit_at sections index }) chains) at
+    (subst (λ (sections : Sections). IsTreeOf (record { index = here.index; sections = sections; unit = unit_at sections here.index }) chains) file tree)
+
 pub invariant_of-result : goal.invariant_of-result
 invariant_of-result c =
-    let read = c.in_ok-drafts.ensures in
+    let of = unit_in c.at.result in
+    let read = c.in_ok-drafts.ensures.follows in
+    let same : c.in_ok-drafts.drafts.of ≡ of = c.in_ok-drafts.ensures.of in
     let built = c.in_ok-chains.ensures in
-    is-tree (unit_in c.at-unit.result) read.0 c.in_ok-drafts.drafts read.1 c.in_ok-chains.chains read.2 read.3 (built.unit ∙ sym c.at-unit.ensures.index) built.functions built.inlined built.outermost
+    let chains = c.in_ok-chains.chains in
+    let drafts = c.in_ok-drafts.drafts in
+    let index : chains.unit ≡ of.index = built.unit ∙ ap (λ (of : UnitIn). of.index) same in
+    let inlined = subst (λ (of : UnitIn). all_inlined of.sections.tables chains ≡ drafts.inlined) same built.inlined in
+    let outermost = subst (λ (of : UnitIn). (a : ℕ) → outermost_at of.sections.tables chains a ≡ least_owner drafts.outermost a) same built.outermost in
+    let tree = is-tree of read.0 drafts read.1 chains read.2 read.3 index c.at.result.within built.functions inlined outermost in
+    of-file c.at.result c.in_ok-units.units.value chains.unit chains (c.at.ensures.sections ∙ c.deref.ensures ∙ sym c.in_ok-units.ensures) (sym index) tree

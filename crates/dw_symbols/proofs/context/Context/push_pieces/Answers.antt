@@ -30,7 +30,7 @@ returns-clause-pieces c =
     let s = sections c.args.self.now.file in
     let old = map piece_shown c.args.pieces.now.items in
     let new = map piece_shown c.push_unit.new.pieces.items in
-    let file = ap (λ (state : ContextState). state.file) c.self.view_is ∙ ap (λ (state : ContextState). state.file) c.in_ok-code.ensures.state in
+    let file = c.image.ensures ∙ ap (λ (state : ContextState). state.file) c.self.view_is ∙ ap (λ (state : ContextState). state.file) c.in_ok-code.ensures.state in
     span_fault s c.in-Some.i c.args.span c.in-Some-2.code c.offset_of.result old new
     (subst (λ (unit : Option ℕ). IfSome unit (λ i. i < length (units s.info))) c.in-Some.is c.requires.within)
     (subst (λ (unit : Option ℕ). IsUnitOf s unit c.args.span.low c.args.span.high) c.in-Some.is c.requires.unit)

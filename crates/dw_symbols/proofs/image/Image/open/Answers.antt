@@ -29,7 +29,7 @@ invariant_of-result c =
     let cover = c.in_ok-cover.cover in
     let owner = λ (a : ℕ). cover-unit s (sections c.args.file.now) cover owns.0 a same law owns.1 (c.in_ok-cover.ensures.units s.tables a ∙ owns.2 a) in
     record {
-      units = same;
+      units = c.in_ok-shared.ensures.ok ∙ same;
       line = c.section.ensures ∙ ap (λ file. (sections file).line) c.in_ok-elf.ensures.file;
       unit_at = λ a. (owner a).0;
       within = λ a. (owner a).1;

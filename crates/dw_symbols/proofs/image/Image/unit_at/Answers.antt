@@ -9,16 +9,16 @@ use Rattle.dw_symbols.proofs.image.Image.unit_at.Goals as goal
 
 pub returns-clause-unit : goal.returns-clause-unit
 returns-clause-unit c =
-    let same = c.tables.ensures ∙ ap (λ (sections : Sections). sections.tables) c.self.invariant.units in
+    let same = c.tables.ensures ∙ ap (λ (sections : Sections). sections.tables) c.deref.ensures ∙ ap (λ (sections : Sections). sections.tables) c.self.invariant.units in
     found-unit c.self.inside.file.now c.args.self.now (tables_shown c.tables.result.now) c.self.inside.cover c.self.view_is same c.self.invariant.unit_at c.self.invariant.within c.find.result c.args.a c.find.ensures
 
 pub returns-clause-within : goal.returns-clause-within
 returns-clause-within c =
-    let same = c.tables.ensures ∙ ap (λ (sections : Sections). sections.tables) c.self.invariant.units in
+    let same = c.tables.ensures ∙ ap (λ (sections : Sections). sections.tables) c.deref.ensures ∙ ap (λ (sections : Sections). sections.tables) c.self.invariant.units in
     found-within c.self.inside.file.now c.args.self.now (tables_shown c.tables.result.now) c.self.inside.cover c.self.view_is same c.self.invariant.unit_at c.self.invariant.within c.find.result c.args.a c.find.ensures
 
 pub returns-clause-answers : goal.returns-clause-answers
 returns-clause-answers c =
-    let same = c.tables.ensures ∙ ap (λ (sections : Sections). sections.tables) c.self.invariant.units in
+    let same = c.tables.ensures ∙ ap (λ (sections : Sections). sections.tables) c.deref.ensures ∙ ap (λ (sections : Sections). sections.tables) c.self.invariant.units in
     let first = c.find.ensures ∙ ap (λ (tables : Tables). first_unit tables c.self.inside.cover c.args.a) same in
     answering-owner c.self.inside.file.now c.args.self.now c.args.a _ c.find.result c.self.view_is first (c.self.invariant.unit_at c.args.a)
