@@ -1,7 +1,8 @@
 #!/usr/bin/env bash
 # How long liba2l takes, and how much memory, beside libdw of elfutils and gcc's libbacktrace: one address of a program, and
-# 10,000 in order and in random order. A run that takes more than 60 seconds is ended, and told as such. The word is the path of a program or library with DWARF 5 that isn't compressed;
-# it has to stand at the addresses that it names. Each task is run three times, and the least time counts. It says which
+# 10,000 in order and in random order, also one a question. A run that takes more than 60 seconds is ended, and told as
+# such. The word is the path of a program or library with DWARF 5 that isn't compressed; it has to stand at the addresses
+# that it names. Each task is run three times, and the least time counts. It says which
 # libraries are missing (libdw-dev, and a gcc with its libbacktrace), prints a table and tests nothing. Run it after
 # `make library`.
 . "$(dirname "$0")/../tests/programs.sh"
@@ -21,14 +22,17 @@ for name, some in (('one', addresses[:1]), ('in-order', sorted(addresses)), ('at
     with open(name, 'w', encoding='ascii') as file:
         file.writelines(f'{address:x}\n' for address in some)
 END
+# A task of a tool: its name, the input, and the command.
+measure() {
+    for _ in 1 2 3; do
+        timeout 60 /usr/bin/time -q -f '%U %S %M' -o time "${@:3}" < "$2" > output || { echo "$1: more than 60 s" >&2; break; }
+        cat time
+    done | awk -v what="$1" '{ t = $1 + $2; if (NR == 1 || t < least) least = t; if ($3 > most) most = $3 }
+        END { if (NR > 0) printf "%s: %.2f s of processor time, %d MB\n", what, least, most / 1024 }'
+}
 for task in one in-order at-random; do
     for tool in a2l backtrace dw; do
-        [ -x "$tool" ] || continue
-        for _ in 1 2 3; do
-            timeout 60 /usr/bin/time -q -f '%U %S %M' -o time "./$tool" "$program" < "$task" > "$tool.$task" ||
-                { echo "$task $tool: more than 60 s" >&2; break; }
-            cat time
-        done | awk -v what="$task $tool" '{ t = $1 + $2; if (NR == 1 || t < least) least = t; if ($3 > most) most = $3 }
-            END { if (NR > 0) printf "%s: %.2f s of processor time, %d MB\n", what, least, most / 1024 }'
+        [ ! -x "$tool" ] || measure "$task $tool" "$task" "./$tool" "$program"
     done
 done
+measure 'at-random a2l, one a question' at-random ./a2l "$program" each

@@ -1,7 +1,8 @@
 /* liba2l: which function, file and line of a program an address comes from, by its DWARF 5 debug information.
  *
- * A file is opened once, by its bytes. A question asks about many addresses in one call, which reads each unit of the
- * file that it needs once. Its answers stay in the handle until the next question that succeeds.
+ * A file is opened once, by its bytes. A question asks about one address or about many. What it reads of the units of
+ * the file stays in the handle for the next questions, of as many units as the handle's capacity. Its answers stay in
+ * the handle until the next question that succeeds.
  *
  * Errors     Each call returns an a2l_status and changes nothing else where that isn't A2L_DONE, but for the structs
  *            that it says it fills. After A2L_MEMORY the same call may be made again. No call ends the process, prints,
@@ -36,7 +37,8 @@ enum {
     A2L_SHORT = 7     /* the path doesn't fit into the buffer; all else is told, its length too */
 };
 
-/* An open file with the answers of the last question. Its members are the library's. */
+/* An open file with the units that were asked for last and the answers of the last question. Its members are the
+ * library's. */
 typedef struct a2l {
     bool open;
     void *session;
@@ -83,13 +85,14 @@ typedef struct a2l_piece {
     a2l_location location;
 } a2l_piece;
 
-/* Opens a file by its bytes. They stay where they are, unchanged, until the last handle over them is closed. A question
- * keeps as many units as the capacity says, and reads the others again; 1 is enough where it asks in order of address,
- * 1024 elsewhere. Fills *refusal where it returns A2L_REFUSED. Else A2L_DONE, A2L_MEMORY, A2L_CAPACITY or A2L_OPEN. */
+/* Opens a file by its bytes. They stay where they are, unchanged, until the last handle over them is closed. The handle
+ * keeps what was read of as many units as the capacity says, those that were asked for last, until it is closed; another
+ * unit is read again. 1 is enough where addresses are asked for in their order, 1024 elsewhere. Fills *refusal where it
+ * returns A2L_REFUSED. Else A2L_DONE, A2L_MEMORY, A2L_CAPACITY or A2L_OPEN. */
 a2l_status a2l_open(const uint8_t *bytes, size_t length, size_t capacity, a2l *handle, a2l_refusal *refusal);
 
-/* Opens another handle over the same file, for another thread. This reads nothing. Neither handle is in another call
- * meanwhile. A2L_DONE, A2L_MEMORY, A2L_CAPACITY, A2L_CLOSED, or A2L_OPEN where the other one is open. */
+/* Opens another handle over the same file, for another thread, which keeps units of its own. This reads nothing. Neither
+ * handle is in another call meanwhile. A2L_DONE, A2L_MEMORY, A2L_CAPACITY, A2L_CLOSED, or A2L_OPEN where the other one is open. */
 a2l_status a2l_beside(a2l *handle, size_t capacity, a2l *other);
 
 /* Asks for the functions at addresses, with where in the source each stands: answer i is that of addresses[i].

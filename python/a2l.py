@@ -58,7 +58,7 @@ __all__ = [
     'Relocatable', 'SectionTable', 'SectionRange', 'Compressed', 'UnitHeader', 'AddressSize', 'Root', 'RootRanges',
 ]
 
-# How many units a question keeps, where nothing else is said.
+# How many units a program keeps, where nothing else is said.
 CAPACITY = 1024
 # How many addresses are asked for at once. The library holds the answers of one question, some 30 MB for so many.
 BLOCK = 16384
@@ -532,7 +532,10 @@ class Program:
                 self._forget()
 
     def beside(self, capacity: int = CAPACITY) -> Program:
-        """Another handle over the same file, for another thread. It reads nothing, and either may be closed first."""
+        """Another handle over the same file, for another thread, which keeps units of its own.
+
+        It reads nothing, and either may be closed first.
+        """
         other = _Handle()
         with self._lock:
             _check(self._library.beside(self._to_handle(), _capacity(capacity), ctypes.byref(other)))
@@ -606,8 +609,9 @@ def _capacity(capacity: int) -> int:
 def open(path: Union[str, bytes, os.PathLike[Any]], capacity: int = CAPACITY) -> Program:
     """Opens a program, a library or a file of debug information by its path.
 
-    A question keeps as many units as the capacity says, and reads the others again. Addresses are asked for in order,
-    so that 1 is enough where the units of a program lie one after the other.
+    The program keeps what was read of as many units as the capacity says, those that were asked for last, and reads the
+    others again. The addresses of one call are asked for in order, so that 1 is enough for calls about many, where the
+    units of a program lie one after the other.
 
     Raises one of the classes of `Refused`, `OutOfMemory`, `LibraryMissing`, or OSError where the file can't be read.
     """

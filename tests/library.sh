@@ -1,10 +1,10 @@
 #!/usr/bin/env bash
 # The library for C: its only global names are those of the header, and it calls nothing but memory; the examples are
 # built with warnings as errors; what they tell of a sample and of themselves is what `a2l` writes, to the byte, and so is
-# why a file is refused; a program that crashes tells where; each number that a call returns, each allocation refused in
-# turn and four threads with a handle each, also under valgrind (tests/library/calls.c); the tests of the Rust crate; and
-# what `make install` puts in place is enough for a program. Run it after `make library` and after `rt run` in crates/a2l
-# has built the program.
+# why a file is refused; one address a question gives the same frames as all in one; a program that crashes tells where;
+# each number that a call returns, each allocation refused in turn and four threads with a handle each, also under
+# valgrind (tests/library/calls.c); the tests of the Rust crate; and what `make install` puts in place is enough for a
+# program. Run it after `make library` and after `rt run` in crates/a2l has built the program.
 . "$(dirname "$0")/programs.sh"
 need_a2l
 flags=(-std=gnu11 -O2 -gdwarf-5 -Wall -Wextra -Wpedantic -Werror)
@@ -54,6 +54,22 @@ done
 addresses_of calls 7 > calls.list
 compare calls calls.list
 [ "$("$work/out/frames" "$here/samples/inlined.elf" 401004 | head -n 1)" = "leaf at /w/a.c:4" ] || { echo "C++: other frames"; exit 1; }
+
+# 10,000 addresses of a program in C++, all in one question, one a question of one handle, and one a question of a handle
+# that has read no unit: the same bytes. How long each way takes is printed.
+"${CC:-cc}" "${flags[@]}" -I"$here/include" -o asks "$here/bench/library/a2l.c" "$library"
+addresses_of "$work/out/frames" 1 |
+    awk 'BEGIN { srand(1) } { lines[NR] = $0 } END { for (i = 0; i < 10000; i++) print lines[1 + int(NR * rand())] }' > asks.list
+declare -A took
+for way in all each anew; do
+    begin=$EPOCHREALTIME
+    ./asks "$work/out/frames" "$way" < asks.list > "asks.$way"
+    took[$way]=$(awk -v begin="$begin" -v end="$EPOCHREALTIME" 'BEGIN { print end - begin }')
+    cmp asks.all "asks.$way" || { echo "other frames, one address a question: $way"; exit 1; }
+done
+[ -s asks.all ] || { echo "no frames of 10,000 addresses"; exit 1; }
+ways=$(awk -v all="${took[all]}" -v each="${took[each]}" -v anew="${took[anew]}" 'BEGIN {
+    printf "one a question takes %.1f times as long as all in one, and a unit read for each %.0f times", each / all, anew / all }')
 
 # A file that is cut, one without bytes, and a folder.
 refused=0
@@ -105,4 +121,4 @@ done
 ./installed "$here/samples/inlined.elf" 401004 > found
 grep -q '^leaf$' found || { echo "the installed library: $(cat found)"; exit 1; }
 
-echo "frames of $compared addresses and $refused refusals agree; $calls"
+echo "frames of $compared addresses and $refused refusals agree; $calls; $ways"

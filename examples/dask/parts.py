@@ -72,7 +72,7 @@ class Programs:
         with self._lock:
             known = self._open.get(path)
             if known is None or known[0] != which:
-                known = self._open[path] = which, a2l.open(path)
+                known = self._open[path] = which, a2l.open(path, capacity=1)
             self._open.move_to_end(path)
             while len(self._open) > self._most:
                 self._open.popitem(last=False)
@@ -130,7 +130,9 @@ def answer(part: Part) -> Done:
     refusal: Optional[str] = None
     asking = time.perf_counter()
     try:
-        answers = PROGRAMS.get(part.path).frames_of(addresses)
+        # A handle of its own, so that what is read of units is let go with the part.
+        with PROGRAMS.get(part.path).beside() as program:
+            answers = program.frames_of(addresses)
     except (a2l.Refused, OSError) as why:
         refusal = reason_of(why)
     answered = time.perf_counter()

@@ -5,4 +5,4 @@ use Rattle.a2l_c.specs.declared.session.Session.TheInside.{Inside}
 use Rattle.a2l_c.specs.SessionState.{SessionState}
 
 abbrev pub state_of : Inside → SessionState
-state_of session = record { file = session.image.value; answers = map answer_shown session.answers.items }
+state_of session = record { file = session.context.file; answers = map answer_shown session.answers.items }

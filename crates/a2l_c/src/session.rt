@@ -16,14 +16,13 @@ use std::marker::Model;
 use std::num::NonZeroUsize;
 use std::sync::Arc;
 
-/// An open file, which others may share, and the answers of the last question. Contracts see the
-/// bytes of the file and the answers.
+/// A context over an open file, which others may share, and the answers of the last question. The
+/// context keeps what it reads of units from one question to the next. Contracts see the bytes of
+/// the file and the answers.
 #[derive(Drop)]
 pub(crate) struct Session {
     alloc: Global,
-    image: Arc<Image<'static>>,
-    /// How many units a question keeps.
-    capacity: NonZeroUsize,
+    context: Context<'static, 'static>,
     answers: Vec<Answer<'static>>,
 }
 
@@ -41,13 +40,13 @@ impl Model for Session {
 /// What addresses mean, in their order: their frames, or why their units can't be read.
 fn frames_of(
     alloc: Global,
-    image: &Image<'static>,
-    capacity: NonZeroUsize,
+    context: &mut Context<'static, 'static>,
     addresses: &[u64],
 ) -> Result<Vec<Answer<'static>>, AllocError>
-    ensures { IfOk result (λ answers. map answer_shown answers.items ≡ map (model.answer image.now) addresses.now) }
+    ensures answers { IfOk result (λ answers. map answer_shown answers.items
+        ≡ map (model.answer context.old.file) addresses.now) }
+    ensures file { context.new.file ≡ context.old.file }
 {
-    let mut context = Context::new(alloc, image, capacity)?;
     let mut answers = Vec::new(alloc);
     for a in addresses {
         let answer = context.find_frames(*a)?;
@@ -59,14 +58,13 @@ fn frames_of(
 /// Where addresses come from, in their order, by the line tables of their units alone.
 fn locations_of(
     alloc: Global,
-    image: &Image<'static>,
-    capacity: NonZeroUsize,
+    context: &mut Context<'static, 'static>,
     addresses: &[u64],
 ) -> Result<Vec<Answer<'static>>, AllocError>
-    ensures { IfOk result (λ answers. map answer_shown answers.items
-        ≡ map (model.location image.now) addresses.now) }
+    ensures answers { IfOk result (λ answers. map answer_shown answers.items
+        ≡ map (model.location context.old.file) addresses.now) }
+    ensures file { context.new.file ≡ context.old.file }
 {
-    let mut context = Context::new(alloc, image, capacity)?;
     let mut answers = Vec::new(alloc);
     for a in addresses {
         let answer = context.find_location(*a)?;
@@ -78,20 +76,21 @@ fn locations_of(
 /// The pieces of a span, as the one answer of a list.
 fn pieces_of(
     alloc: Global,
-    image: &Image<'static>,
-    capacity: NonZeroUsize,
+    context: &mut Context<'static, 'static>,
     low: u64,
     high: u64,
 ) -> Result<Vec<Answer<'static>>, AllocError>
-    ensures { IfOk result (λ answers. map answer_shown answers.items ≡ pieces image.now low high ∷ []) }
+    ensures answers { IfOk result (λ answers. map answer_shown answers.items
+        ≡ pieces context.old.file low high ∷ []) }
+    ensures file { context.new.file ≡ context.old.file }
 {
-    let mut context = Context::new(alloc, image, capacity)?;
     let answer = context.find_location_range(low, high)?;
     Ok(vec![in alloc; answer]?)
 }
 
 impl Session {
-    /// Opens a file. Nothing was asked yet.
+    /// Opens a file, of which the functions of so many units are kept, and as many line tables.
+    /// Nothing was asked yet.
     pub(crate) fn open(
         alloc: Global,
         file: &'static [u8],
@@ -102,25 +101,25 @@ impl Session {
         ensures refused { IfErr result (λ fault. RefusesUnlessMemory fault (refusal file.now)) }
     {
         let image = Arc::new(alloc, Image::open(alloc, file)?)?;
+        let context = Context::sharing(alloc, image, capacity)?;
         let answers = Vec::new(alloc);
         Ok(Session {
             alloc,
-            image,
-            capacity,
+            context,
             answers,
         })
     }
 
-    /// A second session over the same file. Nothing was asked of it yet.
+    /// A second session over the same file, which keeps units of its own. Nothing was asked of it
+    /// yet.
     pub(crate) fn beside(&self, capacity: NonZeroUsize) -> Result<Session, AllocError>
         ensures { IfOk result (λ session. session ≡ record { file = self.now.file; answers = [] }) }
     {
-        let image = Arc::try_clone(&self.image)?;
+        let context = self.context.beside(capacity)?;
         let answers = Vec::new(self.alloc);
         Ok(Session {
             alloc: self.alloc,
-            image,
-            capacity,
+            context,
             answers,
         })
     }
@@ -131,8 +130,7 @@ impl Session {
         ensures file { self.new.file ≡ self.old.file }
         ensures refused { IfErr result (λ _. self.new ≡ self.old) }
     {
-        let image: &Image<'static> = &self.image;
-        self.answers = frames_of(self.alloc, image, self.capacity, addresses)?;
+        self.answers = frames_of(self.alloc, &mut self.context, addresses)?;
         Ok(())
     }
 
@@ -142,8 +140,7 @@ impl Session {
         ensures file { self.new.file ≡ self.old.file }
         ensures refused { IfErr result (λ _. self.new ≡ self.old) }
     {
-        let image: &Image<'static> = &self.image;
-        self.answers = locations_of(self.alloc, image, self.capacity, addresses)?;
+        self.answers = locations_of(self.alloc, &mut self.context, addresses)?;
         Ok(())
     }
 
@@ -153,8 +150,7 @@ impl Session {
         ensures file { self.new.file ≡ self.old.file }
         ensures refused { IfErr result (λ _. self.new ≡ self.old) }
     {
-        let image: &Image<'static> = &self.image;
-        self.answers = pieces_of(self.alloc, image, self.capacity, low, high)?;
+        self.answers = pieces_of(self.alloc, &mut self.context, low, high)?;
         Ok(())
     }
 

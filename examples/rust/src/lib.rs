@@ -15,7 +15,7 @@ use std::fmt;
 use std::marker::PhantomData;
 use std::ptr::null_mut;
 
-/// How many units a question keeps, where nothing else is said.
+/// How many units a context keeps, where nothing else is said.
 const CAPACITY: usize = 1024;
 
 /// Why a file or an address isn't answered.
@@ -133,7 +133,7 @@ impl<'a> Context<'a> {
         Self::with_capacity(file, CAPACITY)
     }
 
-    /// The same, where a question keeps so many units; 0 counts as 1.
+    /// The same, which keeps so many units; 0 counts as 1.
     pub fn with_capacity(file: &'a [u8], capacity: usize) -> Result<Self, Error> {
         let mut context = closed();
         let mut why = ffi::Refusal {
@@ -173,7 +173,7 @@ impl<'a> Context<'a> {
         self.frames(0)
     }
 
-    /// Asks about many addresses at once, which is faster. `frames` gives what was found.
+    /// Asks about many addresses in one question. `frames` gives what was found.
     pub fn find_all_frames(&mut self, addresses: &[u64]) -> Result<(), Error> {
         // SAFETY: the handle is open.
         match unsafe { ffi::a2l_find_frames(&mut self.handle, addresses.as_ptr(), addresses.len()) } {

@@ -4,4 +4,4 @@ use Rattle.dw_symbols.specs.Answer.{answer_shown}
 use Rattle.a2l_c.proofs.session.frames_of.Given as goal
 
 abbrev pub invariant-loop-a : goal.invariant-loop-a
-invariant-loop-a l = (l.context.file ≡ l.fn.image) × (map answer_shown l.answers.items ≡ map (model.answer l.fn.image) (take l.a-index l.addresses))
+invariant-loop-a l = (l.context.file ≡ l.initial.context.file) × (map answer_shown l.answers.items ≡ map (model.answer l.initial.context.file) (take l.a-index l.addresses))
