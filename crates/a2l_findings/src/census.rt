@@ -30,7 +30,7 @@ impl Census {
     }
 }
 
-/// Two kinds are the same.
+/// Whether two kinds are the same.
 fn is_kind(wanted: Kind, kind: Kind) -> bool
     ensures { result ≡ is_kind (kind_shown wanted) (kind_shown kind) }
 {

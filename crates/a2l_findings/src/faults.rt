@@ -15,7 +15,7 @@ use std::alloc::{AllocError, Global};
 use std::sync::Arc;
 
 /// Units that have one fault.
-#[derive(Drop)]
+#[derive(Debug, Drop)]
 pub struct FaultyUnits<'a> {
     pub fault: UnitFault,
     pub count: usize,

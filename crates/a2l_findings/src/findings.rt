@@ -24,7 +24,7 @@ use std::alloc::{AllocError, Global};
 use std::sync::Arc;
 
 /// What of a file can puzzle a user.
-#[derive(Drop)]
+#[derive(Debug, Drop)]
 pub struct Findings<'a> {
     /// How many units it has.
     pub census: Census,
@@ -45,7 +45,8 @@ pub struct Findings<'a> {
     pub faulty: Vec<FaultyUnits<'a>>,
     /// Addresses that a unit answers whose ranges begin where no code is, instead of another one.
     pub units_over: Option<Overlap<'a>>,
-    /// The same of functions of one unit.
+    /// Addresses that a function answers whose ranges begin where no code is, instead of another
+    /// one of its unit.
     pub functions_over: Option<Overlap<'a>>,
 }
 
@@ -98,8 +99,9 @@ fn findings_in<'a, P: Progress>(
     })
 }
 
-/// The units of a file that was opened already, so that only memory can be refused.
-fn units_of<'a>(alloc: Global, file: &'a [u8]) -> Result<(Sections<'a>, Units<'a>), AllocError>
+/// The sections and the units of a file that was opened already, so that only memory can be
+/// refused.
+pub fn units_of<'a>(alloc: Global, file: &'a [u8]) -> Result<(Sections<'a>, Units<'a>), AllocError>
     ensures { IfOk result (λ read. read.1 ≡ sections file.now) }
 {
     let Ok(elf) = Elf::open(file) else {

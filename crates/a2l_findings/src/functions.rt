@@ -6,7 +6,7 @@ use dw_units::{EntryView, Next, OpenUnit};
 use std::alloc::{AllocError, Global};
 
 /// The subprograms of a unit that may have ranges, in order.
-#[derive(Drop)]
+#[derive(Debug, Drop)]
 pub struct Subprograms {
     /// The offsets of their entries in .debug_info.
     pub offsets: Vec<u64>,

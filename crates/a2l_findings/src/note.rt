@@ -5,7 +5,7 @@ use a2l_reasons::Reason;
 use std::alloc::{AllocError, Global};
 
 /// A fact, as a reader of a document wants it.
-#[derive(Drop)]
+#[derive(Debug, Drop)]
 pub enum Fact<'a> {
     /// How many.
     Count(u64),
@@ -22,7 +22,7 @@ pub enum Fact<'a> {
 }
 
 /// A fact under its name.
-#[derive(Drop)]
+#[derive(Debug, Drop)]
 pub struct Named<'a> {
     /// What it is a fact of; empty for the note itself.
     pub group: &'static str,
@@ -31,7 +31,7 @@ pub struct Named<'a> {
 }
 
 /// A sentence with its facts. The same is written as text and into a document.
-#[derive(Drop)]
+#[derive(Debug, Drop)]
 pub struct Note<'a> {
     alloc: Global,
     /// What kind of thing it reports.

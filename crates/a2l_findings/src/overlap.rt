@@ -83,7 +83,7 @@ pub(crate) fn function_overlap<'a>(
     })
 }
 
-/// Both together, with the first span of the first one.
+/// Both overlaps in one, with the first span of the first.
 pub(crate) fn both<'a>(
     one: Option<Overlap<'a>>,
     other: Option<Overlap<'a>>,

@@ -1,13 +1,13 @@
-//! How far the work is.
+//! How much of the work is done.
 
-/// Is called as the work goes on.
+/// What is called while the units are looked at.
 pub trait Progress {
-    /// So many of all units have been looked at.
+    /// `done` of `all` units have been looked at.
     fn reach(&mut self, done: usize, all: usize);
 }
 
 /// Reports nothing.
-#[derive(Drop)]
+#[derive(Debug, Drop)]
 pub struct Silent;
 
 impl Progress for Silent {

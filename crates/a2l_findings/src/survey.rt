@@ -42,8 +42,8 @@ pub(crate) struct Gathered<'a> {
     pub(crate) functions_over: Option<Overlap<'a>>,
 }
 
-/// The ranges of a unit's first entry.
-pub(crate) fn unit_ranges(alloc: Global, here: OpenUnit<'_, '_>) -> Result<Vec<Range>, AllocError> {
+/// The ranges of a unit's first entry; none where they can't be read.
+pub fn unit_ranges(alloc: Global, here: OpenUnit<'_, '_>) -> Result<Vec<Range>, AllocError> {
     let Some(root) = &here.unit().root else {
         return Ok(Vec::new(alloc));
     };

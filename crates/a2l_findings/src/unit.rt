@@ -143,7 +143,7 @@ impl<'a> UnitAt<'a> {
         Ok(())
     }
 
-    /// The same with what made it.
+    /// Adds the unit to a sentence: where it is, its name and what made it.
     pub fn tell_whole(&self, note: &mut Note<'a>) -> Result<(), AllocError> {
         self.tell(note)?;
         if let Some(producer) = self.producer {
