@@ -13,7 +13,7 @@ ghost use Rattle.a2l.specs.Named.{IsNamed};
 use a2l_lines::Options;
 use clap::error::ErrorKind;
 use clap::{Arg, ArgAction, ArgMatches, Command};
-use std::alloc::{AllocError, AllocFailed, Global};
+use std::alloc::{AllocError, Global};
 use std::convert::AsStr;
 use thiserror::Error;
 
@@ -52,12 +52,6 @@ pub enum ParseFault {
 
 impl From<AllocError> for ParseFault {
     fn from(_error: AllocError) -> Self {
-        ParseFault::Memory
-    }
-}
-
-impl<T: Drop> From<AllocFailed<T>> for ParseFault {
-    fn from(_error: AllocFailed<T>) -> Self {
         ParseFault::Memory
     }
 }
@@ -145,7 +139,7 @@ fn count(matches: &ArgMatches<'_>, id: &str, default: u8) -> Result<u8, ParseFau
     }
 }
 
-/// Reads a command line, whose words are without the program's own name.
+/// What a command line asks for, whose words are without the program's own name.
 pub fn parse<'a, S: AsStr>(alloc: Global, words: &'a [S]) -> Result<Job<'a>, ParseFault>
     ensures named { IfOk result (IsNamed (map S.text words.now)) }
     ensures workers { IfOk result (λ job. IsCount job.options.workers) }

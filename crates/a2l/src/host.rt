@@ -5,9 +5,9 @@ ghost use Rattle.std.specs.Prelude.{◌≡◌, ◌<◌, ◌≤◌, length, None,
 use crate::fault::{Fault, report};
 use crate::load::Load;
 use crate::run::run;
-use a2l_lines::{Failed, LoadFault, Sink, Source, read_file};
+use a2l_lines::{Failed, LoadFault, Sink, Source, process_words, read_file};
 use dw_bytes::Steps;
-use std::env;
+use std::alloc::AllocError;
 use std::io::{self, ErrorKind, Lock, Read, Write};
 use std::marker::Brand;
 use std::rt::Files;
@@ -16,7 +16,7 @@ use std::sync::ledger::{Blank, Ledger};
 use std::thread::Threads;
 
 /// Files by their paths.
-#[derive(Drop)]
+#[derive(Debug, Drop)]
 pub struct Disk<'r, R> {
     pub rt: &'r R,
 }
@@ -100,19 +100,6 @@ impl<T: Read, L: Ledger> Source for Stream<T, L> {
     }
 }
 
-/// The words of the command line, without the program's own name.
-fn words_of(rt: &HostRuntime) -> Result<Vec<String>, Fault> {
-    let words = match env::args(rt) {
-        Ok(words) => words,
-        Err(error) if error.kind() == ErrorKind::OutOfMemory => return Err(Fault::Memory),
-        Err(_) => return Err(Fault::CommandLine),
-    };
-    match words.skip(1).collect(rt.alloc()) {
-        Ok(words) => Ok(words),
-        Err(_) => Err(Fault::Memory),
-    }
-}
-
 /// Runs the program on the disk and the standard streams, each with a count of its failures.
 fn served<T: Threads + Wait + Sync, I: Ledger, O: Ledger, E: Ledger>(
     rt: &HostRuntime,
@@ -137,9 +124,10 @@ fn served<T: Threads + Wait + Sync, I: Ledger, O: Ledger, E: Ledger>(
         stream: rt.stdin().lock(),
         failures: Steps::new(input),
     };
-    let words = match words_of(rt) {
-        Ok(words) => words,
-        Err(fault) => return report(rt.alloc(), &mut errors, fault),
+    let words = match process_words(rt) {
+        Ok(Some(words)) => words,
+        Ok(None) => return report(rt.alloc(), &mut errors, Fault::CommandLine),
+        Err(AllocError) => return report(rt.alloc(), &mut errors, Fault::Memory),
     };
     let mut disk = Disk { rt };
     run(

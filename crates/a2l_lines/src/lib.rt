@@ -20,6 +20,7 @@ mod survey;
 mod symbolizer;
 mod text;
 mod turns;
+mod words;
 
 pub use fault::RunFault;
 pub use file::{LoadFault, read_file};
@@ -33,3 +34,4 @@ pub use pool::run_pool;
 pub use streams::{Failed, Sink, Source};
 pub use symbolizer::{Status, symbolize};
 pub use text::push_query;
+pub use words::process_words;

@@ -1,10 +1,9 @@
 //! The command line.
 
-use clap::error::ErrorKind;
+use crate::fault::Fault;
 use clap::{Arg, ArgAction, ArgMatches, Command};
-use std::alloc::{AllocError, AllocFailed, Global};
+use std::alloc::{AllocError, Global};
 use std::convert::AsStr;
-use thiserror::Error;
 
 /// The line that says how the program is called.
 pub const USAGE: &str = "usage: a2l_why -e FILE [--json] [ADDRESS..]\n";
@@ -18,37 +17,6 @@ pub struct Job<'a> {
     pub json: bool,
     /// The addresses, as they were written. None: the file is looked at.
     pub words: Vec<&'a str>,
-}
-
-/// Why a command line is refused.
-#[derive(Clone, Copy, Debug, PartialEq, Eq, Error)]
-pub enum ParseFault {
-    /// It isn't of the form that the usage line shows.
-    #[error("the command line is refused")]
-    Refused,
-    #[error("out of memory")]
-    Memory,
-}
-
-impl From<AllocError> for ParseFault {
-    fn from(_error: AllocError) -> Self {
-        ParseFault::Memory
-    }
-}
-
-impl<T: Drop> From<AllocFailed<T>> for ParseFault {
-    fn from(_error: AllocFailed<T>) -> Self {
-        ParseFault::Memory
-    }
-}
-
-impl From<clap::Error> for ParseFault {
-    fn from(error: clap::Error) -> Self {
-        match error.kind() {
-            ErrorKind::OutOfMemory => ParseFault::Memory,
-            _ => ParseFault::Refused,
-        }
-    }
 }
 
 /// The command line, as `clap` reads it.
@@ -83,12 +51,13 @@ fn words_of<'a>(alloc: Global, matches: &ArgMatches<'a>) -> Result<Vec<&'a str>,
     Vec::from_slice(alloc, words)
 }
 
-/// Reads a command line, whose words are without the program's own name.
-pub fn parse<'a, S: AsStr>(alloc: Global, words: &'a [S]) -> Result<Job<'a>, ParseFault> {
+/// What a command line asks for, whose words are without the program's own name. The error is
+/// `CommandLine`, or `Memory`.
+pub fn parse<'a, S: AsStr>(alloc: Global, words: &'a [S]) -> Result<Job<'a>, Fault> {
     let command = command(alloc)?;
     let matches = command.try_get_matches_from(words)?;
     let Some(file) = matches.get_str("file") else {
-        return Err(ParseFault::Refused);
+        return Err(Fault::CommandLine);
     };
     let json = match matches.get_str("json") {
         Some(text) => text == "true",

@@ -1,4 +1,4 @@
-//! How far the work is, on the error stream where that is a terminal.
+//! How much of the work is done, on the error stream where that is a terminal.
 
 use a2l_findings::Progress;
 use std::io::{IsTerminal, Write};
@@ -7,7 +7,7 @@ use std::io::{IsTerminal, Write};
 const STEPS: usize = 100;
 
 /// Shows how many units have been looked at, over what it showed before.
-#[derive(Drop)]
+#[derive(Debug, Drop)]
 pub struct Meter<W> {
     pub errors: W,
     /// Nobody looks at it otherwise.
