@@ -36,7 +36,7 @@ pub enum Outcome {
 }
 
 /// A report, and what it comes to.
-#[derive(Drop)]
+#[derive(Debug, Drop)]
 pub struct Report {
     pub text: Vec<u8>,
     pub outcome: Outcome,

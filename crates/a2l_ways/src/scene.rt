@@ -1,18 +1,17 @@
 //! An open file, as the way of an address goes through it.
 
 ghost use Rattle.std.specs.Prelude.{◌≡◌, IfOk};
-ghost use Rattle.dw_model.specs.Section.{sections};
 
+use a2l_findings::{unit_ranges, units_of};
 use a2l_reasons::{SectionHeader, section_headers};
-use dw_elf::Elf;
-use dw_ranges::{Range, RangeFault, ranges_of};
+use dw_ranges::Range;
 use dw_symbols::Image;
 use dw_units::{OpenUnit, Sections, Units};
 use std::alloc::{AllocError, Global};
 use std::sync::Arc;
 
-/// What is read of a file beside its image. Every call that gives it a unit gives it one of the
-/// same file.
+/// What is read of a file besides its image. Each unit that a call is given is one of the same
+/// file.
 #[derive(Drop)]
 pub(crate) struct Scene<'b, 'a> {
     pub(crate) alloc: Global,
@@ -21,20 +20,6 @@ pub(crate) struct Scene<'b, 'a> {
     pub(crate) sections: Sections<'a>,
     /// All section headers, in order.
     pub(crate) headers: Vec<SectionHeader<'a>>,
-}
-
-/// The units of a file that is open, so that only memory can be refused.
-fn units_of<'a>(alloc: Global, file: &'a [u8]) -> Result<(Sections<'a>, Units<'a>), AllocError>
-    ensures { IfOk result (λ read. read.1 ≡ sections file.now) }
-{
-    let Ok(elf) = Elf::open(file) else {
-        return Err(AllocError);
-    };
-    let sections = Sections::of(&elf);
-    match Units::read(alloc, &elf) {
-        Ok(units) => Ok((sections, units)),
-        Err(_) => Err(AllocError),
-    }
 }
 
 impl<'b, 'a> Scene<'b, 'a> {
@@ -66,20 +51,12 @@ impl<'b, 'a> Scene<'b, 'a> {
     }
 }
 
-/// The ranges of a unit's first entry, none where the unit answers no address.
+/// The ranges of a unit's first entry; none where the unit answers no address.
 pub(crate) fn ranges_in(alloc: Global, here: OpenUnit<'_, '_>) -> Result<Vec<Range>, AllocError> {
-    let unit = here.unit();
-    let Some(root) = &unit.root else {
-        return Ok(Vec::new(alloc));
-    };
-    if !unit.kind.answers() {
+    if !here.unit().kind.answers() {
         return Ok(Vec::new(alloc));
     }
-    match ranges_of(alloc, root, unit, here.units().tables()) {
-        Ok(ranges) => Ok(ranges),
-        Err(RangeFault::Bad) => Ok(Vec::new(alloc)),
-        Err(RangeFault::Memory) => Err(AllocError),
-    }
+    unit_ranges(alloc, here)
 }
 
 /// The first of some ranges that holds an address.

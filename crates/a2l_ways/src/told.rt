@@ -27,7 +27,7 @@ use ticket_core::{Query, QueryKind};
 const KEPT_UNITS: usize = 16;
 
 /// What a text asks for.
-#[derive(Drop)]
+#[derive(Debug, Drop)]
 pub enum Asked<'a> {
     /// An address, which has a way to its answer.
     Address(Explained<'a>),
@@ -38,7 +38,7 @@ pub enum Asked<'a> {
 }
 
 /// The report on a text.
-#[derive(Drop)]
+#[derive(Debug, Drop)]
 pub struct Told<'a> {
     pub asked: Asked<'a>,
     /// The lines that `a2l -f -i` writes for it.

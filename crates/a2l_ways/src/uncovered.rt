@@ -44,7 +44,7 @@ impl Neighbours {
     }
 }
 
-/// The nearest ranges of units beside an address that none of them holds.
+/// The ranges of units that are nearest to an address that none of them holds.
 fn neighbours_of(scene: &Scene<'_, '_>, address: u64) -> Result<Neighbours, AllocError> {
     let mut nearest = Neighbours {
         before: None,
@@ -58,7 +58,7 @@ fn neighbours_of(scene: &Scene<'_, '_>, address: u64) -> Result<Neighbours, Allo
     Ok(nearest)
 }
 
-/// Adds a range beside the address, and its unit.
+/// Adds a range near the address, and its unit.
 fn tell_near<'a>(
     note: &mut Note<'a>,
     scene: &Scene<'_, 'a>,

@@ -17,7 +17,7 @@ use dw_units::OpenUnit;
 use std::alloc::AllocError;
 
 /// The way of an address.
-#[derive(Drop)]
+#[derive(Debug, Drop)]
 pub enum Way<'a> {
     /// No unit answers it.
     Uncovered { why: Note<'a> },
@@ -26,7 +26,7 @@ pub enum Way<'a> {
 }
 
 /// An address with its way, and the answer at the end of it.
-#[derive(Drop)]
+#[derive(Debug, Drop)]
 pub struct Explained<'a> {
     pub address: u64,
     pub way: Way<'a>,
