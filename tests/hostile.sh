@@ -11,7 +11,7 @@ cat > measure.py <<'END'
 import math, os, resource, signal, subprocess, sys, time
 a2l, hostile, *sizes = sys.argv[1:]
 SIZES = [int(size) for size in sizes] or [100_000, 1_000_000, 10_000_000]
-SLOPE, MOST = math.log2(2.6), 300
+SLOPE, MOST = math.log2(2.6), 900
 
 
 def run(words, path):
