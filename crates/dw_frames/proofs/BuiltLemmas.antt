@@ -1,7 +1,8 @@
 -- A tree that was built of what was kept of a unit's functions is the unit's.
-use Rattle.std.proofs.Common.{◌≡◌, ◌⊎◌, inl, inr, ℕ, zero, suc, ◌<◌, ◌≤◌, Bool, true, false, cond, List, [], ◌∷◌, ◌++◌, length, map, reverse, Option, Some, None, Ok, refl, sym, ap, ◌∙◌, arith}
-use Rattle.std.specs.Prelude.{slice_get, find, not, ◌==◌, ◌&&◌}
-use Rattle.std.proofs.lemmas.List.{length-map}
+use Rattle.std.proofs.Common.{◌≡◌, ◌⊎◌, inl, inr, ℕ, zero, suc, ◌+◌, ◌<◌, ◌≤◌, Bool, true, false, cond, List, [], ◌∷◌, ◌++◌, length, map, reverse, Option, Some, None, Ok, refl, sym, ap, ◌∙◌, arith}
+use Rattle.std.specs.Prelude.{slice_get, filter, find, not, ◌==◌, ◌&&◌}
+use Rattle.std.proofs.lemmas.List.{length-append, length-map}
+use Rattle.std.proofs.lemmas.List.Elements.{filter-append}
 use Rattle.std.proofs.lemmas.List.Folds.{find-append}
 use Rattle.std.proofs.lemmas.Bool.{and_parts, and_left, and_right, or_parts, eq-eqb, ne_eqb, eqb-true, cases_lt}
 use Rattle.std.proofs.lemmas.Option.{same_Some, slice_get_past}
@@ -14,8 +15,9 @@ use Rattle.dw_index.specs.Owners.{least_owner}
 use Rattle.dw_frames.specs.declared.chains.Chains.{Chains}
 use Rattle.dw_frames.specs.Inlined.{InlinedRange, inlined_in}
 use Rattle.dw_frames.specs.Drafts.{Drafts, known_ranges, is_idle, is_kept}
+use Rattle.dw_frames.specs.Kept.{most_listed}
 use Rattle.dw_frames.specs.Placed.{Placed, placed, offset_of, Falls, Follows}
-use Rattle.dw_frames.specs.Tree.{id_of, all_inlined, outermost_at, inwards, chain_at, function_at, nodes_of, IsTreeOf}
+use Rattle.dw_frames.specs.Tree.{id_of, all_inlined, outermost_at, inwards, chain_at, function_at, most_ranges, nodes_of, IsTreeOf}
 use Rattle.dw_frames.specs.UnitIn.{UnitIn}
 use Rattle.dw_frames.proofs.GetLemmas.{get-there, get-mapped, get-pushed}
 use Rattle.dw_frames.proofs.PlacedLemmas.{map-reverse, reverse-cons}
@@ -75,6 +77,21 @@ node-at-offset bound (other ∷ before) node f among is = elim among [
       ))
 ]
 
+-- as many functions are placed as are kept
+count-placed : (kept : Entry → Bool) (before : List Node) → length (placed kept before) ≡ length (filter (λ node. kept node.entry) (reverse before))
+unfolding placed
+count-placed kept [] = refl
+count-placed kept (node ∷ before) =
+    by_kept (count-placed kept before) (kept node.entry) refl
+    ∙ sym (ap (λ (nodes : List Node). length nodes) (ap (λ (nodes : List Node). filter (λ node. kept node.entry) nodes) (reverse-cons node before) ∙ filter-append (λ (node : Node). kept node.entry) (reverse before) (node ∷ [])) ∙ length-append (filter (λ node. kept node.entry) (reverse before)) (filter (λ node. kept node.entry) (node ∷ [])))
+  where
+    here : Placed
+    here = (node, enclosing (node ∷ []) before)
+
+    by_kept : length (placed kept before) ≡ length (filter (λ node. kept node.entry) (reverse before)) → (b : Bool) → kept node.entry ≡ b → length (cond (kept node.entry) (placed kept before ++ here ∷ []) (placed kept before)) ≡ length (filter (λ node. kept node.entry) (reverse before)) + length (filter (λ node. kept node.entry) (node ∷ []))
+    by_kept same true is = rw is (length-append (placed kept before) (here ∷ []) ∙ ap (λ (n : ℕ). n + 1) same)
+    by_kept same false is = rw is (omega (arith, same))
+
 -- ---- what isn't kept holds no address
 
 idle-holds : (ranges : List Range) (a : ℕ) → (length ranges == 0) ≡ true → covers a ranges ≡ false
@@ -82,7 +99,8 @@ idle-holds [] a e = refl
 idle-holds (range ∷ ranges) a e = let no : suc (length ranges) ≡ 0 = eqb-true (suc (length ranges)) 0 e in absurd (omega (arith, no))
 
 module _ (of : UnitIn) (after : List Node) (drafts : Drafts) (bound : ℕ) (found : Chains)
-    (whole : model.tree of.sections of.unit ≡ Ok (reverse after)) (follows : Follows of.sections of.unit after drafts bound) (unit : found.unit ≡ of.index) (within : of.index < length (cut.units of.sections.info)) (kept : found.functions.items ≡ drafts.functions) (inlined : all_inlined of.sections.tables found ≡ drafts.inlined) (index : (a : ℕ) → outermost_at of.sections.tables found a ≡ least_owner drafts.outermost a) where
+    (whole : model.tree of.sections of.unit ≡ Ok (reverse after)) (follows : Follows of.sections of.unit after drafts bound) (unit : found.unit ≡ of.index) (within : of.index < length (cut.units of.sections.info)) (kept : found.functions.items ≡ drafts.functions) (inlined : all_inlined of.sections.tables found ≡ drafts.inlined) (index : (a : ℕ) → outermost_at of.sections.tables found a ≡ least_owner drafts.outermost a)
+    (room : found.ranges ≤ most_listed of.unit + length drafts.functions) where
   abbrev keep : Entry → Bool
   keep = is_kept of.sections of.unit
 
@@ -160,5 +178,10 @@ module _ (of : UnitIn) (after : List Node) (drafts : Drafts) (bound : ℕ) (foun
         ∙ ap (map Some) (sym (chain-climbs keep holds idle after (outermost_at of.sections.tables found a) inner steps))
         ∙ ap (λ (nodes : List Node). map Some (chain_in holds nodes)) (sym nodes-are)
 
+  few-kept : found.ranges ≤ most_ranges of
+  few-kept =
+      let functions = ap (λ (offsets : List ℕ). length offsets) follows.functions ∙ length-map (placed keep after) offset_of ∙ count-placed keep after ∙ ap (λ (nodes : List Node). length (filter (λ node. keep node.entry) nodes)) (sym nodes-are) in
+      omega (arith, room, functions)
+
   pub is-tree : IsTreeOf of found
-  is-tree = record { within = rw unit within; read = whole ∙ ap Ok (sym nodes-are); chains = chain-same }
+  is-tree = record { within = rw unit within; read = whole ∙ ap Ok (sym nodes-are); chains = chain-same; few = few-kept }

@@ -6,9 +6,9 @@ use Rattle.dw_model.specs.Text.{Tables}
 use Rattle.dw_index.specs.Owners.{least, least_owner}
 use Rattle.dw_index.proofs.OwnerLemmas.{least-assoc, least_owner-append}
 use Rattle.dw_frames.specs.declared.held.HeldList.{HeldList}
-use Rattle.dw_frames.specs.Drafts.{Drafts, owned, with_ranges, innermost}
+use Rattle.dw_frames.specs.Drafts.{Drafts, owned, with_function, with_ranges, innermost}
 use Rattle.dw_frames.specs.Held.{all_held, all_held_in, pairs_held}
-use Rattle.dw_frames.specs.Inlined.{InlinedRange, inlined_in, all_in}
+use Rattle.dw_frames.specs.Inlined.{InlinedRange, inlined_in, all_in, all_in_some}
 use Rattle.dw_frames.specs.Known.{Same}
 use Rattle.dw_frames.specs.UnitIn.{UnitIn}
 use Rattle.dw_frames.proofs.FirstLemmas.{of_list}
@@ -133,15 +133,6 @@ module _ (drafts : Drafts) (of : UnitIn) (functions : List ℕ) (lists : List (O
   abbrev parts : List (Range × ℕ) → List InlinedRange → Drafts
   parts outermost inlined = record { of = of; functions = functions; outermost = outermost; inlined = inlined; lists = lists }
 
-  pub kept-outermost : (kept held new : List (Range × ℕ)) (inlined : List InlinedRange) → parts (kept ++ held) inlined ≡ drafts → new ≡ kept ++ pairs → Same (with_ranges true pairs drafts) (parts (new ++ held) inlined)
-  kept-outermost kept held new inlined is e =
-      subst (λ (d : Drafts). Same (with_ranges true pairs d) (parts (new ++ held) inlined)) is (rw e (same-outermost of functions kept held pairs inlined lists))
-
-  pub kept-inlined : (outermost : List (Range × ℕ)) (kept held new : List InlinedRange) (outer : ℕ) → parts outermost (kept ++ held) ≡ drafts → innermost drafts ≡ Some outer → new ≡ kept ++ all_in outer pairs → Same (with_ranges false pairs drafts) (parts outermost (new ++ held))
-  kept-inlined outermost kept held new outer is at e =
-      subst (λ (d : Drafts). innermost d ≡ Some outer → Same (with_ranges false pairs d) (parts outermost (new ++ held))) is
-      (λ at. rw (at, e) (same-inlined of functions outermost kept held (all_in outer pairs) lists)) at
-
   pub held-outermost : (kept held new : List (Range × ℕ)) (inlined : List InlinedRange) → parts (kept ++ held) inlined ≡ drafts → new ≡ held ++ pairs → parts (kept ++ new) inlined ≡ with_ranges true pairs drafts
   held-outermost kept held new inlined is e =
       subst (λ (d : Drafts). parts (kept ++ new) inlined ≡ with_ranges true pairs d) is (rw e (ap (λ (all : List (Range × ℕ)). parts all inlined) (sym (append_assoc kept held pairs))))
@@ -150,3 +141,18 @@ module _ (drafts : Drafts) (of : UnitIn) (functions : List ℕ) (lists : List (O
   held-inlined outermost kept held new outer is at e =
       subst (λ (d : Drafts). innermost d ≡ Some outer → parts outermost (kept ++ new) ≡ with_ranges false pairs d) is
       (λ at. rw (at, e) (ap (λ (all : List InlinedRange). parts outermost all) (sym (append_assoc kept held (all_in outer pairs))))) at
+
+-- a function with ranges that are kept, before those of lists that are held
+pub function-kept : (drafts : Drafts) (of : UnitIn) (functions new_functions : List ℕ) (lists : List (Option ℕ)) (kept held new : List (Range × ℕ)) (in_kept in_held in_new : List InlinedRange) (ranges : List Range) (subprogram : Bool) (outer : Option ℕ) (offset : ℕ)
+    → record { of = of; functions = functions; outermost = kept ++ held; inlined = in_kept ++ in_held; lists = lists } ≡ drafts → outer ≡ innermost drafts → new_functions ≡ functions ++ offset ∷ []
+    → new ≡ cond subprogram (kept ++ owned ranges (length functions)) kept → in_new ≡ cond subprogram in_kept (in_kept ++ all_in_some outer (owned ranges (length functions)))
+    → Same (with_function offset (with_ranges subprogram (owned ranges (length drafts.functions)) drafts)) (record { of = of; functions = new_functions; outermost = new ++ held; inlined = in_new ++ in_held; lists = lists })
+function-kept drafts of functions new_functions lists kept held new in_kept in_held in_new ranges true outer offset is at pushed outermost inlined =
+    subst (λ (d : Drafts). Same (with_function offset (with_ranges true (owned ranges (length d.functions)) d)) (record { of = of; functions = new_functions; outermost = new ++ held; inlined = in_new ++ in_held; lists = lists })) is
+    (rw (pushed, outermost, inlined) (same-outermost of (functions ++ offset ∷ []) kept held (owned ranges (length functions)) (in_kept ++ in_held) lists))
+function-kept drafts of functions new_functions lists kept held new in_kept in_held in_new ranges false outer offset is at pushed outermost inlined =
+    let all : Drafts = record { of = of; functions = functions; outermost = kept ++ held; inlined = in_kept ++ in_held; lists = lists } in
+    let here : outer ≡ innermost all = at ∙ ap (λ (d : Drafts). innermost d) (sym is) in
+    let more : in_new ≡ in_kept ++ all_in_some (innermost all) (owned ranges (length functions)) = inlined ∙ ap (λ (outer : Option ℕ). in_kept ++ all_in_some outer (owned ranges (length functions))) here in
+    subst (λ (d : Drafts). Same (with_function offset (with_ranges false (owned ranges (length d.functions)) d)) (record { of = of; functions = new_functions; outermost = new ++ held; inlined = in_new ++ in_held; lists = lists })) is
+    (rw (pushed, outermost, more) (same-inlined of (functions ++ offset ∷ []) (kept ++ held) in_kept in_held (all_in_some (innermost all) (owned ranges (length functions))) lists))

@@ -44,13 +44,22 @@ same-trans drafts other new one two = record {
   unowned = λ k none. two.unowned k (one.unowned k none);
 }
 
--- one more function leaves the owners
-pub same-function : (drafts other new : Drafts) (children : Bool) (offset : ℕ) → Same drafts other → new ≡ with_list children (Some (length other.functions)) (with_function offset other)
-    → Same (with_list children (Some (length drafts.functions)) (with_function offset drafts)) new
-same-function drafts other new children offset same e = rw e (record {
+-- one more function, or one more list, leaves the owners
+pub same-function : (drafts other : Drafts) (offset : ℕ) → Same drafts other → Same (with_function offset drafts) (with_function offset other)
+same-function drafts other offset same = record {
   of = same.of;
   functions = ap (λ (functions : List ℕ). functions ++ offset ∷ []) same.functions;
-  lists = rw (same.functions, same.lists) refl;
+  lists = same.lists;
+  outermost = same.outermost;
+  inlined = same.inlined;
+  unowned = same.unowned;
+}
+
+pub same-list : (drafts other new : Drafts) (children : Bool) (number : Option ℕ) → Same drafts other → new ≡ with_list children number other → Same (with_list children number drafts) new
+same-list drafts other new children number same e = rw e (record {
+  of = same.of;
+  functions = same.functions;
+  lists = rw (same.lists) refl;
   outermost = same.outermost;
   inlined = same.inlined;
   unowned = same.unowned;

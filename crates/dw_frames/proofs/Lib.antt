@@ -18,3 +18,4 @@ pub mod HeldLemmas
 pub mod InlinedLemmas
 pub mod LinkLemmas
 pub mod TailLemmas
+pub mod CountLemmas

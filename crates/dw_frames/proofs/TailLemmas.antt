@@ -1,18 +1,17 @@
 -- Subprograms whose lists go on as earlier ones do.
-use Rattle.std.proofs.Common.{◌≡◌, ◌∙◌, ◌⊎◌, inl, inr, ℕ, ◌<◌, ◌≤◌, Bool, true, false, List, [], ◌∷◌, ◌++◌, length, map, Option, Some, None, Result, Ok, Err, refl, sym, ap, subst, arith, append_assoc}
+use Rattle.std.proofs.Common.{◌≡◌, ◌∙◌, ◌⊎◌, inl, inr, ℕ, Bool, true, false, List, [], ◌∷◌, ◌++◌, length, Option, Some, None, Result, Ok, Err, refl, sym, ap, subst, arith, append_assoc}
 use Rattle.std.specs.Prelude.{◌==◌, ◌||◌}
 use Rattle.std.specs.Result.{result_unwrap_or}
 use Rattle.std.proofs.lemmas.Bool.{ne_eqb}
 use Rattle.std.proofs.lemmas.List.{append-nil, map-append}
 use Rattle.std.proofs.lemmas.List.Folds.{list_any-append}
-use Rattle.dw_model.specs.Entry.{Entry}
 use Rattle.dw_model.specs.Faults.{Bad}
-use Rattle.dw_model.specs.Results.{◌>>=◌}
 use Rattle.dw_model.specs.Ranges.{Range, covers, holds}
 use Rattle.dw_model.specs.Text.{Tables}
 use Rattle.dw_model.proofs.StepLemmas.{ok_is}
 use Rattle.dw_index.specs.Owners.{least_owner}
 use Rattle.dw_ranges.specs.declared.range_list.RangeList.{RangeList}
+use Rattle.dw_ranges.specs.Held.{listed}
 use Rattle.dw_ranges.specs.Lists.{ranges_of_list}
 use Rattle.dw_ranges.specs.Owned.{AreOwned}
 use Rattle.dw_ranges.specs.ReadLists.{Has}
@@ -20,10 +19,10 @@ use Rattle.dw_ranges.specs.Tails.{EndsAs, ReadsNew, onto_front, tail_at}
 use Rattle.dw_ranges.proofs.OwnedLemmas.{still-owned, passed-over}
 use Rattle.dw_frames.specs.Drafts.{Drafts, innermost, owned, with_ranges, with_list, with_function}
 use Rattle.dw_frames.specs.Inlined.{inlined_in}
-use Rattle.dw_frames.specs.Known.{HasOwners, HasRanges, Knows, Same, for_subprogram, for_inlined, for_loose}
+use Rattle.dw_frames.specs.Known.{HasOwners, HasRanges, Knows, Same, WasAdded}
 use Rattle.dw_frames.specs.Reading.{Reading}
 use Rattle.dw_frames.specs.UnitIn.{UnitIn}
-use Rattle.dw_frames.proofs.KnownLemmas.{knows-noted, same-as, same-trans}
+use Rattle.dw_frames.proofs.KnownLemmas.{knows-noted, same-as, same-function, same-trans}
 
 -- ---- what is left out
 
@@ -44,13 +43,24 @@ front-same drafts front rest number h = record {
   unowned = λ k none. none;
 }
 
-pub first-kept : (drafts new : Drafts) (front rest : List Range) (number : ℕ) → Same (with_ranges true (owned front number) drafts) new → AreOwned drafts.outermost number rest → Same (with_ranges true (owned (front ++ rest) number) drafts) new
-first-kept drafts new front rest number same h =
-    same-trans (with_ranges true (owned (front ++ rest) number) drafts) (with_ranges true (owned front number) drafts) new (front-same drafts front rest number h) same
+-- ranges that were added are those of the list
+with-list : (subprogram : Bool) (offset : ℕ) (all : List Range) (list : RangeList) (old new : Drafts) → new ≡ with_function offset (with_ranges subprogram (owned (listed old.of.sections.tables list) (length old.functions)) old) → ranges_of_list old.of.sections.tables list ≡ Ok all
+    → Same (with_function offset (with_ranges subprogram (owned all (length old.functions)) old)) new
+with-list subprogram offset all list old new is e =
+    same-as (with_function offset (with_ranges subprogram (owned all (length old.functions)) old)) new (is ∙ ap (λ (read : Result (List Range) Bad). with_function offset (with_ranges subprogram (owned (result_unwrap_or read []) (length old.functions)) old)) e)
 
-pub first-held : (drafts new : Drafts) (read : Result (List Range) Bad) (all : List Range) (number : ℕ) → new ≡ with_ranges true (owned (result_unwrap_or read []) number) drafts → read ≡ Ok all → Same (with_ranges true (owned all number) drafts) new
-first-held drafts new read all number is e =
-    same-as (with_ranges true (owned all number) drafts) new (is ∙ ap (λ (read : Result (List Range) Bad). with_ranges true (owned (result_unwrap_or read []) number) drafts) e)
+pub added-listed : (subprogram : Bool) (offset : ℕ) (ranges : List Range) (list : RangeList) (old new : Drafts) → WasAdded subprogram offset ranges list old new → ranges_of_list old.of.sections.tables list ≡ Ok ranges
+    → Same (with_function offset (with_ranges subprogram (owned ranges (length old.functions)) old)) new
+added-listed subprogram offset ranges list old new (inl same) e = same
+added-listed subprogram offset ranges list old new (inr is) e = with-list subprogram offset ranges list old new is e
+
+pub added-first : (offset : ℕ) (front rest : List Range) (list : RangeList) (old new : Drafts) → WasAdded true offset front list old new → ranges_of_list old.of.sections.tables list ≡ Ok (front ++ rest) → AreOwned old.outermost (length old.functions) rest
+    → Same (with_function offset (with_ranges true (owned (front ++ rest) (length old.functions)) old)) new
+added-first offset front rest list old new (inl same) e h =
+    let all = with_ranges true (owned (front ++ rest) (length old.functions)) old in
+    let some = with_ranges true (owned front (length old.functions)) old in
+    same-trans (with_function offset all) (with_function offset some) new (same-function all some offset (front-same old front rest (length old.functions) h)) same
+added-first offset front rest list old new (inr is) e h = with-list true offset (front ++ rest) list old new is e
 
 -- ---- what was read
 

@@ -1,12 +1,13 @@
 -- Range lists that were read for earlier functions of a unit.
-use Rattle.std.specs.Prelude.{◌≡◌, ℕ, Bool, true, false, cond, List, [], ◌∷◌, length, map, Option, Some, None, option_to_list, Ok, ◌==◌}
+use Rattle.std.specs.Prelude.{◌≡◌, ◌⊎◌, ℕ, Bool, true, false, cond, List, [], ◌∷◌, length, map, Option, Some, None, option_to_list, Ok, ◌==◌}
 use Rattle.dw_model.specs.Ranges.{Range}
 use Rattle.dw_index.specs.Owners.{least_owner}
 use Rattle.dw_ranges.specs.declared.range_list.RangeList.{RangeList}
+use Rattle.dw_ranges.specs.Held.{listed}
 use Rattle.dw_ranges.specs.Lists.{ranges_of_list}
 use Rattle.dw_ranges.specs.Owned.{AreOwned}
 use Rattle.dw_ranges.specs.ReadLists.{Has}
-use Rattle.dw_frames.specs.Drafts.{Drafts}
+use Rattle.dw_frames.specs.Drafts.{Drafts, owned, with_function, with_ranges}
 use Rattle.dw_frames.specs.Inlined.{inlined_in}
 use Rattle.dw_frames.specs.Reading.{Reading}
 
@@ -56,3 +57,9 @@ pub record Same (drafts other : Drafts) : Type 0 where
   pub outermost : (a : ℕ) → least_owner other.outermost a ≡ least_owner drafts.outermost a
   pub inlined : (k a : ℕ) → least_owner (inlined_in k other.inlined) a ≡ least_owner (inlined_in k drafts.inlined) a
   pub unowned : (k : ℕ) → inlined_in k drafts.inlined ≡ [] → inlined_in k other.inlined ≡ []
+
+-- A function was added with its ranges, or with those of its list, which is held by name.
+abbrev pub WasAdded : Bool → ℕ → List Range → RangeList → Drafts → Drafts → Type 0
+WasAdded subprogram offset ranges list old new =
+    Same (with_function offset (with_ranges subprogram (owned ranges (length old.functions)) old)) new
+    ⊎ (new ≡ with_function offset (with_ranges subprogram (owned (listed old.of.sections.tables list) (length old.functions)) old))

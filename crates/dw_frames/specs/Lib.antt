@@ -5,6 +5,7 @@ pub mod Fault
 pub mod Held
 pub mod Inlined
 pub mod InlinedInside
+pub mod Kept
 pub mod Known
 pub mod LinksInside
 pub mod Name

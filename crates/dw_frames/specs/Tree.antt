@@ -1,5 +1,5 @@
 -- What a tree knows of the functions of its unit, and that it is the unit's.
-use Rattle.std.specs.Prelude.{◌≡◌, ◌<◌, ℕ, zero, suc, List, [], ◌∷◌, ◌++◌, length, map, reverse, find, Option, Some, None, Ok, cond, option_and_then, slice_get, ◌==◌, ◌&&◌, if◌then◌else◌}
+use Rattle.std.specs.Prelude.{◌≡◌, ◌<◌, ◌≤◌, ◌+◌, ℕ, zero, suc, List, [], ◌∷◌, ◌++◌, length, map, reverse, filter, find, Option, Some, None, Ok, cond, option_and_then, slice_get, ◌==◌, ◌&&◌, if◌then◌else◌}
 use Rattle.std.specs.Option.{option_map_or}
 use Rattle.std.specs.Result.{result_unwrap_or}
 use Rattle.dw_model.specs.Entry.{Entry}
@@ -15,8 +15,10 @@ use Rattle.dw_index.specs.Owners.{least, least_owner}
 use Rattle.dw_index.specs.Segments.{owner_at}
 use Rattle.dw_frames.specs.declared.function.EntryId.{EntryId}
 use Rattle.dw_frames.specs.declared.chains.Chains.{Chains}
+use Rattle.dw_frames.specs.Drafts.{is_kept}
 use Rattle.dw_frames.specs.Held.{all_held, all_held_in}
 use Rattle.dw_frames.specs.Inlined.{InlinedRange, inlined_in}
+use Rattle.dw_frames.specs.Kept.{most_listed}
 use Rattle.dw_frames.specs.Told.{Told, told_of, nothing}
 use Rattle.dw_frames.specs.UnitIn.{UnitIn}
 
@@ -68,9 +70,19 @@ function_of of id =
 abbrev pub told_at : UnitIn → EntryId → Told
 told_at of id = option_map_or (told_of of.sections of.unit) (function_of of id) nothing
 
--- Chains are those of a unit of the file: its entries can be read, and the functions at each address
--- are found.
+-- the functions of a unit that have ranges
+abbrev pub ranged_in : UnitIn → List Node
+ranged_in of = filter (λ node. is_kept of.sections of.unit node.entry) (nodes_of of.sections of.unit)
+
+-- The most ranges that are kept of the functions of a unit: those of lists up to a quarter of the
+-- unit's bytes, and one of each function that has ranges.
+abbrev pub most_ranges : UnitIn → ℕ
+most_ranges of = most_listed of.unit + length (ranged_in of)
+
+-- Chains are those of a unit of the file: its entries can be read, the functions at each address are
+-- found, and few ranges are kept.
 pub record IsTreeOf (of : UnitIn) (found : Chains) : Type 0 where
   pub within : found.unit < length (cut.units of.sections.info)
   pub read : model.tree of.sections of.unit ≡ Ok (nodes_of of.sections of.unit)
   pub chains : (a : ℕ) → map (function_at of) (reverse (chain_at of.sections.tables found a)) ≡ map Some (chain_in of a)
+  pub few : found.ranges ≤ most_ranges of

@@ -27,6 +27,8 @@ pub(crate) struct Chains {
     pub(crate) inlined: Inlined,
     /// The functions whose lists are held by name.
     pub(crate) held: HeldLists,
+    /// How many ranges are kept.
+    pub(crate) ranges: usize,
 }
 
 impl Chains {

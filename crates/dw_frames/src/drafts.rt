@@ -1,16 +1,17 @@
 //! The functions of a unit, while its entries are read.
 
-ghost use Rattle.std.specs.Prelude.{◌≡◌, ◌++◌, ℕ, List, true, false, Ok, OnOk, IfOk, length, map};
+ghost use Rattle.std.specs.Prelude.{◌≡◌, ◌≤◌, ◌+◌, ◌*◌, ◌++◌, ℕ, List, true, Ok, OnOk, IfOk, length, map};
 ghost use Rattle.dw_model.specs.Ranges as model_ranges;
 ghost use Rattle.dw_index.specs.Owners.{least_owner};
-ghost use Rattle.dw_index.specs.Segments.{owner_at};
-ghost use Rattle.dw_index.specs.Range.{pair_shown, range_shown};
+ghost use Rattle.dw_index.specs.Range.{range_shown};
 ghost use Rattle.dw_ranges.specs.Lists.{ranges_of_list};
 ghost use Rattle.dw_ranges.specs.Owned.{AreOwned};
+ghost use Rattle.dw_units.specs.OpenUnit.{unit_of};
 ghost use Rattle.dw_frames.specs.Drafts as model;
 ghost use Rattle.dw_frames.specs.Drafts.{owned};
 ghost use Rattle.dw_frames.specs.Held.{pairs_held};
-ghost use Rattle.dw_frames.specs.Known.{Same};
+ghost use Rattle.dw_frames.specs.Kept.{most_listed};
+ghost use Rattle.dw_frames.specs.Known.{Same, WasAdded};
 ghost use Rattle.dw_frames.specs.Tree.{all_inlined, outermost_at};
 ghost use Rattle.dw_frames.specs.UnitIn.{unit_in};
 
@@ -18,29 +19,16 @@ use crate::chains::Chains;
 use crate::held::HeldList;
 use crate::held_lists::HeldLists;
 use crate::inlined::Inlined;
-use crate::links::Links;
-use dw_ranges::{Index, Range};
+use crate::kept::Kept;
+use dw_ranges::{Index, Range, RangeList};
 use dw_units::OpenUnit;
 use std::alloc::{AllocError, Global};
 use std::marker::Model;
 
-/// Adds ranges to others, each with the number of its function.
-fn push_ranges(
-    pairs: &mut Vec<(Range, usize)>,
-    ranges: &[Range],
-    number: usize,
-) -> Result<(), AllocError>
-    ensures { OnOk result (map pair_shown pairs.new.items
-        ≡ map pair_shown pairs.old.items ++ owned (map range_shown ranges.now) number) }
-{
-    for range in ranges {
-        pairs.push((*range, number))?;
-    }
-    Ok(())
-}
-
 /// How many ranges of lists may be kept for a unit.
-fn most_ranges(unit: OpenUnit<'_, '_>) -> usize {
+fn most_listed(unit: OpenUnit<'_, '_>) -> usize
+    ensures { result ≡ most_listed (unit_of unit.entry) }
+{
     let unit = unit.unit();
     unit.end.saturating_sub(unit.offset) as usize / 4
 }
@@ -49,12 +37,8 @@ fn most_ranges(unit: OpenUnit<'_, '_>) -> usize {
 #[derive(Drop)]
 pub(crate) struct Drafts<'b, 'a> {
     unit: OpenUnit<'b, 'a>,
-    /// The offsets of those that have ranges, in order. The number of a function is its index here.
-    functions: Vec<u64>,
-    /// The ranges of all subprograms, each with the number of its function.
-    outermost: Vec<(Range, usize)>,
-    /// The ranges of all functions that are inlined in others.
-    inlined: Links,
+    /// Those that have ranges.
+    kept: Kept,
     /// The range lists of functions that are held by name.
     held: HeldLists,
     /// How many ranges of lists may still be kept.
@@ -69,11 +53,11 @@ impl<'b, 'a> Model for Drafts<'b, 'a> {
 
     ghost Value = { model.Drafts };
 
-    ghost use Rattle.dw_frames.specs.DraftsInside.{drafts_of};
+    ghost use Rattle.dw_frames.specs.DraftsInside.{drafts_of, IsWithin};
 
     ghost view = { drafts_of };
 
-    ghost invariant = { λ drafts. Unit {0} };
+    ghost invariant = { IsWithin };
 }
 
 impl<'b, 'a> Drafts<'b, 'a> {
@@ -83,11 +67,9 @@ impl<'b, 'a> Drafts<'b, 'a> {
     {
         Drafts {
             unit,
-            functions: Vec::new(alloc),
-            outermost: Vec::new(alloc),
-            inlined: Links::new(alloc),
+            kept: Kept::new(alloc),
             held: HeldLists::new(alloc),
-            left: most_ranges(unit),
+            left: most_listed(unit),
             lists: Vec::new(alloc),
         }
     }
@@ -103,7 +85,7 @@ impl<'b, 'a> Drafts<'b, 'a> {
     pub(crate) fn count(&self) -> usize
         ensures { result ≡ length self.now.functions }
     {
-        self.functions.len()
+        self.kept.functions.len()
     }
 
     /// The number of the function in which the next entry lies.
@@ -136,34 +118,20 @@ impl<'b, 'a> Drafts<'b, 'a> {
         Ok(())
     }
 
-    /// Keeps the ranges of a function that is inlined in another one that is kept.
-    fn push_inlined(&mut self, ranges: &[Range], number: usize) -> Result<(), AllocError>
-        ensures { OnOk result (Same (model.with_ranges false
-            (owned (map range_shown ranges.now) number) self.old) self.new) }
-    {
-        let Some(outer) = self.innermost() else {
-            return Ok(());
-        };
-        self.inlined.push(outer, ranges, number)?;
-        Ok(())
-    }
-
-    /// Keeps the ranges of a function.
-    // With two callers the compiler leaves it a call.
+    /// One more function, by its offset, with one range at most, which is kept.
     #[inline(always)]
-    pub(crate) fn push_ranges(
+    pub(crate) fn push_bounded(
         &mut self,
+        offset: u64,
         is_subprogram: bool,
         ranges: &[Range],
-        number: usize,
     ) -> Result<(), AllocError>
-        ensures { OnOk result (Same (model.with_ranges is_subprogram
-            (owned (map range_shown ranges.now) number) self.old) self.new) }
+        requires { length ranges.now ≤ 1 }
+        ensures { OnOk result (Same (model.with_function offset (model.with_ranges is_subprogram
+            (owned (map range_shown ranges.now) (length self.old.functions)) self.old)) self.new) }
     {
-        if !is_subprogram {
-            return self.push_inlined(ranges, number);
-        }
-        push_ranges(&mut self.outermost, ranges, number)?;
+        let outer = self.innermost();
+        self.kept.push(offset, is_subprogram, outer, ranges)?;
         Ok(())
     }
 
@@ -188,57 +156,66 @@ impl<'b, 'a> Drafts<'b, 'a> {
         Ok(())
     }
 
-    /// Keeps the ranges of a function that are those of a list, or holds the list by name where too
-    /// many ranges of lists are kept already. One range takes no more than the name.
+    /// One more function, by its offset, with ranges of a list. They are kept, or the list is held
+    /// by name where too many ranges of lists are kept already. One range takes no more than the
+    /// name.
     #[inline(always)]
-    pub(crate) fn push_listed(
+    fn keep_or_hold(
         &mut self,
+        offset: u64,
         is_subprogram: bool,
         ranges: &[Range],
-        held: HeldList,
+        list: RangeList,
     ) -> Result<(), AllocError>
-        ensures { OnOk result (ranges_of_list self.old.of.sections.tables held.list ≡ Ok (map range_shown ranges.now)
-            → Same (model.with_ranges is_subprogram
-            (owned (map range_shown ranges.now) held.number) self.old) self.new) }
-    {
-        if ranges.len() > 1 {
-            if ranges.len() > self.left {
-                self.left = 0;
-                return self.hold(is_subprogram, held);
-            }
-            self.left -= ranges.len();
-        }
-        self.push_ranges(is_subprogram, ranges, held.number)
-    }
-
-    /// Keeps ranges of a subprogram, where earlier subprograms own its other ranges.
-    fn push_front(&mut self, ranges: &[Range], number: usize) -> Result<(), AllocError>
-        ensures { OnOk result ((rest : List model_ranges.Range) → AreOwned self.old.outermost number rest
-            → Same (model.with_ranges true (owned (map range_shown ranges.now ++ rest) number) self.old) self.new) }
-    {
-        self.push_ranges(true, ranges, number)?;
-        Ok(())
-    }
-
-    /// Keeps ranges of a subprogram that are the first of a list, where earlier subprograms own the
-    /// other ranges of that; or holds the list by name, as `push_listed` does.
-    pub(crate) fn push_first(&mut self, ranges: &[Range], held: HeldList) -> Result<(), AllocError>
-        ensures { OnOk result ((rest : List model_ranges.Range)
-            → ranges_of_list self.old.of.sections.tables held.list ≡ Ok (map range_shown ranges.now ++ rest)
-            → AreOwned self.old.outermost held.number rest
-            → Same (model.with_ranges true (owned (map range_shown ranges.now ++ rest) held.number) self.old)
-            self.new) }
+        ensures { OnOk result (WasAdded is_subprogram offset (map range_shown ranges.now) list self.old self.new) }
     {
         if ranges.len() <= 1 {
-            self.push_front(ranges, held.number)?;
-            return Ok(());
+            return self.push_bounded(offset, is_subprogram, ranges);
         }
         if ranges.len() > self.left {
             self.left = 0;
-            return self.hold(true, held);
+            let number = self.count();
+            self.hold(is_subprogram, HeldList { list, number })?;
+            return self.push_function(offset);
         }
         self.left -= ranges.len();
-        self.push_front(ranges, held.number)?;
+        let outer = self.innermost();
+        self.kept.push(offset, is_subprogram, outer, ranges)?;
+        Ok(())
+    }
+
+    /// One more function, by its offset, with its ranges, which are those of a list.
+    #[inline(always)]
+    pub(crate) fn push_listed(
+        &mut self,
+        offset: u64,
+        is_subprogram: bool,
+        ranges: &[Range],
+        list: RangeList,
+    ) -> Result<(), AllocError>
+        ensures { OnOk result (ranges_of_list self.old.of.sections.tables list ≡ Ok (map range_shown ranges.now)
+            → Same (model.with_function offset (model.with_ranges is_subprogram
+            (owned (map range_shown ranges.now) (length self.old.functions)) self.old)) self.new) }
+    {
+        self.keep_or_hold(offset, is_subprogram, ranges, list)?;
+        Ok(())
+    }
+
+    /// One more subprogram, by its offset, with ranges that are the first of a list, where earlier
+    /// subprograms own the other ranges of that.
+    pub(crate) fn push_first(
+        &mut self,
+        offset: u64,
+        ranges: &[Range],
+        list: RangeList,
+    ) -> Result<(), AllocError>
+        ensures { OnOk result ((rest : List model_ranges.Range)
+            → ranges_of_list self.old.of.sections.tables list ≡ Ok (map range_shown ranges.now ++ rest)
+            → AreOwned self.old.outermost (length self.old.functions) rest
+            → Same (model.with_function offset (model.with_ranges true
+            (owned (map range_shown ranges.now ++ rest) (length self.old.functions)) self.old)) self.new) }
+    {
+        self.keep_or_hold(offset, true, ranges, list)?;
         Ok(())
     }
 
@@ -246,7 +223,7 @@ impl<'b, 'a> Drafts<'b, 'a> {
     pub(crate) fn push_function(&mut self, offset: u64) -> Result<(), AllocError>
         ensures { OnOk result (self.new ≡ model.with_function offset self.old) }
     {
-        self.functions.push(offset)?;
+        self.kept.functions.push(offset)?;
         Ok(())
     }
 }
@@ -260,15 +237,23 @@ impl<'b, 'a> Drafts<'b, 'a> {
             → outermost_at self.entry.of.sections.tables chains a ≡ least_owner self.entry.outermost a) }
         ensures inlined { IfOk result (λ chains.
             all_inlined self.entry.of.sections.tables chains ≡ self.entry.inlined) }
+        ensures few { IfOk result (λ chains. chains.ranges
+            ≤ most_listed self.entry.of.unit + length self.entry.functions) }
+        ensures counted { IfOk result (λ chains. length chains.outermost + 2 * length chains.inlined
+            ≤ 2 * chains.ranges) }
     {
         let Drafts {
             unit,
-            functions,
-            outermost,
-            inlined,
+            kept,
             held,
             ..
         } = self;
+        let ranges = kept.ranges();
+        let Kept {
+            functions,
+            outermost,
+            inlined,
+        } = kept;
         let outermost = Index::build(alloc, &outermost)?;
         let inlined = Inlined::new(alloc, inlined)?;
         Ok(Chains {
@@ -277,6 +262,7 @@ impl<'b, 'a> Drafts<'b, 'a> {
             functions,
             inlined,
             held,
+            ranges,
         })
     }
 }

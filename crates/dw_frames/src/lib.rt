@@ -9,6 +9,7 @@ mod function;
 mod held;
 mod held_lists;
 mod inlined;
+mod kept;
 mod links;
 mod name;
 mod reader;

@@ -1,6 +1,6 @@
 //! The ranges of inlined functions, linked by the function in which they lie.
 
-ghost use Rattle.std.specs.Prelude.{◌≡◌, ◌<◌, ◌++◌, ◌∷◌, ℕ, [], OnOk, IfOk, map, length};
+ghost use Rattle.std.specs.Prelude.{◌≡◌, ◌<◌, ◌≤◌, ◌+◌, ◌^◌, ◌++◌, ◌∷◌, ℕ, [], OnOk, IfOk, map, length};
 ghost use Rattle.dw_index.specs.Owners.{least, owner_in, least_owner};
 ghost use Rattle.dw_index.specs.Range.{pair_shown, range_shown};
 ghost use Rattle.dw_frames.specs.Drafts.{owned};
@@ -83,6 +83,14 @@ impl Links {
         }
     }
 
+    /// How many ranges there are.
+    pub(crate) fn len(&self) -> usize
+        ensures count { result ≡ length self.now }
+        ensures small { result < 2 ^ 63 }
+    {
+        self.links.len()
+    }
+
     /// How many functions there are of which a last link may be noted.
     pub(crate) fn count(&self) -> usize {
         self.lasts.len()
@@ -113,7 +121,8 @@ impl Links {
 
     /// Adds a range of a function that was inlined in another one.
     fn push_one(&mut self, outer: usize, range: Range, number: usize) -> Result<(), AllocError>
-        ensures { OnOk result (self.new ≡ self.old ++ all_in outer (pair_shown (range, number) ∷ [])) }
+        ensures pushed { OnOk result (self.new ≡ self.old ++ all_in outer (pair_shown (range, number) ∷ [])) }
+        ensures few { length self.new ≤ length self.old + 1 }
     {
         reach(&mut self.lasts, outer)?;
         let place = self.links.len();
@@ -135,7 +144,9 @@ impl Links {
         ranges: &[Range],
         number: usize,
     ) -> Result<(), AllocError>
-        ensures { OnOk result (self.new ≡ self.old ++ all_in outer (owned (map range_shown ranges.now) number)) }
+        ensures pushed { OnOk result (self.new
+            ≡ self.old ++ all_in outer (owned (map range_shown ranges.now) number)) }
+        ensures few { length self.new ≤ length self.old + length ranges.now }
     {
         for range in ranges {
             self.push_one(outer, *range, number)?;

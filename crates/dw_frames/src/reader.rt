@@ -1,7 +1,7 @@
 //! Entries of a unit, read one after the other, of which the functions are kept.
 
 ghost use Rattle.std.specs.Prelude.{◌≡◌, ◌==◌, ◌++◌, ◌∷◌, ◌⊎◌, [], ℕ, Bool, List, Option};
-ghost use Rattle.std.specs.Prelude.{Some, None, Ok, true, false, OnOk, length, map, nat_lt};
+ghost use Rattle.std.specs.Prelude.{◌≤◌, Some, None, Ok, true, false, OnOk, length, map, nat_lt};
 ghost use Rattle.dw_model.specs.Ranges as model_ranges;
 ghost use Rattle.dw_model.specs.Results.{refuse_if};
 ghost use Rattle.dw_model.specs.Faults.{depth_fault};
@@ -9,7 +9,7 @@ ghost use Rattle.dw_model.specs.Tree.{most_depth, entry_ranges_in, is_subprogram
 ghost use Rattle.dw_model.specs.Answers.{Gives};
 ghost use Rattle.dw_index.specs.Range.{range_shown};
 ghost use Rattle.dw_ranges.specs.Held.{listed};
-ghost use Rattle.dw_ranges.specs.Lists.{ranges_of_list};
+ghost use Rattle.dw_ranges.specs.Lists.{IsOneAtMost, ranges_of_list};
 ghost use Rattle.dw_ranges.specs.Owned.{AreOwned};
 ghost use Rattle.dw_ranges.specs.ReadLists.{Has};
 ghost use Rattle.dw_ranges.specs.Tails.{tail_at};
@@ -97,20 +97,21 @@ fn pass_function(drafts: &mut Drafts<'_, '_>, entry: &EntryView<'_, '_>) -> Resu
     drafts.begin_list(entry.children(), Some(number))
 }
 
-/// Adds a function with its ranges.
+/// Adds a function with its one range.
 #[inline(always)]
 fn keep_function(
     drafts: &mut Drafts<'_, '_>,
     entry: &EntryView<'_, '_>,
     ranges: &[Range],
 ) -> Result<(), AllocError>
+    requires { length ranges.now ≤ 1 }
     ensures { OnOk result (Same (model.with_list entry.now.children (Some (length drafts.old.functions))
         (model.with_function entry.now.offset (model.with_ranges (is_subprogram entry.now)
         (owned (map range_shown ranges.now) (length drafts.old.functions)) drafts.old))) drafts.new) }
 {
     let number = drafts.count();
-    drafts.push_ranges(entry.tag() == DW_TAG_subprogram, ranges, number)?;
-    pass_function(drafts, entry)?;
+    drafts.push_bounded(entry.offset(), entry.tag() == DW_TAG_subprogram, ranges)?;
+    drafts.begin_list(entry.children(), Some(number))?;
     Ok(())
 }
 
@@ -128,9 +129,13 @@ fn keep_listed(
         (owned (map range_shown ranges.now) (length drafts.old.functions)) drafts.old))) drafts.new) }
 {
     let number = drafts.count();
-    let held = HeldList { list, number };
-    drafts.push_listed(entry.tag() == DW_TAG_subprogram, ranges, held)?;
-    pass_function(drafts, entry)?;
+    drafts.push_listed(
+        entry.offset(),
+        entry.tag() == DW_TAG_subprogram,
+        ranges,
+        list,
+    )?;
+    drafts.begin_list(entry.children(), Some(number))?;
     Ok(())
 }
 
@@ -149,9 +154,8 @@ fn keep_first(
         (owned (map range_shown ranges.now ++ rest) (length drafts.old.functions)) drafts.old))) drafts.new) }
 {
     let number = drafts.count();
-    let held = HeldList { list, number };
-    drafts.push_first(ranges, held)?;
-    pass_function(drafts, entry)?;
+    drafts.push_first(entry.offset(), ranges, list)?;
+    drafts.begin_list(entry.children(), Some(number))?;
     Ok(())
 }
 
@@ -425,11 +429,12 @@ impl<'b, 'a> Reader<'b, 'a> {
         entry: &EntryView<'b, 'a>,
         named: &NamedRanges<'a>,
     ) -> Result<(), TreeFault>
+        requires named { IsNamed named.now entry.now }
+        requires one { IsOneAtMost (entry_ranges_in self.now.of.sections self.now.of.unit entry.now) }
         ensures same { self.new.of ≡ self.old.of }
-        ensures function { Knows self.old drafts.old → IsNamed named.now entry.now
+        ensures function { Knows self.old drafts.old
             → AddsFunction self.old.of.sections self.old.of.unit entry.now result drafts.old drafts.new }
-        ensures known { Knows self.old drafts.old → IsNamed named.now entry.now
-            → OnOk result (Knows self.new drafts.new) }
+        ensures known { Knows self.old drafts.old → OnOk result (Knows self.new drafts.new) }
     {
         let unit = self.unit;
         read_ranges(&mut self.ranges, named, unit.unit(), unit.units().tables())?;

@@ -1,7 +1,7 @@
 //! The functions of a unit, by sections 2.3, 3.3 and 7.5 of DWARF 5.
 
-ghost use Rattle.std.specs.Prelude.{◌≡◌, ◌<◌, All, IfOk, IfErr, IfSome, IsSome, Some, Err, false, length, map};
-ghost use Rattle.std.specs.Prelude.{option_map, option_and_then, slice_get, MatchOption};
+ghost use Rattle.std.specs.Prelude.{◌≡◌, ◌<◌, ◌≤◌, ◌+◌, ◌-◌, All, IfOk, IfErr, IfSome, IsSome, Some, Err, false};
+ghost use Rattle.std.specs.Prelude.{length, map, option_map, option_and_then, slice_get, MatchOption};
 ghost use Rattle.std.specs.Option.{option_map_or};
 ghost use Rattle.dw_model.specs.Unit as cut;
 ghost use Rattle.dw_model.specs.Unit.{DwarfUnit, is_skipped};
@@ -12,9 +12,10 @@ ghost use Rattle.dw_units.specs.UnitAt.{unit_at};
 ghost use Rattle.dw_units.specs.OpenUnit.{sections_of, unit_of};
 ghost use Rattle.dw_frames.specs.Call.{call_of, no_call};
 ghost use Rattle.dw_frames.specs.Fault.{tree_fault};
+ghost use Rattle.dw_frames.specs.Kept.{most_listed};
 ghost use Rattle.dw_frames.specs.Name.{unit_entry};
 ghost use Rattle.dw_frames.specs.Told.{described_shown, told_of};
-ghost use Rattle.dw_frames.specs.Tree.{chain_in, function_at, function_of, told_at, nodes_of};
+ghost use Rattle.dw_frames.specs.Tree.{chain_in, function_at, function_of, most_ranges, told_at, nodes_of};
 
 use crate::chains::Chains;
 use crate::fault::TreeFault;
@@ -67,6 +68,17 @@ impl<'a> Tree<'a> {
         let chains = drafts.chains(alloc)?;
         let units = Arc::try_clone(units)?;
         Ok(Tree { units, chains })
+    }
+
+    /// How many ranges of functions are kept: of range lists at most a quarter of the bytes of the
+    /// unit, and one for each function that has ranges, of which there are at most as many as the
+    /// unit's entries have bytes. So memory stays in proportion to the unit, however many functions
+    /// name one long list.
+    pub fn kept(&self) -> usize
+        ensures functions { result ≤ most_ranges self.now }
+        ensures bytes { result ≤ most_listed self.now.unit + (self.now.unit.end - self.now.unit.first_entry) }
+    {
+        self.chains.ranges
     }
 
     /// The functions at an address, innermost first: the outermost is the first subprogram with a

@@ -7,7 +7,7 @@ use Rattle.dw_frames.proofs.KnownLemmas.{knows-kept, knows-list}
 use Rattle.dw_frames.proofs.reader.Reader.add_bounded.Goals as goal
 
 pub returns-clause-known : goal.returns-clause-known
-returns-clause-known c knows names =
+returns-clause-known c knows =
     let drafts = c.args.drafts.now in
     let entry = c.args.entry.now in
     knows-kept c.args.self.now _ drafts c.keep_function.new.drafts entry.children (Some (length drafts.functions)) entry.offset (is_subprogram entry) (owned (map range_shown c.deref.result.now) (length drafts.functions))
@@ -20,7 +20,7 @@ returns-clause-known c knows names =
     }) c.in_ok-keep_function.ensures knows
 
 pub returns-then-is_empty-clause-known : goal.returns-then-is_empty-clause-known
-returns-then-is_empty-clause-known c knows names =
+returns-then-is_empty-clause-known c knows =
     knows-list c.args.self.now _ c.args.drafts.now c.leave_out.new.drafts c.args.entry.now.children None
     (record {
       of = ap (λ (reading : Reading). reading.of) c.self.view_is;

@@ -2,7 +2,6 @@ use Rattle.std.proofs.Common.{rules, ◌≡◌, ℕ, true, ◌∙◌, ◌++◌, 
 use Rattle.dw_forms.specs.Tables.{tables_shown}
 use Rattle.dw_index.specs.declared.range.Range.{Range as CodeRange}
 use Rattle.dw_index.specs.Range.{range_shown}
-use Rattle.dw_model.specs.Ranges.{Range}
 use Rattle.dw_model.specs.Text.{Tables}
 use Rattle.dw_ranges.specs.Lists.{ranges_of_list}
 use Rattle.dw_ranges.specs.ReadLists.{Has}

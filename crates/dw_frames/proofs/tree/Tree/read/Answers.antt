@@ -1,10 +1,11 @@
-use Rattle.std.proofs.Common.{◌≡◌, ◌∙◌, ℕ, sym, ap, subst}
+use Rattle.std.proofs.Common.{◌≡◌, ◌∙◌, ◌≤◌, ◌+◌, ℕ, length, sym, ap, subst}
 use Rattle.dw_model.specs.Section.{Sections}
 use Rattle.dw_index.specs.Owners.{least_owner}
 use Rattle.dw_units.specs.declared.open_unit.OpenUnit.{OpenUnit}
 use Rattle.dw_units.specs.OpenUnit.{sections_of}
 use Rattle.dw_units.specs.UnitAt.{unit_at}
 use Rattle.dw_frames.specs.declared.chains.Chains.{Chains}
+use Rattle.dw_frames.specs.Kept.{most_listed}
 use Rattle.dw_frames.specs.Tree.{all_inlined, outermost_at, IsTreeOf}
 use Rattle.dw_frames.specs.UnitIn.{UnitIn, unit_in}
 use Rattle.dw_frames.proofs.BuiltLemmas.{is-tree}
@@ -27,5 +28,6 @@ invariant_of-result c =
     let index : chains.unit ≡ of.index = built.unit ∙ ap (λ (of : UnitIn). of.index) same in
     let inlined = subst (λ (of : UnitIn). all_inlined of.sections.tables chains ≡ drafts.inlined) same built.inlined in
     let outermost = subst (λ (of : UnitIn). (a : ℕ) → outermost_at of.sections.tables chains a ≡ least_owner drafts.outermost a) same built.outermost in
-    let tree = is-tree of read.0 drafts read.1 chains read.2 read.3 index c.at.result.within built.functions inlined outermost in
+    let room = subst (λ (of : UnitIn). chains.ranges ≤ most_listed of.unit + length drafts.functions) same built.few in
+    let tree = is-tree of read.0 drafts read.1 chains read.2 read.3 index c.at.result.within built.functions inlined outermost room in
     of-file c.at.result c.in_ok-units.units.value chains.unit chains (c.at.ensures.sections ∙ c.deref.ensures ∙ sym c.in_ok-units.ensures) (sym index) tree

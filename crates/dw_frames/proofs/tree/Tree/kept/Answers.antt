@@ -1,0 +1,16 @@
+use Rattle.std.proofs.Common.{◌≤◌, ◌+◌, ◌-◌, subst, arith}
+use Rattle.dw_model.specs.Tree.{Node}
+use Rattle.dw_frames.specs.Drafts.{is_kept}
+use Rattle.dw_frames.specs.Kept.{most_listed}
+use Rattle.dw_frames.specs.Tree.{nodes_of}
+use Rattle.dw_frames.specs.TreeInside.{unit_of_tree}
+use Rattle.dw_frames.specs.UnitIn.{UnitIn}
+use Rattle.dw_frames.proofs.CountLemmas.{unit-few}
+use Rattle.dw_frames.proofs.tree.Tree.kept.Goals as goal
+
+pub returns-clause-bytes : goal.returns-clause-bytes
+returns-clause-bytes c =
+    let of = unit_of_tree c.self.inside in
+    let few = c.self.invariant.few in
+    let functions = unit-few of.sections of.unit (λ (node : Node). is_kept of.sections of.unit node.entry) (nodes_of of.sections of.unit) c.self.invariant.read in
+    subst (λ (of : UnitIn). c.self.inside.chains.ranges ≤ most_listed of.unit + (of.unit.end - of.unit.first_entry)) c.self.view_is (omega (arith, few, functions))
