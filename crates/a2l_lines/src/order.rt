@@ -10,17 +10,19 @@ use std::alloc::{AllocError, Global};
 use std::mem;
 use ticket_core::Query;
 
-/// The order in which queries are best asked by a pool: the index of each, after its turn. Those of
-/// a unit are asked together, of 16 units at a time, the largest first; of these 16 the first query
-/// of each comes first, and the others are evenly mixed.
+/// The order in which queries are best asked by a pool of so many workers: the index of each, after
+/// its turn. Those of a unit are asked together, the largest unit first: of one unit at a time by
+/// one worker, and else of 16 at a time; of these 16 the first query of each comes first, and the
+/// others are evenly mixed.
 pub fn order_of(
     alloc: Global,
     image: &Image<'_>,
     queries: &[Query],
+    workers: usize,
 ) -> Result<Vec<(Turn, usize)>, AllocError>
     ensures { IfOk result (λ order. IsOrder queries.now order.items) }
 {
-    let mut turns = Turns::new(alloc, image, queries)?;
+    let mut turns = Turns::new(alloc, image, queries, workers)?;
     let mut order = Vec::new(alloc);
     for i in 0..queries.len() {
         order.push((turns.next(i), i))?;

@@ -84,7 +84,7 @@ pub fn answers_of<'a, R: Threads + Wait + Sync, G: Gate + Sync>(
     requires fits { PoolFits shape (length queries.now) }
     ensures answers { IfOk result (λ answers. AreAnswersOf image.now queries.now answers.items) }
 {
-    let order = order_of(alloc, image, queries)?;
+    let order = order_of(alloc, image, queries, shape.workers)?;
     let asked = in_order(alloc, queries, &order)?;
     let found = match run_pool(rt, alloc, image, shape, &asked, gate) {
         Ok(found) => found,

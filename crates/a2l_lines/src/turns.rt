@@ -5,8 +5,17 @@ use dw_symbols::Image;
 use std::alloc::{AllocError, Global};
 use ticket_core::Query;
 
-/// How many units are asked at a time: as many as a worker keeps.
+/// How many units are asked at a time where several workers share them: as many as a worker keeps.
 pub const WAVE: usize = 16;
+
+/// How many units are asked at a time. One worker reads one after the other: where two waves meet,
+/// it would drop units that are asked again.
+fn wave_of(workers: usize) -> usize {
+    if workers > 1 {
+        return WAVE;
+    }
+    1
+}
 
 /// How many turns of a wave come after the first of each of its units.
 const LATER: u64 = u32::MAX as u64 - 1;
@@ -21,6 +30,8 @@ const LAST: Turn = (u32::MAX, u32::MAX);
 #[derive(Debug, Drop)]
 pub struct Turns {
     survey: Survey,
+    /// How many units a wave has.
+    wave: usize,
     /// For each unit its rank by size; that of the largest is 0.
     ranks: Vec<usize>,
     /// For each unit how many of its queries have a turn.
@@ -45,8 +56,8 @@ fn ranks_of(alloc: Global, loads: &[Load]) -> Result<Vec<usize>, AllocError> {
 
 /// The turn of a unit's query after `seen` others of it: the first comes with the first of the
 /// other units of its wave, the others are spread evenly over the rest of the wave.
-fn turn(rank: usize, seen: u64, count: u64) -> Turn {
-    let wave = u32::try_from(rank / WAVE).unwrap_or(u32::MAX);
+fn turn(rank: usize, wave: usize, seen: u64, count: u64) -> Turn {
+    let wave = u32::try_from(rank.checked_div(wave).unwrap_or(0)).unwrap_or(u32::MAX);
     if seen == 0 {
         return (wave, 0);
     }
@@ -57,12 +68,18 @@ fn turn(rank: usize, seen: u64, count: u64) -> Turn {
 
 impl Turns {
     /// No query has a turn yet.
-    pub fn new(alloc: Global, image: &Image<'_>, queries: &[Query]) -> Result<Self, AllocError> {
+    pub fn new(
+        alloc: Global,
+        image: &Image<'_>,
+        queries: &[Query],
+        workers: usize,
+    ) -> Result<Self, AllocError> {
         let survey = survey_of(alloc, image, queries)?;
         let ranks = ranks_of(alloc, &survey.loads)?;
         let seen = vec![in alloc; 0u64; survey.loads.len()]?;
         Ok(Turns {
             survey,
+            wave: wave_of(workers),
             ranks,
             seen,
         })
@@ -79,7 +96,7 @@ impl Turns {
         let Some(seen) = self.seen.get_mut(*unit) else {
             return LAST;
         };
-        let turn = turn(*rank, *seen, load.count);
+        let turn = turn(*rank, self.wave, *seen, load.count);
         *seen = seen.wrapping_add(1);
         turn
     }
