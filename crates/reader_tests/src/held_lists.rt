@@ -56,8 +56,45 @@ fn lists_read_for_each_address(rt: HostRuntime) -> Result<(), Fail> {
     )?;
     let units = shared_units(rt.alloc(), &file)?;
     let tree = tree_at(rt.alloc(), &units, 0)??;
+    assert_eq!(rt; tree.kept(), 4);
     for (a, offsets) in &CHAINS {
         expect_chain(&rt, rt.alloc(), &tree, *a, offsets)?;
+    }
+    Ok(())
+}
+
+/// The entries of a unit with so many subprograms of the list at 54, which has two ranges; in each
+/// one function is inlined of the list at 0, which has twenty.
+fn callers(alloc: Global, count: usize) -> Result<Vec<u8>, AllocError> {
+    let mut entries = Vec::new(alloc);
+    entries.push(1)?;
+    for _ in 0..count {
+        entries.extend_from_slice(&[2, 54, 0, 0, 0, 3, 0, 0, 0, 0, 0])?;
+    }
+    entries.push(0)?;
+    Ok(entries)
+}
+
+/// How many ranges are kept of so many callers, at most a quarter of the 14 bytes and 11 for each
+/// caller of the unit: those of two subprograms, since the second one's list is the first that is
+/// noted, and those of the inlined functions as long as they fit.
+const KEPT: [(usize, usize); 5] = [(1, 2), (7, 22), (8, 24), (20, 44), (100, 264)];
+
+#[test]
+fn few_ranges_of_one_list(rt: HostRuntime) -> Result<(), Fail> {
+    for (count, kept) in &KEPT {
+        let info = unit_of(rt.alloc(), &callers(rt.alloc(), *count)?)?;
+        let file = elf(
+            rt.alloc(),
+            &[
+                (Name::DebugInfo, &info),
+                (Name::DebugAbbrev, ABBREVS),
+                (Name::DebugRnglists, &lists(rt.alloc())?),
+            ],
+        )?;
+        let units = shared_units(rt.alloc(), &file)?;
+        let tree = tree_at(rt.alloc(), &units, 0)??;
+        assert_eq!(rt; tree.kept(), *kept, "{count} callers");
     }
     Ok(())
 }
