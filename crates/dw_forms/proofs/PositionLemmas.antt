@@ -1,10 +1,10 @@
 -- Where values are in the entries of a declaration.
-use Rattle.std.proofs.Common.{◌≡◌, ◌∙◌, ℕ, ℤ, ◌+◌, ◌<◌, Bool, true, false, cond, List, [], ◌∷◌, ◌++◌, length, map, take, drop, get_or, Option, Some, None, Ok, refl, sym, ap, subst}
+use Rattle.std.proofs.Common.{◌≡◌, ◌∙◌, ℕ, ℤ, ◌+◌, ◌<◌, Bool, true, false, List, [], ◌∷◌, ◌++◌, length, map, take, drop, get_or, replicate, Option, Some, None, Ok, refl, sym, ap, subst}
 use Rattle.std.specs.Prelude.{nat_eq, nat_le}
-use Rattle.std.specs.Map.{lookup}
 use Rattle.std.specs.Option.{option_map_or}
-use Rattle.std.proofs.lemmas.Bool.{eq-eqb, ne_eqb, eqb-true}
-use Rattle.std.proofs.lemmas.List.{drop_more, take_more}
+use Rattle.std.proofs.lemmas.Bool.{eq-eqb, ne_eqb, eqb-true, eqb-false}
+use Rattle.std.proofs.lemmas.List.{drop_more, get_or-replicate, take_more}
+use Rattle.std.proofs.lemmas.List.Quantifiers.{position-Some}
 use Rattle.dw_model.specs.declared.dwarf.TheConstants.{OFFSET_SIZE_32}
 use Rattle.dw_model.specs.Results.{◌>>=◌}
 use Rattle.dw_model.specs.Faults.{Fault}
@@ -16,12 +16,15 @@ use Rattle.dw_forms.specs.declared.declaration.Spec.{Spec}
 use Rattle.dw_forms.specs.declared.positions.FixedValue.{FixedValue}
 use Rattle.dw_forms.specs.declared.positions.Reached.{Reached}
 use Rattle.dw_forms.specs.declared.positions.Position.{Position}
-use Rattle.dw_forms.specs.declared.positions.Position.TheVariants.{Unknown}
+use Rattle.dw_forms.specs.declared.positions.Positions.{Positions}
+use Rattle.dw_forms.specs.declared.positions.Position.TheVariants.{Absent, Declared, Fixed, After, Unknown}
 use Rattle.dw_forms.specs.Spec.{spec_shown}
 use Rattle.dw_forms.specs.Size.{value_size, place_behind}
 use Rattle.dw_forms.specs.Steps.{Passed, bytes_passed, step_passed, steps_passed}
-use Rattle.dw_forms.specs.Positions.{first_named, numbered, value_named, Known, position_in, ArePositions, IsDeclared, IsPosition, value_in, value_after, IsFirstAfter}
-use Rattle.dw_forms.specs.Reached.{Leaves, IsPassed}
+use Rattle.dw_forms.specs.Positions.{first_named, numbered, value_named, position_in, ArePositions, IsDeclared, IsPosition, value_in, value_after, IsFirstAfter}
+use Rattle.dw_forms.specs.declared.names.TheConstants.{COUNT, NAMES}
+use Rattle.dw_forms.specs.Names.{index_of}
+use Rattle.dw_forms.specs.Reached.{Leaves, AreFound, AreNoted, IsFound, IsPassed}
 use Rattle.dw_forms.proofs.SizeLemmas.{on, same-behind, nothing-read, value-skips}
 use Rattle.dw_forms.proofs.StepsLemmas.{in-turn, same-last, one-more, first-step}
 use Rattle.dw_forms.proofs.FirstValueLemmas.{first-read, found-here, found-later}
@@ -126,30 +129,64 @@ pub passed-split : (name : ℕ) (steps : List FixedValue) (i : ℕ) (reached : O
 passed-split name steps i reached all specs spec h passed =
     subst (λ (left : List Spec). IsPassed name steps all reached (map spec_shown left)) (drop_more specs i spec h) passed
 
+-- ---- a list of positions
+
+pub found-is : (name : ℕ) (steps : List FixedValue) (position : Position) (specs : List Specification) (reached : Option Reached) (left : List Specification) → (position ≡ Absent → ⊥) → IsFound name steps position specs reached left → IsPosition steps name position specs
+found-is name steps Absent specs reached left there found = absurd (there refl)
+found-is name steps (Declared number) specs reached left there found = found
+found-is name steps (Fixed fixed) specs reached left there found = found
+found-is name steps (After count fixed) specs reached left there found = found
+found-is name steps Unknown specs reached left there found = tt
+
+pub is-found : (name : ℕ) (steps : List FixedValue) (position : Position) (specs : List Specification) (reached : Option Reached) (left : List Specification) → (position ≡ Absent → ⊥) → IsPosition steps name position specs → IsFound name steps position specs reached left
+is-found name steps Absent specs reached left there is = absurd (there refl)
+is-found name steps (Declared number) specs reached left there is = is
+is-found name steps (Fixed fixed) specs reached left there is = is
+is-found name steps (After count fixed) specs reached left there is = is
+is-found name steps Unknown specs reached left there is = tt
+
+-- one more is passed
+pub found-further : (name : ℕ) (steps : List FixedValue) (position : Position) (specs : List Specification) (reached after : Option Reached) (left others : List Specification) → (IsPassed name steps specs reached left → IsPassed name steps specs after others) → IsFound name steps position specs reached left → IsFound name steps position specs after others
+found-further name steps Absent specs reached after left others further found = further found
+found-further name steps (Declared number) specs reached after left others further found = found
+found-further name steps (Fixed fixed) specs reached after left others further found = found
+found-further name steps (After count fixed) specs reached after left others further found = found
+found-further name steps Unknown specs reached after left others further found = tt
+
+-- one more is passed, which was noted
+pub noted-further : (noted : ℕ) (steps : List FixedValue) (list : List Position) (specs : List Specification) (reached after : Option Reached) (left others : List Specification) → ((name : ℕ) → (noted ≡ name → ⊥) → IsPassed name steps specs reached left → IsPassed name steps specs after others) → AreNoted noted steps list specs reached left → AreFound steps list specs after others
+noted-further noted steps list specs reached after left others further are name = by_test (nat_eq noted name) refl
+  where
+    by_test : (b : Bool) → nat_eq noted name ≡ b → IsFound name steps (position_in list name) specs after others
+    by_test true e =
+        let told = (are name).1 (eqb-true noted name e) in
+        is-found name steps (position_in list name) specs after others told.0 told.1
+    by_test false e =
+        let apart = eqb-false noted name e in
+        found-further name steps (position_in list name) specs reached after left others (further name apart) ((are name).0 apart)
+
 -- none is left
-pub absent : (name : ℕ) (steps : List FixedValue) (i : ℕ) (reached : Option Reached) (all : List Specification) (specs : List Spec) → drop i specs ≡ [] → IsPassed name steps all reached (map spec_shown (drop i specs)) → first_named name all ≡ None
-absent name steps i reached all specs none passed = passed.none ∙ ap (λ (left : List Spec). first_named name (map spec_shown left)) none
+pub found-all : (name : ℕ) (steps : List FixedValue) (position : Position) (specs : List Specification) (reached : Option Reached) → IsFound name steps position specs reached [] → IsPosition steps name position specs
+found-all name steps Absent specs reached found = found.none
+found-all name steps (Declared number) specs reached found = found
+found-all name steps (Fixed fixed) specs reached found = found
+found-all name steps (After count fixed) specs reached found = found
+found-all name steps Unknown specs reached found = tt
 
--- ---- a table of names
+-- at first none is there
+pub none-noted : (name : ℕ) (steps : List FixedValue) (specs : List Specification) → IsFound name steps (position_in (replicate COUNT Absent) name) specs (Some (record { count = 0; offset = 0 })) specs
+none-noted name steps specs = by_index (index_of name) refl
+  where
+    by_index : (index : Option ℕ) → index_of name ≡ index → IsFound name steps (option_map_or (λ index. get_or (replicate COUNT Absent) index Unknown) index Unknown) specs (Some (record { count = 0; offset = 0 })) specs
+    by_index None e = tt
+    by_index (Some index) e =
+        let within = (position-Some (nat_eq name) NAMES index 0 e).0 in
+        subst (λ (position : Position). IsFound name steps position specs (Some (record { count = 0; offset = 0 })) specs) (sym (get_or-replicate COUNT index Absent Unknown within)) (passed-none name steps specs)
 
-module _ (steps : List FixedValue) where
-  -- each is right
-  abbrev pub AllPositions : List Specification → Known → Type 0
-  AllPositions specs [] = Unit {0}
-  AllPositions specs (first ∷ known) = IsPosition steps first.0 first.1 specs × AllPositions specs known
-
-  is-position : (specs : List Specification) (known : Known) → AllPositions specs known → (name : ℕ) → IsPosition steps name (position_in known name) specs
-  is-position specs [] right name = tt
-  is-position specs (first ∷ known) right name = by_name (is-position specs known right.1 name) (nat_eq name first.0) refl
-    where
-      by_name : IsPosition steps name (position_in known name) specs → (b : Bool) → nat_eq name first.0 ≡ b → IsPosition steps name (option_map_or (λ position. position) (cond b (Some first.1) (lookup (nat_eq name) known)) Unknown) specs
-      by_name others true same = subst (λ (n : ℕ). IsPosition steps n first.1 specs) (sym (eqb-true name first.0 same)) right.0
-      by_name others false same = others
-
-  pub are-positions : (specs : List Specification) (known : Known) → AllPositions specs known → ArePositions steps known specs
-  are-positions specs known right name =
-      let is = is-position specs known right name in
-      (λ e. subst (λ (position : Position). IsPosition steps name position specs) e is, λ number e. subst (λ (position : Position). IsPosition steps name position specs) e is, λ fixed e. subst (λ (position : Position). IsPosition steps name position specs) e is, λ count fixed e. subst (λ (position : Position). IsPosition steps name position specs) e is)
+-- each is right
+pub are-positions : (steps : List FixedValue) (positions : Positions) (specs : List Specification) → ((name : ℕ) → IsPosition steps name (position_in positions.list name) specs) → ArePositions steps positions specs
+are-positions steps positions specs right name =
+    (λ e. subst (λ (position : Position). IsPosition steps name position specs) e (right name), λ number e. subst (λ (position : Position). IsPosition steps name position specs) e (right name), λ fixed e. subst (λ (position : Position). IsPosition steps name position specs) e (right name), λ count fixed e. subst (λ (position : Position). IsPosition steps name position specs) e (right name))
 
 -- ---- what the code finds
 

@@ -1,6 +1,7 @@
 pub mod AbbrevsInside
 pub mod Declaration
 pub mod Fault
+pub mod Names
 pub mod Numbers
 pub mod Pairs
 pub mod PairsInside

@@ -1,14 +1,14 @@
 -- Where values are in the entries of a declaration.
-use Rattle.std.specs.Prelude.{◌≡◌, ℕ, ℤ, List, [], ◌∷◌, Option, Some, None, Result, Ok, Err, find, take, option_map, nat_eq, ◌==◌}
-use Rattle.std.specs.Map.{lookup}
+use Rattle.std.specs.Prelude.{◌≡◌, ℕ, ℤ, List, [], ◌∷◌, Option, Some, None, Result, Ok, Err, find, get_or, take, option_map, ◌==◌}
 use Rattle.std.specs.Option.{option_map_or}
-use Rattle.dw_model.specs.declared.dwarf.TheConstants.{OFFSET_SIZE_32, DW_AT_abstract_origin, DW_AT_call_column, DW_AT_call_file, DW_AT_call_line, DW_AT_high_pc, DW_AT_linkage_name, DW_AT_low_pc, DW_AT_name, DW_AT_ranges, DW_AT_specification, DW_FORM_implicit_const}
+use Rattle.dw_model.specs.declared.dwarf.TheConstants.{OFFSET_SIZE_32, DW_FORM_implicit_const}
 use Rattle.dw_model.specs.Results.{◌>>=◌}
 use Rattle.dw_model.specs.Faults.{Fault}
 use Rattle.dw_model.specs.Reading.{Place}
 use Rattle.dw_model.specs.Form.{Value, value_at}
 use Rattle.dw_model.specs.Abbrev.{Specification}
 use Rattle.dw_model.specs.Entry.{Attribute, attributes_at}
+use Rattle.dw_forms.specs.Names.{index_of}
 use Rattle.dw_forms.specs.Steps.{bytes_passed, list_of, steps_passed}
 use Rattle.dw_forms.specs.declared.steps.Steps.{Steps}
 use Rattle.dw_forms.specs.declared.positions.FixedValue.{FixedValue}
@@ -55,37 +55,19 @@ IsPosition steps name (Fixed fixed) specifications = IsFirstAfter [] fixed name 
 IsPosition steps name (After count fixed) specifications = IsFirstAfter (take count steps) fixed name specifications
 IsPosition steps name Unknown specifications = Unit {0}
 
--- what is known of some names
-abbrev pub Known : Type 0
-Known = List (ℕ × Position)
-
-abbrev pub known_of : Positions → Known
-known_of positions =
-    (DW_AT_ranges, positions.ranges)
-    ∷ (DW_AT_low_pc, positions.low_pc)
-    ∷ (DW_AT_high_pc, positions.high_pc)
-    ∷ (DW_AT_call_file, positions.call_file)
-    ∷ (DW_AT_call_line, positions.call_line)
-    ∷ (DW_AT_call_column, positions.call_column)
-    ∷ (DW_AT_linkage_name, positions.linkage_name)
-    ∷ (DW_AT_name, positions.name)
-    ∷ (DW_AT_abstract_origin, positions.abstract_origin)
-    ∷ (DW_AT_specification, positions.specification)
-    ∷ []
-
--- what is known of a name
-abbrev pub position_in : Known → ℕ → Position
-position_in known name = option_map_or (λ position. position) (lookup (nat_eq name) known) Unknown
+-- the position in a list that has one for each name that describes a function
+abbrev pub position_in : List Position → ℕ → Position
+position_in list name = option_map_or (λ index. get_or list index Unknown) (index_of name) Unknown
 
 -- the steps of a declaration, where they are known
 abbrev pub steps_in : Option Steps → List FixedValue
 steps_in known = option_map_or list_of known []
 
--- what is known is so among these specifications
-abbrev pub ArePositions : List FixedValue → Known → List Specification → Type 0
-ArePositions steps known specifications =
+-- Each position is that of its name, where these are the steps.
+abbrev pub ArePositions : List FixedValue → Positions → List Specification → Type 0
+ArePositions steps positions specifications =
     (name : ℕ)
-    → (position_in known name ≡ Absent → first_named name specifications ≡ None)
-    × ((number : ℤ) → position_in known name ≡ Declared number → IsDeclared number name specifications)
-    × ((fixed : FixedValue) → position_in known name ≡ Fixed fixed → IsFirstAfter [] fixed name specifications)
-    × ((count : ℕ) (fixed : FixedValue) → position_in known name ≡ After count fixed → IsFirstAfter (take count steps) fixed name specifications)
+    → (position_in positions.list name ≡ Absent → first_named name specifications ≡ None)
+    × ((number : ℤ) → position_in positions.list name ≡ Declared number → IsDeclared number name specifications)
+    × ((fixed : FixedValue) → position_in positions.list name ≡ Fixed fixed → IsFirstAfter [] fixed name specifications)
+    × ((count : ℕ) (fixed : FixedValue) → position_in positions.list name ≡ After count fixed → IsFirstAfter (take count steps) fixed name specifications)

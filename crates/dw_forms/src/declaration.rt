@@ -4,7 +4,7 @@ ghost use Rattle.std.specs.Prelude.{◌≡◌};
 ghost use Rattle.dw_model.specs.declared.dwarf.TheConstants.{OFFSET_SIZE_32, OFFSET_SIZE_64};
 ghost use Rattle.dw_forms.specs.Numbers.{AreNumbers};
 ghost use Rattle.dw_forms.specs.Size.{size_in};
-ghost use Rattle.dw_forms.specs.Positions.{known_of, steps_in, ArePositions};
+ghost use Rattle.dw_forms.specs.Positions.{steps_in, ArePositions};
 ghost use Rattle.dw_forms.specs.Ranged.{may_have_ranges};
 ghost use Rattle.dw_forms.specs.Steps.{AreSteps};
 
@@ -54,7 +54,7 @@ pub struct Decl<'a> {
     ghost steps_are: { AreSteps steps specs },
     /// Where the values are that describe a function.
     positions: Positions,
-    ghost positions_are: { ArePositions (steps_in steps) (known_of positions) specs },
+    ghost positions_are: { ArePositions (steps_in steps) positions specs },
     /// Numbers of the declaration, where 32 bits don't hold one of them.
     numbers: Vec<Number>,
     ghost numbers_are: { AreNumbers numbers.items specs },

@@ -6,6 +6,7 @@ mod declaration;
 mod fault;
 mod first_fault;
 mod form;
+mod names;
 mod numbers;
 mod pairs;
 mod positions;

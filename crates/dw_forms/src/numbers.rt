@@ -7,26 +7,9 @@ ghost use Rattle.dw_forms.specs.Numbers.{AreNumbers};
 ghost use Rattle.dw_forms.specs.Positions.{IsDeclared};
 
 use crate::declaration::Spec;
-use dw_model::dwarf::{
-    DW_AT_abstract_origin, DW_AT_call_column, DW_AT_call_file, DW_AT_call_line, DW_AT_high_pc,
-    DW_AT_linkage_name, DW_AT_low_pc, DW_AT_name, DW_AT_ranges, DW_AT_specification,
-    DW_FORM_implicit_const,
-};
+use crate::names::NAMES;
+use dw_model::dwarf::DW_FORM_implicit_const;
 use std::alloc::{AllocError, Global};
-
-/// The names whose values describe a function.
-const NAMES: [u64; 10] = [
-    DW_AT_ranges,
-    DW_AT_low_pc,
-    DW_AT_high_pc,
-    DW_AT_call_file,
-    DW_AT_call_line,
-    DW_AT_call_column,
-    DW_AT_linkage_name,
-    DW_AT_name,
-    DW_AT_abstract_origin,
-    DW_AT_specification,
-];
 
 /// The number of the first attribute of a name, where that is in the declaration.
 #[derive(Clone, Copy, Debug, PartialEq, Eq)]

@@ -4,23 +4,21 @@ ghost use Rattle.std.specs.Prelude.{◌≡◌, ◌∷◌, ℕ, [], None, Some, L
 ghost use Rattle.dw_model.specs.Abbrev.{Specification};
 ghost use Rattle.dw_model.specs.Answers.{ReadsOn};
 ghost use Rattle.dw_forms.specs.Declaration.{spec_shown};
-ghost use Rattle.dw_forms.specs.Positions.{known_of, numbered, position_in, value_after};
+ghost use Rattle.dw_forms.specs.Positions.{numbered, position_in, value_after};
 ghost use Rattle.dw_forms.specs.Positions.{ArePositions, IsPosition};
+ghost use Rattle.dw_forms.specs.declared.positions.Position.TheVariants.{Absent};
 ghost use Rattle.dw_forms.specs.Fault.{form_fault};
 ghost use Rattle.dw_forms.specs.Steps.{step_passed};
 ghost use Rattle.dw_forms.specs.Value.{value_shown};
-ghost use Rattle.dw_forms.specs.Reached.{IsPassed};
+ghost use Rattle.dw_forms.specs.Reached.{AreFound, AreNoted, IsPassed};
 
 use crate::declaration::Spec;
 use crate::fault::FormFault;
+use crate::names::{COUNT, index_of};
 use crate::size::size_of;
 use crate::value::{Value, read_value};
 use dw_bytes::{Cursor, Width};
-use dw_model::dwarf::{
-    DW_AT_abstract_origin, DW_AT_call_column, DW_AT_call_file, DW_AT_call_line, DW_AT_high_pc,
-    DW_AT_linkage_name, DW_AT_low_pc, DW_AT_name, DW_AT_ranges, DW_AT_specification,
-    DW_FORM_implicit_const,
-};
+use dw_model::dwarf::DW_FORM_implicit_const;
 
 /// The value of an attribute that is as far after a place in every entry of a declaration, in units
 /// of the 32-bit format.
@@ -110,7 +108,8 @@ fn short_number(spec: &Spec) -> Option<i32>
 /// The position of the value of an attribute that is in the entries, where it is known how far the
 /// values before it reach.
 fn position_in_entry(spec: &Spec, steps: &[FixedValue], reached: Option<Reached>) -> Position
-    ensures { (name : ℕ) (specs others : List Specification) → spec.now.name ≡ name
+    ensures there { result ≡ Absent → ⊥ }
+    ensures found { (name : ℕ) (specs others : List Specification) → spec.now.name ≡ name
         → IsPassed name steps.now specs reached (spec_shown spec.now ∷ others)
         → IsPosition steps.now name result specs }
 {
@@ -131,7 +130,8 @@ fn position_in_entry(spec: &Spec, steps: &[FixedValue], reached: Option<Reached>
 
 /// The position of the value of an attribute, where the values before it reach so far.
 fn position_at(spec: &Spec, steps: &[FixedValue], reached: Option<Reached>) -> Position
-    ensures { (name : ℕ) (specs others : List Specification) → spec.now.name ≡ name
+    ensures there { result ≡ Absent → ⊥ }
+    ensures found { (name : ℕ) (specs others : List Specification) → spec.now.name ≡ name
         → IsPassed name steps.now specs reached (spec_shown spec.now ∷ others)
         → IsPosition steps.now name result specs }
 {
@@ -170,75 +170,55 @@ fn reached_after(spec: &Spec, steps: &[FixedValue], reached: Option<Reached>) ->
     })
 }
 
-/// Where the value of the first attribute of a name is.
-fn position_of(specs: &[Spec], steps: &[FixedValue], name: u64) -> Position
-    ensures { IsPosition steps.now name result (map spec_shown specs.now) }
-{
-    let mut reached = Some(Reached {
-        count: 0,
-        offset: 0,
-    });
-    for spec in specs {
-        if spec.name == name {
-            return position_at(spec, steps, reached);
-        }
-        reached = reached_after(spec, steps, reached);
-    }
-    Position::Absent
-}
-
 /// Where the value of the first attribute of each name is that describes a function. So most are
 /// read without a look at those before them.
 #[derive(Clone, Copy, Debug, PartialEq, Eq)]
 pub(crate) struct Positions {
-    ranges: Position,
-    low_pc: Position,
-    high_pc: Position,
-    call_file: Position,
-    call_line: Position,
-    call_column: Position,
-    linkage_name: Position,
-    name: Position,
-    abstract_origin: Position,
-    specification: Position,
+    /// In the order of the names.
+    list: [Position; COUNT],
+}
+
+/// Notes the position of the value of an attribute that describes a function and is the first of
+/// its name, where the values before it reach so far.
+fn note(list: &mut [Position; COUNT], spec: &Spec, steps: &[FixedValue], reached: Option<Reached>)
+    ensures { (specs others : List Specification)
+        → AreFound steps.now list.old specs reached (spec_shown spec.now ∷ others)
+        → AreNoted spec.now.name steps.now list.new specs reached (spec_shown spec.now ∷ others) }
+{
+    let Some(index) = index_of(spec.name) else {
+        return;
+    };
+    match list[index] {
+        Position::Absent => list[index] = position_at(spec, steps, reached),
+        _ => {}
+    }
 }
 
 impl Positions {
     /// Those of the attributes for which a declaration asks, where these are its steps.
     pub(crate) fn of(specs: &[Spec], steps: &[FixedValue]) -> Self
-        ensures { ArePositions steps.now (known_of result) (map spec_shown specs.now) }
+        ensures { ArePositions steps.now result (map spec_shown specs.now) }
     {
-        Positions {
-            ranges: position_of(specs, steps, DW_AT_ranges),
-            low_pc: position_of(specs, steps, DW_AT_low_pc),
-            high_pc: position_of(specs, steps, DW_AT_high_pc),
-            call_file: position_of(specs, steps, DW_AT_call_file),
-            call_line: position_of(specs, steps, DW_AT_call_line),
-            call_column: position_of(specs, steps, DW_AT_call_column),
-            linkage_name: position_of(specs, steps, DW_AT_linkage_name),
-            name: position_of(specs, steps, DW_AT_name),
-            abstract_origin: position_of(specs, steps, DW_AT_abstract_origin),
-            specification: position_of(specs, steps, DW_AT_specification),
+        let mut list = [Position::Absent; COUNT];
+        let mut reached = Some(Reached {
+            count: 0,
+            offset: 0,
+        });
+        for spec in specs {
+            note(&mut list, spec, steps, reached);
+            reached = reached_after(spec, steps, reached);
         }
+        Positions { list }
     }
 
     /// Where the value of the first attribute of a name is.
     #[inline(always)]
     pub(crate) fn get(&self, name: u64) -> Position
-        ensures { result ≡ position_in (known_of self.now) name }
+        ensures { result ≡ position_in self.now.list name }
     {
-        match name {
-            DW_AT_ranges => self.ranges,
-            DW_AT_low_pc => self.low_pc,
-            DW_AT_high_pc => self.high_pc,
-            DW_AT_call_file => self.call_file,
-            DW_AT_call_line => self.call_line,
-            DW_AT_call_column => self.call_column,
-            DW_AT_linkage_name => self.linkage_name,
-            DW_AT_name => self.name,
-            DW_AT_abstract_origin => self.abstract_origin,
-            DW_AT_specification => self.specification,
-            _ => Position::Unknown,
+        match index_of(name) {
+            Some(index) => self.list[index],
+            None => Position::Unknown,
         }
     }
 }

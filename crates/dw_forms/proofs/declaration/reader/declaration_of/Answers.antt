@@ -7,7 +7,7 @@ use Rattle.dw_forms.specs.declared.positions.FixedValue.{FixedValue}
 use Rattle.dw_forms.specs.Declaration.{spec_shown}
 use Rattle.dw_forms.specs.Numbers.{AreNumbers}
 use Rattle.dw_forms.specs.Size.{size_in}
-use Rattle.dw_forms.specs.Positions.{known_of, steps_in, ArePositions}
+use Rattle.dw_forms.specs.Positions.{steps_in, ArePositions}
 use Rattle.dw_forms.specs.Pairs.{AreAt}
 use Rattle.dw_forms.specs.Ranged.{may_have_ranges}
 use Rattle.dw_forms.specs.Steps.{PassesBy}
@@ -30,5 +30,5 @@ invariant_of-result c =
       ranged_is = c.may_have_ranges-ranged.ensures ∙ ap (λ (specs : List Spec). may_have_ranges (map spec_shown specs)) c.as_slice-3.ensures ∙ ap may_have_ranges (sym same);
       steps_are = λ steps told. subst (λ (specs : List Specification). PassesBy steps (attributes_at OFFSET_SIZE_32 specs)) (sym same) (subst (λ (specs : List Spec). PassesBy steps (attributes_at OFFSET_SIZE_32 (map spec_shown specs))) c.as_slice-4.ensures (told-steps (attributes_at OFFSET_SIZE_32 (map spec_shown c.as_slice-4.result.now)) c.of-steps.result steps c.of-steps.ensures told));
       numbers_are = subst (AreNumbers c.in_ok-numbers.numbers.items) (sym same) (subst (λ (specs : List Spec). AreNumbers c.in_ok-numbers.numbers.items (map spec_shown specs)) c.as_slice-6.ensures c.in_ok-numbers.ensures);
-      positions_are = subst (ArePositions (steps_in c.of-steps.result) (known_of c.of-positions.result)) (sym same) (subst (λ (specs : List Spec). ArePositions (steps_in c.of-steps.result) (known_of c.of-positions.result) (map spec_shown specs)) c.as_slice-5.ensures (subst (λ (steps : List FixedValue). ArePositions steps (known_of c.of-positions.result) (map spec_shown c.as_slice-5.result.now)) c.known_steps.ensures c.of-positions.ensures));
+      positions_are = subst (ArePositions (steps_in c.of-steps.result) c.of-positions.result) (sym same) (subst (λ (specs : List Spec). ArePositions (steps_in c.of-steps.result) c.of-positions.result (map spec_shown specs)) c.as_slice-5.ensures (subst (λ (steps : List FixedValue). ArePositions steps c.of-positions.result (map spec_shown c.as_slice-5.result.now)) c.known_steps.ensures c.of-positions.ensures));
     }
