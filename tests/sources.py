@@ -14,7 +14,7 @@ import sys
 TOP = os.path.join(os.path.dirname(os.path.abspath(__file__)), '..')
 WIDEST, WIDEST_COMMENT = 120, 100
 # An edit takes the gate some 40 seconds of a processor.
-MOST_EDITS = 180
+MOST_EDITS = 185
 # `thiserror` is used by its attribute, and these by what stands for them in the sources.
 USES = {'thiserror': r'#\[derive\([^)]*\bError\b|\bthiserror\b'}
 

@@ -1,10 +1,10 @@
 //! The pieces of a span, found in order of address: those that touch and have one location are one.
 
-ghost use Rattle.std.specs.Prelude.{◌≡◌, ◌≤◌, OnOk, map};
+ghost use Rattle.std.specs.Prelude.{◌≡◌, ◌≤◌, IfOk, OnOk, map, option_map};
 ghost use Rattle.dw_model.specs.Pieces.{is_same, joins, with_piece};
 ghost use Rattle.dw_symbols.specs.Answer.{location_shown, piece_shown};
 ghost use Rattle.dw_line.specs.Lines.{lines_shown};
-ghost use Rattle.dw_symbols.specs.Pieces.{AddsStretch, AddsRows};
+ghost use Rattle.dw_symbols.specs.Pieces.{file_path, AddsStretch, AddsRows, IsPathOf};
 
 use crate::answer::{Location, Piece};
 use crate::location::location_at;
@@ -49,21 +49,66 @@ fn push_piece(pieces: &mut Vec<Piece>, next: Piece) -> Result<(), AllocError>
     Ok(())
 }
 
+/// The path of a file of a line table, which was found last.
+#[derive(Debug, Drop)]
+struct LastPath {
+    number: u64,
+    path: Option<Vec<u8>>,
+}
+
+/// The same path once more.
+fn copy_path(alloc: Global, path: &Option<Vec<u8>>) -> Result<Option<Vec<u8>>, AllocError>
+    ensures { IfOk result (λ copy. option_map (λ path. path.items) copy ≡ option_map (λ path. path.items) path.now) }
+{
+    let Some(path) = path else {
+        return Ok(None);
+    };
+    let mut copy = Vec::with_capacity(alloc, path.len())?;
+    copy.extend_from_slice(path)?;
+    Ok(Some(copy))
+}
+
+/// The path of a file of a line table. It is copied where it was found last, as for most stretches.
+fn path_of(
+    alloc: Global,
+    lines: &Lines<'_>,
+    number: u64,
+    last: &mut Option<LastPath>,
+) -> Result<Option<Vec<u8>>, AllocError>
+    requires { IsPathOf (lines_shown lines.now) last.old }
+    ensures path { IfOk result (λ found. option_map (λ path. path.items) found
+        ≡ file_path (lines_shown lines.now) number) }
+    ensures last { IsPathOf (lines_shown lines.now) last.new }
+{
+    if let Some(known) = last {
+        if known.number == number {
+            return copy_path(alloc, &known.path);
+        }
+    }
+    let path = lines.path(alloc, number)?;
+    let copy = copy_path(alloc, &path)?;
+    *last = Some(LastPath { number, path: copy });
+    Ok(path)
+}
+
 /// Adds a stretch of a line table, where it has a row.
 fn push_stretch(
     alloc: Global,
     lines: &Lines<'_>,
     stretch: Stretch,
+    last: &mut Option<LastPath>,
     pieces: &mut Vec<Piece>,
 ) -> Result<(), AllocError>
-    ensures { OnOk result (AddsStretch (lines_shown lines.now) stretch (map piece_shown pieces.old.items)
+    requires { IsPathOf (lines_shown lines.now) last.old }
+    ensures pieces { OnOk result (AddsStretch (lines_shown lines.now) stretch (map piece_shown pieces.old.items)
         (map piece_shown pieces.new.items)) }
+    ensures last { IsPathOf (lines_shown lines.now) last.new }
 {
     law_of_more_pieces();
     let Some(row) = stretch.row else {
         return Ok(());
     };
-    let path = lines.path(alloc, row.file)?;
+    let path = path_of(alloc, lines, row.file, last)?;
     let next = Piece {
         begin: stretch.begin,
         end: stretch.end,
@@ -87,10 +132,11 @@ pub(crate) fn push_rows(
         (map piece_shown pieces.new.items)) }
 {
     let mut walk = lines.walk(low, high);
+    let mut last = None;
     loop {
         let Some(stretch) = walk.next() else {
             return Ok(());
         };
-        push_stretch(alloc, lines, stretch, pieces)?;
+        push_stretch(alloc, lines, stretch, &mut last, pieces)?;
     }
 }

@@ -6,18 +6,18 @@ use Rattle.dw_symbols.specs.Pieces.{row_place, AddsStretch}
 use Rattle.dw_symbols.proofs.SpanLemmas.{adds_none, adds_one}
 use Rattle.dw_symbols.proofs.pieces.push_stretch.Goals as goal
 
-pub returns-in_default : goal.returns-in_default
-returns-in_default c =
+pub returns-in_default-clause-pieces : goal.returns-in_default-clause-pieces
+returns-in_default-clause-pieces c =
     adds_none (lines_shown c.args.lines.now) c.args.stretch (map piece_shown c.args.pieces.now.items) c.in_default.is c.law_of_more_pieces.ensures.none
 
-pub returns : goal.returns
-returns c =
+pub returns-clause-pieces : goal.returns-clause-pieces
+returns-clause-pieces c =
     let table = lines_shown c.args.lines.now in
     let stretch = c.args.stretch in
     let row = c.in-Some.row in
     let old = map piece_shown c.args.pieces.now.items in
     let place : location_shown c.location_at.result ≡ row_place table row =
-    c.location_at.ensures ∙ ap (λ (path : Option (List ℕ)). model.location_at path (Some row.line) (Some row.column)) c.in_ok-path.ensures in
+    c.location_at.ensures ∙ ap (λ (path : Option (List ℕ)). model.location_at path (Some row.line) (Some row.column)) c.in_ok-path.ensures.path in
     subst (AddsStretch table stretch old) (sym c.in_ok-push_piece.ensures)
     (adds_one table stretch row old (record { begin = stretch.begin; end = stretch.end; location = location_shown c.location_at.result }) c.in-Some.is
     (λ i. record { begin = stretch.begin; end = stretch.end; location = place i }) c.law_of_more_pieces.ensures.one)
