@@ -1,5 +1,5 @@
 -- Where the declarations begin that were read.
-use Rattle.std.specs.Prelude.{◌≡◌, ◌⊎◌, ◌+◌, ◌<◌, ℕ, List, Some, None, IsSome, slice_get}
+use Rattle.std.specs.Prelude.{◌≡◌, ◌⊎◌, ◌+◌, ◌<◌, ℕ, List, Option, Some, None, IfSome, IsSome, slice_get}
 use Rattle.std.specs.Ordering.{nat_cmp}
 use Rattle.std.specs.BTreeMap as tree
 use Rattle.dw_forms.specs.declared.run.Start.{Start}
@@ -7,6 +7,10 @@ use Rattle.dw_forms.specs.declared.run.Start.{Start}
 -- the start that each offset has
 abbrev pub Starts : Type 0
 Starts = tree.BTreeMap ℕ Start
+
+-- No offset above the last one has a start, and none at all where there is no last one.
+abbrev pub AreUpTo : Option ℕ → Starts → Type 0
+AreUpTo last starts = (offset : ℕ) → IfSome last (λ last. last < offset) → tree.get nat_cmp starts offset ≡ None
 
 -- None of these offsets has a start.
 abbrev pub AreApart : Starts → List ℕ → Type 0

@@ -2,13 +2,15 @@
 
 ghost use Rattle.std.specs.Prelude.{◌≡◌, ◌≤◌, [], Err, IfOk, IfErr, OnOk, OnErr, MatchOption, drop, length, map};
 ghost use Rattle.std.specs.Prelude.{option_map, slice_index_or, sum};
+ghost use Rattle.std.specs.Ordering.{nat_cmp};
+ghost use Rattle.std.specs.BTreeMap as tree;
 ghost use Rattle.dw_model.specs.Abbrev.{abbreviations, declared, next_declaration};
 ghost use Rattle.dw_model.specs.Reading.{items};
 ghost use Rattle.dw_forms.specs.Fault.{form_fault, HidesNoFault};
 ghost use Rattle.dw_forms.specs.Declaration.{declaration_shown};
 ghost use Rattle.dw_forms.specs.declared.run.Start.{Start};
 ghost use Rattle.dw_forms.specs.StoreInside.{sizes_of, tables_of, AreTabled};
-ghost use Rattle.dw_forms.specs.Starts.{AreAdded, AreApart, AreRising, AreTaken, IsAsBefore};
+ghost use Rattle.dw_forms.specs.Starts.{AreAdded, AreApart, AreRising, AreTaken, AreUpTo, IsAsBefore};
 ghost use Rattle.dw_forms.specs.Store.{table_from, HasTable, IsKept, IsRunAt, IsWithin};
 
 use crate::declaration::{Decl, next_decl};
@@ -32,6 +34,27 @@ fn fault_in_table(cursor: &mut Cursor<'_>) -> FormFault
     }
 }
 
+/// The last offset at which a table begins that was read.
+fn last_start(starts: &BTreeMap<usize, Start>) -> Option<usize>
+    ensures { AreUpTo result starts.now }
+{
+    let (last, _) = starts.last_key_value()?;
+    Some(*last)
+}
+
+/// Where the table begins that is at an offset, of starts of which this is the last. Past that one
+/// it isn't looked for: there are all tables of a file that no two units share.
+fn start_at(starts: &BTreeMap<usize, Start>, last: Option<usize>, offset: usize) -> Option<Start>
+    requires { AreUpTo last starts.now }
+    ensures { result ≡ tree.get nat_cmp starts.now offset }
+{
+    if offset > last? {
+        return None;
+    }
+    let start = starts.get(&offset)?;
+    Some(*start)
+}
+
 /// The declarations of a run, up to one that was read before, or to the end of their table; and
 /// where that one is. So none of them was read before.
 fn read_run<'a>(
@@ -43,10 +66,11 @@ fn read_run<'a>(
     ensures apart { IfOk result (λ found. AreApart starts.now
         (map (λ declaration. declaration.offset) found.0.items)) }
 {
+    let last = last_start(starts);
     let mut declarations = Vec::new(alloc);
     loop {
-        if let Some(start) = starts.get(&cursor.at()) {
-            return Ok((declarations, Some(*start)));
+        if let Some(start) = start_at(starts, last, cursor.at()) {
+            return Ok((declarations, Some(start)));
         }
         let Some(declaration) = next_decl(alloc, cursor)? else {
             return Ok((declarations, None));
