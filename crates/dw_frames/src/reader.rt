@@ -470,6 +470,8 @@ impl<'b, 'a> Reader<'b, 'a> {
 
     /// Keeps the next entry, where it is a function that has ranges. The error is `Depth` where it
     /// is too deep, `Ranges` where it is a function whose ranges can't be read, or `Memory`.
+    // Most entries are no functions: where this is inlined, they end here without a call.
+    #[inline(always)]
     pub(crate) fn keep(
         &mut self,
         next: Next<'b, 'a>,

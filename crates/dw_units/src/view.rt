@@ -72,6 +72,7 @@ impl<'b, 'a> EntryView<'b, 'a> {
     /// The value of the first attribute of a name, where it is of a kind that counts for the name;
     /// else the attribute is absent.
     #[tactic(auto, unfolding(dw_model::specs::Entry::attribute))]
+    #[inline(always)]
     pub fn attr(&self, name: u64) -> Option<Value<'a>>
         ensures { option_map value_shown result ≡ model.attribute name self.now }
     {

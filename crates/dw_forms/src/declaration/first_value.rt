@@ -85,6 +85,7 @@ impl<'a> Decl<'a> {
 
     /// The same in an entry of the declaration, mostly without a look at the values before it. An
     /// absent value, and one that is a number of the declaration, takes no look at the entry.
+    #[inline(always)]
     pub fn first_value<'b>(&self, name: u64, values: &Cursor<'b>, width: Width) -> Option<Value<'b>>
         ensures { (found : List Attribute × Place)
             → attributes_at (size_of width) self.now.specs values.now ≡ Ok found
