@@ -1,5 +1,6 @@
 //! Values, declarations, texts and addresses, worked out by hand from the standard's tables.
 
+use crate::expect::expect;
 use dw_bytes::{Cursor, Width};
 use dw_forms::{AbbrevStore, Abbrevs, Bases, Decl, FormFault, Spec, Tables, Value, read_value};
 use dw_model::dwarf::{
@@ -15,10 +16,11 @@ use dw_model::dwarf::{
     DW_FORM_udata,
 };
 use std::alloc::{AllocError, Global};
+use std::process::Abort;
 use std::test::Fail;
 
 /// The value of each form, of bytes that are one spelling of it.
-const ROWS: [(u64, &[u8], Value<'static>); 43] = [
+static ROWS: [(u64, &[u8], Value<'static>); 43] = [
     (
         DW_FORM_addr,
         &[1, 2, 3, 4, 5, 6, 7, 8],
@@ -112,74 +114,67 @@ const ROWS: [(u64, &[u8], Value<'static>); 43] = [
     (DW_FORM_indirect, &[0x16, 0x0b, 7], Value::Unsigned(7)),
 ];
 
+/// The value of a form in the 32-bit format, and how many bytes the cursor has passed then. No
+/// clause says what they are, so that its callers are proved soon.
+fn value_in(
+    bytes: &[u8],
+    form: u64,
+    implicit: Option<i64>,
+) -> (Result<Value<'_>, FormFault>, usize) {
+    let mut cursor = Cursor::new(bytes);
+    let read = read_value(&mut cursor, form, implicit, Width::Four);
+    (read, cursor.at())
+}
+
 #[test]
 fn value_of_each_form(rt: HostRuntime) {
-    for (form, bytes, value) in ROWS {
-        let mut cursor = Cursor::new(bytes);
-        assert_eq!(rt;
-            read_value(&mut cursor, form, None, Width::Four),
-            Ok(value),
-            "form {form}"
-        );
-        assert_eq!(rt; cursor.left(), 0, "form {form}");
-        let mut short = Cursor::new(bytes.split_at(bytes.len().saturating_sub(1)).0);
-        assert_eq!(rt;
-            read_value(&mut short, form, None, Width::Four),
-            Err(FormFault::End),
-            "form {form}"
-        );
-        assert_eq!(rt; short.at(), 0, "form {form}");
+    for (form, bytes, value) in &ROWS {
+        let whole = (Ok(*value), bytes.len());
+        expect(&rt, form, &value_in(bytes, *form, None), &whole);
+        let short = bytes.split_at(bytes.len().saturating_sub(1)).0;
+        let cut = (Err(FormFault::End), 0);
+        expect(&rt, form, &value_in(short, *form, None), &cut);
     }
 }
 
 #[test]
 fn values_without_bytes(rt: HostRuntime) {
-    let mut cursor = Cursor::new(&[]);
-    assert_eq!(rt;
-        read_value(&mut cursor, DW_FORM_flag_present, None, Width::Four),
-        Ok(Value::Flag(true))
-    );
-    assert_eq!(rt;
-        read_value(&mut cursor, DW_FORM_implicit_const, Some(-3), Width::Four),
-        Ok(Value::Signed(-3))
-    );
-    assert_eq!(rt;
-        read_value(&mut cursor, DW_FORM_implicit_const, None, Width::Four),
-        Err(FormFault::Form)
-    );
+    let flag = value_in(&[], DW_FORM_flag_present, None).0;
+    expect(&rt, "a flag", &flag, &Ok(Value::Flag(true)));
+    let number = value_in(&[], DW_FORM_implicit_const, Some(-3)).0;
+    expect(&rt, "a number", &number, &Ok(Value::Signed(-3)));
+    let nothing = value_in(&[], DW_FORM_implicit_const, None).0;
+    expect(&rt, "no number", &nothing, &Err(FormFault::Form));
 }
+
+/// A form, bytes that are none of its values, and why.
+static FAULTS: [(u64, &[u8], FormFault); 11] = [
+    (0, &[1], FormFault::Form),
+    (2, &[1], FormFault::Form),
+    (0x2d, &[1], FormFault::Form),
+    (0x1f01, &[1, 2, 3, 4], FormFault::Form),
+    (0x1f02, &[1, 2, 3, 4], FormFault::Form),
+    (DW_FORM_indirect, &[0x21, 1], FormFault::Form),
+    (DW_FORM_indirect, &[0x16, 0x16], FormFault::End),
+    (DW_FORM_block, &[5, 1], FormFault::End),
+    (DW_FORM_string, b"ab", FormFault::End),
+    (
+        DW_FORM_udata,
+        &[0xff, 0xff, 0xff, 0xff, 0xff, 0xff, 0xff, 0xff, 0xff, 2],
+        FormFault::Wide,
+    ),
+    (
+        DW_FORM_udata,
+        &[0xff, 0xff, 0xff, 0xff, 0xff, 0xff, 0xff, 0xff, 0xff, 0xff],
+        FormFault::End,
+    ),
+];
 
 #[test]
 fn faults_of_values(rt: HostRuntime) {
-    let rows: &[(u64, &[u8], FormFault)] = &[
-        (0, &[1], FormFault::Form),
-        (2, &[1], FormFault::Form),
-        (0x2d, &[1], FormFault::Form),
-        (0x1f01, &[1, 2, 3, 4], FormFault::Form),
-        (0x1f02, &[1, 2, 3, 4], FormFault::Form),
-        (DW_FORM_indirect, &[0x21, 1], FormFault::Form),
-        (DW_FORM_indirect, &[0x16, 0x16], FormFault::End),
-        (DW_FORM_block, &[5, 1], FormFault::End),
-        (DW_FORM_string, b"ab", FormFault::End),
-        (
-            DW_FORM_udata,
-            &[0xff, 0xff, 0xff, 0xff, 0xff, 0xff, 0xff, 0xff, 0xff, 2],
-            FormFault::Wide,
-        ),
-        (
-            DW_FORM_udata,
-            &[0xff, 0xff, 0xff, 0xff, 0xff, 0xff, 0xff, 0xff, 0xff, 0xff],
-            FormFault::End,
-        ),
-    ];
-    for (form, bytes, fault) in rows {
-        let mut cursor = Cursor::new(bytes);
-        assert_eq!(rt;
-            read_value(&mut cursor, *form, Some(1), Width::Four),
-            Err(*fault),
-            "form {form}"
-        );
-        assert_eq!(rt; cursor.at(), 0, "form {form}");
+    for (form, bytes, fault) in &FAULTS {
+        let unread = (Err(*fault), 0);
+        expect(&rt, form, &value_in(bytes, *form, Some(1)), &unread);
     }
 }
 
@@ -189,6 +184,21 @@ const TABLE: &[u8] = &[
     0xaa, 1, 0x11, 1, 3, 8, 0, 0, 2, 0x2e, 0, 0x3a, 0x21, 0x7f, 0x80, 0, 0, 9, 0x34, 2, 0, 0, 2, 1,
     0, 0, 0, 9, 2, 0, 0, 0, 0,
 ];
+
+/// A table of declarations. No clause says what it means, so that its callers are proved soon.
+fn table_at<'a>(alloc: Global, section: &'a [u8], offset: u64) -> Result<Abbrevs<'a>, FormFault> {
+    Abbrevs::read(alloc, section, offset)
+}
+
+/// The declaration of a code, in the same way.
+fn declared<'b, 'a>(table: &'b Abbrevs<'a>, code: u64) -> Result<&'b Decl<'a>, Fail> {
+    Ok(table.get(code).ok_or("a declaration")?)
+}
+
+/// A table has a declaration of a code.
+fn is_declared(table: &Abbrevs<'_>, code: u64) -> bool {
+    table.get(code).is_some()
+}
 
 /// The attributes of a declaration.
 fn pairs_of(alloc: Global, declaration: &Decl<'_>) -> Result<Vec<Spec>, AllocError> {
@@ -203,23 +213,38 @@ fn pairs_of(alloc: Global, declaration: &Decl<'_>) -> Result<Vec<Spec>, AllocErr
     Ok(pairs)
 }
 
+/// A table has the declarations of 1, 2 and 9 above, and no other.
+fn expect_declarations<A: Abort>(rt: &A, table: &Abbrevs<'_>) -> Result<(), Fail> {
+    let unit = declared(table, 1)?;
+    let found = (unit.code, unit.tag, unit.children);
+    expect(rt, "a unit", &found, &(1, 0x11, true));
+    let function = declared(table, 2)?;
+    let found = (function.tag, function.children, function.specs.len());
+    expect(rt, "a function", &found, &(0x2e, false, 1));
+    let variable = declared(table, 9)?;
+    let found = (variable.tag, variable.children);
+    expect(rt, "a variable", &found, &(0x34, true));
+    for code in [0, 3, u64::MAX] {
+        expect(rt, code, &is_declared(table, code), &false);
+    }
+    Ok(())
+}
+
 #[test]
 fn tables_of_declarations(rt: HostRuntime) -> Result<(), Fail> {
-    let table = Abbrevs::read(rt.alloc(), TABLE, 1)?;
-    let unit = table.get(1).ok_or("a unit")?;
-    assert_eq!(rt; (unit.code, unit.tag, unit.children), (1, 0x11, true));
-    let function = table.get(2).ok_or("a function")?;
-    assert_eq!(rt;
-        (function.tag, function.children, function.specs.len()),
-        (0x2e, false, 1)
-    );
-    let pairs = pairs_of(rt.alloc(), function)?;
-    assert_eq!(rt; pairs.len(), 1);
-    assert_eq!(rt; pairs.first().map(|spec| spec.implicit), Some(Some(-1)));
-    let variable = table.get(9).ok_or("a variable")?;
-    assert_eq!(rt; (variable.tag, variable.children), (0x34, true));
-    assert!(rt; table.get(0).is_none() && table.get(3).is_none() && table.get(u64::MAX).is_none());
+    let table = table_at(rt.alloc(), TABLE, 1)?;
+    expect_declarations(&rt, &table)?;
+    let pairs = pairs_of(rt.alloc(), declared(&table, 2)?)?;
+    expect(&rt, "pairs", &pairs.len(), &1);
+    let number = pairs.first().map(|spec| spec.implicit);
+    expect(&rt, "the number", &number, &Some(Some(-1)));
     Ok(())
+}
+
+/// How many bytes the values of an entry take in the 32-bit format. No clause says how many, so
+/// that its callers are proved soon.
+fn size_of(declaration: &Decl<'_>) -> Option<usize> {
+    declaration.size(Width::Four)
 }
 
 /// How many bytes the values of entries take: forms of one size, one of a length of its own, no
@@ -233,14 +258,46 @@ fn sizes_of_declarations(rt: HostRuntime) -> Result<(), Fail> {
         4, 0x34, 0, 0x3b, 0x16, 0, 0, // 4
         0,
     ];
-    let table = Abbrevs::read(rt.alloc(), bytes, 0)?;
+    let table = table_at(rt.alloc(), bytes, 0)?;
     let rows: &[(u64, Option<usize>)] = &[(1, Some(10)), (2, None), (3, Some(0)), (4, None)];
     for (code, size) in rows {
-        let declaration = table.get(*code).ok_or("a declaration")?;
-        assert_eq!(rt; declaration.size(Width::Four), *size, "of {code}");
+        let declaration = declared(&table, *code)?;
+        expect(&rt, code, &size_of(declaration), size);
     }
     Ok(())
 }
+
+/// How many bytes the steps of a declaration pass.
+fn passed_by(declaration: &Decl<'_>, values: &[u8]) -> Result<Result<usize, FormFault>, Fail> {
+    let steps = declaration.steps(Width::Four).ok_or("steps")?;
+    let mut cursor = Cursor::new(values);
+    match steps.pass(&mut cursor) {
+        Ok(()) => Ok(Ok(cursor.at())),
+        Err(fault) => Ok(Err(fault)),
+    }
+}
+
+/// A code, values, and how many bytes of them the steps of its declaration pass, or why they don't.
+static PASSED: [(u64, &[u8], Result<usize, FormFault>); 6] = [
+    (
+        1,
+        &[7, 0x85, 1, 1, 2, 3, 4, 2, 9, 9, b'a', 0, 1, 2, 9],
+        Ok(14),
+    ),
+    (
+        1,
+        &[7, 0x85, 1, 1, 2, 3, 4, 2, 9, 9, b'a', 0, 1],
+        Err(FormFault::End),
+    ),
+    (1, &[7, 5, 1, 2, 3, 4, 3, 9], Err(FormFault::End)),
+    (
+        1,
+        &[7, 255, 255, 255, 255, 255, 255, 255, 255, 255, 2],
+        Err(FormFault::Wide),
+    ),
+    (3, &[1, 1], Err(FormFault::Form)),
+    (3, &[], Err(FormFault::End)),
+];
 
 /// Values of which some have no one size are passed over by steps, up to the first fault; a seventh
 /// of them has no step, and offsets of eight bytes have none.
@@ -252,41 +309,26 @@ fn steps_of_declarations(rt: HostRuntime) -> Result<(), Fail> {
         3, 0x34, 0, 0x3b, 0x0b, 0x39, 0x7f, 0, 0, // 3
         0,
     ];
-    let table = Abbrevs::read(rt.alloc(), bytes, 0)?;
-    let rows: &[(u64, &[u8], Result<usize, FormFault>)] = &[
-        (
-            1,
-            &[7, 0x85, 1, 1, 2, 3, 4, 2, 9, 9, b'a', 0, 1, 2, 9],
-            Ok(14),
-        ),
-        (
-            1,
-            &[7, 0x85, 1, 1, 2, 3, 4, 2, 9, 9, b'a', 0, 1],
-            Err(FormFault::End),
-        ),
-        (1, &[7, 5, 1, 2, 3, 4, 3, 9], Err(FormFault::End)),
-        (
-            1,
-            &[7, 255, 255, 255, 255, 255, 255, 255, 255, 255, 2],
-            Err(FormFault::Wide),
-        ),
-        (3, &[1, 1], Err(FormFault::Form)),
-        (3, &[], Err(FormFault::End)),
-    ];
-    for (code, values, passed) in rows {
-        let declaration = table.get(*code).ok_or("a declaration")?;
-        let steps = declaration.steps(Width::Four).ok_or("steps")?;
-        let mut cursor = Cursor::new(values);
-        let found = match steps.pass(&mut cursor) {
-            Ok(()) => Ok(cursor.at()),
-            Err(fault) => Err(fault),
-        };
-        assert_eq!(rt; found, *passed, "of {code}");
+    let table = table_at(rt.alloc(), bytes, 0)?;
+    for (code, values, passed) in &PASSED {
+        let declaration = declared(&table, *code)?;
+        expect(&rt, code, &passed_by(declaration, values)?, passed);
         assert!(rt; declaration.steps(Width::Eight).is_none());
     }
-    let many = table.get(2).ok_or("a declaration")?;
+    let many = declared(&table, 2)?;
     assert!(rt; many.steps(Width::Four).is_none());
     Ok(())
+}
+
+/// The first value of a name is the one wanted, in both formats.
+fn is_first(
+    declaration: &Decl<'_>,
+    name: u64,
+    values: &Cursor<'_>,
+    wanted: &Option<Value<'static>>,
+) -> bool {
+    declaration.first_value(name, values, Width::Four) == *wanted
+        && declaration.first_value(name, values, Width::Eight) == *wanted
 }
 
 /// The first value of a name: after values of one size, after a text, of two, and of none.
@@ -298,8 +340,8 @@ fn first_values(rt: HostRuntime) -> Result<(), Fail> {
     let values = Cursor::new(&[
         7, 1, 2, 3, 4, 5, 6, 7, 8, b'a', b'b', 0, 9, 0, 0, 0, b'c', 0,
     ]);
-    let table = Abbrevs::read(rt.alloc(), bytes, 0)?;
-    let declaration = table.get(1).ok_or("a declaration")?;
+    let table = table_at(rt.alloc(), bytes, 0)?;
+    let declaration = declared(&table, 1)?;
     let rows: &[(u64, Option<Value<'static>>)] = &[
         (DW_AT_low_pc, Some(Value::Address(0x0807_0605_0403_0201))),
         (DW_AT_name, Some(Value::Inline(b"ab"))),
@@ -309,13 +351,12 @@ fn first_values(rt: HostRuntime) -> Result<(), Fail> {
         (0x49, None),
     ];
     for (name, value) in rows {
-        for width in [Width::Four, Width::Eight] {
-            assert_eq!(rt;
-                declaration.first_value(*name, &values, width),
-                *value,
-                "of {name}"
-            );
-        }
+        expect(
+            &rt,
+            name,
+            &is_first(declaration, *name, &values, value),
+            &true,
+        );
     }
     Ok(())
 }
@@ -329,8 +370,8 @@ fn declared_numbers(rt: HostRuntime) -> Result<(), Fail> {
         0x80, 0x80, 8, 0x57, 0x21, 0x7f, 0x12, 0x21, 0x80, 0x80, 0x80, 0x80, 0x80, 0x20, 0x58,
         0x21, 1, 0, 0, 0,
     ];
-    let table = Abbrevs::read(rt.alloc(), bytes, 0)?;
-    let declaration = table.get(1).ok_or("a declaration")?;
+    let table = table_at(rt.alloc(), bytes, 0)?;
+    let declaration = declared(&table, 1)?;
     let rows: &[(u64, Option<Value<'static>>)] = &[
         (DW_AT_call_file, Some(Value::Signed(0x7fff_ffff))),
         (DW_AT_call_line, Some(Value::Signed(0x8000_0000))),
@@ -339,19 +380,14 @@ fn declared_numbers(rt: HostRuntime) -> Result<(), Fail> {
         (DW_AT_low_pc, None),
     ];
     for (name, value) in rows {
-        for width in [Width::Four, Width::Eight] {
-            assert_eq!(rt;
-                declaration.first_value(*name, &Cursor::new(&[]), width),
-                *value,
-                "of {name}"
-            );
-        }
+        let found = is_first(declaration, *name, &Cursor::new(&[]), value);
+        expect(&rt, name, &found, &true);
     }
     Ok(())
 }
 
 /// Bytes, the offset of a table of declarations in them, and why it can't be read, if it can't.
-const ENDS: [(&[u8], u64, Option<FormFault>); 11] = [
+static ENDS: [(&[u8], u64, Option<FormFault>); 11] = [
     (&[], 0, None),
     (&[1, 0x11, 0, 0, 0], 0, None),
     (TABLE, 33, None),
@@ -374,8 +410,8 @@ const ENDS: [(&[u8], u64, Option<FormFault>); 11] = [
 #[test]
 fn tables_that_end(rt: HostRuntime) {
     for (i, (bytes, offset, fault)) in ENDS.iter().enumerate() {
-        let read = Abbrevs::read(rt.alloc(), bytes, *offset);
-        assert_eq!(rt; read.err(), *fault, "table {i}");
+        let read = table_at(rt.alloc(), bytes, *offset);
+        expect(&rt, i, &read.err(), fault);
     }
 }
 
@@ -386,7 +422,7 @@ const INSIDE: &[u8] = &[
 ];
 
 /// The offset of a table, a code, and the tag of its first declaration there.
-const INSIDE_ROWS: [(u64, u64, Option<u64>); 17] = [
+static INSIDE_ROWS: [(u64, u64, Option<u64>); 17] = [
     (0, 1, Some(0x11)),
     (0, 2, Some(0x2e)),
     (0, 7, Some(0x35)),
@@ -407,12 +443,26 @@ const INSIDE_ROWS: [(u64, u64, Option<u64>); 17] = [
 ];
 
 /// In which order the tables are asked for.
-const ORDERS: [[u64; 6]; 4] = [
+static ORDERS: [[u64; 6]; 4] = [
     [0, 1, 5, 10, 15, 20],
     [20, 15, 10, 5, 1, 0],
     [10, 0, 20, 1, 15, 5],
     [1, 15, 0, 5, 20, 10],
 ];
+
+/// The tag of the declaration of a code, in the table at an offset.
+fn tag_in(
+    alloc: Global,
+    store: &mut AbbrevStore<'_>,
+    offset: u64,
+    code: u64,
+) -> Result<Option<u64>, FormFault> {
+    let start = store.start(alloc, offset)?;
+    let Some(declaration) = store.table(start).get(code) else {
+        return Ok(None);
+    };
+    Ok(Some(declaration.tag))
+}
 
 /// Tables that begin inside one another have what is declared from their beginning on, whichever
 /// was read first.
@@ -424,13 +474,8 @@ fn tables_inside_one_another(rt: HostRuntime) -> Result<(), Fail> {
             store.start(rt.alloc(), *offset)?;
         }
         for (offset, code, tag) in &INSIDE_ROWS {
-            let start = store.start(rt.alloc(), *offset)?;
-            let found = store.table(start).get(*code);
-            assert_eq!(rt;
-                found.map(|declaration| declaration.tag),
-                *tag,
-                "{code} at {offset}"
-            );
+            let found = tag_in(rt.alloc(), &mut store, *offset, *code)?;
+            expect(&rt, (*code, *offset), &found, tag);
         }
     }
     Ok(())
@@ -460,7 +505,7 @@ const NO_BASES: Bases = Bases {
 };
 
 /// The texts to which values lead.
-const TEXTS: [(Value<'static>, Option<&[u8]>); 17] = [
+static TEXTS: [(Value<'static>, Option<&[u8]>); 17] = [
     (Value::Inline(b"x"), Some(b"x")),
     (Value::Str(0), Some(b"ab")),
     (Value::Str(1), Some(b"b")),
@@ -481,7 +526,7 @@ const TEXTS: [(Value<'static>, Option<&[u8]>); 17] = [
 ];
 
 /// The addresses to which values lead.
-const ADDRESSES: [(Value<'static>, Option<u64>); 6] = [
+static ADDRESSES: [(Value<'static>, Option<u64>); 6] = [
     (Value::Address(7), Some(7)),
     (Value::AddressIndex(0), Some(1)),
     (Value::AddressIndex(1), Some(0x8000_0000_0000_0002)),
@@ -490,16 +535,36 @@ const ADDRESSES: [(Value<'static>, Option<u64>); 6] = [
     (Value::Unsigned(7), None),
 ];
 
+/// The text to which a value leads. No clause says what it is, so that its callers are proved soon.
+fn text_of<'a>(value: &Value<'a>, bases: &Bases) -> Option<&'a [u8]> {
+    TABLES.text(value, bases)
+}
+
+/// The address, in the same way.
+fn address_of(value: &Value<'_>, bases: &Bases) -> Option<u64> {
+    TABLES.address(value, bases)
+}
+
 #[test]
 fn texts_and_addresses(rt: HostRuntime) {
-    for (value, text) in TEXTS {
-        assert_eq!(rt; TABLES.text(&value, &BASES), text, "{value:?}");
+    for (value, text) in &TEXTS {
+        expect(&rt, value, &text_of(value, &BASES), text);
     }
-    assert_eq!(rt; TABLES.text(&Value::StrIndex(0), &NO_BASES), None);
-    for (value, address) in ADDRESSES {
-        assert_eq!(rt; TABLES.address(&value, &BASES), address, "{value:?}");
+    expect(
+        &rt,
+        "without a base",
+        &text_of(&Value::StrIndex(0), &NO_BASES),
+        &None,
+    );
+    for (value, address) in &ADDRESSES {
+        expect(&rt, value, &address_of(value, &BASES), address);
     }
-    assert_eq!(rt; TABLES.address(&Value::AddressIndex(0), &NO_BASES), None);
+    expect(
+        &rt,
+        "without a base",
+        &address_of(&Value::AddressIndex(0), &NO_BASES),
+        &None,
+    );
 }
 
 /// Codes in no order, one of which has more pairs than are gathered without an allocation.
@@ -512,17 +577,27 @@ const MANY: &[u8] = &[
 /// gives it whole.
 #[test]
 fn each_allocation_refused(rt: HostRuntime) -> Result<(), Fail> {
-    let table = match Abbrevs::read(rt.alloc(), MANY, 0) {
-        Err(FormFault::Memory) => Abbrevs::read(rt.alloc(), MANY, 0)?,
+    let table = match table_at(rt.alloc(), MANY, 0) {
+        Err(FormFault::Memory) => table_at(rt.alloc(), MANY, 0)?,
         read => read?,
     };
-    let first = table.get(9).ok_or("a variable")?;
-    assert_eq!(rt; table.get(4).map(|found| found.tag), Some(0x35));
+    let first = declared(&table, 9)?;
+    expect(&rt, "code 4", &declared(&table, 4)?.tag, &0x35);
     let Ok(pairs) = pairs_of(rt.alloc(), first) else {
         return Ok(());
     };
-    assert_eq!(rt; pairs.len(), 10);
-    assert_eq!(rt; pairs.first().map(|spec| spec.name), Some(3));
-    assert_eq!(rt; pairs.last().map(|spec| spec.name), Some(12));
+    expect(&rt, "pairs", &pairs.len(), &10);
+    expect(
+        &rt,
+        "the first",
+        &pairs.first().map(|spec| spec.name),
+        &Some(3),
+    );
+    expect(
+        &rt,
+        "the last",
+        &pairs.last().map(|spec| spec.name),
+        &Some(12),
+    );
     Ok(())
 }

@@ -1,6 +1,7 @@
 //! Functions whose range lists have more ranges than a tree keeps, worked out by hand.
 
-use crate::trees::{expect_chain, shared_units, tree_at};
+use crate::expect::expect;
+use crate::trees::{expect_chain, kept_in, shared_units, tree_at};
 use dw_elf::Name;
 use std::alloc::{AllocError, Global};
 use std::test::Fail;
@@ -32,7 +33,7 @@ fn lists(alloc: Global) -> Result<Vec<u8>, AllocError> {
 }
 
 /// The functions at addresses, innermost first.
-const CHAINS: [(u64, &[u64]); 8] = [
+static CHAINS: [(u64, &[u64]); 8] = [
     (3, &[]),
     (4, &[29]),
     (6, &[]),
@@ -56,7 +57,7 @@ fn lists_read_for_each_address(rt: HostRuntime) -> Result<(), Fail> {
     )?;
     let units = shared_units(rt.alloc(), &file)?;
     let tree = tree_at(rt.alloc(), &units, 0)??;
-    assert_eq!(rt; tree.kept(), 4);
+    expect(&rt, "ranges", &kept_in(&tree), &4);
     for (a, offsets) in &CHAINS {
         expect_chain(&rt, rt.alloc(), &tree, *a, offsets)?;
     }
@@ -78,7 +79,7 @@ fn callers(alloc: Global, count: usize) -> Result<Vec<u8>, AllocError> {
 /// How many ranges are kept of so many callers, at most a quarter of the 14 bytes and 11 for each
 /// caller of the unit: those of two subprograms, since the second one's list is the first that is
 /// noted, and those of the inlined functions as long as they fit.
-const KEPT: [(usize, usize); 5] = [(1, 2), (7, 22), (8, 24), (20, 44), (100, 264)];
+static KEPT: [(usize, usize); 5] = [(1, 2), (7, 22), (8, 24), (20, 44), (100, 264)];
 
 #[test]
 fn few_ranges_of_one_list(rt: HostRuntime) -> Result<(), Fail> {
@@ -94,7 +95,7 @@ fn few_ranges_of_one_list(rt: HostRuntime) -> Result<(), Fail> {
         )?;
         let units = shared_units(rt.alloc(), &file)?;
         let tree = tree_at(rt.alloc(), &units, 0)??;
-        assert_eq!(rt; tree.kept(), *kept, "{count} callers");
+        expect(&rt, count, &kept_in(&tree), kept);
     }
     Ok(())
 }

@@ -1,5 +1,6 @@
 //! Line tables, worked out by hand from the standard's tables.
 
+use crate::expect::expect;
 use dw_bytes::Width;
 use dw_forms::{Bases, Tables};
 use dw_line::{LineFault, Lines, Row};
@@ -30,19 +31,55 @@ const TABLES: Tables<'static> = Tables {
     rnglists: &[],
 };
 
+/// The table at an offset of a section, of a unit that was compiled in a directory. No clause says
+/// what it means, so that its callers are proved soon.
+fn read_at<'a>(
+    alloc: Global,
+    section: &'a [u8],
+    comp_dir: Option<&'a [u8]>,
+    offset: u64,
+) -> Result<Lines<'a>, LineFault> {
+    Lines::read(alloc, section, &TABLES, &NO_BASES, comp_dir, offset)
+}
+
 /// The table at the front of a section, of a unit that was compiled in a directory.
 fn read<'a>(
     alloc: Global,
     section: &'a [u8],
     comp_dir: Option<&'a [u8]>,
 ) -> Result<Lines<'a>, LineFault> {
-    Lines::read(alloc, section, &TABLES, &NO_BASES, comp_dir, 0)
+    read_at(alloc, section, comp_dir, 0)
+}
+
+/// The row of an address. No clause says what it is, so that its callers are proved soon.
+fn row_at(lines: &Lines<'_>, address: u64) -> Option<Row> {
+    lines.row(address)
+}
+
+/// The line of an address, in the same way.
+fn line_at(lines: &Lines<'_>, address: u64) -> Option<u64> {
+    lines.row(address).map(|row| row.line)
+}
+
+/// The line of an address that is asked for after others, in the same way.
+fn line_in_order(lines: &mut Lines<'_>, address: u64) -> Option<u64> {
+    lines.row_in_order(address).map(|row| row.line)
+}
+
+/// How many checkpoints a table has, in the same way.
+fn kept_in(lines: &Lines<'_>) -> usize {
+    lines.kept()
+}
+
+/// The path of a file, in the same way.
+fn path_of(alloc: Global, lines: &Lines<'_>, n: u64) -> Result<Option<Vec<u8>>, AllocError> {
+    lines.path(alloc, n)
 }
 
 /// Header, program, and the lines of addresses: each row is of file 1 and column 0.
 type Program = (&'static [u8], &'static [u8], &'static [(u64, Option<u64>)]);
 
-const PROGRAMS: [Program; 11] = [
+static PROGRAMS: [Program; 11] = [
     // special opcodes
     (
         HEADER,
@@ -178,11 +215,7 @@ fn rows_of_programs(rt: HostRuntime) -> Result<(), Fail> {
                 line,
                 column: 0,
             });
-            assert_eq!(rt;
-                lines.row(*address),
-                wanted,
-                "program {i}, address {address:#x}"
-            );
+            expect(&rt, (i, *address), &row_at(&lines, *address), &wanted);
         }
     }
     Ok(())
@@ -216,7 +249,7 @@ fn each_opcode(rt: HostRuntime) -> Result<(), Fail> {
         (0x107, None),
     ];
     for (address, row) in rows {
-        assert_eq!(rt; lines.row(*address), *row, "address {address:#x}");
+        expect(&rt, address, &row_at(&lines, *address), row);
     }
     Ok(())
 }
@@ -237,7 +270,7 @@ fn rows_behind_checkpoints(rt: HostRuntime) -> Result<(), Fail> {
     push_rows(&mut program, 0, 200)?;
     let section = line_table(rt.alloc(), HEADER, &program)?;
     let lines = read(rt.alloc(), &section, None)?;
-    assert_eq!(rt; lines.kept(), 4);
+    expect(&rt, "checkpoints", &kept_in(&lines), &4);
     let rows = [
         (0x1000, None),
         (0x1001, Some(2)),
@@ -247,11 +280,7 @@ fn rows_behind_checkpoints(rt: HostRuntime) -> Result<(), Fail> {
         (0x10c9, None),
     ];
     for (address, line) in rows {
-        assert_eq!(rt;
-            lines.row(address).map(|row| row.line),
-            line,
-            "address {address:#x}"
-        );
+        expect(&rt, address, &line_at(&lines, address), &line);
     }
     Ok(())
 }
@@ -266,16 +295,17 @@ fn line_of_two(address: u64) -> Option<u64> {
     }
 }
 
-/// From the row that was found last, whatever was asked before: in order, backwards, the same
-/// address twice, and in a drawn order.
-#[test]
-fn rows_in_order(rt: HostRuntime) -> Result<(), Fail> {
-    let mut program = Vec::new(rt.alloc());
+/// A table of two sequences with 200 rows, from 0x1000 and from 0x1080 on.
+fn two_sequences(alloc: Global) -> Result<Vec<u8>, AllocError> {
+    let mut program = Vec::new(alloc);
     push_rows(&mut program, 0, 200)?;
     push_rows(&mut program, 0x80, 200)?;
-    let section = line_table(rt.alloc(), HEADER, &program)?;
-    let mut lines = read(rt.alloc(), &section, None)?;
-    let mut addresses = Vec::new(rt.alloc());
+    line_table(alloc, HEADER, &program)
+}
+
+/// Addresses in order, backwards with each of them twice, and in a drawn order.
+fn asked_in_turn(alloc: Global) -> Result<Vec<u64>, AllocError> {
+    let mut addresses = Vec::new(alloc);
     for i in 0..0x160 {
         addresses.push(0x0ff0 + i)?;
     }
@@ -287,18 +317,24 @@ fn rows_in_order(rt: HostRuntime) -> Result<(), Fail> {
     for _ in 0..1000 {
         addresses.push(0x0ff0 + draws.below(0x160) as u64)?;
     }
-    for address in addresses {
-        assert_eq!(rt;
-            lines.row_in_order(address).map(|row| row.line),
-            line_of_two(address),
-            "address {address:#x}"
-        );
+    Ok(addresses)
+}
+
+/// From the row that was found last, whatever was asked before.
+#[test]
+fn rows_in_order(rt: HostRuntime) -> Result<(), Fail> {
+    let section = two_sequences(rt.alloc())?;
+    let mut lines = read(rt.alloc(), &section, None)?;
+    let addresses = asked_in_turn(rt.alloc())?;
+    for address in addresses.as_slice() {
+        let line = line_in_order(&mut lines, *address);
+        expect(&rt, address, &line, &line_of_two(*address));
     }
     Ok(())
 }
 
 /// Programs, and whether they can't be read.
-const BAD_PROGRAMS: [(&[u8], Option<LineFault>); 12] = [
+static BAD_PROGRAMS: [(&[u8], Option<LineFault>); 12] = [
     (&[0, 0], Some(LineFault::Bad)),
     (&[0], Some(LineFault::Bad)),
     (&[0, 3, 2, 0, 0], Some(LineFault::Bad)),
@@ -325,17 +361,13 @@ const BAD_PROGRAMS: [(&[u8], Option<LineFault>); 12] = [
 fn bad_programs(rt: HostRuntime) -> Result<(), Fail> {
     for (i, (program, fault)) in BAD_PROGRAMS.iter().enumerate() {
         let section = line_table(rt.alloc(), HEADER, program)?;
-        assert_eq!(rt;
-            read(rt.alloc(), &section, None).err(),
-            *fault,
-            "program {i}"
-        );
+        expect(&rt, i, &read(rt.alloc(), &section, None).err(), fault);
     }
     Ok(())
 }
 
 /// Bytes that are changed in the table of two rows, and whether it can't be read then.
-const BAD_HEADERS: [(usize, u8, Option<LineFault>); 15] = [
+static BAD_HEADERS: [(usize, u8, Option<LineFault>); 15] = [
     // the length
     (0, 68, Some(LineFault::Bad)),
     (3, 0xff, Some(LineFault::Bad)),
@@ -364,10 +396,10 @@ const BAD_HEADERS: [(usize, u8, Option<LineFault>); 15] = [
 
 #[test]
 fn bad_headers(rt: HostRuntime) -> Result<(), Fail> {
-    for (at, byte, fault) in BAD_HEADERS {
+    for (at, byte, fault) in &BAD_HEADERS {
         let mut section = line_table(rt.alloc(), HEADER, TWO_ROWS)?;
-        *section.get_mut(at).ok_or("a byte of the table")? = byte;
-        assert_eq!(rt; read(rt.alloc(), &section, None).err(), fault, "byte {at}");
+        *section.get_mut(*at).ok_or("a byte of the table")? = *byte;
+        expect(&rt, at, &read(rt.alloc(), &section, None).err(), fault);
     }
     Ok(())
 }
@@ -378,11 +410,11 @@ fn offsets_of_tables(rt: HostRuntime) -> Result<(), Fail> {
     let mut section = line_table(alloc, HEADER, &[])?;
     let second = line_table(alloc, HEADER, TWO_ROWS)?;
     section.extend_from_slice(&second)?;
-    let lines = Lines::read(alloc, &section, &TABLES, &NO_BASES, None, 53)?;
-    assert_eq!(rt; lines.row(0x40_1000).map(|row| row.line), Some(3));
+    let lines = read_at(alloc, &section, None, 53)?;
+    expect(&rt, "the second", &line_at(&lines, 0x40_1000), &Some(3));
     for offset in [1, 54, 123, 124, 125, u64::MAX] {
-        let read = Lines::read(alloc, &section, &TABLES, &NO_BASES, None, offset);
-        assert_eq!(rt; read.err(), Some(LineFault::Bad), "offset {offset}");
+        let read = read_at(alloc, &section, None, offset);
+        expect(&rt, offset, &read.err(), &Some(LineFault::Bad));
     }
     Ok(())
 }
@@ -414,7 +446,7 @@ type Path = (
     Option<&'static [u8]>,
 );
 
-const FILES: [Path; 12] = [
+static FILES: [Path; 12] = [
     (PATHS, Some(b"/x"), 0, Some(b"/w/src/b.c")),
     (PATHS, Some(b"/x"), 1, Some(b"/abs/b.c")),
     (PATHS, Some(b"/x"), 2, Some(b"/w/b.c")),
@@ -436,8 +468,8 @@ fn paths_of_files(rt: HostRuntime) -> Result<(), Fail> {
     for (i, (header, comp_dir, n, path)) in FILES.iter().enumerate() {
         let section = line_table(rt.alloc(), header, &[])?;
         let lines = read(rt.alloc(), &section, *comp_dir)?;
-        let found = lines.path(rt.alloc(), *n)?;
-        assert_eq!(rt; found.as_deref(), *path, "path {i}");
+        let found = path_of(rt.alloc(), &lines, *n)?;
+        expect(&rt, i, &found.as_deref(), path);
     }
     Ok(())
 }
@@ -453,8 +485,8 @@ fn read_at_last<'a>(alloc: Global, section: &'a [u8]) -> Result<Lines<'a>, LineF
 
 /// The path of file 0, made once more where an allocation was refused.
 fn path_at_last(alloc: Global, lines: &Lines<'_>) -> Result<Option<Vec<u8>>, AllocError> {
-    let Ok(path) = lines.path(alloc, 0) else {
-        return lines.path(alloc, 0);
+    let Ok(path) = path_of(alloc, lines, 0) else {
+        return path_of(alloc, lines, 0);
     };
     Ok(path)
 }
@@ -468,9 +500,14 @@ fn each_allocation_refused(rt: HostRuntime) -> Result<(), Fail> {
         return Ok(());
     };
     let lines = read_at_last(alloc, &section)?;
-    assert_eq!(rt; lines.row(0x1003).map(|row| row.line), Some(4));
-    assert_eq!(rt; lines.row(0x2009).map(|row| row.line), Some(10));
+    expect(&rt, "rows of one", &line_at(&lines, 0x1003), &Some(4));
+    expect(&rt, "rows of two", &line_at(&lines, 0x2009), &Some(10));
     let path = path_at_last(alloc, &lines)?;
-    assert_eq!(rt; path.as_deref(), Some(b"/w/src/b.c".as_slice()));
+    expect(
+        &rt,
+        "path",
+        &path.as_deref(),
+        &Some(b"/w/src/b.c".as_slice()),
+    );
     Ok(())
 }

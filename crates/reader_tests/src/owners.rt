@@ -1,5 +1,6 @@
 //! The least owner of an address.
 
+use crate::expect::expect;
 use dw_ranges::{Index, Range};
 use std::alloc::Global;
 use std::test::Fail;
@@ -9,10 +10,15 @@ fn pair(begin: u64, end: u64, owner: usize) -> (Range, usize) {
     (Range { begin, end }, owner)
 }
 
+/// The owner of an address. No clause says which it is, so that its callers are proved soon.
+fn owner_of(index: &Index, a: u64) -> Option<usize> {
+    index.find(a)
+}
+
 /// The first address at which the index doesn't find what is asked for.
 fn differs(index: &Index, rows: &[(u64, Option<usize>)]) -> Option<u64> {
     for (a, owner) in rows {
-        if index.find(*a) != *owner {
+        if owner_of(index, *a) != *owner {
             return Some(*a);
         }
     }
@@ -32,7 +38,7 @@ fn nested_ranges(rt: HostRuntime) -> Result<(), Fail> {
         (0x2fff, Some(0)),
         (0x3000, None),
     ];
-    assert_eq!(rt; differs(&outer_first, rows), None);
+    expect(&rt, "outer first", &differs(&outer_first, rows), &None);
     let inner_first = Index::build(
         rt.alloc(),
         &[pair(0x1000, 0x3000, 1), pair(0x2000, 0x2010, 0)],
@@ -43,7 +49,7 @@ fn nested_ranges(rt: HostRuntime) -> Result<(), Fail> {
         (0x200f, Some(0)),
         (0x2010, Some(1)),
     ];
-    assert_eq!(rt; differs(&inner_first, rows), None);
+    expect(&rt, "inner first", &differs(&inner_first, rows), &None);
     Ok(())
 }
 
@@ -51,7 +57,7 @@ fn nested_ranges(rt: HostRuntime) -> Result<(), Fail> {
 fn no_ranges(rt: HostRuntime) -> Result<(), Fail> {
     let index = Index::build(rt.alloc(), &[])?;
     let rows: &[(u64, Option<usize>)] = &[(0, None), (0x1000, None), (u64::MAX, None)];
-    assert_eq!(rt; differs(&index, rows), None);
+    expect(&rt, "none", &differs(&index, rows), &None);
     let index = Index::build(
         rt.alloc(),
         &[pair(5, 5, 0), pair(9, 3, 1), pair(u64::MAX, 0, 2)],
@@ -64,7 +70,7 @@ fn no_ranges(rt: HostRuntime) -> Result<(), Fail> {
         (u64::MAX - 1, None),
         (u64::MAX, None),
     ];
-    assert_eq!(rt; differs(&index, rows), None);
+    expect(&rt, "empty", &differs(&index, rows), &None);
     Ok(())
 }
 
@@ -85,7 +91,7 @@ fn ranges_at_the_ends(rt: HostRuntime) -> Result<(), Fail> {
         (u64::MAX - 1, Some(usize::MAX)),
         (u64::MAX, None),
     ];
-    assert_eq!(rt; differs(&index, rows), None);
+    expect(&rt, "ends", &differs(&index, rows), &None);
     Ok(())
 }
 
@@ -115,7 +121,7 @@ fn ranges_side_by_side(rt: HostRuntime) -> Result<(), Fail> {
         (50, Some(3)),
         (60, None),
     ];
-    assert_eq!(rt; differs(&index, rows), None);
+    expect(&rt, "sides", &differs(&index, rows), &None);
     Ok(())
 }
 
@@ -154,11 +160,21 @@ fn agrees_with_a_scan(rt: HostRuntime) -> Result<(), Fail> {
     let mut draws = Draws::new(7);
     for _ in 0..2_000 {
         let a = draws.next() % 1_600_000;
-        assert_eq!(rt; index.find(a), scanned(&pairs, a), "at {a}");
+        expect(&rt, a, &owner_of(&index, a), &scanned(&pairs, a));
     }
     for (range, _) in pairs.iter().take(1_000) {
-        assert_eq!(rt; index.find(range.begin), scanned(&pairs, range.begin));
-        assert_eq!(rt; index.find(range.end), scanned(&pairs, range.end));
+        expect(
+            &rt,
+            range.begin,
+            &owner_of(&index, range.begin),
+            &scanned(&pairs, range.begin),
+        );
+        expect(
+            &rt,
+            range.end,
+            &owner_of(&index, range.end),
+            &scanned(&pairs, range.end),
+        );
     }
     Ok(())
 }
@@ -188,6 +204,6 @@ fn each_allocation_refused(rt: HostRuntime) -> Result<(), Fail> {
         (29, Some(2)),
         (30, None),
     ];
-    assert_eq!(rt; differs(&index, rows), None);
+    expect(&rt, "index", &differs(&index, rows), &None);
     Ok(())
 }

@@ -1,6 +1,7 @@
 //! Ranges of entries, worked out by hand from the standard's tables, and what no clause says: that
 //! calls succeed.
 
+use crate::expect::expect;
 use crate::units::units_of;
 use dw_forms::{Tables, Value};
 use dw_model::dwarf::{DW_AT_high_pc, DW_AT_low_pc, DW_AT_name, DW_AT_ranges};
@@ -26,7 +27,7 @@ const DECLARATIONS: &[u8] = &[
     0x11, 1, 0, 0, 4, 0x11, 0, 0x73, 0x17, 0x74, 0x17, 0x11, 0x1b, 0, 0, 0,
 ];
 
-const ROOTS: [&[u8]; 5] = [
+static ROOTS: [&[u8]; 5] = [
     &[1, 8, 0, 0, 0, 4, 0, 0, 0],
     &[2],
     &[3, 8, 0, 0, 0, 4, 0, 0, 0, 0, 5, 0, 0, 0, 0, 0, 0],
@@ -52,7 +53,7 @@ const SKIPPED: usize = 5;
 /// A file of these units, and of one of version 4 after them.
 fn file_of_roots(alloc: Global) -> Result<Vec<u8>, AllocError> {
     let mut info = Vec::new(alloc);
-    for root in ROOTS {
+    for root in &ROOTS {
         push_unit(&mut info, root)?;
     }
     info.extend_from_slice(&[7, 0, 0, 0, 4, 0, 0, 0, 0, 0, 8])?;
@@ -187,7 +188,7 @@ fn has_ranges(
 }
 
 /// Lists, each with the ranges that it has, or bad.
-const LISTS: [(&[u8], Expected); 28] = [
+static LISTS: [(&[u8], Expected); 28] = [
     (&[0], Some(&[])),
     // base_addressx
     (&[1, 1, 4, 0, 1, 0], Some(&[(0x2000, 0x2001)])),
@@ -267,24 +268,22 @@ const LISTS: [(&[u8], Expected); 28] = [
 ];
 
 /// An entry has the list at the begin of .debug_rnglists.
-const LIST: [(u64, Value<'static>); 1] = [(DW_AT_ranges, Value::SectionOffset(0))];
+static LIST: [(u64, Value<'static>); 1] = [(DW_AT_ranges, Value::SectionOffset(0))];
 
 #[test]
 fn entries_of_lists(rt: HostRuntime) -> Result<(), Fail> {
     let file = file_of_roots(rt.alloc())?;
     let units = units_of(rt.alloc(), &file)?;
     for (i, (list, expected)) in LISTS.iter().enumerate() {
-        assert!(rt;
-            has_ranges(rt.alloc(), &units, BASED, &LIST, list, *expected)?,
-            "list {i}"
-        );
+        let found = has_ranges(rt.alloc(), &units, BASED, &LIST, list, *expected)?;
+        expect(&rt, i, &found, &true);
     }
     Ok(())
 }
 
 /// Lists in units of each kind: without a base no address has an index, and the first base is the
 /// address of the unit's first entry.
-const IN_UNITS: [(usize, &[u8], Expected); 11] = [
+static IN_UNITS: [(usize, &[u8], Expected); 11] = [
     (PLAIN, &[1, 0, 0], None),
     (PLAIN, &[2, 0, 0, 0], None),
     (PLAIN, &[3, 0, 0, 0], None),
@@ -307,10 +306,8 @@ fn bases_of_units(rt: HostRuntime) -> Result<(), Fail> {
     let file = file_of_roots(rt.alloc())?;
     let units = units_of(rt.alloc(), &file)?;
     for (row, (i, list, expected)) in IN_UNITS.iter().enumerate() {
-        assert!(rt;
-            has_ranges(rt.alloc(), &units, *i, &LIST, list, *expected)?,
-            "row {row}"
-        );
+        let found = has_ranges(rt.alloc(), &units, *i, &LIST, list, *expected)?;
+        expect(&rt, row, &found, &true);
     }
     Ok(())
 }
@@ -320,7 +317,7 @@ fn bases_of_units(rt: HostRuntime) -> Result<(), Fail> {
 const INDEXED: &[u8] = &[9, 9, 9, 9, 8, 0, 0, 0, 12, 0, 0, 0, 4, 1, 2, 0, 4, 3, 4, 0];
 
 /// What names a list of these, in which unit, and its ranges.
-const NAMED: [(usize, Value<'static>, Expected); 12] = [
+static NAMED: [(usize, Value<'static>, Expected); 12] = [
     (BASED, Value::RangeIndex(0), Some(&[(1, 2)])),
     (BASED, Value::RangeIndex(1), Some(&[(3, 4)])),
     // a list as an offset: it begins after the section
@@ -340,18 +337,16 @@ const NAMED: [(usize, Value<'static>, Expected); 12] = [
 fn lists_by_offset_and_index(rt: HostRuntime) -> Result<(), Fail> {
     let file = file_of_roots(rt.alloc())?;
     let units = units_of(rt.alloc(), &file)?;
-    for (i, value, expected) in NAMED {
-        let pairs = [(DW_AT_ranges, value)];
-        assert!(rt;
-            has_ranges(rt.alloc(), &units, i, &pairs, INDEXED, expected)?,
-            "{value:?}"
-        );
+    for (i, value, expected) in &NAMED {
+        let pairs = [(DW_AT_ranges, *value)];
+        let found = has_ranges(rt.alloc(), &units, *i, &pairs, INDEXED, *expected)?;
+        expect(&rt, value, &found, &true);
     }
     Ok(())
 }
 
 /// DW_AT_low_pc and DW_AT_high_pc, where each is there, and the ranges.
-const PAIRS: [(Option<Value<'static>>, Option<Value<'static>>, Expected); 16] = [
+static PAIRS: [(Option<Value<'static>>, Option<Value<'static>>, Expected); 16] = [
     (None, None, Some(&[])),
     (Some(Value::Address(5)), None, Some(&[])),
     (None, Some(Value::Address(5)), Some(&[])),
@@ -402,44 +397,67 @@ fn attribute(name: u64, value: Option<Value<'static>>) -> (u64, Value<'static>) 
     }
 }
 
+/// Both attributes.
+fn attributes(
+    alloc: Global,
+    low: Option<Value<'static>>,
+    high: Option<Value<'static>>,
+) -> Result<Vec<(u64, Value<'static>)>, AllocError> {
+    let mut pairs = Vec::new(alloc);
+    pairs.push(attribute(DW_AT_low_pc, low))?;
+    pairs.push(attribute(DW_AT_high_pc, high))?;
+    Ok(pairs)
+}
+
 #[test]
 fn low_and_high(rt: HostRuntime) -> Result<(), Fail> {
     let file = file_of_roots(rt.alloc())?;
     let units = units_of(rt.alloc(), &file)?;
     for (i, (low, high, expected)) in PAIRS.iter().enumerate() {
-        let pairs = [
-            attribute(DW_AT_low_pc, *low),
-            attribute(DW_AT_high_pc, *high),
-        ];
-        assert!(rt;
-            has_ranges(rt.alloc(), &units, BASED, &pairs, &[], *expected)?,
-            "pair {i}"
-        );
+        let pairs = attributes(rt.alloc(), *low, *high)?;
+        let found = has_ranges(rt.alloc(), &units, BASED, &pairs, &[], *expected)?;
+        expect(&rt, i, &found, &true);
     }
     Ok(())
 }
 
-/// Where both are there, the list alone counts; where DW_AT_ranges names none, it is as if absent.
+/// DW_AT_low_pc, DW_AT_ranges and DW_AT_high_pc, and the ranges. Where both are there, the list
+/// alone counts; where DW_AT_ranges names none, it is as if absent.
+static ALL_THREE: [(&[(u64, Value<'static>)], Expected); 3] = [
+    (
+        &[
+            (DW_AT_low_pc, Value::Address(5)),
+            (DW_AT_ranges, Value::SectionOffset(0)),
+            (DW_AT_high_pc, Value::Address(8)),
+        ],
+        Some(&[(1, 2)]),
+    ),
+    (
+        &[
+            (DW_AT_low_pc, Value::Address(5)),
+            (DW_AT_ranges, Value::SectionOffset(9)),
+            (DW_AT_high_pc, Value::Address(8)),
+        ],
+        None,
+    ),
+    (
+        &[
+            (DW_AT_low_pc, Value::Address(5)),
+            (DW_AT_ranges, Value::Unsigned(0)),
+            (DW_AT_high_pc, Value::Address(8)),
+        ],
+        Some(&[(5, 8)]),
+    ),
+];
+
 #[test]
 fn list_before_low_and_high(rt: HostRuntime) -> Result<(), Fail> {
     let file = file_of_roots(rt.alloc())?;
     let units = units_of(rt.alloc(), &file)?;
-    let rows: [(Value<'static>, Expected); 3] = [
-        (Value::SectionOffset(0), Some(&[(1, 2)])),
-        (Value::SectionOffset(9), None),
-        (Value::Unsigned(0), Some(&[(5, 8)])),
-    ];
-    for (ranges, expected) in rows {
-        let pairs = [
-            (DW_AT_low_pc, Value::Address(5)),
-            (DW_AT_ranges, ranges),
-            (DW_AT_high_pc, Value::Address(8)),
-        ];
-        let list = &[4, 1, 2, 0];
-        assert!(rt;
-            has_ranges(rt.alloc(), &units, PLAIN, &pairs, list, expected)?,
-            "{ranges:?}"
-        );
+    let list = &[4, 1, 2, 0];
+    for (i, (pairs, expected)) in ALL_THREE.iter().enumerate() {
+        let found = has_ranges(rt.alloc(), &units, PLAIN, pairs, list, *expected)?;
+        expect(&rt, i, &found, &true);
     }
     Ok(())
 }
@@ -447,10 +465,42 @@ fn list_before_low_and_high(rt: HostRuntime) -> Result<(), Fail> {
 #[test]
 fn faults_show_themselves(rt: HostRuntime) -> Result<(), Fail> {
     let bad = format!(in rt.alloc(); "{}", RangeFault::Bad)?;
-    assert_eq!(rt; bad.as_str(), "the ranges can't be read");
+    expect(&rt, "bad", &bad.as_str(), &"the ranges can't be read");
     let memory = format!(in rt.alloc(); "{}", RangeFault::Memory)?;
-    assert_eq!(rt; memory.as_str(), "out of memory");
+    expect(&rt, "memory", &memory.as_str(), &"out of memory");
     Ok(())
+}
+
+/// The ranges of an entry, read once more where an allocation was refused.
+fn alone_at_last(
+    alloc: Global,
+    entry: &Entry<'_>,
+    unit: &Unit<'_>,
+    tables: &Tables<'_>,
+) -> Result<Vec<Range>, RangeFault> {
+    let found = ranges_of(alloc, entry, unit, tables);
+    let Err(RangeFault::Memory) = found else {
+        return found;
+    };
+    ranges_of(alloc, entry, unit, tables)
+}
+
+/// The same, read into a list that is kept.
+fn in_place_at_last(
+    alloc: Global,
+    entry: &Entry<'_>,
+    unit: &Unit<'_>,
+    tables: &Tables<'_>,
+) -> Result<Vec<Range>, RangeFault> {
+    let mut kept = Vec::new(alloc);
+    let named = entry.named_ranges();
+    let read = read_ranges(&mut kept, &named, unit, tables);
+    let Err(RangeFault::Memory) = read else {
+        read?;
+        return Ok(kept);
+    };
+    read_ranges(&mut kept, &named, unit, tables)?;
+    Ok(kept)
 }
 
 /// An entry of the first unit has these ranges, where they are read once more after an allocation
@@ -465,52 +515,51 @@ fn has_ranges_at_last(
     if units.len() == 0 {
         return Err(Fail::from("a unit"));
     }
+    let unit = units.unit(0);
     let tables = tables(rnglists);
-    let found = match ranges_of(alloc, entry, units.unit(0), &tables) {
-        Err(RangeFault::Memory) => ranges_of(alloc, entry, units.unit(0), &tables)?,
-        found => found?,
-    };
-    let mut kept = Vec::new(alloc);
-    let named = entry.named_ranges();
-    match read_ranges(&mut kept, &named, units.unit(0), &tables) {
-        Err(RangeFault::Memory) => read_ranges(&mut kept, &named, units.unit(0), &tables)?,
-        read => read?,
-    }
+    let found = alone_at_last(alloc, entry, unit, &tables)?;
+    let kept = in_place_at_last(alloc, entry, unit, &tables)?;
     Ok(are_expected(&found, expected) && are_expected(&kept, expected))
 }
+
+/// The same of an entry with these attributes; it holds too where an allocation was refused before
+/// the ranges are read.
+fn is_whole_at_last(
+    alloc: Global,
+    pairs: &[(u64, Value<'_>)],
+    rnglists: &[u8],
+    expected: Expected,
+) -> Result<bool, Fail> {
+    let Ok(file) = file_of_roots(alloc) else {
+        return Ok(true);
+    };
+    let Ok(units) = units_of(alloc, &file) else {
+        return Ok(true);
+    };
+    let Ok(entry_file) = file_of_entry(alloc, pairs) else {
+        return Ok(true);
+    };
+    let Ok(others) = units_of(alloc, &entry_file) else {
+        return Ok(true);
+    };
+    let entry = first_entry(&others).ok_or("an entry")?;
+    has_ranges_at_last(alloc, &units, entry, rnglists, expected)
+}
+
+/// An entry from address 5 on with eight bytes.
+static PAIR: [(u64, Value<'static>); 2] = [
+    (DW_AT_low_pc, Value::Address(5)),
+    (DW_AT_high_pc, Value::Unsigned(8)),
+];
 
 /// Ranges for which an allocation is refused are out of memory, and the next call, with memory,
 /// gives them whole.
 #[test]
 fn each_allocation_refused(rt: HostRuntime) -> Result<(), Fail> {
-    let alloc = rt.alloc();
-    let pairs = [
-        (DW_AT_low_pc, Value::Address(5)),
-        (DW_AT_high_pc, Value::Unsigned(8)),
-    ];
-    let Ok(file) = file_of_roots(alloc) else {
-        return Ok(());
-    };
-    let Ok(units) = units_of(alloc, &file) else {
-        return Ok(());
-    };
-    let Ok(list_file) = file_of_entry(alloc, &LIST) else {
-        return Ok(());
-    };
-    let Ok(list_units) = units_of(alloc, &list_file) else {
-        return Ok(());
-    };
-    let Ok(pair_file) = file_of_entry(alloc, &pairs) else {
-        return Ok(());
-    };
-    let Ok(pair_units) = units_of(alloc, &pair_file) else {
-        return Ok(());
-    };
-    let by_list = first_entry(&list_units).ok_or("an entry")?;
-    let by_pair = first_entry(&pair_units).ok_or("an entry")?;
     let list = &[4, 1, 2, 4, 3, 4, 4, 5, 6, 4, 7, 8, 4, 9, 10, 0];
     let rows: Expected = Some(&[(1, 2), (3, 4), (5, 6), (7, 8), (9, 10)]);
-    assert!(rt; has_ranges_at_last(alloc, &units, by_list, list, rows)?);
-    assert!(rt; has_ranges_at_last(alloc, &units, by_pair, &[], Some(&[(5, 13)]))?);
+    assert!(rt; is_whole_at_last(rt.alloc(), &LIST, list, rows)?);
+    let row: Expected = Some(&[(5, 13)]);
+    assert!(rt; is_whole_at_last(rt.alloc(), &PAIR, &[], row)?);
     Ok(())
 }

@@ -1,5 +1,6 @@
 //! Functions that name one range list, worked out by hand.
 
+use crate::expect::expect;
 use crate::trees::{expect_chain, read_first, shared_units, tree_at};
 use dw_elf::Name;
 use dw_frames::TreeFault;
@@ -50,7 +51,7 @@ const LATER: &[u8] = &[
 ];
 
 /// The functions at addresses, innermost first.
-const OF_LATER: [(u64, &[u64]); 7] = [
+static OF_LATER: [(u64, &[u64]); 7] = [
     (0x0f, &[]),
     (0x10, &[18, 13]),
     (0x17, &[18, 13]),
@@ -99,7 +100,7 @@ const CALLERS: &[u8] = &[
 ];
 
 /// The functions at addresses, innermost first.
-const OF_CALLERS: [(u64, &[u64]); 5] = [
+static OF_CALLERS: [(u64, &[u64]); 5] = [
     (0x10, &[29, 24]),
     (0x20, &[]),
     (0x40, &[18, 13]),
@@ -117,7 +118,7 @@ fn one_list_in_each_caller(rt: HostRuntime) -> Result<(), Fail> {
 }
 
 /// Entries, and why the unit's functions can't be read, if they can't.
-const FAULTS: [(&[u8], Option<TreeFault>); 4] = [
+static FAULTS: [(&[u8], Option<TreeFault>); 4] = [
     (&[2, 0, 0, 0, 0, 0, 2, 0, 0, 0, 0, 0, 0], None),
     (
         &[2, 0, 0, 0, 0, 0, 2, 19, 0, 0, 0, 0, 0],
@@ -139,7 +140,7 @@ fn faults_behind_a_list_that_was_read(rt: HostRuntime) -> Result<(), Fail> {
     for (i, (entries, fault)) in FAULTS.iter().enumerate() {
         for loose in 0..5 {
             let file = file_of(rt.alloc(), loose, entries)?;
-            assert_eq!(rt; read_first(rt.alloc(), &file)?.err(), *fault, "row {i}");
+            expect(&rt, i, &read_first(rt.alloc(), &file)?.err(), fault);
         }
     }
     Ok(())

@@ -1,6 +1,7 @@
 //! Functions of units, chains and names, worked out by hand, and what no clause says: that calls
 //! succeed.
 
+use crate::expect::expect;
 use crate::units::units_of;
 use dw_elf::OpenFault;
 use dw_frames::{Call, EntryId, Tree, TreeFault};
@@ -40,6 +41,31 @@ pub(crate) fn read_first(alloc: Global, file: &[u8]) -> Result<Result<(), TreeFa
     }
 }
 
+/// The functions at an address. No clause says which they are, so that its callers are proved soon.
+fn chain_at(alloc: Global, tree: &Tree<'_>, a: u64) -> Result<Vec<EntryId>, AllocError> {
+    tree.chain(alloc, a)
+}
+
+/// The name of a function, in the same way.
+fn name_of<'a>(tree: &Tree<'a>, id: EntryId) -> Option<&'a [u8]> {
+    tree.name(id)
+}
+
+/// Where a function was called, by itself and as a part of its description, in the same way.
+fn calls_of(tree: &Tree<'_>, id: EntryId) -> [Call; 2] {
+    [tree.call(id), tree.describe(id).call]
+}
+
+/// The name in the description of a function, in the same way.
+fn described_name<'a>(tree: &Tree<'a>, id: EntryId) -> Option<&'a [u8]> {
+    tree.describe(id).name
+}
+
+/// How many ranges a tree keeps, in the same way.
+pub(crate) fn kept_in(tree: &Tree<'_>) -> usize {
+    tree.kept()
+}
+
 /// Two names, or none, are the same.
 fn is_same(found: Option<&[u8]>, wanted: Option<&[u8]>) -> bool {
     match (found, wanted) {
@@ -61,7 +87,8 @@ fn expect_name<A: Abort>(
     let units = shared_units(alloc, &file)?;
     let tree = tree_at(alloc, &units, 0)??;
     let id = EntryId { unit: 0, offset };
-    assert!(rt; is_same(tree.name(id), wanted), "name at {offset:#x}");
+    let same = is_same(name_of(&tree, id), wanted);
+    expect(rt, offset, &same, &true);
     Ok(())
 }
 
@@ -73,16 +100,16 @@ pub(crate) fn expect_chain<A: Abort>(
     a: u64,
     wanted: &[u64],
 ) -> Result<(), Fail> {
-    let chain = tree.chain(alloc, a)?;
-    assert_eq!(rt; chain.len(), wanted.len(), "functions at {a:#x}");
+    let chain = chain_at(alloc, tree, a)?;
+    expect(rt, a, &chain.len(), &wanted.len());
     for (id, offset) in chain.iter().zip(wanted.iter()) {
-        assert_eq!(rt; (id.unit, id.offset), (0, *offset), "functions at {a:#x}");
+        expect(rt, a, &(id.unit, id.offset), &(0, *offset));
     }
     Ok(())
 }
 
 /// The functions at addresses of the sample's first unit.
-const CHAINS: [(u64, &[u64]); 12] = [
+static CHAINS: [(u64, &[u64]); 12] = [
     (0x40_0fff, &[]),
     (0x40_1000, &[0x23]),
     (0x40_1001, &[0x23]),
@@ -102,14 +129,14 @@ fn inlined_functions(rt: HostRuntime) -> Result<(), Fail> {
     let file = sample(rt.alloc())?;
     let units = shared_units(rt.alloc(), &file)?;
     let tree = tree_at(rt.alloc(), &units, 0)??;
-    for (a, wanted) in CHAINS {
-        expect_chain(&rt, rt.alloc(), &tree, a, wanted)?;
+    for (a, wanted) in &CHAINS {
+        expect_chain(&rt, rt.alloc(), &tree, *a, wanted)?;
     }
     Ok(())
 }
 
 /// Units and offsets of entries, and the names of functions there, asked of the first unit.
-const NAMES: [(usize, u64, Option<&[u8]>); 8] = [
+static NAMES: [(usize, u64, Option<&[u8]>); 8] = [
     (0, 0x0c, None),
     (0, 0x1d, Some(b"leaf")),
     (0, 0x23, Some(b"main")),
@@ -121,7 +148,7 @@ const NAMES: [(usize, u64, Option<&[u8]>); 8] = [
 ];
 
 /// Where functions were called: file, line and column.
-const CALLS: [(u64, Option<u64>, Option<u64>, Option<u64>); 3] = [
+static CALLS: [(u64, Option<u64>, Option<u64>, Option<u64>); 3] = [
     (0x47, Some(1), Some(30), None),
     (0x36, Some(0), Some(20), Some(7)),
     (0x23, None, None, None),
@@ -132,16 +159,25 @@ fn names_and_calls(rt: HostRuntime) -> Result<(), Fail> {
     let file = sample(rt.alloc())?;
     let units = shared_units(rt.alloc(), &file)?;
     let tree = tree_at(rt.alloc(), &units, 0)??;
-    for (unit, offset, name) in NAMES {
-        let id = EntryId { unit, offset };
-        assert_eq!(rt; tree.name(id), name, "name at {offset:#x}");
-        assert_eq!(rt; tree.describe(id).name, name, "name at {offset:#x}");
+    for (unit, offset, name) in &NAMES {
+        let id = EntryId {
+            unit: *unit,
+            offset: *offset,
+        };
+        expect(&rt, offset, &name_of(&tree, id), name);
+        expect(&rt, offset, &described_name(&tree, id), name);
     }
-    for (offset, file, line, column) in CALLS {
-        let id = EntryId { unit: 0, offset };
-        let wanted = Call { file, line, column };
-        assert_eq!(rt; tree.call(id), wanted, "call of {offset:#x}");
-        assert_eq!(rt; tree.describe(id).call, wanted, "call of {offset:#x}");
+    for (offset, file, line, column) in &CALLS {
+        let id = EntryId {
+            unit: 0,
+            offset: *offset,
+        };
+        let wanted = Call {
+            file: *file,
+            line: *line,
+            column: *column,
+        };
+        expect(&rt, offset, &calls_of(&tree, id), &[wanted, wanted]);
     }
     Ok(())
 }
@@ -162,8 +198,8 @@ fn unit_of_a_target(rt: HostRuntime) -> Result<(), Fail> {
         unit: 1,
         offset: 0x68,
     };
-    assert_eq!(rt; tree.name(id), Some(b"mid".as_slice()));
-    let chain = tree.chain(rt.alloc(), 0x40_1000)?;
+    expect(&rt, "mid", &name_of(&tree, id), &Some(b"mid".as_slice()));
+    let chain = chain_at(rt.alloc(), &tree, 0x40_1000)?;
     assert!(rt; chain.is_empty());
     Ok(())
 }
@@ -219,7 +255,7 @@ fn led_behind(alloc: Global, behind: &[u8]) -> Result<Vec<u8>, AllocError> {
 }
 
 /// What is there, and the name.
-const TARGETS: [(&[u8], Option<&[u8]>); 7] = [
+static TARGETS: [(&[u8], Option<&[u8]>); 7] = [
     (&[], None),
     (&[0], None),
     (&[0x7f], None),
@@ -237,9 +273,9 @@ const TARGETS: [(&[u8], Option<&[u8]>); 7] = [
 /// What can't be read is no name, and isn't out of memory.
 #[test]
 fn unreadable_targets(rt: HostRuntime) -> Result<(), Fail> {
-    for (behind, name) in TARGETS {
+    for (behind, name) in &TARGETS {
         let info = led_behind(rt.alloc(), behind)?;
-        expect_name(&rt, rt.alloc(), &info, SHORT, 13, name)?;
+        expect_name(&rt, rt.alloc(), &info, SHORT, 13, *name)?;
     }
     let mut skipped = led_behind(rt.alloc(), &[])?;
     let target = skipped.get_mut(14).ok_or("a reference")?;
@@ -250,7 +286,7 @@ fn unreadable_targets(rt: HostRuntime) -> Result<(), Fail> {
 
 /// How many blocks are in one another below the first entry, what is in the last, and why that
 /// unit's functions can't be read, if they can't.
-const FAULTS: [(usize, &[u8], Option<TreeFault>); 11] = [
+static FAULTS: [(usize, &[u8], Option<TreeFault>); 11] = [
     // entries after the list aren't read
     (0, &[0, 0x7f], None),
     (1, &[0x7f], Some(TreeFault::Entry)),
@@ -278,7 +314,7 @@ fn faults_of_trees(rt: HostRuntime) -> Result<(), Fail> {
         entries.extend_from_slice(last)?;
         let info = unit_of(rt.alloc(), &entries)?;
         let file = file_of(rt.alloc(), &info, SHORT)?;
-        assert_eq!(rt; read_first(rt.alloc(), &file)?.err(), *fault, "row {i}");
+        expect(&rt, i, &read_first(rt.alloc(), &file)?.err(), fault);
     }
     Ok(())
 }
@@ -299,11 +335,13 @@ fn each_allocation_refused(rt: HostRuntime) -> Result<(), Fail> {
         Err(TreeFault::Memory) => tree_at(alloc, units, 0)??,
         read => read?,
     };
-    let chain = match tree.chain(alloc, 0x40_1004) {
+    let chain = match chain_at(alloc, &tree, 0x40_1004) {
         Ok(chain) => chain,
-        Err(_) => tree.chain(alloc, 0x40_1004)?,
+        Err(_) => chain_at(alloc, &tree, 0x40_1004)?,
     };
-    assert_eq!(rt; chain.len(), 3);
-    assert_eq!(rt; tree.name(chain[0]), Some(b"leaf".as_slice()));
+    expect(&rt, "functions", &chain.len(), &3);
+    let innermost = chain.first().copied().ok_or("a function")?;
+    let name = name_of(&tree, innermost);
+    expect(&rt, "leaf", &name, &Some(b"leaf".as_slice()));
     Ok(())
 }

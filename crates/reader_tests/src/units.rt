@@ -1,13 +1,15 @@
 //! Units and their entries, worked out by hand from the standard's tables.
 
+use crate::expect::expect;
 use dw_elf::{Elf, OpenFault};
 use dw_forms::{FormFault, Value};
 use dw_model::dwarf::{
     DW_AT_abstract_origin, DW_AT_call_column, DW_AT_call_file, DW_AT_call_line, DW_AT_high_pc,
     DW_AT_low_pc, DW_AT_name, DW_TAG_compile_unit, DW_TAG_inlined_subroutine, DW_TAG_partial_unit,
 };
-use dw_units::{Attribute, Entry, Kind, Next, Units};
+use dw_units::{Attribute, Entries, Entry, Kind, Next, Units};
 use std::alloc::{AllocError, Global};
+use std::process::Abort;
 use std::test::Fail;
 use test_inputs::files::{ABBREVS, INFO, file_of, poked, sample, unit_of};
 
@@ -24,7 +26,7 @@ enum Way {
     InPlace,
 }
 
-const WAYS: [Way; 2] = [Way::Alone, Way::InPlace];
+static WAYS: [Way; 2] = [Way::Alone, Way::InPlace];
 
 /// The entry at an offset, in the unit at an index, or why it can't be read. The entry that is kept
 /// first is that unit's first one.
@@ -51,7 +53,7 @@ fn entry_at<'a>(
 }
 
 /// The attributes of the entry at 0x36 of the sample.
-const ATTRIBUTES: [(u64, Value<'static>); 6] = [
+static ATTRIBUTES: [(u64, Value<'static>); 6] = [
     (DW_AT_abstract_origin, Value::SectionRef(0x68)),
     (DW_AT_low_pc, Value::Address(0x40_1002)),
     (DW_AT_high_pc, Value::Unsigned(6)),
@@ -60,30 +62,54 @@ const ATTRIBUTES: [(u64, Value<'static>); 6] = [
     (DW_AT_call_column, Value::Unsigned(7)),
 ];
 
+/// The attribute of a name that counts. No clause says which it is, so that its callers are proved
+/// soon.
+fn attribute<'b, 'a>(entry: &'b Entry<'a>, name: u64) -> Option<&'b Value<'a>> {
+    entry.attr(name)
+}
+
+/// The first attribute of a name, in the same way.
+fn first_attribute<'a>(entry: &Entry<'a>, name: u64) -> Option<Value<'a>> {
+    entry.attrs.first(name)
+}
+
+/// How many attributes there are, in the same way.
+fn count_in(entry: &Entry<'_>) -> usize {
+    entry.attrs.len()
+}
+
+/// How many of them are kept, in the same way.
+fn kept_in(entry: &Entry<'_>) -> usize {
+    entry.attrs.kept()
+}
+
+/// An entry is that of the inlined call at 0x36 of the sample.
+fn expect_inlined_call<A: Abort>(rt: &A, entry: &Entry<'_>) {
+    let found = (entry.offset, entry.next, entry.tag, entry.children);
+    let wanted = (0x36, 0x47, DW_TAG_inlined_subroutine, true);
+    expect(rt, "the entry", &found, &wanted);
+    expect(rt, "attributes", &count_in(entry), &6);
+    for (name, value) in &ATTRIBUTES {
+        expect(rt, name, &attribute(entry, *name), &Some(value));
+    }
+    expect(rt, "no name", &attribute(entry, DW_AT_name), &None);
+    expect(rt, "no attribute 0", &attribute(entry, 0), &None);
+}
+
 #[test]
 fn entry_of_an_inlined_call(rt: HostRuntime) -> Result<(), Fail> {
     let file = sample(rt.alloc())?;
     let units = units_of(rt.alloc(), &file)?;
-    for way in WAYS {
-        let found = entry_at(rt.alloc(), &units, 0, 0x36, way)??;
-        let entry = found.ok_or("no null entry")?;
-        assert_eq!(rt;
-            (entry.offset, entry.next, entry.tag, entry.children),
-            (0x36, 0x47, DW_TAG_inlined_subroutine, true)
-        );
-        assert_eq!(rt; entry.attrs.len(), 6);
-        for (name, value) in ATTRIBUTES {
-            assert_eq!(rt; entry.attr(name), Some(&value), "attribute {name}");
-        }
-        assert_eq!(rt; entry.attr(DW_AT_name), None);
-        assert_eq!(rt; entry.attr(0), None);
+    for way in &WAYS {
+        let found = entry_at(rt.alloc(), &units, 0, 0x36, *way)??;
+        expect_inlined_call(&rt, &found.ok_or("no null entry")?);
     }
     Ok(())
 }
 
 /// Offsets of the sample's first unit at which no entry is read: the reason, and none for a null
 /// entry. Its first entry is at 0x0c, and its end is 0x5b.
-const WITHOUT_ENTRY: [(u64, Option<FormFault>); 11] = [
+static WITHOUT_ENTRY: [(u64, Option<FormFault>); 11] = [
     (0, Some(FormFault::End)),
     (0x0b, Some(FormFault::End)),
     (0x20, Some(FormFault::Code)),
@@ -97,27 +123,68 @@ const WITHOUT_ENTRY: [(u64, Option<FormFault>); 11] = [
     (u64::MAX, Some(FormFault::End)),
 ];
 
-#[test]
-fn entries_at_borders(rt: HostRuntime) -> Result<(), Fail> {
-    let file = sample(rt.alloc())?;
-    let units = units_of(rt.alloc(), &file)?;
-    for way in WAYS {
-        for (offset, fault) in WITHOUT_ENTRY {
-            match entry_at(rt.alloc(), &units, 0, offset, way)? {
-                Ok(found) => assert!(rt; found.is_none() && fault.is_none(), "at {offset:#x}"),
-                Err(told) => assert_eq!(rt; Some(told), fault, "at {offset:#x}"),
-            }
-        }
-        let root = entry_at(rt.alloc(), &units, 1, 0x67, way)??;
-        let root = root.ok_or("no null entry at 0x67")?;
-        assert_eq!(rt; (root.tag, root.next), (DW_TAG_partial_unit, 0x68));
+/// Why the entry at an offset of the first unit can't be read; `None` for a null entry.
+fn refusal_at(
+    alloc: Global,
+    units: &Units<'_>,
+    offset: u64,
+    way: Way,
+) -> Result<Option<FormFault>, Fail> {
+    match entry_at(alloc, units, 0, offset, way)? {
+        Ok(None) => Ok(None),
+        Ok(Some(_)) => Err(Fail::from("no entry")),
+        Err(fault) => Ok(Some(fault)),
     }
+}
+
+/// The tag of the entry at an offset of the unit at an index, and the offset past it.
+fn tag_and_next(
+    alloc: Global,
+    units: &Units<'_>,
+    i: usize,
+    offset: u64,
+    way: Way,
+) -> Result<(u64, u64), Fail> {
+    let found = entry_at(alloc, units, i, offset, way)??;
+    let entry = found.ok_or("no null entry")?;
+    Ok((entry.tag, entry.next))
+}
+
+/// The offset of the first entry of the second of three units.
+fn second_root(units: &Units<'_>) -> Result<u64, Fail> {
     if units.len() != 3 {
         return Err(Fail::from("three units"));
     }
     let root = units.unit(1).root.as_ref().ok_or("a first entry")?;
-    assert_eq!(rt; root.offset, 0x67);
+    Ok(root.offset)
+}
+
+#[test]
+fn entries_at_borders(rt: HostRuntime) -> Result<(), Fail> {
+    let file = sample(rt.alloc())?;
+    let units = units_of(rt.alloc(), &file)?;
+    for way in &WAYS {
+        for (offset, fault) in &WITHOUT_ENTRY {
+            let found = refusal_at(rt.alloc(), &units, *offset, *way)?;
+            expect(&rt, offset, &found, fault);
+        }
+        let root = tag_and_next(rt.alloc(), &units, 1, 0x67, *way)?;
+        expect(&rt, "0x67", &root, &(DW_TAG_partial_unit, 0x68));
+    }
+    expect(&rt, "a first entry", &second_root(&units)?, &0x67);
     Ok(())
+}
+
+/// The offset past the null entry at 0x57 of the first unit of a file.
+fn past_null(alloc: Global, file: &[u8]) -> Result<u64, Fail> {
+    let units = units_of(alloc, file)?;
+    if units.len() == 0 {
+        return Err(Fail::from("a unit"));
+    }
+    let Ok(None) = units.entry(alloc, 0, 0x57) else {
+        return Err(Fail::from("a null entry"));
+    };
+    Ok(units.past_null(0, 0x57))
 }
 
 #[test]
@@ -126,16 +193,15 @@ fn past_null_entries(rt: HostRuntime) -> Result<(), Fail> {
     for (byte, past) in [(0, 0x58), (0x80, 0x59)] {
         let info = poked(rt.alloc(), INFO, 0x57, byte)?;
         let file = file_of(rt.alloc(), &info, ABBREVS)?;
-        let units = units_of(rt.alloc(), &file)?;
-        if units.len() == 0 {
-            return Err(Fail::from("a unit"));
-        }
-        let Ok(None) = units.entry(rt.alloc(), 0, 0x57) else {
-            return Err(Fail::from("a null entry"));
-        };
-        assert_eq!(rt; units.past_null(0, 0x57), past);
+        expect(&rt, byte, &past_null(rt.alloc(), &file)?, &past);
     }
     Ok(())
+}
+
+/// The place of the unit that holds an offset. No clause says which it is, so that its callers are
+/// proved soon.
+fn holding(units: &Units<'_>, offset: u64) -> Option<usize> {
+    units.holding(offset)
 }
 
 #[test]
@@ -153,41 +219,59 @@ fn unit_of_an_offset(rt: HostRuntime) -> Result<(), Fail> {
         (u64::MAX, None),
     ];
     for (offset, unit) in rows {
-        assert_eq!(rt; units.holding(offset), unit, "unit of {offset:#x}");
+        expect(&rt, offset, &holding(&units, offset), &unit);
     }
     Ok(())
+}
+
+/// A walk over the first unit. No clause says what it gives, so that its callers are proved soon.
+fn walk_over<'b, 'a>(units: &'b Units<'a>) -> Result<Entries<'b, 'a>, Fail> {
+    if units.len() == 0 {
+        return Err(Fail::from("a unit"));
+    }
+    Ok(units.entries(0).ok_or("entries of the first unit")?)
+}
+
+/// How a walk gives an entry.
+#[derive(Clone, Copy, Debug, PartialEq, Eq)]
+enum Given {
+    Null,
+    Function,
+    Unranged,
+    Passed,
+}
+
+/// A step of a walk: how it gives the entry, its offset where it is a function, and, where it is
+/// none, whether it has children.
+type Step = (Given, Option<u64>, bool);
+
+/// The next step of a walk.
+fn step_of(entries: &mut Entries<'_, '_>) -> Result<Step, FormFault> {
+    Ok(match entries.next_function()? {
+        Next::Null => (Given::Null, None, false),
+        Next::Function(entry) => (Given::Function, Some(entry.offset()), false),
+        Next::Unranged { children } => (Given::Unranged, None, children),
+        Next::Passed { children } => (Given::Passed, None, children),
+    })
 }
 
 #[test]
 fn walk_of_a_unit(rt: HostRuntime) -> Result<(), Fail> {
     let file = sample(rt.alloc())?;
     let units = units_of(rt.alloc(), &file)?;
-    if units.len() == 0 {
-        return Err(Fail::from("a unit"));
-    }
-    let mut entries = units.entries(0).ok_or("entries of the first unit")?;
+    let mut entries = walk_over(&units)?;
     // The unit's first entry and the lexical block are no functions; the abstract instance at 0x1d
     // names no ranges.
     let rows = [None, None, Some(0x23), None, Some(0x36), Some(0x47)];
     for row in rows {
         assert!(rt; !entries.is_done());
-        let offset = match entries.next_function()? {
-            Next::Function(entry) => Some(entry.offset()),
-            Next::Passed { children } => {
-                assert!(rt; children);
-                None
-            }
-            Next::Unranged { children } => {
-                assert!(rt; !children);
-                None
-            }
-            Next::Null => return Err(Fail::from("no null entry")),
-        };
-        assert_eq!(rt; offset, row);
+        let (given, offset, children) = step_of(&mut entries)?;
+        assert!(rt; given != Given::Null);
+        assert!(rt; children == (given == Given::Passed));
+        expect(&rt, "a step", &offset, &row);
     }
     for _ in 0..4 {
-        let next = entries.next_function()?;
-        assert!(rt; matches!(next, Next::Null));
+        expect(&rt, "the end", &step_of(&mut entries)?.0, &Given::Null);
     }
     assert!(rt; entries.is_done());
     Ok(())
@@ -208,32 +292,27 @@ fn file_with(alloc: Global, entry: &[u8], declarations: &[u8]) -> Result<Vec<u8>
     file_of(alloc, &info, declarations)
 }
 
+/// An entry has two names, of which the first is a number, and so none.
+fn expect_two_names<A: Abort>(rt: &A, entry: &Entry<'_>) {
+    expect(rt, "the entry", &(entry.next, count_in(entry)), &(18, 3));
+    expect(rt, "no name", &attribute(entry, DW_AT_name), &None);
+    let name = first_attribute(entry, DW_AT_name);
+    expect(rt, "the first name", &name, &Some(Value::Unsigned(5)));
+    let high = attribute(entry, DW_AT_high_pc);
+    expect(rt, "a number", &high, &Some(&Value::Signed(-3)));
+    let low = first_attribute(entry, DW_AT_low_pc);
+    expect(rt, "kept", &(low, kept_in(entry)), &(None, 1));
+}
+
 #[test]
 fn first_of_two_attributes_decides(rt: HostRuntime) -> Result<(), Fail> {
     let file = file_with(rt.alloc(), &[2, 5, b'f', 0, 0x7d], DECLARATIONS)?;
     let units = units_of(rt.alloc(), &file)?;
-    for way in WAYS {
-        let found = entry_at(rt.alloc(), &units, 0, 13, way)??;
-        let entry = found.ok_or("no null entry")?;
-        assert_eq!(rt; (entry.next, entry.attrs.len()), (18, 3));
-        assert_eq!(rt; entry.attr(DW_AT_name), None);
-        assert_eq!(rt; entry.attrs.first(DW_AT_name), Some(Value::Unsigned(5)));
-        assert_eq!(rt; entry.attr(DW_AT_high_pc), Some(&Value::Signed(-3)));
-        assert_eq!(rt;
-            (entry.attrs.first(DW_AT_low_pc), entry.attrs.kept()),
-            (None, 1)
-        );
+    for way in &WAYS {
+        let found = entry_at(rt.alloc(), &units, 0, 13, *way)??;
+        expect_two_names(&rt, &found.ok_or("no null entry")?);
     }
     Ok(())
-}
-
-/// How a walk gives an entry.
-#[derive(Clone, Copy, Debug, PartialEq, Eq)]
-enum Given {
-    Null,
-    Function,
-    Unranged,
-    Passed,
 }
 
 /// Attributes of a function, names and forms, with the values of an entry, and how a walk gives it:
@@ -241,7 +320,7 @@ enum Given {
 /// and with an end that is a text; with DW_AT_ranges, as an offset, through DW_FORM_indirect, and
 /// as a number, which is of no kind that counts; with a first DW_AT_ranges that is a number; and
 /// with none of them.
-const FUNCTIONS: [(&[u8], &[u8], Given); 9] = [
+static FUNCTIONS: [(&[u8], &[u8], Given); 9] = [
     (
         &[0x11, 1, 0x12, 0x0b],
         &[0, 0, 0, 0, 0, 0, 0, 0, 4],
@@ -259,41 +338,38 @@ const FUNCTIONS: [(&[u8], &[u8], Given); 9] = [
 
 /// How a walk over the first unit gives its second entry.
 fn second_of_walk(units: &Units<'_>) -> Result<Given, Fail> {
-    if units.len() == 0 {
-        return Err(Fail::from("a unit"));
-    }
-    let mut entries = units.entries(0).ok_or("entries of the first unit")?;
-    let _first = entries.next_function()?;
-    Ok(match entries.next_function()? {
-        Next::Null => Given::Null,
-        Next::Function(_) => Given::Function,
-        Next::Unranged { .. } => Given::Unranged,
-        Next::Passed { .. } => Given::Passed,
-    })
+    let mut entries = walk_over(units)?;
+    let _first = step_of(&mut entries)?;
+    Ok(step_of(&mut entries)?.0)
+}
+
+/// How a walk gives an entry of a tag with these attributes and values.
+fn given_to(alloc: Global, tag: u8, attributes: &[u8], values: &[u8]) -> Result<Given, Fail> {
+    let mut declarations = vec![in alloc; 1, 0x11, 1, 0, 0, 2, tag, 0]?;
+    declarations.extend_from_slice(attributes)?;
+    declarations.extend_from_slice(&[0, 0, 0])?;
+    let mut entry = vec![in alloc; 2]?;
+    entry.extend_from_slice(values)?;
+    let file = file_with(alloc, &entry, &declarations)?;
+    let units = units_of(alloc, &file)?;
+    second_of_walk(&units)
 }
 
 #[test]
 fn functions_by_their_declarations(rt: HostRuntime) -> Result<(), Fail> {
     for tag in [0x2e, 0x1d, 0x0b] {
-        for (attributes, values, given) in FUNCTIONS {
-            let mut declarations = vec![in rt.alloc(); 1, 0x11, 1, 0, 0, 2, tag, 0]?;
-            declarations.extend_from_slice(attributes)?;
-            declarations.extend_from_slice(&[0, 0, 0])?;
-            let mut entry = vec![in rt.alloc(); 2]?;
-            entry.extend_from_slice(values)?;
-            let file = file_with(rt.alloc(), &entry, &declarations)?;
-            let units = units_of(rt.alloc(), &file)?;
-            let found = second_of_walk(&units)?;
+        for (attributes, values, given) in &FUNCTIONS {
+            let found = given_to(rt.alloc(), tag, attributes, values)?;
             // A lexical block is no function.
-            let expected = if tag == 0x0b { Given::Passed } else { given };
-            assert_eq!(rt; found, expected, "{attributes:?}");
+            let expected = if tag == 0x0b { Given::Passed } else { *given };
+            expect(&rt, attributes, &found, &expected);
         }
     }
     Ok(())
 }
 
 /// Entries that can't be read, and why.
-const FAULTS: [(&[u8], FormFault); 4] = [
+static FAULTS: [(&[u8], FormFault); 4] = [
     (&[2, 5, b'f', 0], FormFault::End),
     (&[3, 1], FormFault::Form),
     (
@@ -305,24 +381,21 @@ const FAULTS: [(&[u8], FormFault); 4] = [
 
 /// Why a walk over the first unit can't read its second entry.
 fn fault_of_walk(units: &Units<'_>) -> Result<Option<FormFault>, Fail> {
-    if units.len() == 0 {
-        return Err(Fail::from("a unit"));
-    }
-    let mut entries = units.entries(0).ok_or("entries of the first unit")?;
-    let _first = entries.next_function()?;
-    Ok(entries.next_function().err())
+    let mut entries = walk_over(units)?;
+    let _first = step_of(&mut entries)?;
+    Ok(step_of(&mut entries).err())
 }
 
 #[test]
 fn faults_of_entries(rt: HostRuntime) -> Result<(), Fail> {
-    for (entry, fault) in FAULTS {
+    for (entry, fault) in &FAULTS {
         let file = file_with(rt.alloc(), entry, DECLARATIONS)?;
         let units = units_of(rt.alloc(), &file)?;
-        for way in WAYS {
-            let found = entry_at(rt.alloc(), &units, 0, 13, way)?;
-            assert_eq!(rt; found.err(), Some(fault));
+        for way in &WAYS {
+            let found = refusal_at(rt.alloc(), &units, 13, *way)?;
+            expect(&rt, entry, &found, &Some(*fault));
         }
-        assert_eq!(rt; fault_of_walk(&units)?, Some(fault));
+        expect(&rt, entry, &fault_of_walk(&units)?, &Some(*fault));
     }
     Ok(())
 }
@@ -330,7 +403,7 @@ fn faults_of_entries(rt: HostRuntime) -> Result<(), Fail> {
 /// Tables of abbreviations that can't be read: one that ends in a code, in a tag, before the flag
 /// for children, in a pair, and after a pair; a tag of 65 bits; and a number of 65 bits that is in
 /// the declaration.
-const UNREADABLE_TABLES: [&[u8]; 7] = [
+static UNREADABLE_TABLES: [&[u8]; 7] = [
     &[0x80],
     &[1],
     &[1, 0x11],
@@ -351,31 +424,38 @@ fn unreadable_tables(rt: HostRuntime) -> Result<(), Fail> {
     let info = unit_of(rt.alloc(), &[1, 0])?;
     for (i, table) in UNREADABLE_TABLES.iter().enumerate() {
         let file = file_of(rt.alloc(), &info, table)?;
-        assert_eq!(rt;
-            units_of(rt.alloc(), &file).err(),
-            Some(OpenFault::Root(0)),
-            "table {i}"
+        expect(
+            &rt,
+            i,
+            &units_of(rt.alloc(), &file).err(),
+            &Some(OpenFault::Root(0)),
         );
         // The first declaration is the one that the unit asks for, and what follows can't be read.
         let mut behind = Vec::from_slice(rt.alloc(), &[1, 0x11, 1, 0, 0])?;
         behind.extend_from_slice(table)?;
         let file = file_of(rt.alloc(), &info, &behind)?;
-        assert_eq!(rt;
-            units_of(rt.alloc(), &file).err(),
-            Some(OpenFault::Root(0)),
-            "behind a declaration, table {i}"
+        expect(
+            &rt,
+            i,
+            &units_of(rt.alloc(), &file).err(),
+            &Some(OpenFault::Root(0)),
         );
     }
     let past_the_end = poked(rt.alloc(), &info, 8, 99)?;
     let file = file_of(rt.alloc(), &past_the_end, DECLARATIONS)?;
-    assert_eq!(rt; units_of(rt.alloc(), &file).err(), Some(OpenFault::Root(0)));
+    expect(
+        &rt,
+        "past the end",
+        &units_of(rt.alloc(), &file).err(),
+        &Some(OpenFault::Root(0)),
+    );
     Ok(())
 }
 
 /// First entries of a unit that aren't one, for the declarations above: none at all, a null entry,
 /// a code without a declaration, and entries that end early, have an unknown form and a number of
 /// 65 bits.
-const NO_ROOTS: [&[u8]; 6] = [
+static NO_ROOTS: [&[u8]; 6] = [
     &[],
     &[0],
     &[9],
@@ -389,10 +469,11 @@ fn units_without_a_root(rt: HostRuntime) -> Result<(), Fail> {
     for (i, entries) in NO_ROOTS.iter().enumerate() {
         let info = unit_of(rt.alloc(), entries)?;
         let file = file_of(rt.alloc(), &info, DECLARATIONS)?;
-        assert_eq!(rt;
-            units_of(rt.alloc(), &file).err(),
-            Some(OpenFault::Root(0)),
-            "first entry {i}"
+        expect(
+            &rt,
+            i,
+            &units_of(rt.alloc(), &file).err(),
+            &Some(OpenFault::Root(0)),
         );
     }
     Ok(())
@@ -405,29 +486,61 @@ const SKELETON: &[u8] = &[
     0, 0, 8, 1, 0, 0,
 ];
 
+/// Of a unit its kind, the offset of its first entry, whether it has one, and whether a walk over
+/// its entries begins.
+fn unit_at(units: &Units<'_>, i: usize) -> Result<(Kind, u64, bool, bool), Fail> {
+    if i >= units.len() {
+        return Err(Fail::from("a unit at the index"));
+    }
+    let unit = units.unit(i);
+    let begins = units.entries(i).is_some();
+    Ok((unit.kind, unit.first_entry, unit.root.is_some(), begins))
+}
+
+/// Why the entry at an offset of the second unit can't be read, by itself and into one that is
+/// kept.
+fn faults_at<'a>(
+    alloc: Global,
+    units: &Units<'a>,
+    offset: u64,
+    kept: &mut Entry<'a>,
+) -> Result<[Option<FormFault>; 2], Fail> {
+    if units.len() != 2 {
+        return Err(Fail::from("two units"));
+    }
+    let alone = units.entry(alloc, 1, offset).err();
+    let in_place = units.read_entry(1, offset, kept).err();
+    Ok([alone, in_place])
+}
+
 #[test]
 fn skeleton_and_skipped_units(rt: HostRuntime) -> Result<(), Fail> {
     let file = file_of(rt.alloc(), SKELETON, DECLARATIONS)?;
     let units = units_of(rt.alloc(), &file)?;
-    if units.len() != 2 {
-        return Err(Fail::from("two units"));
+    expect(&rt, "units", &units.len(), &2);
+    let skeleton = unit_at(&units, 0)?;
+    expect(
+        &rt,
+        "a skeleton",
+        &(skeleton.0, skeleton.1),
+        &(Kind::Skeleton, 20),
+    );
+    for way in &WAYS {
+        let root = tag_and_next(rt.alloc(), &units, 0, 20, *way)?;
+        expect(&rt, "a first entry", &root, &(DW_TAG_compile_unit, 21));
     }
-    assert!(rt; matches!(units.unit(0).kind, Kind::Skeleton));
-    assert_eq!(rt; units.unit(0).first_entry, 20);
-    for way in WAYS {
-        let root = entry_at(rt.alloc(), &units, 0, 20, way)??;
-        let root = root.ok_or("a first entry")?;
-        assert_eq!(rt; (root.tag, root.next), (DW_TAG_compile_unit, 21));
-    }
-    assert!(rt; matches!(units.unit(1).kind, Kind::Skipped));
-    assert!(rt; units.unit(1).root.is_none());
-    assert!(rt; units.entries(1).is_none());
+    let skipped = unit_at(&units, 1)?;
+    let wanted = (Kind::Skipped, false, false);
+    expect(&rt, "skipped", &(skipped.0, skipped.2, skipped.3), &wanted);
     let mut kept = Entry::unread(rt.alloc());
     for offset in [0, 22, 33, 35, 36, u64::MAX] {
-        let found = units.entry(rt.alloc(), 1, offset);
-        assert_eq!(rt; found.err(), Some(FormFault::End), "at {offset}");
-        let read = units.read_entry(1, offset, &mut kept);
-        assert_eq!(rt; read, Err(FormFault::End), "at {offset}");
+        let faults = faults_at(rt.alloc(), &units, offset, &mut kept)?;
+        expect(
+            &rt,
+            offset,
+            &faults,
+            &[Some(FormFault::End), Some(FormFault::End)],
+        );
     }
     Ok(())
 }
@@ -464,8 +577,8 @@ fn is_whole(alloc: Global, entry: &Entry<'_>) -> Result<bool, AllocError> {
     ];
     let same = counted
         .iter()
-        .all(|(name, value)| entry.attr(*name) == *value);
-    Ok(wanted == 13 && entry.attrs.len() == 13 && same)
+        .all(|(name, value)| attribute(entry, *name) == *value);
+    Ok(wanted == 13 && count_in(entry) == 13 && same)
 }
 
 /// The units of a file, read once more where an allocation was refused.
