@@ -1,6 +1,7 @@
 //! Frames of addresses, worked out by hand, and what no clause says: that calls succeed, and that
 //! contexts go to threads.
 
+use crate::expect::expect;
 use crate::spans::{PIECES, expect_pieces};
 use dw_elf::OpenFault;
 use dw_symbols::{Answer, Context, Image, UnitFault};
@@ -40,31 +41,49 @@ pub fn expect_frames<A: Abort>(rt: &A, answer: &Answer<'_>, unit: u64, wanted: &
         assert!(rt; false, "no frames");
         return;
     };
-    assert_eq!(rt; *found, unit);
-    assert_eq!(rt; frames.len(), wanted.len());
+    expect(rt, unit, found, &unit);
+    expect(rt, "frames", &frames.len(), &wanted.len());
     for (frame, (name, path, line, column)) in frames.iter().zip(wanted.iter()) {
         let location = &frame.location;
-        assert_eq!(rt; frame.name, *name);
-        assert_eq!(rt; location.path.as_deref(), *path);
-        assert_eq!(rt; (location.line, location.column), (*line, *column));
+        expect(rt, unit, &frame.name, name);
+        expect(rt, unit, &location.path.as_deref(), path);
+        expect(
+            rt,
+            unit,
+            &(location.line, location.column),
+            &(*line, *column),
+        );
     }
 }
 
-/// The frames at an address. No clause says what they are, so that its callers are proved soon.
-fn frames_at<'a>(context: &mut Context<'_, 'a>, a: u64) -> Result<Answer<'a>, AllocError> {
+/// A file, opened. No clause says what it means, so that its callers are proved soon.
+pub fn image_of<'a>(alloc: Global, file: &'a [u8]) -> Result<Image<'a>, OpenFault> {
+    Image::open(alloc, file)
+}
+
+/// A context that keeps one unit, in the same way.
+pub fn context_of<'b, 'a>(
+    alloc: Global,
+    image: &'b Image<'a>,
+) -> Result<Context<'b, 'a>, AllocError> {
+    Context::new(alloc, image, NonZeroUsize::MIN)
+}
+
+/// The frames at an address, in the same way.
+pub fn frames_at<'a>(context: &mut Context<'_, 'a>, a: u64) -> Result<Answer<'a>, AllocError> {
     context.find_frames(a)
 }
 
 /// The location at an address, in the same way.
-fn location_at<'a>(context: &mut Context<'_, 'a>, a: u64) -> Result<Answer<'a>, AllocError> {
+pub fn location_at<'a>(context: &mut Context<'_, 'a>, a: u64) -> Result<Answer<'a>, AllocError> {
     context.find_location(a)
 }
 
 #[test]
 fn units_come_and_go(rt: HostRuntime) -> Result<(), Fail> {
     let file = sample(rt.alloc())?;
-    let image = Image::open(rt.alloc(), &file)?;
-    let mut context = Context::new(rt.alloc(), &image, NonZeroUsize::MIN)?;
+    let image = image_of(rt.alloc(), &file)?;
+    let mut context = context_of(rt.alloc(), &image)?;
     let rows = [
         (0x40_1004, 0, INLINED),
         (0x50_0001, 0x6e, UNKNOWN),
@@ -87,8 +106,8 @@ fn solved<S: Solver>(solver: &mut S, query: Query) -> Result<S::Answer, NoMemory
 #[test]
 fn as_solver(rt: HostRuntime) -> Result<(), Fail> {
     let file = sample(rt.alloc())?;
-    let image = Image::open(rt.alloc(), &file)?;
-    let mut context = Context::new(rt.alloc(), &image, NonZeroUsize::MIN)?;
+    let image = image_of(rt.alloc(), &file)?;
+    let mut context = context_of(rt.alloc(), &image)?;
     assert!(rt; context.key() == file.as_slice());
     expect_frames(
         &rt,
@@ -115,15 +134,15 @@ fn crosses<T: Send + Sync>(_value: &T) {}
 #[test]
 fn on_threads(rt: HostRuntime) -> Result<(), Fail> {
     let file = sample(rt.alloc())?;
-    let image = Image::open(rt.alloc(), &file)?;
-    let mut first = Context::new(rt.alloc(), &image, NonZeroUsize::MIN)?;
-    let mut second = Context::new(rt.alloc(), &image, NonZeroUsize::MIN)?;
+    let image = image_of(rt.alloc(), &file)?;
+    let mut first = context_of(rt.alloc(), &image)?;
+    let mut second = context_of(rt.alloc(), &image)?;
     crosses(&image);
     crosses(&first);
     let (one, other) = thread::join(
         &rt,
-        move || first.find_frames(0x40_1004),
-        move || second.find_frames(0x50_0001),
+        move || frames_at(&mut first, 0x40_1004),
+        move || frames_at(&mut second, 0x50_0001),
     );
     expect_frames(&rt, &one?, 0, INLINED);
     expect_frames(&rt, &other?, 0x6e, UNKNOWN);
@@ -131,7 +150,7 @@ fn on_threads(rt: HostRuntime) -> Result<(), Fail> {
 }
 
 /// Why a unit can't be read, one after the other.
-pub const FAULTS: [UnitFault; 4] = [
+pub static FAULTS: [UnitFault; 4] = [
     UnitFault::Entry,
     UnitFault::Depth,
     UnitFault::Ranges,
@@ -200,12 +219,12 @@ fn is_fault(answer: &Answer<'_>, fault: UnitFault) -> bool {
 
 #[test]
 fn faults_of_units(rt: HostRuntime) -> Result<(), Fail> {
-    for fault in FAULTS {
-        let file = unreadable(rt.alloc(), fault)?;
-        let image = Image::open(rt.alloc(), &file)?;
-        let mut context = Context::new(rt.alloc(), &image, NonZeroUsize::MIN)?;
+    for fault in &FAULTS {
+        let file = unreadable(rt.alloc(), *fault)?;
+        let image = image_of(rt.alloc(), &file)?;
+        let mut context = context_of(rt.alloc(), &image)?;
         let answer = frames_at(&mut context, 0x40_1000)?;
-        assert!(rt; is_fault(&answer, fault), "{fault:?}");
+        assert!(rt; is_fault(&answer, *fault), "{fault:?}");
     }
     Ok(())
 }
@@ -213,8 +232,8 @@ fn faults_of_units(rt: HostRuntime) -> Result<(), Fail> {
 #[test]
 fn fault_of_lines(rt: HostRuntime) -> Result<(), Fail> {
     let file = unreadable(rt.alloc(), UnitFault::Line)?;
-    let image = Image::open(rt.alloc(), &file)?;
-    let mut context = Context::new(rt.alloc(), &image, NonZeroUsize::MIN)?;
+    let image = image_of(rt.alloc(), &file)?;
+    let mut context = context_of(rt.alloc(), &image)?;
     let answer = location_at(&mut context, 0x40_1000)?;
     assert!(rt; is_fault(&answer, UnitFault::Line));
     Ok(())
@@ -238,11 +257,11 @@ fn location_at_last<'a>(context: &mut Context<'_, 'a>, a: u64) -> Result<Answer<
 
 /// A file, opened once more where memory was refused.
 pub fn open_at_last<'a>(alloc: Global, file: &'a [u8]) -> Result<Image<'a>, OpenFault> {
-    let opened = Image::open(alloc, file);
+    let opened = image_of(alloc, file);
     let Err(OpenFault::Memory) = opened else {
         return opened;
     };
-    Image::open(alloc, file)
+    image_of(alloc, file)
 }
 
 /// A context that keeps one unit, made once more where memory was refused.
@@ -250,8 +269,8 @@ pub fn context_at_last<'b, 'a>(
     alloc: Global,
     image: &'b Image<'a>,
 ) -> Result<Context<'b, 'a>, AllocError> {
-    let Ok(context) = Context::new(alloc, image, NonZeroUsize::MIN) else {
-        return Context::new(alloc, image, NonZeroUsize::MIN);
+    let Ok(context) = context_of(alloc, image) else {
+        return context_of(alloc, image);
     };
     Ok(context)
 }

@@ -1,10 +1,10 @@
 //! Files that are cut or have another byte, and what no clause says of them: that no call is out of
 //! memory.
 
+use crate::contexts::{context_of, frames_at, image_of, location_at};
+use crate::expect::expect;
 use dw_elf::OpenFault;
-use dw_symbols::{Context, Image};
 use std::alloc::Global;
-use std::num::NonZeroUsize;
 use std::process::Abort;
 use std::test::Fail;
 use test_inputs::files::{poked, sample};
@@ -18,28 +18,28 @@ const HEADER_SIZE: usize = 64;
 fn cut_at_each_length(rt: HostRuntime) -> Result<(), Fail> {
     let file = sample(rt.alloc())?;
     for len in 0..file.len() {
-        let refusal = Image::open(rt.alloc(), file.split_at(len).0).err();
+        let refusal = image_of(rt.alloc(), file.split_at(len).0).err();
         let wanted = if len < HEADER_SIZE {
             OpenFault::NotElf
         } else {
             OpenFault::SectionTable
         };
-        assert_eq!(rt; refusal, Some(wanted), "{len} bytes");
+        expect(&rt, len, &refusal, &Some(wanted));
     }
-    Image::open(rt.alloc(), &file)?;
+    image_of(rt.alloc(), &file)?;
     Ok(())
 }
 
 /// A file is opened and addresses of the sample are asked for, none of which is out of memory.
 fn is_answered(alloc: Global, file: &[u8]) -> Result<bool, Fail> {
-    let image = match Image::open(alloc, file) {
+    let image = match image_of(alloc, file) {
         Ok(image) => image,
         Err(fault) => return Ok(fault != OpenFault::Memory),
     };
-    let mut context = Context::new(alloc, &image, NonZeroUsize::MIN)?;
+    let mut context = context_of(alloc, &image)?;
     for a in [0x40_1000, 0x40_1004, 0x50_0001, 0] {
-        context.find_frames(a)?;
-        context.find_location(a)?;
+        frames_at(&mut context, a)?;
+        location_at(&mut context, a)?;
     }
     Ok(true)
 }

@@ -1,7 +1,8 @@
 //! The 64-bit format (sections 7.2.2, 7.4 and 7.5.1 of DWARF 5), alone and beside the 32-bit one,
 //! worked out by hand.
 
-use crate::contexts::{Wanted, expect_frames};
+use crate::contexts::{Wanted, context_of, expect_frames, frames_at, image_of};
+use crate::expect::expect;
 use crate::texts::units_of;
 use dw_bytes::{Cursor, Initial, Width};
 use dw_elf::{Name, OpenFault};
@@ -12,17 +13,15 @@ use dw_model::dwarf::{
     DW_FORM_ref_addr, DW_FORM_ref4, DW_FORM_sec_offset, DW_FORM_strp, DW_FORM_strp_sup,
     DW_FORM_strx4,
 };
-use dw_symbols::{Context, Image};
 use dw_units::Kind;
 use std::alloc::{AllocError, Global};
-use std::num::NonZeroUsize;
 use std::test::Fail;
 use test_inputs::files::{HEADER, elf, file_of, line_table};
 
 /// Bytes, what the initial length is with which they begin, and how many bytes are passed.
 type Length = (&'static [u8], Option<Initial>, usize);
 
-const LENGTHS: [Length; 10] = [
+static LENGTHS: [Length; 10] = [
     (&[7, 0, 0, 0, 9], Some(Initial::Bytes(7, Width::Four)), 4),
     (
         &[0xef, 0xff, 0xff, 0xff],
@@ -49,23 +48,36 @@ const LENGTHS: [Length; 10] = [
     (&[], None, 0),
 ];
 
+/// The initial length with which bytes begin, and how many bytes are passed. No clause says what
+/// they are, so that its callers are proved soon.
+fn length_in(bytes: &[u8]) -> (Option<Initial>, usize) {
+    let mut cursor = Cursor::new(bytes);
+    let read = cursor.initial_length();
+    (read, cursor.at())
+}
+
 #[test]
 fn initial_lengths(rt: HostRuntime) {
-    for (bytes, initial, passed) in LENGTHS {
-        let mut cursor = Cursor::new(bytes);
-        assert_eq!(rt; cursor.initial_length(), initial, "{bytes:?}");
-        assert_eq!(rt; cursor.at(), passed, "{bytes:?}");
+    for (bytes, initial, passed) in &LENGTHS {
+        expect(&rt, bytes, &length_in(bytes), &(*initial, *passed));
     }
+}
+
+/// The offset of a width at a cursor, and where the cursor is then, in the same way.
+fn offset_at(cursor: &mut Cursor<'_>, width: Width) -> (Option<u64>, usize) {
+    let read = cursor.offset(width);
+    (read, cursor.at())
 }
 
 #[test]
 fn offsets(rt: HostRuntime) {
     let mut cursor = Cursor::new(&[1, 2, 3, 4, 5, 6, 7, 8, 9, 10, 11, 12, 13]);
-    assert_eq!(rt; cursor.offset(Width::Four), Some(0x0403_0201));
-    assert_eq!(rt; cursor.offset(Width::Eight), Some(0x0c0b_0a09_0807_0605));
-    assert_eq!(rt; cursor.offset(Width::Eight), None);
-    assert_eq!(rt; cursor.offset(Width::Four), None);
-    assert_eq!(rt; cursor.at(), 12);
+    let short = offset_at(&mut cursor, Width::Four);
+    expect(&rt, 0, &short, &(Some(0x0403_0201), 4));
+    let long = offset_at(&mut cursor, Width::Eight);
+    expect(&rt, 4, &long, &(Some(0x0c0b_0a09_0807_0605), 12));
+    expect(&rt, 12, &offset_at(&mut cursor, Width::Eight), &(None, 12));
+    expect(&rt, 12, &offset_at(&mut cursor, Width::Four), &(None, 12));
 }
 
 /// Eight bytes, and the numbers that they are in both formats.
@@ -77,7 +89,7 @@ const LONG: u64 = 0x0807_0605_0403_0201;
 
 /// The forms of offsets with their values in the 32-bit and in the 64-bit format, and three forms
 /// whose values have as many bytes in both.
-const FORMS: [(u64, Value<'static>, Value<'static>); 10] = [
+static FORMS: [(u64, Value<'static>, Value<'static>); 10] = [
     (
         DW_FORM_ref_addr,
         Value::SectionRef(SHORT),
@@ -118,37 +130,29 @@ const FORMS: [(u64, Value<'static>, Value<'static>); 10] = [
     ),
 ];
 
+/// The value of a form, and how many bytes the cursor has passed then. No clause says what they
+/// are, so that its callers are proved soon.
+fn value_in(bytes: &[u8], form: u64, width: Width) -> (Result<Value<'_>, FormFault>, usize) {
+    let mut cursor = Cursor::new(bytes);
+    let read = read_value(&mut cursor, form, None, width);
+    (read, cursor.at())
+}
+
 #[test]
 fn values_of_offsets(rt: HostRuntime) {
-    for (form, short, long) in FORMS {
-        let mut cursor = Cursor::new(EIGHT);
-        assert_eq!(rt;
-            read_value(&mut cursor, form, None, Width::Four),
-            Ok(short),
-            "form {form}"
-        );
-        assert_eq!(rt; cursor.at(), 4, "form {form}");
-        let mut cursor = Cursor::new(EIGHT);
-        assert_eq!(rt;
-            read_value(&mut cursor, form, None, Width::Eight),
-            Ok(long),
-            "form {form}"
-        );
+    let cut = EIGHT.split_at(3).0;
+    for (form, short, long) in &FORMS {
+        let narrow = value_in(EIGHT, *form, Width::Four);
+        expect(&rt, form, &narrow, &(Ok(*short), 4));
         let passed = if short == long { 4 } else { 8 };
-        assert_eq!(rt; cursor.at(), passed, "form {form}");
-        let mut cut = Cursor::new(EIGHT.split_at(3).0);
-        assert_eq!(rt;
-            read_value(&mut cut, form, None, Width::Eight),
-            Err(FormFault::End),
-            "form {form}"
-        );
-        assert_eq!(rt; cut.at(), 0, "form {form}");
+        let wide = value_in(EIGHT, *form, Width::Eight);
+        expect(&rt, form, &wide, &(Ok(*long), passed));
+        let unread = value_in(cut, *form, Width::Eight);
+        expect(&rt, form, &unread, &(Err(FormFault::End), 0));
     }
-    let mut indirect = Cursor::new(&[0x0e, 1, 2, 3, 4, 5, 6, 7, 8]);
-    assert_eq!(rt;
-        read_value(&mut indirect, DW_FORM_indirect, None, Width::Eight),
-        Ok(Value::Str(LONG))
-    );
+    let bytes = &[0x0e, 1, 2, 3, 4, 5, 6, 7, 8];
+    let indirect = value_in(bytes, DW_FORM_indirect, Width::Eight).0;
+    expect(&rt, "indirect", &indirect, &Ok(Value::Str(LONG)));
 }
 
 /// One declaration: a text by an offset, an index of a text, and a reference by an offset; and one
@@ -157,15 +161,20 @@ const SIZED: &[u8] = &[
     1, 0x34, 0, 3, 0x0e, 3, 0x25, 0x31, 0x10, 0, 0, 2, 0x34, 0, 3, 8, 0x31, 0x10, 0, 0, 0,
 ];
 
+/// The sizes of the declaration of a code in both formats.
+fn sizes_of(alloc: Global, code: u64) -> Result<[Option<usize>; 2], Fail> {
+    let abbrevs = Abbrevs::read(alloc, SIZED, 0)?;
+    let declaration = abbrevs.get(code).ok_or("a declaration")?;
+    Ok([
+        declaration.size(Width::Four),
+        declaration.size(Width::Eight),
+    ])
+}
+
 #[test]
 fn sizes_by_width(rt: HostRuntime) -> Result<(), Fail> {
-    let abbrevs = Abbrevs::read(rt.alloc(), SIZED, 0)?;
-    let sized = abbrevs.get(1).ok_or("a declaration of 1")?;
-    assert_eq!(rt; sized.size(Width::Four), Some(9));
-    assert_eq!(rt; sized.size(Width::Eight), Some(17));
-    let unsized_one = abbrevs.get(2).ok_or("a declaration of 2")?;
-    assert_eq!(rt; unsized_one.size(Width::Four), None);
-    assert_eq!(rt; unsized_one.size(Width::Eight), None);
+    expect(&rt, 1, &sizes_of(rt.alloc(), 1)?, &[Some(9), Some(17)]);
+    expect(&rt, 2, &sizes_of(rt.alloc(), 2)?, &[None, None]);
     Ok(())
 }
 
@@ -192,25 +201,33 @@ const NARROW: Bases = Bases {
     width: Width::Four,
 };
 
+/// The text of an index. No clause says what it is, so that its callers are proved soon.
+fn text_of(i: u64, bases: &Bases) -> Option<&'static [u8]> {
+    TABLES.text(&Value::StrIndex(i), bases)
+}
+
+/// The first address, in the same way.
+fn first_address(bases: &Bases) -> Option<u64> {
+    TABLES.address(&Value::AddressIndex(0), bases)
+}
+
+/// An index, and its texts in the 64-bit and in the 32-bit format.
+static INDEXED: [(u64, Option<&[u8]>, Option<&[u8]>); 4] = [
+    (0, Some(b"wide"), Some(b"wide")),
+    (1, Some(b"narrow"), Some(b"narrow")),
+    (2, None, Some(b"narrow")),
+    (u64::MAX, None, None),
+];
+
 #[test]
 fn texts_by_index(rt: HostRuntime) {
-    let texts: [(u64, Option<&[u8]>, Option<&[u8]>); 4] = [
-        (0, Some(b"wide"), Some(b"wide")),
-        (1, Some(b"narrow"), Some(b"narrow")),
-        (2, None, Some(b"narrow")),
-        (u64::MAX, None, None),
-    ];
-    for (i, wide, narrow) in texts {
-        assert_eq!(rt; TABLES.text(&Value::StrIndex(i), &WIDE), wide, "index {i}");
-        assert_eq!(rt;
-            TABLES.text(&Value::StrIndex(i), &NARROW),
-            narrow,
-            "index {i}"
-        );
+    for (i, wide, narrow) in &INDEXED {
+        expect(&rt, i, &text_of(*i, &WIDE), wide);
+        expect(&rt, i, &text_of(*i, &NARROW), narrow);
     }
     // Addresses have eight bytes in both formats.
-    assert_eq!(rt; TABLES.address(&Value::AddressIndex(0), &WIDE), Some(1));
-    assert_eq!(rt; TABLES.address(&Value::AddressIndex(0), &NARROW), Some(1));
+    expect(&rt, 8, &first_address(&WIDE), &Some(1));
+    expect(&rt, 4, &first_address(&NARROW), &Some(1));
 }
 
 /// A unit over 0x1000 to 0x3000 without lines, and one over 0x2000 to 0x2010 with lines, in both
@@ -263,6 +280,15 @@ pub fn overlapping(
 /// Two units, where the second begins, and the frame at 0x2000.
 type Overlapping = (&'static [u8], &'static [u8], u64, Wanted<'static>);
 
+/// Where both units of a file begin.
+fn begins_of(alloc: Global, file: &[u8]) -> Result<(u64, u64), Fail> {
+    let units = units_of(alloc, file)?;
+    if units.len() != 2 {
+        return Err(Fail::from("two units"));
+    }
+    Ok((units.unit(0).offset, units.unit(1).offset))
+}
+
 #[test]
 fn overlapping_units_of_both_formats(rt: HostRuntime) -> Result<(), Fail> {
     let nothing: Wanted<'_> = (None, None, None, None);
@@ -274,16 +300,24 @@ fn overlapping_units_of_both_formats(rt: HostRuntime) -> Result<(), Fail> {
     ];
     for (first, second, behind, wanted) in rows {
         let file = overlapping(rt.alloc(), first, second, ONE_ROW)?;
-        let units = units_of(rt.alloc(), &file)?;
-        if units.len() != 2 {
-            return Err(Fail::from("two units"));
-        }
-        assert_eq!(rt; (units.unit(0).offset, units.unit(1).offset), (0, behind));
-        let image = Image::open(rt.alloc(), &file)?;
-        let mut context = Context::new(rt.alloc(), &image, NonZeroUsize::MIN)?;
-        expect_frames(&rt, &context.find_frames(0x2000)?, 0, &[wanted]);
+        expect(&rt, behind, &begins_of(rt.alloc(), &file)?, &(0, behind));
+        let image = image_of(rt.alloc(), &file)?;
+        let mut context = context_of(rt.alloc(), &image)?;
+        expect_frames(&rt, &frames_at(&mut context, 0x2000)?, 0, &[wanted]);
     }
     Ok(())
+}
+
+/// Of the only unit of a file its kind, where it, its first entry and what is after it begin, and
+/// the widths of its offsets and of those at its bases.
+fn only_unit(alloc: Global, file: &[u8]) -> Result<(Kind, [u64; 3], [Width; 2]), Fail> {
+    let units = units_of(alloc, file)?;
+    if units.len() != 1 {
+        return Err(Fail::from("one unit"));
+    }
+    let unit = units.unit(0);
+    let offsets = [unit.offset, unit.first_entry, unit.end];
+    Ok((unit.kind, offsets, [unit.width, unit.bases.width]))
 }
 
 #[test]
@@ -295,24 +329,17 @@ fn headers_of_the_64_bit_format(rt: HostRuntime) -> Result<(), Fail> {
         0, 0, 0, 0, 0, 0, 0,
     ];
     let file = file_of(rt.alloc(), info, OVERLAPPING)?;
-    let units = units_of(rt.alloc(), &file)?;
-    if units.len() != 1 {
-        return Err(Fail::from("one unit"));
-    }
-    let unit = units.unit(0);
-    assert!(rt; matches!(unit.kind, Kind::Skeleton));
-    assert_eq!(rt; (unit.offset, unit.first_entry, unit.end), (12, 44, 57));
-    assert_eq!(rt;
-        (unit.width, unit.bases.width),
-        (Width::Eight, Width::Eight)
-    );
+    let (kind, offsets, widths) = only_unit(rt.alloc(), &file)?;
+    expect(&rt, "the kind", &kind, &Kind::Skeleton);
+    expect(&rt, "the unit", &offsets, &[12, 44, 57]);
+    expect(&rt, "widths", &widths, &[Width::Eight, Width::Eight]);
     Ok(())
 }
 
 /// Beginnings of .debug_info of which the header at an offset can't be read: the length is cut,
 /// reserved, or longer than the section, and a header of the 64-bit format is cut, once without the
 /// last byte of a skeleton's.
-const UNREADABLE: [(&[u8], u64); 7] = [
+static UNREADABLE: [(&[u8], u64); 7] = [
     (&[0xff, 0xff, 0xff, 0xff, 0, 0, 0, 0, 0, 0, 0], 0),
     (&[0xff, 0xff, 0xff, 0xff], 0),
     (&[0xfe, 0xff, 0xff, 0xff, 0, 0, 0, 0, 0, 0, 0, 0], 0),
@@ -345,12 +372,13 @@ const UNREADABLE: [(&[u8], u64); 7] = [
 
 #[test]
 fn unreadable_lengths(rt: HostRuntime) -> Result<(), Fail> {
-    for (info, offset) in UNREADABLE {
+    for (info, offset) in &UNREADABLE {
         let file = file_of(rt.alloc(), info, OVERLAPPING)?;
-        assert_eq!(rt;
-            units_of(rt.alloc(), &file).err(),
-            Some(OpenFault::UnitHeader(offset)),
-            "{info:?}"
+        expect(
+            &rt,
+            info,
+            &units_of(rt.alloc(), &file).err(),
+            &Some(OpenFault::UnitHeader(*offset)),
         );
     }
     Ok(())
@@ -424,7 +452,7 @@ fn both(alloc: Global) -> Result<Vec<u8>, AllocError> {
 }
 
 /// An address, its unit, and the name and line there.
-const FRAMES: [(u64, u64, &[u8], u64); 6] = [
+static FRAMES: [(u64, u64, &[u8], u64); 6] = [
     (0x1000, 0, b"wide", 3),
     (0x1010, 0, b"narrow", 3),
     (0x102f, 0, b"wide", 3),
@@ -436,11 +464,11 @@ const FRAMES: [(u64, u64, &[u8], u64); 6] = [
 #[test]
 fn two_formats_over_one_table(rt: HostRuntime) -> Result<(), Fail> {
     let file = both(rt.alloc())?;
-    let image = Image::open(rt.alloc(), &file)?;
-    let mut context = Context::new(rt.alloc(), &image, NonZeroUsize::MIN)?;
-    for (address, unit, name, line) in FRAMES {
-        let wanted: Wanted<'_> = (Some(name), Some(b"/w/a.c"), Some(line), Some(0));
-        expect_frames(&rt, &context.find_frames(address)?, unit, &[wanted]);
+    let image = image_of(rt.alloc(), &file)?;
+    let mut context = context_of(rt.alloc(), &image)?;
+    for (address, unit, name, line) in &FRAMES {
+        let wanted: Wanted<'_> = (Some(name), Some(b"/w/a.c"), Some(*line), Some(0));
+        expect_frames(&rt, &frames_at(&mut context, *address)?, *unit, &[wanted]);
     }
     Ok(())
 }

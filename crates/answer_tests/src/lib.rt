@@ -1,6 +1,10 @@
 //! Tests of the crates that answer addresses of a file, by contexts, boards and pools, up to the
 //! lines of answers, through their public calls alone. They are here so that those crates are
 //! proved once, and not once more with their tests.
+//!
+//! Each test is proved, too. To keep that short, tables of rows are statics, since a constant is
+//! built anew where it is used; a call whose contract is long stands in a function without clauses,
+//! whose callers see nothing of it; and `expect` stands for `assert_eq!`.
 #![tactic(auto)]
 
 #[cfg(test)]
@@ -9,6 +13,8 @@ mod boards;
 mod contexts;
 #[cfg(test)]
 mod damaged;
+#[cfg(test)]
+mod expect;
 #[cfg(test)]
 mod formats;
 #[cfg(test)]

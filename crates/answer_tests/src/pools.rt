@@ -1,13 +1,16 @@
 //! Pools of two workers, each of which waits for the other.
 
-use crate::contexts::{IN_MAIN, INLINED, expect_frames};
+use crate::contexts::{IN_MAIN, INLINED, expect_frames, image_of};
+use crate::expect::expect;
 use crate::spans::{PIECES, expect_pieces};
 use crate::texts::{Asked, Open, PLAIN, status_of};
 use a2l_lines::{Status, run_pool};
 use dw_symbols::{Answer, Image};
+use std::alloc::Global;
+use std::sync::Wait;
 use std::sync::atomic::{AtomicU64, Ordering};
 use std::test::Fail;
-use std::thread;
+use std::thread::{self, Threads};
 use test_inputs::files::sample;
 use ticket_board::{Gate, PoolFault};
 use ticket_core::{Query, Shape};
@@ -62,13 +65,25 @@ impl Gate for Meeting {
     }
 }
 
+/// The answers of a pool. No clause says what they are, so that its callers are proved soon.
+fn answers_of<'a, R: Threads + Wait + Sync, G: Gate + Sync>(
+    rt: &R,
+    alloc: Global,
+    image: &Image<'a>,
+    shape: Shape,
+    queries: &[Query],
+    gate: &G,
+) -> Result<Vec<Answer<'a>>, PoolFault> {
+    run_pool(rt, alloc, image, shape, queries, gate)
+}
+
 /// Each of two numbers entered once, and the limit wasn't reached.
 const BOTH_ENTERED: (u64, u64, u64) = (1, 1, 0);
 
 #[test]
 fn two_workers_at_once(rt: HostRuntime) -> Result<(), Fail> {
     let file = sample(rt.alloc())?;
-    let image = Image::open(rt.alloc(), &file)?;
+    let image = image_of(rt.alloc(), &file)?;
     let gate = Meeting::new();
     let shape = Shape {
         senders: 1,
@@ -77,11 +92,13 @@ fn two_workers_at_once(rt: HostRuntime) -> Result<(), Fail> {
         most: 1 << 60,
     };
     let queries = [Query::address(0x401000), Query::address(0x401004)];
-    let answers = run_pool(&rt, rt.alloc(), &image, shape, &queries, &gate)?;
-    assert_eq!(rt; answers.len(), 2);
-    expect_frames(&rt, &answers[0], 0, IN_MAIN);
-    expect_frames(&rt, &answers[1], 0, INLINED);
-    assert_eq!(rt; gate.counts(), BOTH_ENTERED);
+    let answers = answers_of(&rt, rt.alloc(), &image, shape, &queries, &gate)?;
+    let [first, second] = answers.as_slice() else {
+        return Err(Fail::from("two answers"));
+    };
+    expect_frames(&rt, first, 0, IN_MAIN);
+    expect_frames(&rt, second, 0, INLINED);
+    expect(&rt, "entered", &gate.counts(), &BOTH_ENTERED);
     Ok(())
 }
 
@@ -89,7 +106,7 @@ fn two_workers_at_once(rt: HostRuntime) -> Result<(), Fail> {
 #[test]
 fn pool_with_a_span(rt: HostRuntime) -> Result<(), Fail> {
     let file = sample(rt.alloc())?;
-    let image = Image::open(rt.alloc(), &file)?;
+    let image = image_of(rt.alloc(), &file)?;
     let shape = Shape {
         senders: 2,
         workers: 3,
@@ -100,18 +117,20 @@ fn pool_with_a_span(rt: HostRuntime) -> Result<(), Fail> {
         return Err(Fail::from("a span"));
     };
     let queries = [Query::address(0x401004), span, Query::address(0)];
-    let answers = run_pool(&rt, rt.alloc(), &image, shape, &queries, &Open)?;
-    assert_eq!(rt; answers.len(), 3);
-    expect_frames(&rt, &answers[0], 0, INLINED);
-    expect_pieces(&rt, &answers[1], PIECES);
-    assert!(rt; matches!(answers[2], Answer::NotCovered));
+    let answers = answers_of(&rt, rt.alloc(), &image, shape, &queries, &Open)?;
+    let [first, second, third] = answers.as_slice() else {
+        return Err(Fail::from("three answers"));
+    };
+    expect_frames(&rt, first, 0, INLINED);
+    expect_pieces(&rt, second, PIECES);
+    assert!(rt; matches!(third, Answer::NotCovered));
     Ok(())
 }
 
 #[test]
 fn shapes_past_the_limits(rt: HostRuntime) -> Result<(), Fail> {
     let file = sample(rt.alloc())?;
-    let image = Image::open(rt.alloc(), &file)?;
+    let image = image_of(rt.alloc(), &file)?;
     for (senders, workers, most) in [(0, 1, 1), (1, 65, 1), (1, 1, (1 << 60) + 1), (2, 1, 1)] {
         let shape = Shape {
             senders,
@@ -120,7 +139,7 @@ fn shapes_past_the_limits(rt: HostRuntime) -> Result<(), Fail> {
             most,
         };
         let queries = [Query::address(1), Query::address(2), Query::address(3)];
-        let answers = run_pool(&rt, rt.alloc(), &image, shape, &queries, &Meeting::new());
+        let answers = answers_of(&rt, rt.alloc(), &image, shape, &queries, &Meeting::new());
         assert!(rt; matches!(answers, Err(PoolFault::BadShape)));
     }
     Ok(())
@@ -136,7 +155,7 @@ fn two_workers_write_in_order(rt: HostRuntime) -> Result<(), Fail> {
         text: "/w/a.c:4\n/w/a.c:3\n",
     };
     let status = status_of(&rt, rt.alloc(), &file, &asked, &gate)?;
-    assert_eq!(rt; status, Some(Status::Clean));
-    assert_eq!(rt; gate.counts(), BOTH_ENTERED);
+    expect(&rt, "status", &status, &Some(Status::Clean));
+    expect(&rt, "entered", &gate.counts(), &BOTH_ENTERED);
     Ok(())
 }

@@ -1,5 +1,7 @@
 //! Units whose first entries name one range list, worked out by hand.
 
+use crate::contexts::image_of;
+use crate::expect::expect;
 use dw_elf::{Name, OpenFault};
 use dw_symbols::Image;
 use std::alloc::{AllocError, Global};
@@ -63,7 +65,7 @@ const ROOTS: &[&[u8]] = &[
 ];
 
 /// The indexes of the units that answer.
-const PLACES: [(u64, Option<usize>); 9] = [
+static PLACES: [(u64, Option<usize>); 9] = [
     (0x0f, None),
     (0x10, Some(0)),
     (0x1f, Some(0)),
@@ -75,13 +77,28 @@ const PLACES: [(u64, Option<usize>); 9] = [
     (0x120, None),
 ];
 
+/// The index of the unit that answers an address. No clause says what it is, so that its callers
+/// are proved soon.
+fn place_of(image: &Image<'_>, a: u64) -> Option<usize> {
+    image.unit_place(a).map(|found| found.place)
+}
+
+/// The index of the first unit of a span, in the same way.
+fn first_place_of(image: &Image<'_>, low: u64, high: u64) -> Option<usize> {
+    image.first_unit_place(low, high).map(|found| found.place)
+}
+
+/// How many ranges are kept, in the same way.
+fn kept_in(image: &Image<'_>) -> usize {
+    image.kept()
+}
+
 #[test]
 fn units_of_one_list(rt: HostRuntime) -> Result<(), Fail> {
     let file = file_of(rt.alloc(), ROOTS)?;
-    let image = Image::open(rt.alloc(), &file)?;
-    for (a, wanted) in PLACES {
-        let place = image.unit_place(a).map(|found| found.place);
-        assert_eq!(rt; place, wanted, "unit at {a:#x}");
+    let image = image_of(rt.alloc(), &file)?;
+    for (a, wanted) in &PLACES {
+        expect(&rt, a, &place_of(&image, *a), wanted);
     }
     Ok(())
 }
@@ -97,8 +114,8 @@ fn bad_list_behind_one_that_was_read(rt: HostRuntime) -> Result<(), Fail> {
         &[1, 8, 0, 0, 0],
     ];
     let file = file_of(rt.alloc(), roots)?;
-    let fault = Image::open(rt.alloc(), &file).err();
-    assert_eq!(rt; fault, Some(OpenFault::RootRanges(34)));
+    let fault = image_of(rt.alloc(), &file).err();
+    expect(&rt, "fault", &fault, &Some(OpenFault::RootRanges(34)));
     Ok(())
 }
 
@@ -117,7 +134,7 @@ const HELD: &[&[u8]] = &[
 ];
 
 /// The indexes of the units that answer the first and the last address of each stretch.
-const HELD_PLACES: [(u64, Option<usize>); 25] = [
+static HELD_PLACES: [(u64, Option<usize>); 25] = [
     (0, None),
     (0x0f, None),
     (0x10, Some(0)),
@@ -148,17 +165,16 @@ const HELD_PLACES: [(u64, Option<usize>); 25] = [
 #[test]
 fn units_held_by_their_lists(rt: HostRuntime) -> Result<(), Fail> {
     let file = file_of_few(rt.alloc(), HELD)?;
-    let image = Image::open(rt.alloc(), &file)?;
-    assert_eq!(rt; image.kept(), 3);
-    for (a, wanted) in HELD_PLACES {
-        let place = image.unit_place(a).map(|found| found.place);
-        assert_eq!(rt; place, wanted, "unit at {a:#x}");
+    let image = image_of(rt.alloc(), &file)?;
+    expect(&rt, "ranges", &kept_in(&image), &3);
+    for (a, wanted) in &HELD_PLACES {
+        expect(&rt, a, &place_of(&image, *a), wanted);
     }
     Ok(())
 }
 
 /// The first units of spans, some of which begin where no unit is.
-const HELD_SPANS: [(u64, u64, Option<usize>); 4] = [
+static HELD_SPANS: [(u64, u64, Option<usize>); 4] = [
     (0, 0x11, Some(0)),
     (0x50, 0x110, None),
     (0x50, u64::MAX, Some(1)),
@@ -168,10 +184,10 @@ const HELD_SPANS: [(u64, u64, Option<usize>); 4] = [
 #[test]
 fn held_units_of_spans(rt: HostRuntime) -> Result<(), Fail> {
     let file = file_of_few(rt.alloc(), HELD)?;
-    let image = Image::open(rt.alloc(), &file)?;
-    for (low, high, wanted) in HELD_SPANS {
-        let place = image.first_unit_place(low, high).map(|found| found.place);
-        assert_eq!(rt; place, wanted, "first unit from {low:#x}");
+    let image = image_of(rt.alloc(), &file)?;
+    for (low, high, wanted) in &HELD_SPANS {
+        let place = first_place_of(&image, *low, *high);
+        expect(&rt, low, &place, wanted);
     }
     Ok(())
 }
@@ -185,7 +201,7 @@ fn bad_list_of_a_held_unit(rt: HostRuntime) -> Result<(), Fail> {
         &[2, 7, 0, 0, 0, 0, 1, 0, 0, 0, 0, 0, 0],
     ];
     let file = file_of_few(rt.alloc(), roots)?;
-    let fault = Image::open(rt.alloc(), &file).err();
-    assert_eq!(rt; fault, Some(OpenFault::RootRanges(42)));
+    let fault = image_of(rt.alloc(), &file).err();
+    expect(&rt, "fault", &fault, &Some(OpenFault::RootRanges(42)));
     Ok(())
 }

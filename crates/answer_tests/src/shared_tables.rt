@@ -1,10 +1,11 @@
 //! Units that name one line table, each with its own directory and texts, worked out by hand.
 
-use crate::contexts::{Wanted, expect_frames};
+use crate::contexts::{Wanted, context_of, expect_frames, frames_at, image_of, location_at};
+use crate::expect::expect;
+use crate::spans::span_at;
 use dw_elf::Name;
-use dw_symbols::{Answer, Context, Image, UnitFault};
+use dw_symbols::{Answer, UnitFault};
 use std::alloc::{AllocError, Global};
-use std::num::NonZeroUsize;
 use std::process::Abort;
 use std::test::Fail;
 use test_inputs::files::{elf, line_table};
@@ -62,7 +63,7 @@ const FIRST: Wanted<'_> = (None, Some(b"/a/one.c"), Some(3), Some(0));
 const SECOND: Wanted<'_> = (None, Some(b"/b/two.c"), Some(4), Some(0));
 
 /// An address, its unit and its frame.
-const FRAMES: [(u64, u64, Wanted<'_>); 5] = [
+static FRAMES: [(u64, u64, Wanted<'_>); 5] = [
     (0x1000, 0, FIRST),
     (0x1010, 0x24, SECOND),
     (0x100f, 0, FIRST),
@@ -76,20 +77,21 @@ fn expect_fault<A: Abort>(rt: &A, answer: &Answer<'_>) {
         assert!(rt; false, "no fault");
         return;
     };
-    assert_eq!(rt; (*unit, *code), (0x48, UnitFault::Line));
+    expect(rt, unit, &(*unit, *code), &(0x48, UnitFault::Line));
 }
 
 #[test]
 fn two_directories_of_one_table(rt: HostRuntime) -> Result<(), Fail> {
     let file = shared(rt.alloc())?;
-    let image = Image::open(rt.alloc(), &file)?;
-    let mut context = Context::new(rt.alloc(), &image, NonZeroUsize::MIN)?;
-    for (address, unit, wanted) in FRAMES {
-        expect_frames(&rt, &context.find_frames(address)?, unit, &[wanted]);
-        expect_frames(&rt, &context.find_location(address)?, unit, &[wanted]);
-        expect_fault(&rt, &context.find_location(0x1020)?);
-        expect_frames(&rt, &context.find_location(address)?, unit, &[wanted]);
-        expect_fault(&rt, &context.find_frames(0x1020)?);
+    let image = image_of(rt.alloc(), &file)?;
+    let mut context = context_of(rt.alloc(), &image)?;
+    for (address, unit, wanted) in &FRAMES {
+        let wanted = &[*wanted];
+        expect_frames(&rt, &frames_at(&mut context, *address)?, *unit, wanted);
+        expect_frames(&rt, &location_at(&mut context, *address)?, *unit, wanted);
+        expect_fault(&rt, &location_at(&mut context, 0x1020)?);
+        expect_frames(&rt, &location_at(&mut context, *address)?, *unit, wanted);
+        expect_fault(&rt, &frames_at(&mut context, 0x1020)?);
     }
     Ok(())
 }
@@ -97,21 +99,21 @@ fn two_directories_of_one_table(rt: HostRuntime) -> Result<(), Fail> {
 #[test]
 fn pieces_of_one_table(rt: HostRuntime) -> Result<(), Fail> {
     let file = shared(rt.alloc())?;
-    let image = Image::open(rt.alloc(), &file)?;
-    let mut context = Context::new(rt.alloc(), &image, NonZeroUsize::MIN)?;
-    let Answer::Pieces(pieces) = context.find_location_range(0x1000, 0x1020)? else {
+    let image = image_of(rt.alloc(), &file)?;
+    let mut context = context_of(rt.alloc(), &image)?;
+    let Answer::Pieces(pieces) = span_at(&mut context, 0x1000, 0x1020)? else {
         return Err(Fail::from("pieces"));
     };
     let wanted: [(u64, u64, &[u8], u64); 2] = [
         (0x1000, 0x1010, b"/a/one.c", 3),
         (0x1010, 0x1020, b"/b/two.c", 4),
     ];
-    assert_eq!(rt; pieces.len(), wanted.len());
+    expect(&rt, "pieces", &pieces.len(), &wanted.len());
     for (piece, (begin, end, path, line)) in pieces.iter().zip(wanted.iter()) {
-        assert_eq!(rt; (piece.begin, piece.end), (*begin, *end));
-        assert_eq!(rt; piece.location.path.as_deref(), Some(*path));
-        assert_eq!(rt; piece.location.line, Some(*line));
+        expect(&rt, begin, &(piece.begin, piece.end), &(*begin, *end));
+        expect(&rt, begin, &piece.location.path.as_deref(), &Some(*path));
+        expect(&rt, begin, &piece.location.line, &Some(*line));
     }
-    expect_fault(&rt, &context.find_location_range(0x1000, 0x1030)?);
+    expect_fault(&rt, &span_at(&mut context, 0x1000, 0x1030)?);
     Ok(())
 }

@@ -1,10 +1,10 @@
 //! Spans of addresses, worked out by hand.
 
-use crate::contexts::{context_at_last, open_at_last, unreadable};
+use crate::contexts::{context_at_last, context_of, image_of, open_at_last, unreadable};
+use crate::expect::expect;
 use crate::formats::{ONE_ROW, X, Y, overlapping};
-use dw_symbols::{Answer, Context, Image, Piece, UnitFault};
+use dw_symbols::{Answer, Context, Piece, UnitFault};
 use std::alloc::{AllocError, Global};
-use std::num::NonZeroUsize;
 use std::process::Abort;
 use std::test::Fail;
 use test_inputs::files::sample;
@@ -16,18 +16,32 @@ pub type Wanted = (u64, u64, u64);
 pub const PIECES: &[Wanted] = &[(0x40_1002, 0x40_1004, 3), (0x40_1004, 0x40_1006, 4)];
 
 /// What a span means. No clause says what it is, so that its callers are proved soon.
+pub fn span_at<'a>(
+    context: &mut Context<'_, 'a>,
+    low: u64,
+    high: u64,
+) -> Result<Answer<'a>, AllocError> {
+    context.find_location_range(low, high)
+}
+
+/// What a span of a file means.
 fn pieces_of<'a>(alloc: Global, file: &'a [u8], low: u64, high: u64) -> Result<Answer<'a>, Fail> {
-    let image = Image::open(alloc, file)?;
-    let mut context = Context::new(alloc, &image, NonZeroUsize::MIN)?;
-    let answer = context.find_location_range(low, high)?;
+    let image = image_of(alloc, file)?;
+    let mut context = context_of(alloc, &image)?;
+    let answer = span_at(&mut context, low, high)?;
     Ok(answer)
 }
 
 fn expect_piece<A: Abort>(rt: &A, piece: &Piece, wanted: &Wanted) {
     let (begin, end, line) = *wanted;
-    assert_eq!(rt; (piece.begin, piece.end), (begin, end));
-    assert_eq!(rt; piece.location.line, Some(line));
-    assert_eq!(rt; piece.location.path.as_deref(), Some(b"/w/a.c" as &[u8]));
+    expect(rt, begin, &(piece.begin, piece.end), &(begin, end));
+    expect(rt, begin, &piece.location.line, &Some(line));
+    expect(
+        rt,
+        begin,
+        &piece.location.path.as_deref(),
+        &Some(b"/w/a.c" as &[u8]),
+    );
 }
 
 /// An answer is of these pieces.
@@ -36,7 +50,7 @@ pub fn expect_pieces<A: Abort>(rt: &A, answer: &Answer<'_>, wanted: &[Wanted]) {
         assert!(rt; false, "no pieces");
         return;
     };
-    assert_eq!(rt; pieces.len(), wanted.len());
+    expect(rt, "pieces", &pieces.len(), &wanted.len());
     for (piece, wanted) in pieces.iter().zip(wanted.iter()) {
         expect_piece(rt, piece, wanted);
     }
@@ -93,7 +107,7 @@ fn span_with_a_fault(rt: HostRuntime) -> Result<(), Fail> {
     let Answer::Fault { unit, code } = pieces_of(rt.alloc(), &file, 0x40_0000, 0x40_1001)? else {
         return Err(Fail::from("a fault"));
     };
-    assert_eq!(rt; (unit, code), (0x1af, UnitFault::Line));
+    expect(&rt, unit, &(unit, code), &(0x1af, UnitFault::Line));
     Ok(())
 }
 
@@ -103,8 +117,8 @@ fn pieces_at_last<'a>(
     low: u64,
     high: u64,
 ) -> Result<Answer<'a>, AllocError> {
-    let Ok(answer) = context.find_location_range(low, high) else {
-        return context.find_location_range(low, high);
+    let Ok(answer) = span_at(context, low, high) else {
+        return span_at(context, low, high);
     };
     Ok(answer)
 }

@@ -2,7 +2,8 @@
 
 ghost use Rattle.std.specs.Prelude.{◌≡◌, None, IfOk};
 
-use crate::contexts::{FAULTS, unreadable};
+use crate::contexts::{FAULTS, image_of, unreadable};
+use crate::expect::expect;
 use a2l_lines::{Failed, Options, RunFault, Sink, Source, Status, list_units, symbolize};
 use dw_elf::{Elf, Name, OpenFault};
 use dw_symbols::Image;
@@ -139,7 +140,7 @@ pub fn status_of<T: Threads + Wait + Sync, G: Gate + Sync>(
     asked: &Asked<'_>,
     gate: &G,
 ) -> Result<Option<Status>, Fail> {
-    let image = Image::open(alloc, file)?;
+    let image = image_of(alloc, file)?;
     let options = options(alloc, asked)?;
     let mut lines = Compared::new(asked.text);
     let status = symbolize(rt, alloc, &mut Nothing, &mut lines, &image, &options, gate)?;
@@ -150,7 +151,7 @@ pub fn status_of<T: Threads + Wait + Sync, G: Gate + Sync>(
 }
 
 /// Of the sample.
-const ANSWERS: [Asked<'static>; 5] = [
+static ANSWERS: [Asked<'static>; 5] = [
     Asked {
         flags: ALL,
         words: &["0x401004"],
@@ -186,10 +187,10 @@ const SPANNED: Asked<'static> = Asked {
 #[test]
 fn lines_of_frames(rt: HostRuntime) -> Result<(), Fail> {
     let file = sample(rt.alloc())?;
-    for asked in ANSWERS {
-        let status = status_of(&rt, rt.alloc(), &file, &asked, &Open)?;
+    for asked in &ANSWERS {
+        let status = status_of(&rt, rt.alloc(), &file, asked, &Open)?;
         let text = asked.text;
-        assert_eq!(rt; status, Some(Status::Clean), "for {text:?}");
+        expect(&rt, text, &status, &Some(Status::Clean));
     }
     Ok(())
 }
@@ -204,7 +205,7 @@ fn the_same_address_again(rt: HostRuntime) -> Result<(), Fail> {
         text: "/w/a.c:4\n!bad address\n/w/a.c:3\n/w/a.c:4\n??:0\n!bad address\n??:0\n/w/a.c:3\n",
     };
     let status = status_of(&rt, rt.alloc(), &file, &asked, &Open)?;
-    assert_eq!(rt; status, Some(Status::Faults));
+    expect(&rt, "status", &status, &Some(Status::Faults));
     Ok(())
 }
 
@@ -228,12 +229,12 @@ fn parts_that_are_not_known(rt: HostRuntime) -> Result<(), Fail> {
         text: "/w/a.c:?\n??:20\n??:0\n",
     };
     let status = status_of(&rt, rt.alloc(), &file, &asked, &Open)?;
-    assert_eq!(rt; status, Some(Status::Clean));
+    expect(&rt, "status", &status, &Some(Status::Clean));
     Ok(())
 }
 
 /// The lines of each fault of a unit, and of a word that is no address.
-const FAULT_LINES: [&str; 4] = [
+static FAULT_LINES: [&str; 4] = [
     "!unit 0x1af fault 1\n!bad address\n",
     "!unit 0x1af fault 2\n!bad address\n",
     "!unit 0x1af fault 3\n!bad address\n",
@@ -250,7 +251,7 @@ fn faults_by_their_numbers(rt: HostRuntime) -> Result<(), Fail> {
             text,
         };
         let status = status_of(&rt, rt.alloc(), &file, &asked, &Open)?;
-        assert_eq!(rt; status, Some(Status::Faults), "for {text:?}");
+        expect(&rt, text, &status, &Some(Status::Faults));
     }
     Ok(())
 }
@@ -330,7 +331,7 @@ fn each_allocation_refused(rt: HostRuntime) -> Result<(), Fail> {
     let Ok(file) = sample(alloc) else {
         return Ok(());
     };
-    let Ok(image) = Image::open(alloc, &file) else {
+    let Ok(image) = image_of(alloc, &file) else {
         return Ok(());
     };
     let Ok(units) = units_of(alloc, &file) else {
