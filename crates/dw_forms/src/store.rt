@@ -42,8 +42,8 @@ fn last_start(starts: &BTreeMap<usize, Start>) -> Option<usize>
     Some(*last)
 }
 
-/// Where the table begins that is at an offset, of starts of which this is the last. Past that one
-/// it isn't looked for: there are all tables of a file that no two units share.
+/// Where the table begins that is at an offset, of starts of which this is the last. Past the last
+/// one there is none to look for; there each new table begins in files that compilers write.
 fn start_at(starts: &BTreeMap<usize, Start>, last: Option<usize>, offset: usize) -> Option<Start>
     requires { AreUpTo last starts.now }
     ensures { result ≡ tree.get nat_cmp starts.now offset }
