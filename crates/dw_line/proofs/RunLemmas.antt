@@ -3,7 +3,6 @@ use Rattle.std.proofs.Common.{◌≡◌, ℕ, zero, suc, ◌+◌, ◌-◌, ◌<�
 use Rattle.std.specs.Prelude.{nat_lt, option_map}
 use Rattle.std.proofs.lemmas.Bool.{lt-ltb, le-ltb}
 use Rattle.std.proofs.lemmas.List.{drop-drop, take-append-drop, length-take-le}
-use Rattle.dw_model.specs.Results.{◌>>=◌}
 use Rattle.dw_model.specs.Reading.{Place, start}
 use Rattle.dw_model.specs.Faults.{Bad}
 use Rattle.dw_model.specs.Answers.{Tells}
@@ -15,9 +14,9 @@ use Rattle.dw_line.specs.declared.machine.Appended.{Appended}
 use Rattle.dw_line.specs.declared.checkpoints.Checkpoint.{Checkpoint}
 use Rattle.dw_line.specs.Registers.{registers_shown}
 use Rattle.dw_line.specs.Machine.{State, rows_on, row_before, registers_behind, appended_row, IsNext}
-use Rattle.dw_line.specs.Sequences.{up_to_end, state_of, checkpoint_row}
+use Rattle.dw_line.specs.Sequences.{up_to_end, state_of, checkpoint_row, IsCheckpoint}
 use Rattle.dw_line.specs.Search.{row_told, row_before_address}
-use Rattle.dw_line.specs.Reached.{FindsFrom}
+use Rattle.dw_line.specs.Reached.{FindsFrom, IsNextRow}
 use Rattle.dw_line.proofs.MachineLemmas.{Passes, Advances, passes, passes_more}
 use Rattle.dw_line.proofs.ProgramLemmas.{place_is}
 
@@ -25,6 +24,10 @@ use Rattle.dw_line.proofs.ProgramLemmas.{place_is}
 
 abbrev pub place_of : LineHeader → Checkpoint → Place
 place_of header checkpoint = record { at = checkpoint.place; left = drop checkpoint.place header.program }
+
+-- a row that was appended, with the place behind it
+abbrev pub appended_at : Appended → ℕ → Checkpoint
+appended_at next place = record { registers = next.registers; place = place }
 
 -- the machine is where a program can be run on
 pub record Stands (header : LineHeader) (here : Checkpoint) (cursor : Place) : Type 0 where
@@ -35,7 +38,7 @@ pub record Stands (header : LineHeader) (here : Checkpoint) (cursor : Place) : T
 to_place : (program : List ℕ) (k : ℕ) → k ≤ length program → Passes (start program) (record { at = k; left = drop k program })
 to_place program k h = (take k program, (sym (take-append-drop k program), omega (arith, length-take-le k program h)), tt)
 
-pub stands_on : (header : LineHeader) (here : Checkpoint) (next : Appended) (old new : Place) → Stands header here old → Advances old new → Stands header (record { registers = next.registers; place = new.at }) new
+pub stands_on : (header : LineHeader) (here : Checkpoint) (next : Appended) (old new : Place) → Stands header here old → Advances old new → Stands header (appended_at next new.at) new
 stands_on header here next old new stands spans =
     let passed = passes (start header.program) new (passes_more (start header.program) old new (subst (λ (p : Place). Passes (start header.program) p) (sym stands.is) (to_place header.program here.place stands.within)) spans) in
     let is = place_is header.program new passed in
@@ -79,6 +82,12 @@ one most a r next rest above ends e f = rw (e, f) refl
 up_to_end-goes : (r : Row) (rows : List Row) → r.ends ≡ false → up_to_end (r ∷ rows) ≡ r ∷ up_to_end rows
 up_to_end-goes r rows e = rw e refl
 
+up_to_end-ends : (r : Row) (rows : List Row) → r.ends ≡ true → length (up_to_end (r ∷ rows)) ≡ 1
+up_to_end-ends r rows e = rw e refl
+
+goes_row : (next : Appended) → next.ends ≡ false → appended_row next ≡ row (registers_shown next.registers) false
+goes_row next goes = ap (row (registers_shown next.registers)) goes
+
 first-up : (r : Row) (rows : List Row) → first_address (up_to_end (r ∷ rows)) ≡ r.address
 first-up r rows = by r.ends
   where
@@ -111,6 +120,35 @@ Next header here old next new = IsNext header (record { registers = registers_sh
 next_of : (header : LineHeader) (here : Checkpoint) (old new : Place) (next : Appended) → Stands header here old → Next header here old next new → IsNext header (state_of header here) next new
 next_of header here old new next stands is = subst (λ (p : Place). Next header here p next new) stands.is is
 
+-- ---- the next row
+
+-- These rows are appended after a row, and with it they are those up to the end of its sequence.
+record RunsOn (header : LineHeader) (next : Checkpoint) (rows others : List Row) : Type 0 where
+  appends : rows_on header (state_of header next) ≡ Ok others
+  rest : checkpoint_row next ∷ up_to_end others ≡ rows
+
+-- it is so of the next row, if that doesn't end its sequence
+runs_on : (header : LineHeader) (next : Appended) (new : Place) (others : List Row) → Stands header (appended_at next new.at) new → (t : Taken (appended_row next) (rows_on header (next_state header next new)) others) → next.ends ≡ false → RunsOn header (appended_at next new.at) (up_to_end others) t.rest
+runs_on header next new others stands t goes =
+    let ends : registers_behind (registers_shown next.registers) next.ends ≡ registers_shown next.registers = ap (registers_behind (registers_shown next.registers)) goes in
+    record {
+      appends = ap (λ (p : Place). rows_on header (record { registers = registers_shown next.registers; place = p })) (sym stands.is) ∙ ap (λ (r : model.Registers). rows_on header (record { registers = r; place = new })) (sym ends) ∙ t.behind;
+      rest = ap (λ (r : Row). r ∷ up_to_end t.rest) (sym (goes_row next goes)) ∙ sym (up_to_end-goes (appended_row next) t.rest goes) ∙ ap up_to_end (sym t.whole);
+    }
+
+-- rows are run on from it, unless it ends its sequence
+next_is : (header : LineHeader) (next : Appended) (new : Place) (others : List Row) → Stands header (appended_at next new.at) new → Taken (appended_row next) (rows_on header (next_state header next new)) others → IsNextRow header (up_to_end others) (appended_at next new.at)
+next_is header next new others stands t = record {
+  address = sym (first-up (appended_row next) t.rest) ∙ ap (λ (others : List Row). first_address (up_to_end others)) (sym t.whole);
+  on = by next.ends refl;
+}
+  where
+    by : (ends : Bool) → next.ends ≡ ends → 1 < length (up_to_end others) → IsCheckpoint header (appended_at next new.at) (up_to_end others)
+    by true e more = absurd (omega (arith, more, ap (λ (others : List Row). length (up_to_end others)) t.whole, up_to_end-ends (appended_row next) t.rest e))
+    by false e more =
+        let on = runs_on header next new others stands t e in
+        record { others = t.rest; appends = on.appends; rest = on.rest; within = stands.within }
+
 -- ---- how it goes on and ends
 
 -- what is known in the loop, where the first row's place is in the program
@@ -118,7 +156,7 @@ pub record Runs (header : LineHeader) (first here : Checkpoint) (cursor : Place)
   pub stands : Stands header here cursor
   pub so_far : SoFar header first here a i
 
-pub goes_on : (header : LineHeader) (first here : Checkpoint) (next : Appended) (old new : Place) (a i : ℕ) → i < 64 → Next header here old next new → Runs header first here old a i → next.registers.address ≤ a → next.ends ≡ false → Runs header first (record { registers = next.registers; place = new.at }) new a (i + 1)
+pub goes_on : (header : LineHeader) (first here : Checkpoint) (next : Appended) (old new : Place) (a i : ℕ) → i < 64 → Next header here old next new → Runs header first here old a i → next.registers.address ≤ a → next.ends ≡ false → Runs header first (appended_at next new.at) new a (i + 1)
 goes_on header first here next old new a i h is runs below goes =
     let stands = stands_on header here next old new runs.stands is.spans in
     record {
@@ -126,37 +164,36 @@ goes_on header first here next old new a i h is runs below goes =
       so_far = λ rows e.
           let later = runs.so_far rows e in
           let t = of_next header first here next new a i rows (next_of header here old new next runs.stands is) later in
-          let ends : registers_behind (registers_shown next.registers) next.ends ≡ registers_shown next.registers = ap (registers_behind (registers_shown next.registers)) goes in
-          let row_is : appended_row next ≡ row (registers_shown next.registers) false = ap (row (registers_shown next.registers)) goes in
+          let on = runs_on header next new later.others stands t goes in
           record {
             others = t.rest;
-            appends = ap (λ (p : Place). rows_on header (record { registers = registers_shown next.registers; place = p })) (sym stands.is) ∙ ap (λ (r : model.Registers). rows_on header (record { registers = r; place = new })) (sym ends) ∙ t.behind;
+            appends = on.appends;
             same = reached header first here next new a i rows false false h (le-ltb a next.registers.address below) goes later t
-                ∙ ap (λ (r : Row). row_before_address (64 - (i + 1)) a r t.rest) row_is;
-            rest = ap (λ (r : Row). r ∷ up_to_end t.rest) (sym row_is) ∙ sym (up_to_end-goes (appended_row next) t.rest goes) ∙ ap up_to_end (sym t.whole)
-                ∙ behind i (checkpoint_row here) (up_to_end later.others) (checkpoint_row first ∷ up_to_end rows) later.rest;
+                ∙ ap (λ (r : Row). row_before_address (64 - (i + 1)) a r t.rest) (goes_row next goes);
+            rest = on.rest ∙ behind i (checkpoint_row here) (up_to_end later.others) (checkpoint_row first ∷ up_to_end rows) later.rest;
           };
     }
 
 -- a place that is told by its number
-pub placed : (header : LineHeader) (first : Checkpoint) (next : Appended) (new : Place) (a i at : ℕ) → at ≡ new.at → Runs header first (record { registers = next.registers; place = new.at }) new a i → Runs header first (record { registers = next.registers; place = at }) new a i
-placed header first next new a i at e runs = subst (λ (n : ℕ). Runs header first (record { registers = next.registers; place = n }) new a i) (sym e) runs
+pub placed : (header : LineHeader) (first : Checkpoint) (next : Appended) (new : Place) (a i at : ℕ) → at ≡ new.at → Runs header first (appended_at next new.at) new a i → Runs header first (appended_at next at) new a i
+placed header first next new a i at e runs = subst (λ (n : ℕ). Runs header first (appended_at next n) new a i) (sym e) runs
 
 -- the next row lies above the address
-pub stops_above : (header : LineHeader) (first here : Checkpoint) (next : Appended) (old new : Place) (next_checkpoint a i : ℕ) → i < 64 → Next header here old next new → (first.place ≤ length header.program → Runs header first here old a i) → a < next.registers.address
-    → FindsFrom header first next_checkpoint a (Some (record { row = here; next = next.registers.address; next_checkpoint = next_checkpoint }))
-stops_above header first here next old new next_checkpoint a i h is given above = λ there rows e.
+pub stops_above : (header : LineHeader) (first here : Checkpoint) (next : Appended) (old new : Place) (next_checkpoint a i at : ℕ) → at ≡ new.at → i < 64 → Next header here old next new → (first.place ≤ length header.program → Runs header first here old a i) → a < next.registers.address
+    → FindsFrom header first next_checkpoint a (Some (record { row = here; next = appended_at next at; next_checkpoint = next_checkpoint }))
+stops_above header first here next old new next_checkpoint a i at e-at h is given above = λ there rows e.
     let runs = given there in
     let later = runs.so_far rows e in
-    let t = of_next header first here next new a i rows (next_of header here old new next runs.stands is) later in (
+    let t = of_next header first here next new a i rows (next_of header here old new next runs.stands is) later in
+    let next_row = next_is header next new later.others (stands_on header here next old new runs.stands is.spans) t in (
       sym (ap (option_map row_told) (reached header first here next new a i rows true next.ends h (lt-ltb a next.registers.address above) refl later t)),
       record {
         passed = i;
         number = refl;
         is = record {
           is = record { others = later.others; appends = later.appends; rest = later.rest; within = runs.stands.within };
-          next = sym (first-up (appended_row next) t.rest) ∙ ap (λ (others : List Row). first_address (up_to_end others)) (sym t.whole)
-              ∙ ap first_address (behind i (checkpoint_row here) (up_to_end later.others) (checkpoint_row first ∷ up_to_end rows) later.rest);
+          next = subst (λ (n : ℕ). IsNextRow header (drop (i + 1) (checkpoint_row first ∷ up_to_end rows)) (appended_at next n)) (sym e-at)
+              (subst (λ (own : List Row). IsNextRow header own (appended_at next new.at)) (behind i (checkpoint_row here) (up_to_end later.others) (checkpoint_row first ∷ up_to_end rows) later.rest) next_row);
         };
       },
     )

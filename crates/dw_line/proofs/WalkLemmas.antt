@@ -31,7 +31,7 @@ no_row rows begin end order owner = record {
 }
 
 -- the row that was found is that of the addresses up to the next row
-pub one_row : (rows : List Row) (number begin end stop : ℕ) (found : Last) → IsOwner rows (Some number) begin end → Stays rows number begin found → begin < stop → stop ≤ found.reached.next → stop ≤ end
+pub one_row : (rows : List Row) (number begin end stop : ℕ) (found : Last) → IsOwner rows (Some number) begin end → Stays rows number begin found → begin < stop → stop ≤ found.reached.next.registers.address → stop ≤ end
     → IsStretch rows begin end (record { begin = begin; end = stop; row = Some (told_of found.reached) })
 one_row rows number begin end stop found owner stays order next within = record {
   begins = refl;

@@ -1,4 +1,4 @@
--- A row that was found in a used sequence, from which later ones are run again.
+-- A row that was found in a used sequence, with the one after it, from which later ones are run on.
 use Rattle.std.specs.Prelude.{◌≡◌, ◌<◌, ◌≤◌, ◌*◌, ◌+◌, ℕ, Bool, true, ◌&&◌, ◌==◌, List, ◌∷◌, length, drop, Option, Some, None, IfSome, option_map, slice_get, Ok, nat_le, nat_lt, if◌then◌else◌}
 use Rattle.dw_model.specs.LineHeader.{LineHeader}
 use Rattle.dw_model.specs.Matrix.{Row, row_in, row_of, first_address, last_address}
@@ -14,11 +14,16 @@ use Rattle.dw_line.specs.Sequences.{up_to_end, checkpoint_row, state_of, used_se
 abbrev pub told_of : Reached → RowTold
 told_of reached = row_told (checkpoint_row reached.row)
 
--- It is one of these rows, from which those after it are run again, and the address of the next one
--- is known.
+-- It has the address of the first of these rows, and those after it are run on from it, unless it
+-- is the last of them: after a row that ends its sequence the registers begin anew.
+pub record IsNextRow (header : LineHeader) (rows : List Row) (next : Checkpoint) : Type 0 where
+  pub address : next.registers.address ≡ first_address rows
+  pub on : 1 < length rows → IsCheckpoint header next rows
+
+-- It is one of these rows, and the next one is known.
 pub record IsRow (header : LineHeader) (rows : List Row) (passed : ℕ) (reached : Reached) : Type 0 where
   pub is : IsCheckpoint header reached.row (drop passed rows)
-  pub next : reached.next ≡ first_address (drop (passed + 1) rows)
+  pub next : IsNextRow header (drop (passed + 1) rows) reached.next
 
 -- One of these rows. From it to the checkpoint whose number it has there are at most 64 rows.
 pub record IsReached (header : LineHeader) (rows : List Row) (reached : Reached) : Type 0 where
@@ -34,7 +39,7 @@ pub record IsPassed (header : LineHeader) (rows : List Row) (next_checkpoint : �
 
 -- the address lies at the row or after it, and before the next one
 abbrev pub HoldsAddress : ℕ → Reached → Type 0
-HoldsAddress a reached = (reached.row.registers.address ≤ a) × (a < reached.next)
+HoldsAddress a reached = (reached.row.registers.address ≤ a) × (a < reached.next.registers.address)
 
 -- What is found from a row on is the row of the address at or after it, where the rows from there
 -- on can be read.
@@ -87,5 +92,5 @@ FindsRow header rows a found =
 -- Each address of the sequence with a number that lies at an address or after it, and before the
 -- next row, has the row that was found.
 pub record Stays (rows : List Row) (number a : ℕ) (found : Last) : Type 0 where
-  pub above : a < found.reached.next
-  pub same : (c : ℕ) → a ≤ c → c < found.reached.next → number_among (used_sequences rows) c ≡ Some number → told_at rows c ≡ Some (told_of found.reached)
+  pub above : a < found.reached.next.registers.address
+  pub same : (c : ℕ) → a ≤ c → c < found.reached.next.registers.address → number_among (used_sequences rows) c ≡ Some number → told_at rows c ≡ Some (told_of found.reached)

@@ -1,5 +1,5 @@
 //! The row of an address in a used sequence: rows are run again from one of its checkpoints, or
-//! from the row that was found last.
+//! run on from the row after the one that was found last.
 
 ghost use Rattle.std.specs.Prelude.{◌≡◌, ◌≤◌, ◌<◌, ◌+◌, Some, IfSome, length, drop, nat_le, option_map};
 ghost use Rattle.dw_line.specs.Header.{header_shown};
@@ -18,10 +18,10 @@ use std::sync::ledger::Ledger;
 /// A row that was found.
 #[derive(Clone, Copy, Debug)]
 pub(crate) struct Reached {
-    /// The row, from which later ones are run again.
+    /// The row.
     pub(crate) row: Checkpoint,
-    /// The address of the row after it.
-    pub(crate) next: u64,
+    /// The row after it, from which later ones are run on.
+    pub(crate) next: Checkpoint,
     /// The number of the next checkpoint after that from which it was found, among those of its
     /// sequence.
     pub(crate) next_checkpoint: usize,
@@ -119,23 +119,24 @@ fn row_from<L: Ledger>(
         let Ok(found) = next_counted(&mut cursor, header, last.registers, steps) else {
             return None;
         };
-        let Some(next) = found else {
+        let Some(appended) = found else {
             return None;
+        };
+        let next = Checkpoint {
+            registers: appended.registers,
+            place: cursor.at(),
         };
         if next.registers.address > address {
             return Some(Reached {
                 row: last,
-                next: next.registers.address,
+                next,
                 next_checkpoint,
             });
         }
-        if next.ends {
+        if appended.ends {
             return None;
         }
-        last = Checkpoint {
-            registers: next.registers,
-            place: cursor.at(),
-        };
+        last = next;
     }
     None
 }
@@ -163,8 +164,8 @@ pub(crate) fn row_in_sequence<L: Ledger>(
 }
 
 /// The same as `row_in_sequence`, where a row of the sequence may have been found before: if the
-/// address lies at that row or after it, and before the next checkpoint, rows are run on from
-/// there.
+/// address lies at that row or after it, and before the next checkpoint, rows are run on from the
+/// one after it. So no row is run twice.
 pub(crate) fn row_onward<L: Ledger>(
     header: &Header<'_>,
     checkpoints: &[Checkpoint],
@@ -181,8 +182,8 @@ pub(crate) fn row_onward<L: Ledger>(
     if !last.reaches(checkpoints, address) {
         return row_in_sequence(header, checkpoints, address, steps);
     }
-    if address < last.next {
+    if address < last.next.registers.address {
         return Some(last);
     }
-    row_from(header, last.row, last.next_checkpoint, address, steps)
+    row_from(header, last.next, last.next_checkpoint, address, steps)
 }

@@ -97,7 +97,7 @@ fn stretch_from<L: Ledger>(
     let found = lines.row_of_sequence(number, last, begin, &mut steps);
     let stretch = Stretch {
         begin,
-        end: lesser(found.reached.next, end),
+        end: lesser(found.reached.next.registers.address, end),
         row: Some(found.reached.told()),
     };
     (stretch, Some(found))

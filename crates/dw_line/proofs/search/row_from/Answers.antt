@@ -19,21 +19,21 @@ returns-in_default-found-clause-row g c =
 pub returns-then-next-address-clause-row : goal.returns-then-next-address-clause-row
 returns-then-next-address-clause-row g c =
     let header = header_shown c.args.header.now in
-    let is = one_more header (state_at c.loop.last.registers c.loop.cursor) c.in-Ok.found c.in-Some-found.next c.next_counted.new.cursor c.in-Some-found.is c.in-Ok.ensures.row in
-    stops_above header c.args.row c.loop.last c.in-Some-found.next c.loop.cursor c.next_counted.new.cursor c.args.next_checkpoint c.args.address c.loop.counter c.loop-test.true is c.loop.invariant.runs c.if-next-address.true
+    let is = one_more header (state_at c.loop.last.registers c.loop.cursor) c.in-Ok.found c.in-Some-found.appended c.next_counted.new.cursor c.in-Some-found.is c.in-Ok.ensures.row in
+    stops_above header c.args.row c.loop.last c.in-Some-found.appended c.loop.cursor c.next_counted.new.cursor c.args.next_checkpoint c.args.address c.loop.counter c.at.result c.at.ensures c.loop-test.true is c.loop.invariant.runs c.if-next-address.true
 
-pub returns-then-next-clause-row : goal.returns-then-next-clause-row
-returns-then-next-clause-row g c =
+pub returns-then-appended-clause-row : goal.returns-then-appended-clause-row
+returns-then-appended-clause-row g c =
     let header = header_shown c.args.header.now in
-    let is = one_more header (state_at c.loop.last.registers c.loop.cursor) c.in-Ok.found c.in-Some-found.next c.next_counted.new.cursor c.in-Some-found.is c.in-Ok.ensures.row in
-    stops_end header c.args.row c.loop.last c.in-Some-found.next c.loop.cursor c.next_counted.new.cursor c.args.next_checkpoint c.args.address c.loop.counter c.loop-test.true is c.loop.invariant.runs c.if-next-address.false c.if-next.true
+    let is = one_more header (state_at c.loop.last.registers c.loop.cursor) c.in-Ok.found c.in-Some-found.appended c.next_counted.new.cursor c.in-Some-found.is c.in-Ok.ensures.row in
+    stops_end header c.args.row c.loop.last c.in-Some-found.appended c.loop.cursor c.next_counted.new.cursor c.args.next_checkpoint c.args.address c.loop.counter c.loop-test.true is c.loop.invariant.runs c.if-next-address.false c.if-appended.true
 
 pub loop-preserved : goal.loop-preserved
 loop-preserved g c =
     let header = header_shown c.args.header.now in
-    let is = one_more header (state_at c.loop.last.registers c.loop.cursor) c.in-Ok.found c.in-Some-found.next c.next_counted.new.cursor c.in-Some-found.is c.in-Ok.ensures.row in
+    let is = one_more header (state_at c.loop.last.registers c.loop.cursor) c.in-Ok.found c.in-Some-found.appended c.next_counted.new.cursor c.in-Some-found.is c.in-Ok.ensures.row in
     record {
-      runs = λ there. placed header c.args.row c.in-Some-found.next c.next_counted.new.cursor c.args.address (c.loop.counter + 1) c.at.result c.at.ensures (goes_on header c.args.row c.loop.last c.in-Some-found.next c.loop.cursor c.next_counted.new.cursor c.args.address c.loop.counter c.loop-test.true is (c.loop.invariant.runs there) c.if-next-address.false c.if-next.false);
+      runs = λ there. placed header c.args.row c.in-Some-found.appended c.next_counted.new.cursor c.args.address (c.loop.counter + 1) c.at.result c.at.ensures (goes_on header c.args.row c.loop.last c.in-Some-found.appended c.loop.cursor c.next_counted.new.cursor c.args.address c.loop.counter c.loop-test.true is (c.loop.invariant.runs there) c.if-next-address.false c.if-appended.false);
       below = λ from. c.if-next-address.false;
       counted = omega (arith, c.next_counted.ensures.counted, c.loop.invariant.counted);
     }

@@ -13,4 +13,4 @@ pub returns-clause-row : goal.returns-clause-row
 returns-clause-row g c = λ rows has below was.
     let header = header_shown c.args.header.now in
     finds_onward header c.args.checkpoints.now rows c.args.address c.in-Some.last c.row_from.result has below (was_reached header rows c.args.last c.in-Some.last c.in-Some.is was)
-    (sym c.reaches.ensures ∙ c.if-not-reaches.false) c.row_from.ensures.row c.row_from.ensures.holds
+    (sym c.reaches.ensures ∙ c.if-not-reaches.false) c.if-address-last.false c.row_from.ensures.row c.row_from.ensures.holds
