@@ -2,6 +2,7 @@ pub mod IndirectLemmas
 pub mod SizeLemmas
 pub mod StepsLemmas
 pub mod StartLemmas
+pub mod StartsLemmas
 pub mod StoreLemmas
 pub mod TextLemmas
 pub mod FirstValueLemmas

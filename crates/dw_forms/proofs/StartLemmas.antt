@@ -4,8 +4,7 @@ use Rattle.std.specs.Prelude.{All, IsSome, fold, is_some, slice_get, sum, ◌==�
 use Rattle.std.specs.List.Sorted.{IsStrictlySortedBy}
 use Rattle.std.specs.Ordering.{nat_cmp}
 use Rattle.std.specs.Cmp.{unsigned_tied}
-use Rattle.std.specs.BTreeMap as tree
-use Rattle.std.specs.Map.{lookup}
+use Rattle.std.specs.BTreeMap.{is_at}
 use Rattle.std.proofs.lemmas.Bool.{eqb-true, eqb-false}
 use Rattle.std.proofs.lemmas.Cmp.{eq_by_cmp_equiv, nat_cmp_total}
 use Rattle.std.proofs.lemmas.List.{length-append, length-drop, length-map}
@@ -19,7 +18,7 @@ use Rattle.dw_forms.specs.declared.declaration.Decl.{Decl}
 use Rattle.dw_forms.specs.declared.run.Start.{Start}
 use Rattle.dw_forms.specs.Declaration.{declaration_shown}
 use Rattle.dw_forms.specs.Run.{ReadRun}
-use Rattle.dw_forms.specs.Starts.{Starts, AreAdded, AreApart, AreRising, AreTaken, IsAsBefore}
+use Rattle.dw_forms.specs.Starts.{StartList, start_at, AreAdded, AreApart, AreRising, AreTaken, IsAsBefore}
 use Rattle.dw_forms.specs.Store.{AreChained}
 use Rattle.dw_forms.specs.StoreInside.{grown, rest_in, sizes_of, tables_of, whole}
 use Rattle.dw_forms.proofs.OntoLemmas.{Stands, next-stands}
@@ -67,12 +66,12 @@ rising section p q (d ∷ ds) s h (suc j) (suc k) a b less e f =
 
 -- ---- one start more, or less
 
-abbrev Writes : Starts → Starts → ℕ → Option Start → Type 0
-Writes old new key w = (q : ℕ) → tree.get nat_cmp new q ≡ cond (tree.is_at (nat_cmp key) q) w (tree.get nat_cmp old q)
+abbrev Writes : StartList → StartList → ℕ → Option Start → Type 0
+Writes old new key w = (q : ℕ) → start_at new q ≡ cond (is_at (nat_cmp key) q) w (start_at old q)
 
-written : (old new : Starts) (key : ℕ) (w : Option Start) → Writes old new key w → (q : ℕ) (same : Bool) → (key == q) ≡ same → tree.get nat_cmp new q ≡ cond same w (tree.get nat_cmp old q)
+written : (old new : StartList) (key : ℕ) (w : Option Start) → Writes old new key w → (q : ℕ) (same : Bool) → (key == q) ≡ same → start_at new q ≡ cond same w (start_at old q)
 written old new key w u q same e =
-    u q ∙ ap (λ (b : Bool). cond b w (tree.get nat_cmp old q)) (unsigned_tied key q ∙ e)
+    u q ∙ ap (λ (b : Bool). cond b w (start_at old q)) (unsigned_tied key q ∙ e)
 
 some-is : (found : Option Start) → IsSome found → (s : Start) × (found ≡ Some s)
 some-is None h = absurd cc
@@ -83,7 +82,7 @@ one-offset offsets j k a rise less e f = omega (arith, rise j k a a less e f)
 
 -- ---- starts are added
 
-module _ (run : ℕ) (offsets : List ℕ) (first : Starts) where
+module _ (run : ℕ) (offsets : List ℕ) (first : StartList) where
   pub added-none : AreAdded run 0 offsets first first
   added-none = record {
     each = λ offset start e. inl e;
@@ -91,10 +90,10 @@ module _ (run : ℕ) (offsets : List ℕ) (first : Starts) where
     counted = omega arith;
   }
 
-  pub none-yet : (i key : ℕ) (old : Starts) → AreApart first offsets → AreRising offsets → AreAdded run i offsets first old → slice_get offsets i ≡ Some key → tree.get nat_cmp old key ≡ None
-  none-yet i key old apart rise added at = by_found (tree.get nat_cmp old key) refl
+  pub none-yet : (i key : ℕ) (old : StartList) → AreApart first offsets → AreRising offsets → AreAdded run i offsets first old → slice_get offsets i ≡ Some key → start_at old key ≡ None
+  none-yet i key old apart rise added at = by_found (start_at old key) refl
     where
-      by_found : (found : Option Start) → tree.get nat_cmp old key ≡ found → found ≡ None
+      by_found : (found : Option Start) → start_at old key ≡ found → found ≡ None
       by_found None e = refl
       by_found (Some s) e =
           elim (added.each key s e) [
@@ -102,20 +101,20 @@ module _ (run : ℕ) (offsets : List ℕ) (first : Starts) where
             | inr mine ↦ absurd (one-offset offsets s.index i key rise mine.1 mine.2 at)
           ]
 
-  pub added-one : (i key : ℕ) (start : Start) (was : Option Start) (old new : Starts) → AreApart first offsets → AreRising offsets → AreAdded run i offsets first old → slice_get offsets i ≡ Some key → start.run ≡ run → start.index ≡ i → Writes old new key (Some start) → was ≡ tree.get nat_cmp old key
-      → tree.btree_map_len new ≡ tree.btree_map_len old + (if is_some was then 0 else 1) → AreAdded run (i + 1) offsets first new
+  pub added-one : (i key : ℕ) (start : Start) (was : Option Start) (old new : StartList) → AreApart first offsets → AreRising offsets → AreAdded run i offsets first old → slice_get offsets i ≡ Some key → start.run ≡ run → start.index ≡ i → Writes old new key (Some start) → was ≡ start_at old key
+      → length new ≡ length old + (if is_some was then 0 else 1) → AreAdded run (i + 1) offsets first new
   added-one i key start was old new apart rise added at of_run of_index u found count = record {
     each = λ offset s e. each offset s (key == offset) refl e;
     there = λ k offset less e. there k offset less e (key == offset) refl;
     counted = counted;
   }
     where
-      counted : tree.btree_map_len new ≡ tree.btree_map_len first + (i + 1)
+      counted : length new ≡ length first + (i + 1)
       counted =
-          let one : tree.btree_map_len new ≡ tree.btree_map_len old + 1 = count ∙ ap (λ (was : Option Start). tree.btree_map_len old + (if is_some was then 0 else 1)) (found ∙ none-yet i key old apart rise added at) in
+          let one : length new ≡ length old + 1 = count ∙ ap (λ (was : Option Start). length old + (if is_some was then 0 else 1)) (found ∙ none-yet i key old apart rise added at) in
           omega (arith, one, added.counted)
 
-      each : (offset : ℕ) (s : Start) (same : Bool) → (key == offset) ≡ same → tree.get nat_cmp new offset ≡ Some s → (tree.get nat_cmp first offset ≡ Some s) ⊎ ((s.run ≡ run) × (s.index < i + 1) × (slice_get offsets s.index ≡ Some offset))
+      each : (offset : ℕ) (s : Start) (same : Bool) → (key == offset) ≡ same → start_at new offset ≡ Some s → (start_at first offset ≡ Some s) ⊎ ((s.run ≡ run) × (s.index < i + 1) × (slice_get offsets s.index ≡ Some offset))
       each offset s true same e =
           let is : start ≡ s = same_Some start s (sym (written old new key (Some start) u offset true same) ∙ e) in
           let place : s.index ≡ i = ap (λ (s : Start). s.index) (sym is) ∙ of_index in
@@ -126,7 +125,7 @@ module _ (run : ℕ) (offsets : List ℕ) (first : Starts) where
             | inr mine ↦ inr (mine.0, omega (arith, mine.1), mine.2)
           ]
 
-      there : (k offset : ℕ) → k < i + 1 → slice_get offsets k ≡ Some offset → (same : Bool) → (key == offset) ≡ same → IsSome (tree.get nat_cmp new offset)
+      there : (k offset : ℕ) → k < i + 1 → slice_get offsets k ≡ Some offset → (same : Bool) → (key == offset) ≡ same → IsSome (start_at new offset)
       there k offset less e true same =
           subst (λ (found : Option Start). IsSome found) (sym (written old new key (Some start) u offset true same)) refl
       there k offset less e false same =
@@ -134,22 +133,16 @@ module _ (run : ℕ) (offsets : List ℕ) (first : Starts) where
           subst (λ (found : Option Start). IsSome found) (sym (written old new key (Some start) u offset false same)) (added.there k offset (omega (arith, less, other)) e)
 
   -- the same entries in another map
-  pub added-same : (i : ℕ) (old new : Starts) → new.entries ≡ old.entries → AreAdded run i offsets first old → AreAdded run i offsets first new
-  added-same i old new same added =
-      let gets : (q : ℕ) → tree.get nat_cmp new q ≡ tree.get nat_cmp old q = λ q. ap (lookup (tree.is_at (nat_cmp q))) same in
-      record {
-        each = λ offset s e. added.each offset s (sym (gets offset) ∙ e);
-        there = λ k offset less e. subst (λ (found : Option Start). IsSome found) (sym (gets offset)) (added.there k offset less e);
-        counted = ap (λ (entries : List (ℕ × Start)). length entries) same ∙ added.counted;
-      }
+  pub added-same : (i : ℕ) (old new : StartList) → new ≡ old → AreAdded run i offsets first old → AreAdded run i offsets first new
+  added-same i old new same added = subst (AreAdded run i offsets first) (sym same) added
 
-  pub undone : (i : ℕ) (old new : Starts) → AreRising offsets → AreAdded run i offsets first old → AreTaken i offsets old new → IsAsBefore first new
+  pub undone : (i : ℕ) (old new : StartList) → AreRising offsets → AreAdded run i offsets first old → AreTaken i offsets old new → IsAsBefore first new
   undone i old new rise added taken = record {
     each = each;
     counted = let count = taken.counted rise added.there in omega (arith, count, added.counted);
   }
     where
-      each : (offset : ℕ) (s : Start) → tree.get nat_cmp new offset ≡ Some s → tree.get nat_cmp first offset ≡ Some s
+      each : (offset : ℕ) (s : Start) → start_at new offset ≡ Some s → start_at first offset ≡ Some s
       each offset s e =
           let old_has = taken.each offset s e in
           elim (added.each offset s old_has.0) [
@@ -159,7 +152,7 @@ module _ (run : ℕ) (offsets : List ℕ) (first : Starts) where
 
 -- ---- starts are taken away
 
-module _ (offsets : List ℕ) (first : Starts) where
+module _ (offsets : List ℕ) (first : StartList) where
   pub taken-none : AreTaken 0 offsets first first
   taken-none = record {
     each = λ offset s e. (e, λ k less at. absurd (omega (arith, less)));
@@ -167,8 +160,8 @@ module _ (offsets : List ℕ) (first : Starts) where
     counted = λ rise there. omega arith;
   }
 
-  pub taken-one : (i key : ℕ) (was : Option Start) (old new : Starts) → AreTaken i offsets first old → slice_get offsets i ≡ Some key → Writes old new key None → was ≡ tree.get nat_cmp old key
-      → tree.btree_map_len new + (if is_some was then 1 else 0) ≡ tree.btree_map_len old → AreTaken (i + 1) offsets first new
+  pub taken-one : (i key : ℕ) (was : Option Start) (old new : StartList) → AreTaken i offsets first old → slice_get offsets i ≡ Some key → Writes old new key None → was ≡ start_at old key
+      → length new + (if is_some was then 1 else 0) ≡ length old → AreTaken (i + 1) offsets first new
   taken-one i key was old new taken at u found count = record {
     each = λ offset s e. each offset s (key == offset) refl e;
     others = λ offset away. others offset away (key == offset) refl;
@@ -181,7 +174,7 @@ module _ (offsets : List ℕ) (first : Starts) where
           let other : k ≡ i → ⊥ = λ k_is. eqb-false key offset apart (same_Some key offset (sym at ∙ ap (slice_get offsets) (sym k_is) ∙ e)) in
           omega (arith, less, other)
 
-      each : (offset : ℕ) (s : Start) (same : Bool) → (key == offset) ≡ same → tree.get nat_cmp new offset ≡ Some s → (tree.get nat_cmp first offset ≡ Some s) × ((k : ℕ) → k < i + 1 → slice_get offsets k ≡ Some offset → ⊥)
+      each : (offset : ℕ) (s : Start) (same : Bool) → (key == offset) ≡ same → start_at new offset ≡ Some s → (start_at first offset ≡ Some s) × ((k : ℕ) → k < i + 1 → slice_get offsets k ≡ Some offset → ⊥)
       each offset s true same e =
           let none : None ≡ Some s = sym (written old new key None u offset true same) ∙ e in
           absurd cc
@@ -189,27 +182,20 @@ module _ (offsets : List ℕ) (first : Starts) where
           let old_has = taken.each offset s (sym (written old new key None u offset false same) ∙ e) in
           (old_has.0, λ k less there. old_has.1 k (before k offset same less there) there)
 
-      others : (offset : ℕ) → ((k : ℕ) → k < i + 1 → slice_get offsets k ≡ Some offset → ⊥) → (same : Bool) → (key == offset) ≡ same → tree.get nat_cmp new offset ≡ tree.get nat_cmp first offset
+      others : (offset : ℕ) → ((k : ℕ) → k < i + 1 → slice_get offsets k ≡ Some offset → ⊥) → (same : Bool) → (key == offset) ≡ same → start_at new offset ≡ start_at first offset
       others offset away true same = absurd (away i (omega arith) (at ∙ ap Some (eqb-true key offset same)))
       others offset away false same =
           written old new key None u offset false same ∙ taken.others offset (λ k less. away k (omega (arith, less)))
 
-      counted : AreRising offsets → ((k offset : ℕ) → k < i + 1 → slice_get offsets k ≡ Some offset → IsSome (tree.get nat_cmp first offset)) → tree.btree_map_len new + (i + 1) ≡ tree.btree_map_len first
+      counted : AreRising offsets → ((k offset : ℕ) → k < i + 1 → slice_get offsets k ≡ Some offset → IsSome (start_at first offset)) → length new + (i + 1) ≡ length first
       counted rise there =
-          let same : tree.get nat_cmp old key ≡ tree.get nat_cmp first key = taken.others key (λ k less e. one-offset offsets k i key rise less e at) in
-          let has = some-is (tree.get nat_cmp first key) (there i key (omega arith) at) in
-          let one : tree.btree_map_len new + 1 ≡ tree.btree_map_len old = ap (λ (was : Option Start). tree.btree_map_len new + (if is_some was then 1 else 0)) (sym (found ∙ same ∙ has.1)) ∙ count in
+          let same : start_at old key ≡ start_at first key = taken.others key (λ k less e. one-offset offsets k i key rise less e at) in
+          let has = some-is (start_at first key) (there i key (omega arith) at) in
+          let one : length new + 1 ≡ length old = ap (λ (was : Option Start). length new + (if is_some was then 1 else 0)) (sym (found ∙ same ∙ has.1)) ∙ count in
           let so_far = taken.counted rise (λ k offset less. there k offset (omega (arith, less))) in
           omega (arith, one, so_far)
 
 -- ---- how many there are
-
-pub most-starts : (starts : Starts) (n : ℕ) → IsStrictlySortedBy nat_cmp (tree.keys starts) → ((q : ℕ) (s : Start) → tree.get nat_cmp starts q ≡ Some s → q < n) → tree.btree_map_len starts ≤ n
-most-starts starts n order below =
-    let each : All (λ (x : ℕ). x < n) (tree.keys starts) = All-keys_from_lookup (eq_by_cmp_equiv nat_cmp_total) (λ (x : ℕ). x < n) starts.entries (λ q h. let found = some-is (tree.get nat_cmp starts q) h in below q found.0 found.1) in
-    let most = length-le_from_below n (tree.keys starts) order each in
-    let count : length (tree.keys starts) ≡ length starts.entries = length-map starts.entries (λ (e : ℕ × Start). e.0) in
-    omega (arith, most, count)
 
 pub sum-more : (runs : List ReadRun) (run : ReadRun) → sum (sizes_of (runs ++ run ∷ [])) ≡ sum (sizes_of runs) + length run.declarations
 sum-more runs run =

@@ -2,7 +2,6 @@
 use Rattle.std.proofs.Common.{◌≡◌, ◌⊎◌, inl, inr, ◌∙◌, ℕ, zero, suc, ◌<◌, ◌≤◌, Bool, true, false, cond, List, [], ◌∷◌, ◌++◌, length, drop, take, get_or, map, Option, Some, None, Result, Ok, Err, refl, sym, ap, subst, arith}
 use Rattle.std.specs.Prelude.{IfErr, IfSome, IsOk, MatchOption, slice_get, nat_le, option_map, sum, ◌==◌}
 use Rattle.std.specs.Ordering.{nat_cmp}
-use Rattle.std.specs.BTreeMap as tree
 use Rattle.std.proofs.lemmas.Bool.{le-leb, leb-true}
 use Rattle.std.proofs.lemmas.List.{drop-append-le, length_push, map_push, length-map}
 use Rattle.std.proofs.lemmas.List.Sums.{fold-append}
@@ -20,7 +19,7 @@ use Rattle.dw_forms.specs.declared.run.Start.{Start}
 use Rattle.dw_forms.specs.Fault.{form_fault, HidesNoFault}
 use Rattle.dw_forms.specs.Declaration.{declaration_shown}
 use Rattle.dw_forms.specs.Run.{ReadRun}
-use Rattle.dw_forms.specs.Starts.{AreAdded, AreApart}
+use Rattle.dw_forms.specs.Starts.{StartList, start_at, AreAdded, AreApart, AreBelow}
 use Rattle.dw_forms.specs.Store.{Read, table_from, HasTable, IsKept, AreChained, EndsAt, IsRunAt}
 use Rattle.dw_forms.specs.declared.store.AbbrevStore.TheInside.{Inside}
 use Rattle.dw_forms.specs.StoreInside.{rest_in, whole, grown, tables_of, sizes_of, IsTabled, AreTabled, IsStored}
@@ -97,12 +96,12 @@ get-pushed (x ∷ xs) y z zero e = inl (omega arith, e)
 get-pushed (x ∷ xs) y z (suc k) e =
     elim (get-pushed xs y z k e) [ inl h ↦ inl (omega (arith, h.0), h.1) | inr h ↦ inr (omega (arith, h.0), h.1) ]
 
-pub apart-more : (starts : tree.BTreeMap ℕ Start) (ds : List Decl) (d : Decl) (q : Place) → AreApart starts (map (λ (d : Decl). d.offset) ds) → d.offset ≡ q.at → tree.get nat_cmp starts q.at ≡ None → AreApart starts (map (λ (d : Decl). d.offset) (ds ++ d ∷ []))
+pub apart-more : (starts : StartList) (ds : List Decl) (d : Decl) (q : Place) → AreApart starts (map (λ (d : Decl). d.offset) ds) → d.offset ≡ q.at → start_at starts q.at ≡ None → AreApart starts (map (λ (d : Decl). d.offset) (ds ++ d ∷ []))
 apart-more starts ds d q apart same none k offset e =
     let pushed = map_push (λ (d : Decl). d.offset) ds d in
     elim (get-pushed (map (λ (d : Decl). d.offset) ds) d.offset offset k (ap (λ (xs : List ℕ). slice_get xs k) (sym pushed) ∙ e)) [
       | inl old ↦ apart k offset old.1
-      | inr new ↦ ap (tree.get nat_cmp starts) (sym new.1 ∙ same) ∙ none
+      | inr new ↦ ap (start_at starts) (sym new.1 ∙ same) ∙ none
     ]
 
 -- ---- a run is added to others
@@ -110,8 +109,8 @@ apart-more starts ds d q apart same none k offset e =
 abbrev pub shown : List ℕ → List ReadRun → Read
 shown section runs = record { section = section; sizes = sizes_of runs; tables = tables_of runs }
 
-abbrev pub HaveTables : List ℕ → List ReadRun → tree.BTreeMap ℕ Start → Type 0
-HaveTables section runs starts = (offset : ℕ) (start : Start) → tree.get nat_cmp starts offset ≡ Some start → HasTable (shown section runs) offset start
+abbrev pub HaveTables : List ℕ → List ReadRun → StartList → Type 0
+HaveTables section runs starts = (offset : ℕ) (start : Start) → start_at starts offset ≡ Some start → HasTable (shown section runs) offset start
 
 module _ (section : List ℕ) (runs : List ReadRun) (run : ReadRun) (count : length (tables_of runs) ≡ length runs) where
   tables-more : tables_of (runs ++ run ∷ []) ≡ grown (tables_of runs) run
@@ -212,7 +211,7 @@ module _ (section : List ℕ) (runs : List ReadRun) (run : ReadRun) (count : len
       let table : get_or (tables_of (runs ++ run ∷ [])) (length runs) [] ≡ map declaration_shown ds ++ rest_in (tables_of runs) run.rest = table-last (length runs) refl ∙ ap (λ (ds : List Declaration). ds ++ rest_in (tables_of runs) run.rest) is in
       (omega (arith, more, grows), omega arith, table-at section p t (map declaration_shown ds ++ rest_in (tables_of runs) run.rest) s (chained-items p q t ds (rest_in (tables_of runs) run.rest) h e) ∙ ap Ok (sym table))
 
-  pub starts-more : (p q t : Place) (ds : List Decl) (n : ℕ) (offsets : List ℕ) (old new : tree.BTreeMap ℕ Start) → run.declarations ≡ map declaration_shown ds → n ≡ length runs → offsets ≡ map (λ (d : Decl). d.offset) ds → Stands section p → AreChained p ds q
+  pub starts-more : (p q t : Place) (ds : List Decl) (n : ℕ) (offsets : List ℕ) (old new : StartList) → run.declarations ≡ map declaration_shown ds → n ≡ length runs → offsets ≡ map (λ (d : Decl). d.offset) ds → Stands section p → AreChained p ds q
       → all_at q ≡ Ok (rest_in (tables_of runs) run.rest, t) → AreAdded n (length offsets) offsets old new → HaveTables section runs old → HaveTables section (runs ++ run ∷ []) new
   starts-more p q t ds n offsets old new is last those s h e added have offset start found =
       elim (added.each offset start found) [
@@ -234,13 +233,13 @@ module _ (section : List ℕ) (runs : List ReadRun) (run : ReadRun) (count : len
 
 -- ---- where a run ends
 
-pub ended : (section : List ℕ) (runs : List ReadRun) (starts : tree.BTreeMap ℕ Start) (q : Place) (rest : Option Start) → HaveTables section runs starts → Stands section q → EndsAt starts q rest → (t : Place) × (all_at q ≡ Ok (rest_in (tables_of runs) rest, t))
+pub ended : (section : List ℕ) (runs : List ReadRun) (starts : StartList) (q : Place) (rest : Option Start) → HaveTables section runs starts → Stands section q → EndsAt starts q rest → (t : Place) × (all_at q ≡ Ok (rest_in (tables_of runs) rest, t))
 ended section runs starts q None have s e =
     (e.0, rw (items-turn next_declaration (λ p. p.left) declarations_advance q, e.1) refl)
 ended section runs starts q (Some start) have s e =
     read-at section q (table_from (shown section runs) start) s (have q.at start e).2
 
-pub leads : (section : List ℕ) (runs : List ReadRun) (starts : tree.BTreeMap ℕ Start) (q : Place) (rest : Option Start) → length (tables_of runs) ≡ length runs → HaveTables section runs starts → EndsAt starts q rest → IfSome rest (λ start. (start.run < length runs) × (start.index ≤ get_or (sizes_of runs) start.run 0))
+pub leads : (section : List ℕ) (runs : List ReadRun) (starts : StartList) (q : Place) (rest : Option Start) → length (tables_of runs) ≡ length runs → HaveTables section runs starts → EndsAt starts q rest → IfSome rest (λ start. (start.run < length runs) × (start.index ≤ get_or (sizes_of runs) start.run 0))
 leads section runs starts q None count have e = tt
 leads section runs starts q (Some start) count have e =
     let there = have q.at start e in
@@ -259,13 +258,13 @@ stands-taken section bytes offset first p q begun same e =
         subst (λ (q : Place). Stands section q × (q.at ≡ offset)) there ((ap (λ (x : ℕ). record { at = (past offset (start section)).at; left = drop x section }) (sym at), omega (arith, at, leb-true offset (length section) within)), at)
     by_test false within e = absurd cc
 
-pub run-ends : (section : List ℕ) (runs : List ReadRun) (starts : tree.BTreeMap ℕ Start) (p : Place) (ds : List Decl) (rest rest_of_run : Option Start) → HaveTables section runs starts → Stands section p → rest_of_run ≡ rest → (h : IsRunAt starts p ds rest)
+pub run-ends : (section : List ℕ) (runs : List ReadRun) (starts : StartList) (p : Place) (ds : List Decl) (rest rest_of_run : Option Start) → HaveTables section runs starts → Stands section p → rest_of_run ≡ rest → (h : IsRunAt starts p ds rest)
     → (t : Place) × (all_at h.0 ≡ Ok (rest_in (tables_of runs) rest_of_run, t))
 run-ends section runs starts p ds rest rest_of_run have s same h =
     let end = ended section runs starts h.0 rest have (chained-stands section p h.0 ds s h.1) h.2 in
     (end.0, end.1 ∙ ap (λ (rest : Option Start). Ok (rest_in (tables_of runs) rest, end.0)) (sym same))
 
-pub readable : (section : List ℕ) (runs : List ReadRun) (starts : tree.BTreeMap ℕ Start) (p : Place) (ds : List Decl) (rest : Option Start) (offset : ℕ) → HaveTables section runs starts → Stands section p × (p.at ≡ offset) → IsRunAt starts p ds rest → IsOk (abbreviations section offset)
+pub readable : (section : List ℕ) (runs : List ReadRun) (starts : StartList) (p : Place) (ds : List Decl) (rest : Option Start) (offset : ℕ) → HaveTables section runs starts → Stands section p × (p.at ≡ offset) → IsRunAt starts p ds rest → IsOk (abbreviations section offset)
 readable section runs starts p ds rest offset have s h =
     let end = run-ends section runs starts p ds rest rest have s.0 refl h in
     let table = table-at section p end.0 (map declaration_shown ds ++ rest_in (tables_of runs) rest) s.0 (chained-items p h.0 end.0 ds (rest_in (tables_of runs) rest) h.1 end.1) in
@@ -279,11 +278,7 @@ hides (Err fault) given read = by_told (form_fault fault)
     by_told None = read
     by_told (Some told) = tt
 
--- each start is in the section
-abbrev pub AreBelow : List ℕ → tree.BTreeMap ℕ Start → Type 0
-AreBelow section starts = (offset : ℕ) (start : Start) → tree.get nat_cmp starts offset ≡ Some start → offset < length section
-
-pub below-more : (section : List ℕ) (p q : Place) (ds : List Decl) (run count : ℕ) (offsets : List ℕ) (old new : tree.BTreeMap ℕ Start) → offsets ≡ map (λ (d : Decl). d.offset) ds → Stands section p → AreChained p ds q → AreAdded run count offsets old new → AreBelow section old → AreBelow section new
+pub below-more : (section : List ℕ) (p q : Place) (ds : List Decl) (run count : ℕ) (offsets : List ℕ) (old new : StartList) → offsets ≡ map (λ (d : Decl). d.offset) ds → Stands section p → AreChained p ds q → AreAdded run count offsets old new → AreBelow (length section) old → AreBelow (length section) new
 below-more section p q ds run count offsets old new those s h added below offset start found =
     elim (added.each offset start found) [
       | inl before ↦ below offset start before
@@ -291,14 +286,14 @@ below-more section p q ds run count offsets old new those s h added below offset
     ]
 
 -- as many starts as declarations
-pub counted-more : (runs : List ReadRun) (run : ReadRun) (ds : List Decl) (n : ℕ) (offsets : List ℕ) (old new : tree.BTreeMap ℕ Start) → run.declarations ≡ map declaration_shown ds → offsets ≡ map (λ (d : Decl). d.offset) ds → AreAdded n (length offsets) offsets old new → tree.btree_map_len old ≡ sum (sizes_of runs)
-    → tree.btree_map_len new ≡ sum (sizes_of (runs ++ run ∷ []))
+pub counted-more : (runs : List ReadRun) (run : ReadRun) (ds : List Decl) (n : ℕ) (offsets : List ℕ) (old new : StartList) → run.declarations ≡ map declaration_shown ds → offsets ≡ map (λ (d : Decl). d.offset) ds → AreAdded n (length offsets) offsets old new → length old ≡ sum (sizes_of runs)
+    → length new ≡ sum (sizes_of (runs ++ run ∷ []))
 counted-more runs run ds n offsets old new is those added counted =
     let declarations : length run.declarations ≡ length ds = ap (λ (ds : List Declaration). length ds) is ∙ length-map ds declaration_shown in
     let places : length offsets ≡ length ds = ap (λ (xs : List ℕ). length xs) those ∙ length-map ds (λ (d : Decl). d.offset) in
     omega (arith, declarations, places, added.counted, counted, sum-more runs run)
 
-pub stored : (store : Inside) (runs : List ReadRun) → store.runs.items ≡ runs → AreTabled runs → tree.btree_map_len store.starts ≡ sum (sizes_of runs) → AreBelow store.section.now store.starts → HaveTables store.section.now runs store.starts → IsStored store
+pub stored : (store : Inside) (runs : List ReadRun) → store.runs.items ≡ runs → AreTabled runs → length store.starts ≡ sum (sizes_of runs) → AreBelow (length store.section.now) store.starts → HaveTables store.section.now runs store.starts → IsStored store
 stored store runs same are counted below starts = record {
   tabled = subst AreTabled (sym same) are;
   counted = counted ∙ ap (λ (runs : List ReadRun). sum (sizes_of runs)) (sym same);

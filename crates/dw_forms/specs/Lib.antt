@@ -14,6 +14,7 @@ pub mod Size
 pub mod Spec
 pub mod Spelling
 pub mod Starts
+pub mod StartsInside
 pub mod Steps
 pub mod Table
 pub mod Tables

@@ -1,12 +1,11 @@
 -- The declarations that were read of .debug_abbrev, and the tables that begin among them.
 use Rattle.std.specs.Prelude.{◌≡◌, ◌≤◌, ◌<◌, ℕ, List, [], ◌∷◌, Option, Some, None, Ok, drop, length, slice_index_or}
-use Rattle.std.specs.Ordering.{nat_cmp}
-use Rattle.std.specs.BTreeMap as tree
 use Rattle.dw_model.specs.Reading.{Place}
 use Rattle.dw_model.specs.Abbrev.{Declaration, next_declaration, abbreviations}
 use Rattle.dw_forms.specs.declared.declaration.Decl.{Decl}
 use Rattle.dw_forms.specs.declared.run.Start.{Start}
 use Rattle.dw_forms.specs.Declaration.{declaration_shown}
+use Rattle.dw_forms.specs.Starts.{StartList, start_at}
 
 -- The section, how many declarations each run has, and the table that begins with each run.
 pub record Read : Type 0 where
@@ -45,10 +44,10 @@ AreChained p (declaration ∷ others) q =
     (declaration.offset ≡ p.at) × (t : Place) × (next_declaration p ≡ Ok (Some (declaration_shown declaration), t)) × AreChained t others q
 
 -- A run ends at a place where a table begins that was read before, or where the table ends.
-abbrev pub EndsAt : tree.BTreeMap ℕ Start → Place → Option Start → Type 0
+abbrev pub EndsAt : StartList → Place → Option Start → Type 0
 EndsAt starts q None = (t : Place) × (next_declaration q ≡ Ok (None, t))
-EndsAt starts q (Some start) = tree.get nat_cmp starts q.at ≡ Some start
+EndsAt starts q (Some start) = start_at starts q.at ≡ Some start
 
 -- The run from a place on was read.
-abbrev pub IsRunAt : tree.BTreeMap ℕ Start → Place → List Decl → Option Start → Type 0
+abbrev pub IsRunAt : StartList → Place → List Decl → Option Start → Type 0
 IsRunAt starts p declarations rest = (q : Place) × AreChained p declarations q × EndsAt starts q rest

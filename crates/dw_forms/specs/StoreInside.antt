@@ -1,11 +1,10 @@
 -- What the declarations that were read are seen as, and how their tables are found.
 use Rattle.std.specs.Prelude.{◌≡◌, ◌≤◌, ◌<◌, ◌++◌, ℕ, List, [], ◌∷◌, Option, Some, None, IfSome, drop, fold, length, map, slice_get, slice_index_or, sum}
-use Rattle.std.specs.Ordering.{nat_cmp}
-use Rattle.std.specs.BTreeMap as tree
 use Rattle.dw_model.specs.Abbrev.{Declaration}
 use Rattle.dw_forms.specs.declared.run.Start.{Start}
 use Rattle.dw_forms.specs.declared.store.AbbrevStore.TheInside.{Inside}
 use Rattle.dw_forms.specs.Run.{ReadRun}
+use Rattle.dw_forms.specs.Starts.{start_at, AreBelow}
 use Rattle.dw_forms.specs.Store.{Read, HasTable}
 
 -- what follows a run, where tables begin with the runs before it
@@ -46,6 +45,6 @@ pub record AreTabled (runs : List ReadRun) : Type 0 where
 
 pub record IsStored (store : Inside) : Type 0 where
   pub tabled : AreTabled store.runs.items
-  pub counted : tree.btree_map_len store.starts ≡ sum (sizes_of store.runs.items)
-  pub below : (offset : ℕ) (start : Start) → tree.get nat_cmp store.starts offset ≡ Some start → offset < length store.section.now
-  pub starts : (offset : ℕ) (start : Start) → tree.get nat_cmp store.starts offset ≡ Some start → HasTable (read_in store) offset start
+  pub counted : length store.starts ≡ sum (sizes_of store.runs.items)
+  pub below : AreBelow (length store.section.now) store.starts
+  pub starts : (offset : ℕ) (start : Start) → start_at store.starts offset ≡ Some start → HasTable (read_in store) offset start

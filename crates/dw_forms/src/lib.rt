@@ -13,6 +13,7 @@ mod positions;
 mod ranged;
 mod run;
 mod size;
+mod starts;
 mod steps;
 mod store;
 mod table;

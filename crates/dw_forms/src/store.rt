@@ -1,25 +1,23 @@
 //! The declarations of .debug_abbrev: each is read once, whichever tables it belongs to.
 
-ghost use Rattle.std.specs.Prelude.{◌≡◌, ◌≤◌, [], Err, IfOk, IfErr, OnOk, OnErr, MatchOption, drop, length, map};
+ghost use Rattle.std.specs.Prelude.{◌≡◌, ◌≤◌, [], Err, IfOk, IfErr, MatchOption, drop, length, map};
 ghost use Rattle.std.specs.Prelude.{option_map, slice_index_or, sum};
-ghost use Rattle.std.specs.Ordering.{nat_cmp};
-ghost use Rattle.std.specs.BTreeMap as tree;
 ghost use Rattle.dw_model.specs.Abbrev.{abbreviations, declared, next_declaration};
 ghost use Rattle.dw_model.specs.Reading.{items};
 ghost use Rattle.dw_forms.specs.Fault.{form_fault, HidesNoFault};
 ghost use Rattle.dw_forms.specs.Declaration.{declaration_shown};
 ghost use Rattle.dw_forms.specs.declared.run.Start.{Start};
 ghost use Rattle.dw_forms.specs.StoreInside.{sizes_of, tables_of, AreTabled};
-ghost use Rattle.dw_forms.specs.Starts.{AreAdded, AreApart, AreRising, AreTaken, AreUpTo, IsAsBefore};
+ghost use Rattle.dw_forms.specs.Starts.{AreApart};
 ghost use Rattle.dw_forms.specs.Store.{table_from, HasTable, IsKept, IsRunAt, IsWithin};
 
 use crate::declaration::{Decl, next_decl};
 use crate::fault::FormFault;
 use crate::first_fault::pass_table;
 use crate::run::{Run, Start};
+use crate::starts::Starts;
 use dw_bytes::Cursor;
-use std::alloc::{AllocError, Global};
-use std::collections::BTreeMap;
+use std::alloc::Global;
 use std::marker::Model;
 
 /// Why a table isn't read: its first fault, or `Memory` where it has none.
@@ -34,42 +32,20 @@ fn fault_in_table(cursor: &mut Cursor<'_>) -> FormFault
     }
 }
 
-/// The last offset at which a table begins that was read.
-fn last_start(starts: &BTreeMap<usize, Start>) -> Option<usize>
-    ensures { AreUpTo result starts.now }
-{
-    let (last, _) = starts.last_key_value()?;
-    Some(*last)
-}
-
-/// Where the table begins that is at an offset, of starts of which this is the last. Past the last
-/// one there is none to look for; there each new table begins in files that compilers write.
-fn start_at(starts: &BTreeMap<usize, Start>, last: Option<usize>, offset: usize) -> Option<Start>
-    requires { AreUpTo last starts.now }
-    ensures { result ≡ tree.get nat_cmp starts.now offset }
-{
-    if offset > last? {
-        return None;
-    }
-    let start = starts.get(&offset)?;
-    Some(*start)
-}
-
 /// The declarations of a run, up to one that was read before, or to the end of their table; and
 /// where that one is. So none of them was read before.
 fn read_run<'a>(
     alloc: Global,
     cursor: &mut Cursor<'a>,
-    starts: &BTreeMap<usize, Start>,
+    starts: &Starts,
 ) -> Result<(Vec<Decl<'a>>, Option<Start>), FormFault>
     ensures run { IfOk result (λ found. IsRunAt starts.now cursor.old found.0.items found.1) }
     ensures apart { IfOk result (λ found. AreApart starts.now
         (map (λ declaration. declaration.offset) found.0.items)) }
 {
-    let last = last_start(starts);
     let mut declarations = Vec::new(alloc);
     loop {
-        if let Some(start) = start_at(starts, last, cursor.at()) {
+        if let Some(start) = starts.get(cursor.at()) {
             return Ok((declarations, Some(start)));
         }
         let Some(declaration) = next_decl(alloc, cursor)? else {
@@ -77,36 +53,6 @@ fn read_run<'a>(
         };
         declarations.push(declaration)?;
     }
-}
-
-/// Takes away where the first declarations of a run begin, so many.
-fn take_starts(starts: &mut BTreeMap<usize, Start>, read: &Run<'_>, count: usize)
-    requires { count ≤ length read.now.offsets }
-    ensures { AreTaken count read.now.offsets starts.old starts.new }
-{
-    for index in 0..count {
-        let _start = starts.remove(&read.offset(index));
-    }
-}
-
-/// Adds where each declaration of a run begins, all of them or none.
-fn add_starts(
-    starts: &mut BTreeMap<usize, Start>,
-    read: &Run<'_>,
-    run: usize,
-) -> Result<(), AllocError>
-    requires apart { AreApart starts.now read.now.offsets }
-    requires rising { AreRising read.now.offsets }
-    ensures added { OnOk result (AreAdded run (length read.now.offsets) read.now.offsets starts.old starts.new) }
-    ensures undone { OnErr result (IsAsBefore starts.old starts.new) }
-{
-    for index in 0..read.len() {
-        let Ok(_) = starts.insert(read.offset(index), Start { run, index }) else {
-            take_starts(starts, read, index);
-            return Err(AllocError);
-        };
-    }
-    Ok(())
 }
 
 /// The first declaration of a code in the table that begins at a start. It is looked for in each
@@ -141,7 +87,7 @@ pub struct AbbrevStore<'a> {
     section: &'a [u8],
     runs: Vec<Run<'a>>,
     /// Where the table begins that is at an offset.
-    starts: BTreeMap<usize, Start>,
+    starts: Starts,
 }
 
 impl<'a> Model for AbbrevStore<'a> {
@@ -165,7 +111,7 @@ impl<'a> AbbrevStore<'a> {
         AbbrevStore {
             section,
             runs: Vec::new(alloc),
-            starts: BTreeMap::new(alloc),
+            starts: Starts::new(alloc),
         }
     }
 
@@ -195,8 +141,8 @@ impl<'a> AbbrevStore<'a> {
             return Err(FormFault::End);
         }
         let offset = offset as usize;
-        if let Some(start) = self.starts.get(&offset) {
-            return Ok(*start);
+        if let Some(start) = self.starts.get(offset) {
+            return Ok(start);
         }
         let mut cursor = Cursor::new(self.section);
         let Some(_) = cursor.take(offset) else {
@@ -208,7 +154,7 @@ impl<'a> AbbrevStore<'a> {
         let run = self.runs.len();
         let read = Run::new(alloc, declarations, rest)?;
         self.runs.push(read)?;
-        let Ok(()) = add_starts(&mut self.starts, &self.runs[run], run) else {
+        let Ok(()) = self.starts.add(&self.runs[run], run) else {
             self.runs.truncate(run);
             return Err(FormFault::Memory);
         };

@@ -12,7 +12,7 @@ use Rattle.dw_forms.proofs.store.AbbrevStore.start.Goals as goal
 
 pub returns-in-Some-clause-found : goal.returns-in-Some-clause-found
 returns-in-Some-clause-found c =
-    rw (← c.self.view_is) (c.self.invariant.starts c.args.offset c.in-Some.start.now (sym c.in-Some.ensures.value))
+    rw (← c.self.view_is) (c.self.invariant.starts c.args.offset c.in-Some.start (sym c.in-Some.ensures))
 
 pub returns-in_err-read-clause-memory : goal.returns-in_err-read-clause-memory
 returns-in_err-read-clause-memory c =
@@ -28,8 +28,8 @@ pub invariant_of-self : goal.invariant_of-self
 invariant_of-self c =
     stored _ c.self.inside.runs.items c.in_err-push.ensures.items c.self.invariant.tabled c.self.invariant.counted c.self.invariant.below c.self.invariant.starts
 
-pub add_starts-requires-clause-rising : goal.add_starts-requires-clause-rising
-add_starts-requires-clause-rising c =
+pub add-requires-clause-rising : goal.add-requires-clause-rising
+add-requires-clause-rising c =
     let s = stands-taken c.self.inside.section.now c.in-Some-take.field-0.now c.args.offset c.new-cursor.result c.fork.result c.take.new.self c.new-cursor.ensures c.fork.ensures c.in-Some-take.ensures in
     let section = c.self.inside.section.now in
     let runs = c.self.inside.runs.items in
@@ -40,21 +40,21 @@ add_starts-requires-clause-rising c =
     let offsets = ap (λ (run : ReadRun). run.offsets) added ∙ c.in_ok-read.ensures.offsets in
     subst AreRising (sym offsets) (rising section c.fork.result h.0 c.in-Ok.declarations.items s.0 h.1)
 
-pub invariant_of-self-in_default-add_starts : goal.invariant_of-self-in_default-add_starts
-invariant_of-self-in_default-add_starts c =
+pub invariant_of-self-in_default-add : goal.invariant_of-self-in_default-add
+invariant_of-self-in_default-add c =
     let runs = c.self.inside.runs.items in
-    let undone = c.in_default-add_starts.ensures.undone in
+    let undone = c.in_default-add.ensures.undone in
     let last : c.len-run.result ≡ length runs = omega (arith, c.len-run.ensures) in
     let same = c.truncate.ensures.items ∙ ap (take c.len-run.result) c.in_ok-push.ensures.items ∙ ap (λ (n : ℕ). take n (runs ++ c.in_ok-read.read ∷ [])) last ∙ take-append_seam runs (c.in_ok-read.read ∷ []) in
     stored _ runs same c.self.invariant.tabled (undone.counted ∙ c.self.invariant.counted) (λ offset start e. c.self.invariant.below offset start (undone.each offset start e)) (λ offset start e. c.self.invariant.starts offset start (undone.each offset start e))
 
-pub returns-in_default-add_starts-clause-memory : goal.returns-in_default-add_starts-clause-memory
-returns-in_default-add_starts-clause-memory c =
+pub returns-in_default-add-clause-memory : goal.returns-in_default-add-clause-memory
+returns-in_default-add-clause-memory c =
     let s = stands-taken c.self.inside.section.now c.in-Some-take.field-0.now c.args.offset c.new-cursor.result c.fork.result c.take.new.self c.new-cursor.ensures c.fork.ensures c.in-Some-take.ensures in
     rw (← c.self.view_is) (readable c.self.inside.section.now c.self.inside.runs.items c.self.inside.starts c.fork.result c.in-Ok.declarations.items c.in-Ok.rest c.args.offset c.self.invariant.starts s c.in-Ok.ensures.run)
 
-pub invariant_of-self-in-Ok-add_starts : goal.invariant_of-self-in-Ok-add_starts
-invariant_of-self-in-Ok-add_starts c =
+pub invariant_of-self-in-Ok-add : goal.invariant_of-self-in-Ok-add
+invariant_of-self-in-Ok-add c =
     let s = stands-taken c.self.inside.section.now c.in-Some-take.field-0.now c.args.offset c.new-cursor.result c.fork.result c.take.new.self c.new-cursor.ensures c.fork.ensures c.in-Some-take.ensures in
     let section = c.self.inside.section.now in
     let runs = c.self.inside.runs.items in
@@ -65,8 +65,8 @@ invariant_of-self-in-Ok-add_starts c =
     let offsets = ap (λ (run : ReadRun). run.offsets) added ∙ c.in_ok-read.ensures.offsets in
     let ds = c.in-Ok.declarations.items in
     let count = c.self.invariant.tabled.count in
-    let more = c.in-Ok-add_starts.ensures.added in
-    let starts = c.add_starts.new.starts in
+    let more = c.in-Ok-add.ensures.added in
+    let starts = c.add.new.self in
     let end = run-ends section runs c.self.inside.starts c.fork.result ds c.in-Ok.rest run.rest c.self.invariant.starts s.0 c.in_ok-read.ensures.rest h in
     let on = subst (λ (rest : Option Start). IfSome rest (λ start. (start.run < length runs) × (start.index ≤ get_or (sizes_of runs) start.run 0))) (sym c.in_ok-read.ensures.rest) (leads section runs c.self.inside.starts h.0 c.in-Ok.rest count c.self.invariant.starts h.2) in
     stored _ (runs ++ run ∷ []) c.in_ok-push.ensures.items (tabled-more section runs run count c.self.invariant.tabled on)
