@@ -1,6 +1,6 @@
 -- The pieces of a span by line tables.
-use Rattle.std.proofs.Common.{◌≡◌, ◌≤◌, ◌<◌, ℕ, List, [], ◌∷◌, ◌++◌, map, Option, Some, None, true, false, Result, Ok, Err, length, ◌-◌, ◌+◌, refl, sym, subst, ap, ◌∙◌, arith}
-use Rattle.std.specs.Prelude.{IfSome, slice_get, ◌↔◌, option_map}
+use Rattle.std.proofs.Common.{◌≡◌, ◌≤◌, ◌<◌, ℕ, zero, suc, List, [], ◌∷◌, ◌++◌, get_or, map, Option, Some, None, true, false, Result, Ok, Err, length, ◌-◌, ◌+◌, refl, sym, subst, ap, ◌∙◌, arith}
+use Rattle.std.specs.Prelude.{IfSome, slice_get, slice_set, ◌↔◌, option_map}
 use Rattle.dw_model.specs.Answer as model
 use Rattle.dw_model.specs.Answer.{Lines, Code, line_fault, unit_of, lines, row_at, row_location}
 use Rattle.dw_model.specs.Pieces.{UnitFault, ArePieces, IsFirstFault, HaveLocation, joins, with_piece, unit_place, place, pieces_from, as_answer, pieces_in}
@@ -28,40 +28,30 @@ use Rattle.dw_symbols.proofs.CoverLemmas.{some-at, known}
 
 -- ---- one piece more
 
-pub grows : (xs : List model.Piece) (piece next : model.Piece) → joins piece next ≡ true → with_piece (xs ++ piece ∷ []) next ≡ xs ++ record { begin = piece.begin; end = next.end; location = piece.location } ∷ []
+-- the last piece grows
+pub grows : (old : List Piece) (n : ℕ) (last next : Piece) → length old ≡ n + 1 → last ≡ get_or old n last → joins (piece_shown last) (piece_shown next) ≡ true
+    → map piece_shown (slice_set old n (record { begin = last.begin; end = next.end; location = last.location })) ≡ with_piece (map piece_shown old) (piece_shown next)
 unfolding with_piece
-grows [] piece next e = rw e refl
-grows (x ∷ []) piece next e = ap (λ (rest : List model.Piece). x ∷ rest) (grows [] piece next e)
-grows (x ∷ y ∷ xs) piece next e = ap (λ (rest : List model.Piece). x ∷ rest) (grows (y ∷ xs) piece next e)
+grows [] n last next size is e = absurd (omega (arith, size))
+grows (x ∷ []) zero last next size is e = rw (← is, e) refl
+grows (x ∷ []) (suc n) last next size is e = absurd (omega (arith, size))
+grows (x ∷ y ∷ xs) zero last next size is e = absurd (omega (arith, size))
+grows (x ∷ y ∷ xs) (suc n) last next size is e = ap (λ (rest : List model.Piece). piece_shown x ∷ rest) (grows (y ∷ xs) n last next (omega (arith, size)) is e)
 
-pub follows : (xs : List model.Piece) (piece next : model.Piece) → joins piece next ≡ false → with_piece (xs ++ piece ∷ []) next ≡ (xs ++ piece ∷ []) ++ next ∷ []
+-- another one follows the last piece, which stays
+pub follows : (old : List Piece) (n : ℕ) (last next : Piece) → length old ≡ n + 1 → last ≡ get_or old n last → joins (piece_shown last) (piece_shown next) ≡ false
+    → map piece_shown (slice_set old n last ++ next ∷ []) ≡ with_piece (map piece_shown old) (piece_shown next)
 unfolding with_piece
-follows [] piece next e = rw e refl
-follows (x ∷ []) piece next e = ap (λ (rest : List model.Piece). x ∷ rest) (follows [] piece next e)
-follows (x ∷ y ∷ xs) piece next e = ap (λ (rest : List model.Piece). x ∷ rest) (follows (y ∷ xs) piece next e)
+follows [] n last next size is e = absurd (omega (arith, size))
+follows (x ∷ []) zero last next size is e = rw (← is, e) refl
+follows (x ∷ []) (suc n) last next size is e = absurd (omega (arith, size))
+follows (x ∷ y ∷ xs) zero last next size is e = absurd (omega (arith, size))
+follows (x ∷ y ∷ xs) (suc n) last next size is e = ap (λ (rest : List model.Piece). piece_shown x ∷ rest) (follows (y ∷ xs) n last next (omega (arith, size)) is e)
 
--- the same of lists of pieces as they are kept
-pub first_of : (old popped new : List Piece) (next : Piece) → popped ≡ [] → old ≡ popped → new ≡ popped ++ next ∷ [] → map piece_shown new ≡ with_piece (map piece_shown old) (piece_shown next)
+pub first-one : (old : List Piece) (next : Piece) → length old ≡ 0 → map piece_shown (old ++ next ∷ []) ≡ with_piece (map piece_shown old) (piece_shown next)
 unfolding with_piece
-first_of old popped new next none same push =
-    let empty : old ≡ [] = same ∙ none in
-    rw (push, none, empty) refl
-
-pub grows_shown : (old popped new : List Piece) (last next : Piece) → joins (piece_shown last) (piece_shown next) ≡ true → old ≡ popped ++ last ∷ [] → new ≡ popped ++ record { begin = last.begin; end = next.end; location = last.location } ∷ []
-    → map piece_shown new ≡ with_piece (map piece_shown old) (piece_shown next)
-grows_shown old popped new last next e pop push =
-    ap (map piece_shown) push ∙ map-append piece_shown popped (record { begin = last.begin; end = next.end; location = last.location } ∷ [])
-    ∙ sym (grows (map piece_shown popped) (piece_shown last) (piece_shown next) e)
-    ∙ ap (λ (old : List model.Piece). with_piece old (piece_shown next)) (sym (ap (map piece_shown) pop ∙ map-append piece_shown popped (last ∷ [])))
-
-pub follows_shown : (old popped back new : List Piece) (last next : Piece) → joins (piece_shown last) (piece_shown next) ≡ false → old ≡ popped ++ last ∷ [] → back ≡ popped ++ last ∷ [] → new ≡ back ++ next ∷ []
-    → map piece_shown new ≡ with_piece (map piece_shown old) (piece_shown next)
-follows_shown old popped back new last next e pop push pushed =
-    let shown : map piece_shown old ≡ map piece_shown popped ++ piece_shown last ∷ [] = ap (map piece_shown) pop ∙ map-append piece_shown popped (last ∷ []) in
-    ap (map piece_shown) pushed ∙ map-append piece_shown back (next ∷ [])
-    ∙ ap (λ (front : List model.Piece). front ++ piece_shown next ∷ []) (ap (map piece_shown) (push ∙ sym pop) ∙ shown)
-    ∙ sym (follows (map piece_shown popped) (piece_shown last) (piece_shown next) e)
-    ∙ ap (λ (old : List model.Piece). with_piece old (piece_shown next)) (sym shown)
+first-one [] next size = refl
+first-one (x ∷ xs) next size = absurd (omega (arith, size))
 
 -- ---- the rows of a span
 

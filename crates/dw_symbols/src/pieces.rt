@@ -12,11 +12,11 @@ use dw_line::{Lines, Stretch};
 use dw_model::laws::law_of_more_pieces;
 use std::alloc::{AllocError, Global};
 
-/// The same path, line and column.
+/// The same path, line and column. The path comes last: most neighbours have one file.
 fn is_same(one: &Location, other: &Location) -> bool
     ensures { result ≡ is_same (location_shown one.now) (location_shown other.now) }
 {
-    one.path == other.path && one.line == other.line && one.column == other.column
+    one.line == other.line && one.column == other.column && one.path == other.path
 }
 
 /// The next piece touches one and has its location.
@@ -31,20 +31,14 @@ fn push_piece(pieces: &mut Vec<Piece>, next: Piece) -> Result<(), AllocError>
     ensures { OnOk result (map piece_shown pieces.new.items
         ≡ with_piece (map piece_shown pieces.old.items) (piece_shown next)) }
 {
-    let Some(last) = pieces.pop() else {
+    let Some(last) = pieces.last_mut() else {
         pieces.push(next)?;
         return Ok(());
     };
-    if joins(&last, &next) {
-        let grown = Piece {
-            begin: last.begin,
-            end: next.end,
-            location: last.location,
-        };
-        pieces.push(grown)?;
+    if joins(last, &next) {
+        last.end = next.end;
         return Ok(());
     }
-    pieces.push(last)?;
     pieces.push(next)?;
     Ok(())
 }
