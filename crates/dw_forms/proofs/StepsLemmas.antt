@@ -13,10 +13,10 @@ use Rattle.dw_model.specs.Entry.{attributes_at}
 use Rattle.dw_forms.specs.declared.declaration.Spec.{Spec}
 use Rattle.dw_forms.specs.declared.positions.FixedValue.{FixedValue}
 use Rattle.dw_forms.specs.Spec.{spec_shown}
-use Rattle.dw_forms.specs.Size.{value_size, place_behind}
+use Rattle.dw_forms.specs.Size.{value_size, size_in, place_behind, Skips}
 use Rattle.dw_forms.specs.declared.steps.Steps.{Steps}
-use Rattle.dw_forms.specs.Steps.{PassesBy, Passed, bytes_passed, step_passed, steps_passed}
-use Rattle.dw_forms.proofs.SizeLemmas.{on, same-behind, behind-cons, nothing-read, value-skips}
+use Rattle.dw_forms.specs.Steps.{PassesBy, Passed, bytes_passed, list_of, step_passed, steps_passed}
+use Rattle.dw_forms.proofs.SizeLemmas.{on, same-behind, behind-cons, nothing-read, told-skip, value-skips}
 
 abbrev pub Then : Type 0
 Then = Unit {0} × Place → Passed
@@ -107,6 +107,14 @@ none-left (Err e) = refl
 pub so-far-all : (steps : List FixedValue) (rest : ℕ) (all : List Specification) → SoFar steps rest [] all → (p : Place) → values_passed all p ≡ steps_passed steps (bytes_passed rest) p
 so-far-all steps rest all so_far p =
     so_far p ∙ same-last steps (λ q. bytes_passed rest q >>= λ r. values_passed [] r.1) (bytes_passed rest) (λ q. none-left (bytes_passed rest q)) p
+
+-- values of one size are passed at once
+pub at-once : (specs : List Specification) (told : Option ℕ) (size : ℕ) (result : Option Steps) → told ≡ size_in OFFSET_SIZE_32 specs → told ≡ Some size → IfSome result (λ steps. (list_of steps ≡ []) × (steps.rest ≡ size)) → IfSome result (λ steps. PassesBy steps (attributes_at OFFSET_SIZE_32 specs))
+unfolding steps_passed
+at-once specs told size None is some h = tt
+at-once specs told size (Some steps) is some h = λ p.
+    let skips = subst (λ (told : Option ℕ). IfSome told (λ n. Skips n (attributes_at OFFSET_SIZE_32 specs))) some (told-skip OFFSET_SIZE_32 specs told is) in
+    skips p ∙ sym (ap (λ (list : List FixedValue). steps_passed list (bytes_passed steps.rest) p) h.0 ∙ ap (λ (n : ℕ). bytes_passed n p) h.1)
 
 -- the first of those that are left
 pub so-far-split : (steps : List FixedValue) (rest i : ℕ) (all : List Specification) (specs : List Spec) (spec : Spec) → i < length specs → SoFar steps rest (map spec_shown (drop i specs)) all → SoFar steps rest (spec_shown (get_or specs i spec) ∷ map spec_shown (drop (i + 1) specs)) all

@@ -1,11 +1,11 @@
--- Where the declarations begin that were read.
+-- Where the declarations that were read begin.
 use Rattle.std.specs.Prelude.{◌≡◌, ◌⊎◌, ◌+◌, ◌<◌, ℕ, List, Option, Some, None, IsSome, length, slice_get}
 use Rattle.std.specs.Ordering.{nat_cmp}
 use Rattle.std.specs.BTreeMap.{is_at}
 use Rattle.std.specs.Map.{lookup}
 use Rattle.dw_forms.specs.declared.run.Start.{Start}
 
--- offsets, each with its start
+-- offsets in .debug_abbrev, each with the run and the index of the declaration there
 abbrev pub StartList : Type 0
 StartList = List (ℕ × Start)
 
@@ -13,7 +13,7 @@ StartList = List (ℕ × Start)
 abbrev pub start_at : StartList → ℕ → Option Start
 start_at starts offset = lookup (is_at (nat_cmp offset)) starts
 
--- All that have a start are below the end.
+-- All offsets that have a start are below the end.
 abbrev pub AreBelow : (end : ℕ) → StartList → Type 0
 AreBelow end starts = (offset : ℕ) (start : Start) → start_at starts offset ≡ Some start → offset < end
 
@@ -25,19 +25,21 @@ AreApart starts offsets = (k offset : ℕ) → slice_get offsets k ≡ Some offs
 abbrev pub AreRising : List ℕ → Type 0
 AreRising offsets = (j k a b : ℕ) → j < k → slice_get offsets j ≡ Some a → slice_get offsets k ≡ Some b → a < b
 
--- The first so many offsets of a run were added, each with its index.
+-- The first so many offsets of a run were added, each with its index, and no others. As many are
+-- there as before and these, so none was lost.
 pub record AreAdded (run count : ℕ) (offsets : List ℕ) (old new : StartList) : Type 0 where
   pub each : (offset : ℕ) (start : Start) → start_at new offset ≡ Some start → (start_at old offset ≡ Some start) ⊎ ((start.run ≡ run) × (start.index < count) × (slice_get offsets start.index ≡ Some offset))
   pub there : (k offset : ℕ) → k < count → slice_get offsets k ≡ Some offset → IsSome (start_at new offset)
   pub counted : length new ≡ length old + count
 
--- The first so many offsets were taken away, of which no two are the same and each was there.
+-- The first so many offsets were taken away, and nothing else was changed. If they rise and all were
+-- there, there are as many fewer.
 pub record AreTaken (count : ℕ) (offsets : List ℕ) (old new : StartList) : Type 0 where
   pub each : (offset : ℕ) (start : Start) → start_at new offset ≡ Some start → (start_at old offset ≡ Some start) × ((k : ℕ) → k < count → slice_get offsets k ≡ Some offset → ⊥)
   pub others : (offset : ℕ) → ((k : ℕ) → k < count → slice_get offsets k ≡ Some offset → ⊥) → start_at new offset ≡ start_at old offset
   pub counted : AreRising offsets → ((k offset : ℕ) → k < count → slice_get offsets k ≡ Some offset → IsSome (start_at old offset)) → length new + count ≡ length old
 
--- No start was added, and there are as many as before.
+-- No start was added, and there are as many as before, so none was lost either.
 pub record IsAsBefore (old new : StartList) : Type 0 where
   pub each : (offset : ℕ) (start : Start) → start_at new offset ≡ Some start → start_at old offset ≡ Some start
   pub counted : length new ≡ length old

@@ -9,8 +9,8 @@ use std::alloc::{AllocError, Global};
 use std::collections::BTreeMap;
 use std::marker::Model;
 
-/// The start at an offset, of offsets that rise. Past the last one there is none to look for; there
-/// each new table begins in files that compilers write.
+/// The start at an offset. It is found by halves, as the offsets rise. Whether the offset is past
+/// the last one is asked first: in files that compilers write, each new table begins there.
 fn find(rising: &[(usize, Start)], offset: usize) -> Option<Start>
     requires { AreRising (offsets_in rising.now) }
     ensures { result ≡ start_at rising.now offset }
@@ -27,7 +27,7 @@ fn find(rising: &[(usize, Start)], offset: usize) -> Option<Start>
     Some(*start)
 }
 
-/// The run begins past all offsets, of which the last is the greatest.
+/// Whether a run begins past all offsets.
 fn is_past(read: &Run<'_>, rising: &[(usize, Start)]) -> bool
     requires rising { AreRising (offsets_in rising.now) }
     requires run { AreRising read.now.offsets }
@@ -40,7 +40,8 @@ fn is_past(read: &Run<'_>, rising: &[(usize, Start)]) -> bool
     read.len() > 0 && read.offset(0) > *last
 }
 
-/// Adds where each declaration of a run begins, behind all offsets; all of them or none.
+/// Adds where each declaration of a run begins, at the end of the list; after an error nothing was
+/// added.
 fn append(rising: &mut Vec<(usize, Start)>, read: &Run<'_>, run: usize) -> Result<(), AllocError>
     ensures added { OnOk result (rising.new.items ≡ rising.old.items ++ starts_from run 0 read.now.offsets) }
     ensures undone { OnErr result (rising.new.items ≡ rising.old.items) }
@@ -56,7 +57,7 @@ fn append(rising: &mut Vec<(usize, Start)>, read: &Run<'_>, run: usize) -> Resul
     Ok(())
 }
 
-/// Takes away where the first declarations of a run begin, so many.
+/// Takes away the starts of the first `count` declarations of a run.
 fn take_away(starts: &mut BTreeMap<usize, Start>, read: &Run<'_>, count: usize)
     requires { count ≤ length read.now.offsets }
     ensures { AreTaken count read.now.offsets starts.old.entries starts.new.entries }
@@ -66,7 +67,7 @@ fn take_away(starts: &mut BTreeMap<usize, Start>, read: &Run<'_>, count: usize)
     }
 }
 
-/// Adds where each declaration of a run begins, each at its place; all of them or none.
+/// Adds where each declaration of a run begins, each in its place; after an error nothing was added.
 fn insert(starts: &mut BTreeMap<usize, Start>, read: &Run<'_>, run: usize) -> Result<(), AllocError>
     requires apart { AreApart starts.now.entries read.now.offsets }
     requires rising { AreRising read.now.offsets }
@@ -83,10 +84,10 @@ fn insert(starts: &mut BTreeMap<usize, Start>, read: &Run<'_>, run: usize) -> Re
     Ok(())
 }
 
-/// The offsets at which declarations begin. Contracts see each with its start.
+/// The offsets at which declarations begin. Contracts see a list of these, each with its start.
 #[derive(Drop)]
 pub(crate) struct Starts {
-    /// Those of runs each of which begins past the one before it, as in files that compilers write.
+    /// Those of runs that began past all that were here, as in files that compilers write.
     rising: Vec<(usize, Start)>,
     /// Those of the other runs.
     others: BTreeMap<usize, Start>,
@@ -125,7 +126,7 @@ impl Starts {
         Some(*start)
     }
 
-    /// How many there are: no more than what is below an end where all of them are.
+    /// How many there are. If all are below an end, there are at most as many as the end says.
     pub(crate) fn len(&self) -> usize
         ensures count { result ≡ length self.now }
         ensures bound { (end : ℕ) → AreBelow end self.now → result ≤ end }
@@ -133,7 +134,7 @@ impl Starts {
         self.rising.len() + self.others.len()
     }
 
-    /// Adds where each declaration of a run begins, all of them or none.
+    /// Adds where each declaration of a run begins; after an error nothing was added.
     pub(crate) fn add(&mut self, read: &Run<'_>, run: usize) -> Result<(), AllocError>
         requires apart { AreApart self.now read.now.offsets }
         requires rising { AreRising read.now.offsets }

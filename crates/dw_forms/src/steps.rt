@@ -1,13 +1,14 @@
 //! Passing over the values of an entry of which some have no one size.
 
-ghost use Rattle.std.specs.Prelude.{◌≡◌, map, take, IfSome};
+ghost use Rattle.std.specs.Prelude.{◌≡◌, [], map, take, IfSome};
 ghost use Rattle.dw_model.specs.declared.dwarf.TheConstants.{OFFSET_SIZE_32};
 ghost use Rattle.dw_model.specs.Answers.{ReadsOn};
 ghost use Rattle.dw_model.specs.Entry.{attributes_at};
 ghost use Rattle.dw_forms.specs.Declaration.{spec_shown};
 ghost use Rattle.dw_forms.specs.Fault.{form_fault};
 ghost use Rattle.dw_forms.specs.Positions.{steps_in};
-ghost use Rattle.dw_forms.specs.Steps.{passed_by, PassesBy};
+ghost use Rattle.dw_forms.specs.Size.{size_in};
+ghost use Rattle.dw_forms.specs.Steps.{list_of, passed_by, PassesBy};
 
 use crate::declaration::Spec;
 use crate::fault::FormFault;
@@ -31,9 +32,35 @@ pub struct Steps {
 }
 
 impl Steps {
-    /// Those of the attributes for which a declaration asks; `None` where more of them have no one
-    /// size than there is room for, or 16 bits don't hold how far one is or its form.
-    pub(crate) fn of(specs: &[Spec]) -> Option<Self>
+    /// Those of the attributes for which a declaration asks, of which the size is known; `None`
+    /// where more of them have no one size than there is room for, or 16 bits don't hold how far
+    /// one is or its form.
+    pub(crate) fn of(specs: &[Spec], size: Option<usize>) -> Option<Self>
+        requires { size ≡ size_in OFFSET_SIZE_32 (map spec_shown specs.now) }
+        ensures { IfSome result (λ steps. PassesBy steps (attributes_at OFFSET_SIZE_32 (map spec_shown specs.now))) }
+    {
+        match size {
+            Some(size) => Steps::at_once(size),
+            None => Steps::one_by_one(specs),
+        }
+    }
+
+    /// No step, and then so many bytes, where 16 bits hold them: for values that all have one size.
+    fn at_once(size: usize) -> Option<Self>
+        ensures { IfSome result (λ steps. (list_of steps ≡ []) × (steps.rest ≡ size)) }
+    {
+        if size > 0xffff {
+            return None;
+        }
+        Some(Steps {
+            list: [FixedValue::default(); MOST],
+            count: 0,
+            rest: size as u16,
+        })
+    }
+
+    /// A step for each of the attributes that have no one size.
+    fn one_by_one(specs: &[Spec]) -> Option<Self>
         ensures { IfSome result (λ steps. PassesBy steps (attributes_at OFFSET_SIZE_32 (map spec_shown specs.now))) }
     {
         let mut list = [FixedValue::default(); MOST];

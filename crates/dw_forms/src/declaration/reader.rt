@@ -121,7 +121,7 @@ fn declaration_of<'a>(
     let size_32 = size_of_all(specs.as_slice(), Width::Four);
     let size_64 = size_of_all(specs.as_slice(), Width::Eight);
     let ranged = may_have_ranges(specs.as_slice());
-    let steps = Steps::of(specs.as_slice());
+    let steps = Steps::of(specs.as_slice(), size_32);
     let positions = Positions::of(specs.as_slice(), known_steps(&steps));
     let numbers = long_numbers(alloc, specs.as_slice())?;
     Ok(Decl {
