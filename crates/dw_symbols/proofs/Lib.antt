@@ -11,4 +11,5 @@ pub mod FrameLemmas
 pub mod TreeLemmas
 pub mod AnswerLemmas
 pub mod ToldLemmas
+pub mod PathLemmas
 pub mod SpanLemmas

@@ -1,6 +1,6 @@
 -- The pieces of a span by line tables.
-use Rattle.std.proofs.Common.{◌≡◌, ◌≤◌, ◌<◌, ℕ, zero, suc, List, [], ◌∷◌, ◌++◌, get_or, map, Option, Some, None, true, false, Result, Ok, Err, length, ◌-◌, ◌+◌, refl, sym, subst, ap, ◌∙◌, arith}
-use Rattle.std.specs.Prelude.{IfSome, slice_get, slice_set, ◌↔◌, option_map}
+use Rattle.std.proofs.Common.{◌≡◌, ◌≤◌, ◌<◌, ℕ, zero, suc, List, [], ◌∷◌, ◌++◌, get_or, map, Option, Some, None, Bool, true, false, Result, Ok, Err, length, ◌-◌, ◌+◌, refl, sym, subst, ap, ◌∙◌, arith}
+use Rattle.std.specs.Prelude.{IfSome, slice_get, slice_set, ◌↔◌, option_map, ◌==◌}
 use Rattle.dw_model.specs.Answer as model
 use Rattle.dw_model.specs.Answer.{Lines, Code, line_fault, unit_of, lines, row_at, row_location}
 use Rattle.dw_model.specs.Pieces.{UnitFault, ArePieces, IsFirstFault, HaveLocation, joins, with_piece, unit_place, place, pieces_from, as_answer, pieces_in}
@@ -11,7 +11,8 @@ use Rattle.dw_symbols.specs.declared.answer.Piece.{Piece}
 use Rattle.dw_symbols.specs.Answer.{piece_shown}
 use Rattle.dw_line.specs.Search.{told_at}
 use Rattle.dw_line.specs.Walked.{IsStretch}
-use Rattle.dw_symbols.specs.Pieces.{row_place, AddsStretch, AddsRows}
+use Rattle.dw_symbols.specs.Paths.{file_path}
+use Rattle.dw_symbols.specs.Pieces.{row_place, with_path, AddsStretch, AddsRows}
 use Rattle.dw_model.specs.Results.{◌>>=◌, with_code}
 use Rattle.dw_model.specs.Faults.{Bad}
 use Rattle.dw_model.specs.Matrix.{Row as ModelRow, row_of}
@@ -29,8 +30,8 @@ use Rattle.dw_symbols.proofs.CoverLemmas.{some-at, known}
 -- ---- one piece more
 
 -- the last piece grows
-pub grows : (old : List Piece) (n : ℕ) (last next : Piece) → length old ≡ n + 1 → last ≡ get_or old n last → joins (piece_shown last) (piece_shown next) ≡ true
-    → map piece_shown (slice_set old n (record { begin = last.begin; end = next.end; location = last.location })) ≡ with_piece (map piece_shown old) (piece_shown next)
+pub grows : (old : List Piece) (n : ℕ) (last : Piece) (next : model.Piece) → length old ≡ n + 1 → last ≡ get_or old n last → joins (piece_shown last) next ≡ true
+    → map piece_shown (slice_set old n (record { begin = last.begin; end = next.end; location = last.location })) ≡ with_piece (map piece_shown old) next
 unfolding with_piece
 grows [] n last next size is e = absurd (omega (arith, size))
 grows (x ∷ []) zero last next size is e = rw (← is, e) refl
@@ -39,19 +40,19 @@ grows (x ∷ y ∷ xs) zero last next size is e = absurd (omega (arith, size))
 grows (x ∷ y ∷ xs) (suc n) last next size is e = ap (λ (rest : List model.Piece). piece_shown x ∷ rest) (grows (y ∷ xs) n last next (omega (arith, size)) is e)
 
 -- another one follows the last piece, which stays
-pub follows : (old : List Piece) (n : ℕ) (last next : Piece) → length old ≡ n + 1 → last ≡ get_or old n last → joins (piece_shown last) (piece_shown next) ≡ false
-    → map piece_shown (slice_set old n last ++ next ∷ []) ≡ with_piece (map piece_shown old) (piece_shown next)
+pub follows : (old : List Piece) (n : ℕ) (last other : Piece) (next : model.Piece) → length old ≡ n + 1 → last ≡ get_or old n last → joins (piece_shown last) next ≡ false → piece_shown other ≡ next
+    → map piece_shown (slice_set old n last ++ other ∷ []) ≡ with_piece (map piece_shown old) next
 unfolding with_piece
-follows [] n last next size is e = absurd (omega (arith, size))
-follows (x ∷ []) zero last next size is e = rw (← is, e) refl
-follows (x ∷ []) (suc n) last next size is e = absurd (omega (arith, size))
-follows (x ∷ y ∷ xs) zero last next size is e = absurd (omega (arith, size))
-follows (x ∷ y ∷ xs) (suc n) last next size is e = ap (λ (rest : List model.Piece). piece_shown x ∷ rest) (follows (y ∷ xs) n last next (omega (arith, size)) is e)
+follows [] n last other next size is e same = absurd (omega (arith, size))
+follows (x ∷ []) zero last other next size is e same = rw (← is, e) (ap (λ (next : model.Piece). piece_shown last ∷ next ∷ []) same)
+follows (x ∷ []) (suc n) last other next size is e same = absurd (omega (arith, size))
+follows (x ∷ y ∷ xs) zero last other next size is e same = absurd (omega (arith, size))
+follows (x ∷ y ∷ xs) (suc n) last other next size is e same = ap (λ (rest : List model.Piece). piece_shown x ∷ rest) (follows (y ∷ xs) n last other next (omega (arith, size)) is e same)
 
-pub first-one : (old : List Piece) (next : Piece) → length old ≡ 0 → map piece_shown (old ++ next ∷ []) ≡ with_piece (map piece_shown old) (piece_shown next)
+pub first-one : (old : List Piece) (other : Piece) (next : model.Piece) → length old ≡ 0 → piece_shown other ≡ next → map piece_shown (old ++ other ∷ []) ≡ with_piece (map piece_shown old) next
 unfolding with_piece
-first-one [] next size = refl
-first-one (x ∷ xs) next size = absurd (omega (arith, size))
+first-one [] other next size same = ap (λ (next : model.Piece). next ∷ []) same
+first-one (x ∷ xs) other next size same = absurd (omega (arith, size))
 
 -- ---- the rows of a span
 
@@ -69,6 +70,18 @@ adds_one table stretch row old next is same law = λ rises location low order ar
     let piece : model.Piece = record { begin = stretch.begin; end = stretch.end; location = row_place table row } in
     subst (λ (next : model.Piece). ArePieces location low stretch.end (with_piece old next)) (sym same)
     (law location low old piece are order rises (λ a above below. have a above below ∙ ap (λ row. Ok (option_map (row_place table) row)) is))
+
+-- a row's piece, of which the path was found apart
+pub placed : (table : Lines) (row : Row) (begin end : ℕ) (path : Option (List ℕ)) (location : model.Location) → path ≡ file_path table row.file → location ≡ model.location_at None (Some row.line) (Some row.column)
+    → with_path path (record { begin = begin; end = end; location = location }) ≡ record { begin = begin; end = end; location = row_place table row }
+placed table row begin end path location same is =
+    ap (λ (location : model.Location). with_path path (record { begin = begin; end = end; location = location })) is
+    ∙ by_line (row.line == 0) refl
+    ∙ ap (λ (path : Option (List ℕ)). record { begin = begin; end = end; location = model.location_at path (Some row.line) (Some row.column) }) same
+  where
+    by_line : (zero : Bool) → (row.line == 0) ≡ zero → with_path path (record { begin = begin; end = end; location = model.location_at None (Some row.line) (Some row.column) }) ≡ record { begin = begin; end = end; location = model.location_at path (Some row.line) (Some row.column) }
+    by_line true e = rw e refl
+    by_line false e = rw e refl
 
 -- they are the pieces of the addresses before one of the span, if each has the location of its row
 abbrev pub AddedTo : Lines → (low high at : ℕ) → (old now : List model.Piece) → Type 0

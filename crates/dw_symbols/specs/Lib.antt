@@ -1,4 +1,5 @@
 pub mod Answer
+pub mod Paths
 pub mod Pieces
 pub mod Span
 pub mod Codes

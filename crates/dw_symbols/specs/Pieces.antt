@@ -1,25 +1,24 @@
 -- Pieces that are found in order of address.
-use Rattle.std.specs.Prelude.{◌≡◌, ◌≤◌, ◌<◌, ℕ, List, Option, Some, IfSome, option_map, Result, Ok}
+use Rattle.std.specs.Prelude.{◌≡◌, ◌≤◌, ◌<◌, ℕ, List, Option, Some, option_map, Result, Ok}
 use Rattle.dw_model.specs.Answer as model
 use Rattle.dw_model.specs.Answer.{Lines, location_at}
-use Rattle.dw_model.specs.Path.{path}
 use Rattle.dw_model.specs.Pieces.{UnitFault, ArePieces}
 use Rattle.dw_line.specs.declared.rows.Row.{Row}
 use Rattle.dw_line.specs.declared.walk.Stretch.{Stretch}
 use Rattle.dw_line.specs.Search.{told_at}
-use Rattle.dw_symbols.specs.declared.pieces.LastPath.{LastPath}
-
--- the path of a file by its number
-abbrev pub file_path : Lines → ℕ → Option (List ℕ)
-file_path table number = path table.header table.comp_dir number
+use Rattle.dw_symbols.specs.Paths.{file_path}
 
 -- the location of a row, as it is told
 abbrev pub row_place : Lines → Row → model.Location
 row_place table row = location_at (file_path table row.file) (Some row.line) (Some row.column)
 
--- The path that was found last is that of its file.
-abbrev pub IsPathOf : Lines → Option LastPath → Type 0
-IsPathOf table last = IfSome last (λ one. option_map (λ path. path.items) one.path ≡ file_path table one.number)
+-- a piece with this path
+abbrev pub with_path : Option (List ℕ) → model.Piece → model.Piece
+with_path path piece = record {
+  begin = piece.begin;
+  end = piece.end;
+  location = record { path = path; line = piece.location.line; column = piece.location.column };
+}
 
 -- If they were the pieces of the addresses before another one, they are those of the addresses
 -- before it, whatever was found from there on.

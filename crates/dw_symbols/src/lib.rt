@@ -7,6 +7,7 @@ mod cover;
 mod frames;
 mod image;
 mod location;
+mod paths;
 mod pieces;
 mod refusals;
 mod solver;

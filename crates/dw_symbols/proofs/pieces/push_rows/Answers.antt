@@ -26,6 +26,6 @@ loop-stretch-preserved c =
       high = ap (λ (walk : Walked). walk.high) moved ∙ c.loop-stretch.invariant.high;
       above = omega (arith, c.loop-stretch.invariant.above, is.rises, at);
       within = omega (arith, is.within, at);
-      last = c.in_ok-push_stretch.ensures.last;
+      paths = c.in_ok-push_stretch.ensures.paths;
       added = subst (λ (n : ℕ). AddedTo (lines_shown table) c.args.low c.args.high n old (map piece_shown c.push_stretch.new.pieces.items)) (sym at) added;
     }

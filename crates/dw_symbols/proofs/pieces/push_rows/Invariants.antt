@@ -1,7 +1,7 @@
 use Rattle.std.proofs.Common.{◌≡◌, ◌≤◌, ◌-◌, map}
 use Rattle.dw_line.specs.Lines.{lines_shown}
 use Rattle.dw_symbols.specs.Answer.{piece_shown}
-use Rattle.dw_symbols.specs.Pieces.{IsPathOf}
+use Rattle.dw_symbols.specs.Paths.{ArePathsOf}
 use Rattle.dw_symbols.proofs.SpanLemmas.{AddedTo}
 use Rattle.dw_symbols.proofs.pieces.push_rows.Given as goal
 
@@ -11,7 +11,7 @@ invariant-loop-stretch l = record {
   high : l.walk.high ≡ l.high;
   above : l.low ≤ l.walk.at;
   within : l.walk.at ≤ l.high;
-  last : IsPathOf (lines_shown l.lines) l.last;
+  paths : ArePathsOf (lines_shown l.lines) l.paths.items;
   added : AddedTo (lines_shown l.lines) l.low l.high l.walk.at (map piece_shown l.fn.pieces.items) (map piece_shown l.pieces.items);
 }
 

@@ -1,9 +1,10 @@
-use Rattle.std.proofs.Common.{◌≡◌, ◌∙◌, ℕ, map, List, Option, Some, sym, subst, ap}
+use Rattle.std.proofs.Common.{◌≡◌, ◌∙◌, ℕ, map, List, Option, None, Some, sym, subst, ap}
 use Rattle.dw_model.specs.Answer as model
 use Rattle.dw_line.specs.Lines.{lines_shown}
 use Rattle.dw_symbols.specs.Answer.{location_shown, piece_shown}
-use Rattle.dw_symbols.specs.Pieces.{row_place, AddsStretch}
-use Rattle.dw_symbols.proofs.SpanLemmas.{adds_none, adds_one}
+use Rattle.dw_symbols.specs.Paths.{path_in}
+use Rattle.dw_symbols.specs.Pieces.{row_place, with_path, AddsStretch}
+use Rattle.dw_symbols.proofs.SpanLemmas.{adds_none, adds_one, placed}
 use Rattle.dw_symbols.proofs.pieces.push_stretch.Goals as goal
 
 pub returns-in_default-clause-pieces : goal.returns-in_default-clause-pieces
@@ -16,8 +17,6 @@ returns-clause-pieces c =
     let stretch = c.args.stretch in
     let row = c.in-Some.row in
     let old = map piece_shown c.args.pieces.now.items in
-    let place : location_shown c.location_at.result ≡ row_place table row =
-    c.location_at.ensures ∙ ap (λ (path : Option (List ℕ)). model.location_at path (Some row.line) (Some row.column)) c.in_ok-path.ensures.path in
-    subst (AddsStretch table stretch old) (sym c.in_ok-push_piece.ensures)
-    (adds_one table stretch row old (record { begin = stretch.begin; end = stretch.end; location = location_shown c.location_at.result }) c.in-Some.is
-    (λ i. record { begin = stretch.begin; end = stretch.end; location = place i }) c.law_of_more_pieces.ensures.one)
+    let path = ap (λ paths. path_in paths c.in_ok-place.place) c.deref.ensures.value ∙ c.in_ok-place.ensures.path in
+    let place = placed table row stretch.begin stretch.end _ _ path c.location_at.ensures in
+    subst (AddsStretch table stretch old) (sym c.in_ok-push_piece.ensures) (adds_one table stretch row old _ c.in-Some.is place c.law_of_more_pieces.ensures.one)

@@ -1,0 +1,27 @@
+-- Paths that are known.
+use Rattle.std.proofs.Common.{◌≡◌, ◌∙◌, ◌<◌, ℕ, zero, suc, List, [], ◌∷◌, get_or, length, Option, Some, None, option_map, refl, sym, ap, subst}
+use Rattle.std.specs.Prelude.{option_and_then, slice_get, slice_set}
+use Rattle.std.proofs.lemmas.Option.{same_Some, get_or_from_slice_get, slice_get_read}
+use Rattle.dw_model.specs.Answer.{Lines}
+use Rattle.dw_symbols.specs.declared.paths.KnownPath.{KnownPath}
+use Rattle.dw_symbols.specs.Paths.{file_path, path_in, ArePathsOf}
+
+-- one more is known
+pub known-more : (table : Lines) (paths : List (Option KnownPath)) (place : ℕ) (one : KnownPath) → ArePathsOf table paths → option_map (λ path. path.items) one.path ≡ file_path table one.number → ArePathsOf table (slice_set paths place (Some one))
+known-more table [] place one are is k known there = absurd cc
+known-more table (x ∷ paths) zero one are is zero known there =
+    let same = same_Some one known (same_Some (Some one) (Some known) there) in
+    subst (λ (known : KnownPath). option_map (λ path. path.items) known.path ≡ file_path table known.number) same is
+known-more table (x ∷ paths) zero one are is (suc k) known there = are (suc k) known there
+known-more table (x ∷ paths) (suc place) one are is zero known there = are 0 known there
+known-more table (x ∷ paths) (suc place) one are is (suc k) known there =
+    known-more table paths place one (λ k. are (suc k)) is k known there
+
+-- the path of a file that is known
+pub known-at : (table : Lines) (paths : List (Option KnownPath)) (place number : ℕ) (slot : Option KnownPath) (known : KnownPath) → ArePathsOf table paths → place < length paths → slot ≡ get_or paths place slot → slot ≡ Some known → known.number ≡ number
+    → path_in paths place ≡ file_path table number
+known-at table paths place number slot known are within is some same =
+    let there = slice_get_read paths (length paths) place slot refl within is in
+    ap (λ (slot : Option KnownPath). option_and_then (λ known. option_map (λ path. path.items) known.path) slot) (get_or_from_slice_get paths place slot None there ∙ some)
+    ∙ are place known (there ∙ ap Some some)
+    ∙ ap (file_path table) same

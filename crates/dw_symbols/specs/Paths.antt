@@ -1,0 +1,18 @@
+-- Paths of a line table that are known.
+use Rattle.std.specs.Prelude.{◌≡◌, ℕ, List, Option, Some, None, option_and_then, option_map, slice_get, slice_index_or}
+use Rattle.dw_model.specs.Answer.{Lines}
+use Rattle.dw_model.specs.Path.{path}
+use Rattle.dw_symbols.specs.declared.paths.KnownPath.{KnownPath}
+
+-- the path of a file by its number
+abbrev pub file_path : Lines → ℕ → Option (List ℕ)
+file_path table number = path table.header table.comp_dir number
+
+-- the path in a place
+abbrev pub path_in : List (Option KnownPath) → ℕ → Option (List ℕ)
+path_in paths place = option_and_then (λ known. option_map (λ path. path.items) known.path) (slice_index_or paths place None)
+
+-- Each path that is known is that of its file.
+abbrev pub ArePathsOf : Lines → List (Option KnownPath) → Type 0
+ArePathsOf table paths =
+    (place : ℕ) (known : KnownPath) → slice_get paths place ≡ Some (Some known) → option_map (λ path. path.items) known.path ≡ file_path table known.number
