@@ -67,7 +67,8 @@ fn take_away(starts: &mut BTreeMap<usize, Start>, read: &Run<'_>, count: usize)
     }
 }
 
-/// Adds where each declaration of a run begins, each in its place; after an error nothing was added.
+/// Adds where each declaration of a run begins, each in its place; after an error nothing was
+/// added.
 fn insert(starts: &mut BTreeMap<usize, Start>, read: &Run<'_>, run: usize) -> Result<(), AllocError>
     requires apart { AreApart starts.now.entries read.now.offsets }
     requires rising { AreRising read.now.offsets }
