@@ -1,6 +1,6 @@
 -- What is kept of sequences stays where it lies when checkpoints come or go after it.
-use Rattle.std.proofs.Common.{◌≡◌, ℕ, suc, ◌+◌, ◌*◌, ◌<◌, ◌≤◌, true, false, List, [], ◌∷◌, ◌++◌, length, take, drop, refl, sym, subst, ap, ◌∙◌, arith}
-use Rattle.std.proofs.lemmas.List.{take-append-le, take-append-drop, length-take, length-take-le, drop-drop}
+use Rattle.std.proofs.Common.{◌≡◌, ℕ, suc, ◌+◌, ◌*◌, ◌≤◌, List, [], ◌∷◌, ◌++◌, length, take, drop, sym, subst, ap, ◌∙◌, arith}
+use Rattle.std.proofs.lemmas.List.{take-append-le, take-append-drop, length-take, drop-drop}
 use Rattle.dw_model.specs.LineHeader.{LineHeader}
 use Rattle.dw_model.specs.Matrix.{Row}
 use Rattle.dw_line.specs.declared.checkpoints.Checkpoint.{Checkpoint}

@@ -1,23 +1,22 @@
 -- What is recorded of a program is of the rows that the machine has appended so far.
-use Rattle.std.proofs.Common.{◌≡◌, ℕ, zero, suc, ◌+◌, ◌-◌, ◌*◌, ◌/◌, ◌%◌, ◌<◌, ◌≤◌, Bool, true, false, cond, List, [], ◌∷◌, ◌++◌, length, take, drop, filter, reverse, true≢false, Option, Some, None, Result, Ok, Err, refl, sym, subst, ap, ◌∙◌, append_assoc, length-append, arith}
+use Rattle.std.proofs.Common.{◌≡◌, ℕ, zero, suc, ◌+◌, ◌*◌, ◌<◌, ◌≤◌, Bool, true, false, cond, List, [], ◌∷◌, ◌++◌, length, take, drop, filter, reverse, Option, Some, None, Ok, refl, sym, subst, ap, ◌∙◌, append_assoc, length-append, arith}
 use Rattle.std.specs.Prelude.{◌&&◌, nat_le, nat_lt, ◌==◌, slice_get, option_and_then}
 use Rattle.std.specs.List.{sum_by}
-use Rattle.std.proofs.Math.Seq.{take-length, drop-length, drop-append_seam}
+use Rattle.std.proofs.Math.Seq.{take-length, drop-length}
 use Rattle.std.proofs.lemmas.List.{append-nil, reverse-append, reverse-reverse, drop-append-le, drop_all, drop_at, length-take-le, length-drop, nil_from_length}
 use Rattle.std.proofs.lemmas.List.Elements.{filter-append}
 use Rattle.std.proofs.lemmas.List.Sums.{sum_by_push}
-use Rattle.std.proofs.lemmas.Bool.{lt-ltb, le-leb, le-ltb, ltb-true, leb-true, eqb-true, eqb-false}
+use Rattle.std.proofs.lemmas.Bool.{le-leb, le-ltb, eqb-true, eqb-false}
 use Rattle.dw_model.specs.LineHeader.{LineHeader}
 use Rattle.dw_model.specs.Matrix.{Row, sequences_from, sequences, never_falls, first_address, last_address, is_used}
 use Rattle.dw_model.specs.Registers.{row}
 use Rattle.dw_line.specs.declared.registers.Registers.{Registers}
 use Rattle.dw_line.specs.declared.checkpoints.Checkpoint.{Checkpoint}
 use Rattle.dw_line.specs.declared.checkpoints.Sequence.{Sequence}
-use Rattle.dw_line.specs.declared.checkpoints.Pending.{Pending}
 use Rattle.dw_line.specs.Registers.{registers_shown}
 use Rattle.dw_line.specs.Machine.{rows_on}
-use Rattle.dw_line.specs.Sequences.{used_sequences, most_checkpoints, up_to_end, state_of, checkpoint_row, IsCheckpoint, AreCheckpoints, HasCheckpoints, checkpoints_in, IsSequence, AreSequences, AreKept}
-use Rattle.dw_line.specs.Recorder.{Recorder, none_pending, empty, pushed_by, pushed, used_from, closed_from, closed, finished}
+use Rattle.dw_line.specs.Sequences.{used_sequences, up_to_end, state_of, IsCheckpoint, AreCheckpoints, HasCheckpoints, checkpoints_in, IsSequence, AreSequences, AreKept}
+use Rattle.dw_line.specs.Recorder.{Recorder, empty, pushed_by, pushed, used_from, closed_from, closed}
 use Rattle.dw_line.proofs.KeptLemmas.{behind, cut, each_kept, each_pushed, checkpoint_pushed}
 
 -- Of all rows those in front of `rows` were appended. `ended` are the sequences that have ended,

@@ -1,5 +1,5 @@
 -- The first sequence that holds an address, by its number.
-use Rattle.std.proofs.Common.{◌≡◌, ◌∙◌, ℕ, zero, suc, ◌+◌, ◌-◌, ◌<◌, ◌≤◌, Bool, true, false, cond, List, [], ◌∷◌, ◌++◌, length, map, filter, drop, get_or, Option, Some, None, refl, sym, subst, ap, append_assoc, arith}
+use Rattle.std.proofs.Common.{◌≡◌, ◌∙◌, ℕ, zero, suc, ◌+◌, ◌-◌, ◌<◌, ◌≤◌, Bool, true, false, cond, List, [], ◌∷◌, ◌++◌, length, filter, drop, get_or, Option, Some, None, refl, sym, subst, ap, append_assoc, arith}
 use Rattle.std.specs.Prelude.{◌&&◌, nat_le, nat_lt, min, find, slice_get, option_and_then}
 use Rattle.std.specs.List.{position_from}
 use Rattle.std.proofs.lemmas.List.{append-nil, drop_more, drop_all}
@@ -11,7 +11,7 @@ use Rattle.dw_index.specs.Owners.{least, least_owner}
 use Rattle.dw_line.specs.declared.checkpoints.Checkpoint.{Checkpoint}
 use Rattle.dw_line.specs.declared.checkpoints.Sequence.{Sequence}
 use Rattle.dw_model.specs.LineHeader.{LineHeader}
-use Rattle.dw_line.specs.Sequences.{pairs_from, number_of, used_sequences, holds_address, number_among, IsSequence, AreSequences}
+use Rattle.dw_line.specs.Sequences.{pairs_from, used_sequences, holds_address, number_among, IsSequence, AreSequences}
 
 abbrev pub pair_of : Sequence → ℕ → Range × ℕ
 pair_of s n = (record { begin = s.begin; end = s.end }, n)

@@ -1,5 +1,5 @@
 -- The used sequences of a matrix, and the checkpoints from which their rows are run again.
-use Rattle.std.specs.Prelude.{◌≡◌, ◌≤◌, ◌<◌, ℕ, ◌+◌, ◌*◌, ◌/◌, Bool, true, false, ◌&&◌, List, [], ◌∷◌, length, take, drop, sum_by, filter, Option, Result, Ok, nat_le, nat_lt, if◌then◌else◌}
+use Rattle.std.specs.Prelude.{◌≡◌, ◌≤◌, ◌<◌, ℕ, ◌+◌, ◌*◌, ◌/◌, Bool, true, false, ◌&&◌, List, [], ◌∷◌, length, take, drop, sum_by, filter, Option, Ok, nat_le, nat_lt, if◌then◌else◌}
 use Rattle.std.specs.List.{position_from}
 use Rattle.dw_model.specs.LineHeader.{LineHeader}
 use Rattle.dw_model.specs.Matrix.{Row, sequences, is_used, first_address, last_address}

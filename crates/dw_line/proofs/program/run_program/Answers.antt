@@ -1,7 +1,7 @@
 use Rattle.std.proofs.Common.{◌∙◌, ℕ, ap, sym, subst}
 use Rattle.dw_model.specs.Registers as model
 use Rattle.dw_line.specs.Header.{header_shown}
-use Rattle.dw_line.specs.Machine.{State, registers_behind}
+use Rattle.dw_line.specs.Machine.{State}
 use Rattle.dw_line.specs.Recorder.{Recorder, recorder_shown, recorded}
 use Rattle.dw_line.specs.Registers.{registers_shown}
 use Rattle.dw_line.proofs.MachineLemmas.{shorter}

@@ -1,6 +1,6 @@
-use Rattle.std.proofs.Common.{◌≡◌, ◌∙◌, ℕ, Option, None, sym, subst}
+use Rattle.std.proofs.Common.{ℕ, Option, subst}
 use Rattle.dw_line.specs.Sequences.{IsOwner}
-use Rattle.dw_line.proofs.WalkLemmas.{no_row, one_row}
+use Rattle.dw_line.proofs.WalkLemmas.{no_row}
 use Rattle.dw_line.proofs.walk.stretch_from.Goals as goal
 
 pub returns-in_default-clause-stretch : goal.returns-in_default-clause-stretch

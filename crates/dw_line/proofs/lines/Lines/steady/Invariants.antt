@@ -1,4 +1,4 @@
-use Rattle.std.proofs.Common.{◌≡◌, ◌≤◌, ◌<◌, ◌-◌}
+use Rattle.std.proofs.Common.{◌≡◌, ◌<◌, ◌-◌}
 use Rattle.dw_model.specs.Steady.{last_address}
 use Rattle.dw_line.proofs.WalkLemmas.{HaveRow}
 use Rattle.dw_line.proofs.lines.Lines.steady.Given as goal
