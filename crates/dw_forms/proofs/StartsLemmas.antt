@@ -1,5 +1,5 @@
 -- Starts in rising order, and others after them.
-use Rattle.std.proofs.Common.{◌≡◌, ◌≢◌, ◌⊎◌, inl, inr, ◌∙◌, ℕ, zero, suc, ◌+◌, ◌<◌, ◌≤◌, Bool, true, false, ◌||◌, cond, List, [], ◌∷◌, ◌++◌, ◌-◌, get_or, length, map, take, Option, Some, None, Result, Ok, Err, OnOk, OnErr, refl, sym, ap, subst, append_assoc, eq-or-lt_of_le, le_of_eq, arith}
+use Rattle.std.proofs.Common.{◌≡◌, ◌≢◌, ◌⊎◌, inl, inr, ◌∙◌, ℕ, zero, suc, ◌+◌, ◌<◌, ◌≤◌, Bool, true, false, ◌||◌, cond, List, [], ◌∷◌, ◌++◌, ◌-◌, get_or, length, take, Option, Some, None, Result, Ok, Err, OnOk, OnErr, refl, sym, ap, subst, append_assoc, eq-or-lt_of_le, le_of_eq, arith}
 use Rattle.std.specs.Prelude.{IsSome, nat_lt, slice_get, ◌==◌}
 use Rattle.std.specs.List.{range_with_len, list_any, AllByRecursion, IsDistinct}
 use Rattle.std.specs.List.Sorted.{IsNonDecreasingBy, IsPartitionPoint, IsStrictlySortedBy}

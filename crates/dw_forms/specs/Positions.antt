@@ -1,5 +1,5 @@
 -- Where values are in the entries of a declaration.
-use Rattle.std.specs.Prelude.{◌≡◌, ℕ, ℤ, List, [], ◌∷◌, Option, Some, None, Result, Ok, Err, find, get_or, take, option_map, ◌==◌}
+use Rattle.std.specs.Prelude.{◌≡◌, ℕ, ℤ, List, [], Option, Some, None, Result, Ok, Err, find, get_or, take, option_map, ◌==◌}
 use Rattle.std.specs.Option.{option_map_or}
 use Rattle.dw_model.specs.declared.dwarf.TheConstants.{OFFSET_SIZE_32, DW_FORM_implicit_const}
 use Rattle.dw_model.specs.Results.{◌>>=◌}

@@ -1,6 +1,5 @@
-use Rattle.std.proofs.Common.{◌≡◌, ◌∙◌, ◌≤◌, ◌++◌, ℕ, List, length, take, take_all, sym, ap, arith}
+use Rattle.std.proofs.Common.{◌≡◌, ◌∙◌, ◌≤◌, ◌++◌, ℕ, List, length, take, take_all, ap, arith}
 use Rattle.std.proofs.Math.Seq.{take-append_seam}
-use Rattle.dw_forms.specs.Starts.{StartList}
 use Rattle.dw_forms.specs.StartsInside.{starts_from}
 use Rattle.dw_forms.proofs.StartsLemmas.{one-appended}
 use Rattle.dw_forms.proofs.starts.append.Goals as goal

@@ -1,9 +1,8 @@
-use Rattle.std.proofs.Common.{◌≡◌, ◌≢◌, ◌∙◌, ◌-◌, ℕ, length, rules, of_calls, Option, Some, refl, sym, ap, subst}
-use Rattle.std.specs.Prelude.{nat_lt, slice_get}
+use Rattle.std.proofs.Common.{◌∙◌, length, rules, of_calls, refl, sym, ap}
+use Rattle.std.specs.Prelude.{nat_lt}
 use Rattle.std.proofs.lemmas.Fn.{always_returns_same}
 use Rattle.std.proofs.lemmas.List.Sorted.{IsPartitionedBy-ltb}
 use Rattle.std.proofs.lemmas.Option.{slice_get_read}
-use Rattle.dw_forms.specs.declared.run.Start.{Start}
 use Rattle.dw_forms.specs.Starts.{start_at}
 use Rattle.dw_forms.proofs.StartsLemmas.{found-at, never-falls, none-between, none-from, past-last, Halves}
 use Rattle.dw_forms.proofs.starts.find.Goals as goal

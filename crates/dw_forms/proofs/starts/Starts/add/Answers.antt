@@ -1,4 +1,4 @@
-use Rattle.std.proofs.Common.{◌≡◌, ◌∙◌, length, sym, subst}
+use Rattle.std.proofs.Common.{sym, subst}
 use Rattle.dw_forms.specs.Starts.{StartList, AreApart}
 use Rattle.dw_forms.specs.StartsInside.{offsets_in}
 use Rattle.dw_forms.proofs.StartsLemmas.{none-first, added-append, added-insert, after-append, after-insert, undone-append, undone-insert, AllBelow}

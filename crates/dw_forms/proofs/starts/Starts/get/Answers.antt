@@ -1,4 +1,4 @@
-use Rattle.std.proofs.Common.{◌≡◌, ◌∙◌, Some, None, sym, ap}
+use Rattle.std.proofs.Common.{◌∙◌, sym, ap}
 use Rattle.dw_forms.specs.Starts.{StartList, start_at}
 use Rattle.dw_forms.proofs.StartsLemmas.{in-first, in-second}
 use Rattle.dw_forms.proofs.starts.Starts.get.Goals as goal

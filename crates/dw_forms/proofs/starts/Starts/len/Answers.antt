@@ -1,6 +1,5 @@
-use Rattle.std.proofs.Common.{◌≤◌, ◌++◌, ◌+◌, arith}
+use Rattle.std.proofs.Common.{arith}
 use Rattle.std.proofs.lemmas.List.{length-append}
-use Rattle.dw_forms.specs.Starts.{AreBelow}
 use Rattle.dw_forms.proofs.StartsLemmas.{most}
 use Rattle.dw_forms.proofs.starts.Starts.len.Goals as goal
 
