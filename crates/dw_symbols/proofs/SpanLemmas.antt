@@ -4,7 +4,6 @@ use Rattle.std.specs.Prelude.{IfSome, slice_get, slice_set, ◌↔◌, option_ma
 use Rattle.dw_model.specs.Answer as model
 use Rattle.dw_model.specs.Answer.{Lines, Code, line_fault, unit_of, lines, row_at, row_location}
 use Rattle.dw_model.specs.Pieces.{UnitFault, ArePieces, IsFirstFault, HaveLocation, joins, with_piece, unit_place, place, pieces_from, as_answer, pieces_in}
-use Rattle.std.proofs.lemmas.List.{map-append}
 use Rattle.dw_line.specs.declared.rows.Row.{Row}
 use Rattle.dw_line.specs.declared.walk.Stretch.{Stretch}
 use Rattle.dw_symbols.specs.declared.answer.Piece.{Piece}

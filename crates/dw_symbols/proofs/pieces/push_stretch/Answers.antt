@@ -1,9 +1,8 @@
-use Rattle.std.proofs.Common.{◌≡◌, ◌∙◌, ℕ, map, List, Option, None, Some, sym, subst, ap}
-use Rattle.dw_model.specs.Answer as model
+use Rattle.std.proofs.Common.{◌∙◌, map, sym, subst, ap}
 use Rattle.dw_line.specs.Lines.{lines_shown}
-use Rattle.dw_symbols.specs.Answer.{location_shown, piece_shown}
+use Rattle.dw_symbols.specs.Answer.{piece_shown}
 use Rattle.dw_symbols.specs.Paths.{path_in}
-use Rattle.dw_symbols.specs.Pieces.{row_place, with_path, AddsStretch}
+use Rattle.dw_symbols.specs.Pieces.{AddsStretch}
 use Rattle.dw_symbols.proofs.SpanLemmas.{adds_none, adds_one, placed}
 use Rattle.dw_symbols.proofs.pieces.push_stretch.Goals as goal
 
