@@ -1,8 +1,10 @@
 """Why GNU addr2line and llvm-symbolizer answer otherwise than a2l: each reason that is known, and how it is seen.
 
-A reason is found for a difference only where facts of the file bear it out; `reasons` gives none where no reason
-explains all of the difference.
+A reason is found for a difference only where facts of the file bear it out, or where the peer itself answers otherwise
+when it is asked for the address alone; `reasons` gives none where no reason explains all of the difference.
 """
+
+import answers
 
 SAID = {
     'no unit': 'no unit covers the address: the peer names it by the symbol table, where a2l says ??',
@@ -19,6 +21,7 @@ SAID = {
     'no row': 'no row is at the address: the peer names the file by the symbol table',
     'no function': 'no function holds the address: GNU names it by the symbol table',
     'other format': 'the unit names a line table of the other format, which GNU reads by the format of the unit',
+    'others before': 'GNU answers as a2l where it is asked for this address alone: what it says depends on what was asked before',
     'outermost': 'LLVM names the outermost frame by the symbol table',
 }
 
@@ -88,8 +91,8 @@ def path_reason(peer, program, a, n, wanted, got):
     return None
 
 
-def reasons(peer, program, a, ours, theirs):
-    """The reasons of a difference, or none."""
+def of_file(peer, program, a, ours, theirs):
+    """The reasons of a difference that the file bears out, or none."""
     if not program.is_code(a):
         return ['dropped code']
     if a not in program.unit_at:
@@ -121,3 +124,11 @@ def reasons(peer, program, a, ours, theirs):
             return []
         why += found
     return why
+
+
+def reasons(peer, program, a, ours, theirs):
+    """The reasons of a difference, or none."""
+    found = of_file(peer, program, a, ours, theirs)
+    if not found and peer == 'gnu' and answers.gnu(program.path, [a]) == [ours]:
+        return ['others before']
+    return found
