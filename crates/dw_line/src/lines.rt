@@ -162,7 +162,7 @@ impl<'a> Lines<'a> {
         ensures row { result ≡ option_map row_told (row_of self.now.rows address) }
         ensures counted { steps.new ≤ steps.old + 64 }
     {
-        self.find_row(None, address, steps)
+        self.find_row(&None, address, steps)
             .map(|last| last.reached.told())
     }
 
@@ -199,7 +199,7 @@ impl<'a> Lines<'a> {
         ensures table { self.new ≡ self.old }
         ensures counted { steps.new ≤ steps.old + 64 }
     {
-        let found = self.find_row(self.last, address, steps)?;
+        let found = self.find_row(&self.last, address, steps)?;
         self.last = Some(found);
         Some(found.reached.told())
     }
@@ -207,11 +207,11 @@ impl<'a> Lines<'a> {
     /// The row of an address, from the row that was found last if that serves.
     fn find_row<L: Ledger>(
         &self,
-        last: Option<Last>,
+        last: &Option<Last>,
         address: u64,
         steps: &mut Steps<L>,
     ) -> Option<Last>
-        requires { IsLast (without_lists self.now.header) (used_sequences self.now.rows) last }
+        requires { IsLast (without_lists self.now.header) (used_sequences self.now.rows) last.now }
         ensures row { FindsRow (without_lists self.now.header) self.now.rows address result }
         ensures counted { steps.new ≤ steps.old + 64 }
     {
@@ -226,12 +226,12 @@ impl<'a> Lines<'a> {
     pub(crate) fn row_of_sequence<L: Ledger>(
         &self,
         number: usize,
-        last: Option<Last>,
+        last: &Option<Last>,
         address: u64,
         steps: &mut Steps<L>,
     ) -> Last
         requires number { number_among (used_sequences self.now.rows) address ≡ Some number }
-        requires last { IsLast (without_lists self.now.header) (used_sequences self.now.rows) last }
+        requires last { IsLast (without_lists self.now.header) (used_sequences self.now.rows) last.now }
         ensures row { FindsRow (without_lists self.now.header) self.now.rows address (Some result) }
         ensures stays { Stays self.now.rows number address result }
         ensures counted { steps.new ≤ steps.old + 64 }

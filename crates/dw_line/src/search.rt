@@ -1,7 +1,7 @@
 //! The row of an address in a used sequence: rows are run again from one of its checkpoints, or
 //! run on from the row after the one that was found last.
 
-ghost use Rattle.std.specs.Prelude.{◌≡◌, ◌≤◌, ◌<◌, ◌+◌, Some, IfSome, length, drop, nat_le, option_map};
+ghost use Rattle.std.specs.Prelude.{◌≡◌, ◌≤◌, ◌<◌, ◌+◌, Some, IfSome, length, drop, nat_le, option_copied};
 ghost use Rattle.dw_line.specs.Header.{header_shown};
 ghost use Rattle.dw_line.specs.Machine.{RunsToNext, state_at};
 ghost use Rattle.dw_line.specs.Reached.{told_of, reaches, last_in, HoldsAddress, FindsFrom, FindsAmong, FindsOnward};
@@ -43,8 +43,8 @@ impl Reached {
 
     /// The address lies at the row or after it, and before the next checkpoint of its sequence, if
     /// there is one.
-    fn reaches(self, checkpoints: &[Checkpoint], address: u64) -> bool
-        ensures { result ≡ reaches self checkpoints.now address }
+    fn reaches(&self, checkpoints: &[Checkpoint], address: u64) -> bool
+        ensures { result ≡ reaches self.now checkpoints.now address }
     {
         if address < self.row.registers.address {
             return false;
@@ -64,11 +64,11 @@ pub(crate) struct Last {
 }
 
 /// The row that was found last, if it is one of the sequence with this number.
-pub(crate) fn last_in(last: Option<Last>, number: usize) -> Option<Reached>
-    ensures { result ≡ last_in number last }
+pub(crate) fn last_in(last: &Option<Last>, number: usize) -> Option<&Reached>
+    ensures { option_copied result ≡ last_in number last.now }
 {
     match last {
-        Some(last) if last.number == number => Some(last.reached),
+        Some(last) if last.number == number => Some(&last.reached),
         _ => None,
     }
 }
@@ -169,11 +169,12 @@ pub(crate) fn row_in_sequence<L: Ledger>(
 pub(crate) fn row_onward<L: Ledger>(
     header: &Header<'_>,
     checkpoints: &[Checkpoint],
-    last: Option<Reached>,
+    last: Option<&Reached>,
     address: u64,
     steps: &mut Steps<L>,
 ) -> Option<Reached>
-    ensures row { FindsOnward (header_shown header.now) checkpoints.now last address result }
+    ensures row { FindsOnward (header_shown header.now) checkpoints.now
+        (option_copied last.entry) address result }
     ensures counted { steps.new ≤ steps.old + 64 }
 {
     let Some(last) = last else {
@@ -183,7 +184,7 @@ pub(crate) fn row_onward<L: Ledger>(
         return row_in_sequence(header, checkpoints, address, steps);
     }
     if address < last.next.registers.address {
-        return Some(last);
+        return Some(*last);
     }
     row_from(header, last.next, last.next_checkpoint, address, steps)
 }

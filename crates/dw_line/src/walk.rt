@@ -1,10 +1,10 @@
 //! Going through the rows of a span of addresses.
 
-ghost use Rattle.std.specs.Prelude.{◌≡◌, ◌≤◌, ◌<◌, ℕ, None, IfSome};
+ghost use Rattle.std.specs.Prelude.{◌≡◌, ◌≤◌, ◌<◌, ℕ, Some, None, IfSome};
 ghost use Rattle.dw_model.specs.Steady.{last_address};
 ghost use Rattle.dw_line.specs.Header.{without_lists};
-ghost use Rattle.dw_line.specs.Reached.{IsLast};
-ghost use Rattle.dw_line.specs.Sequences.{used_sequences, IsOwner};
+ghost use Rattle.dw_line.specs.Reached.{IsLast, Stays};
+ghost use Rattle.dw_line.specs.Sequences.{used_sequences, number_among, IsOwner};
 ghost use Rattle.dw_line.specs.Walked.{IsStretch, walked_to};
 
 use crate::lines::Lines;
@@ -70,37 +70,25 @@ fn owner_from(lines: &Lines<'_>, owner: Owner, at: u64) -> Owner
     lines.owner_from(at)
 }
 
-/// The stretch from an address on and below an end at most, where one sequence or none holds all of
-/// these; and the row that was found last.
-fn stretch_from<L: Ledger>(
+/// The row of an address in the used sequence of a number, from the row that was found last if that
+/// serves, with a counter of its own.
+fn row_uncounted<L: Ledger>(
     lines: &Lines<'_>,
-    number: Option<usize>,
-    last: Option<Last>,
-    begin: u64,
-    end: u64,
+    number: usize,
+    last: &Option<Last>,
+    address: u64,
     blank: Blank,
-) -> (Stretch, Option<Last>)
+) -> Last
     requires name { blank.name ≡ L.name }
     requires parts { blank.parts ≡ L.parts }
     requires some { 0 < L.parts }
-    requires order { begin < end }
-    requires owner { IsOwner lines.now.rows number begin end }
-    requires last { IsLast (without_lists lines.now.header) (used_sequences lines.now.rows) last }
-    ensures stretch { IsStretch lines.now.rows begin end result.0 }
-    ensures last { IsLast (without_lists lines.now.header) (used_sequences lines.now.rows) result.1 }
+    requires number { number_among (used_sequences lines.now.rows) address ≡ Some number }
+    requires last { IsLast (without_lists lines.now.header) (used_sequences lines.now.rows) last.now }
+    ensures stays { Stays lines.now.rows number address result }
+    ensures last { IsLast (without_lists lines.now.header) (used_sequences lines.now.rows) (Some result) }
 {
-    let Some(number) = number else {
-        let row = None;
-        return (Stretch { begin, end, row }, last);
-    };
     let mut steps = Steps::<L>::new(blank);
-    let found = lines.row_of_sequence(number, last, begin, &mut steps);
-    let stretch = Stretch {
-        begin,
-        end: lesser(found.reached.next.registers.address, end),
-        row: Some(found.reached.told()),
-    };
-    (stretch, Some(found))
+    lines.row_of_sequence(number, last, address, &mut steps)
 }
 
 impl<'b, 'a> Walk<'b, 'a> {
@@ -128,22 +116,22 @@ impl<'b, 'a> Walk<'b, 'a> {
         ensures ended { result ≡ None → self.old.high ≤ self.old.at }
         ensures stays { result ≡ None → self.new ≡ self.old }
     {
-        if self.at >= self.high {
+        let begin = self.at;
+        if begin >= self.high {
             return None;
         }
-        let owner = owner_from(self.lines, self.owner, self.at);
-        let end = lesser(owner.until, self.high);
-        let (stretch, last) = stretch_from::<Brand>(
-            self.lines,
-            owner.number,
-            self.last,
-            self.at,
-            end,
-            Blank::new(1),
-        );
-        self.at = stretch.end;
-        self.owner = owner;
-        self.last = last;
-        Some(stretch)
+        self.owner = owner_from(self.lines, self.owner, begin);
+        let end = lesser(self.owner.until, self.high);
+        let Some(number) = self.owner.number else {
+            self.at = end;
+            let row = None;
+            return Some(Stretch { begin, end, row });
+        };
+        let found = row_uncounted::<Brand>(self.lines, number, &self.last, begin, Blank::new(1));
+        let end = lesser(found.reached.next.registers.address, end);
+        let row = Some(found.reached.told());
+        self.at = end;
+        self.last = Some(found);
+        Some(Stretch { begin, end, row })
     }
 }

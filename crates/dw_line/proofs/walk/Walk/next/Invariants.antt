@@ -1,4 +1,4 @@
 use Rattle.dw_line.proofs.walk.Walk.next.Given as goal
 
-abbrev pub ghosts-stretch_from : goal.ghosts-stretch_from
-ghosts-stretch_from a = record { name = a.blank.name; parts = a.blank.parts }
+abbrev pub ghosts-row_uncounted : goal.ghosts-row_uncounted
+ghosts-row_uncounted a = record { name = a.blank.name; parts = a.blank.parts }
