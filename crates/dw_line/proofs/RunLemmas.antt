@@ -12,6 +12,7 @@ use Rattle.dw_model.specs.Registers.{row}
 use Rattle.dw_model.specs.Registers as model
 use Rattle.dw_line.specs.declared.machine.Appended.{Appended}
 use Rattle.dw_line.specs.declared.checkpoints.Checkpoint.{Checkpoint}
+use Rattle.dw_line.specs.declared.registers.Registers.{Registers}
 use Rattle.dw_line.specs.Registers.{registers_shown}
 use Rattle.dw_line.specs.Machine.{State, rows_on, row_before, registers_behind, appended_row, IsNext}
 use Rattle.dw_line.specs.Sequences.{up_to_end, state_of, checkpoint_row, IsCheckpoint}
@@ -37,6 +38,10 @@ pub record Stands (header : LineHeader) (here : Checkpoint) (cursor : Place) : T
 -- a place in a program is reached from its beginning
 to_place : (program : List ℕ) (k : ℕ) → k ≤ length program → Passes (start program) (record { at = k; left = drop k program })
 to_place program k h = (take k program, (sym (take-append-drop k program), omega (arith, length-take-le k program h)), tt)
+
+-- the row that was run last, where the machine stands after it
+abbrev pub row_at : Registers → Place → Checkpoint
+row_at registers place = record { registers = registers; place = place.at }
 
 pub stands_on : (header : LineHeader) (here : Checkpoint) (next : Appended) (old new : Place) → Stands header here old → Advances old new → Stands header (appended_at next new.at) new
 stands_on header here next old new stands spans =
@@ -156,6 +161,12 @@ pub record Runs (header : LineHeader) (first here : Checkpoint) (cursor : Place)
   pub stands : Stands header here cursor
   pub so_far : SoFar header first here a i
 
+-- before the first row is run
+pub begins_at : (header : LineHeader) (first : Checkpoint) (cursor : Place) (a : ℕ) → Some cursor ≡ Some (place_of header first) → first.place ≤ length header.program → Runs header first (row_at first.registers cursor) cursor a 0
+begins_at header first cursor a e within =
+    let is : cursor ≡ place_of header first = cc in
+    subst (λ (cursor : Place). Runs header first (row_at first.registers cursor) cursor a 0) (sym is) (record { stands = record { is = refl; within = within }; so_far = begins header first a })
+
 pub goes_on : (header : LineHeader) (first here : Checkpoint) (next : Appended) (old new : Place) (a i : ℕ) → i < 64 → Next header here old next new → Runs header first here old a i → next.registers.address ≤ a → next.ends ≡ false → Runs header first (appended_at next new.at) new a (i + 1)
 goes_on header first here next old new a i h is runs below goes =
     let stands = stands_on header here next old new runs.stands is.spans in
@@ -174,26 +185,23 @@ goes_on header first here next old new a i h is runs below goes =
           };
     }
 
--- a place that is told by its number
-pub placed : (header : LineHeader) (first : Checkpoint) (next : Appended) (new : Place) (a i at : ℕ) → at ≡ new.at → Runs header first (appended_at next new.at) new a i → Runs header first (appended_at next at) new a i
-placed header first next new a i at e runs = subst (λ (n : ℕ). Runs header first (appended_at next n) new a i) (sym e) runs
-
 -- the next row lies above the address
 pub stops_above : (header : LineHeader) (first here : Checkpoint) (next : Appended) (old new : Place) (next_checkpoint a i at : ℕ) → at ≡ new.at → i < 64 → Next header here old next new → (first.place ≤ length header.program → Runs header first here old a i) → a < next.registers.address
-    → FindsFrom header first next_checkpoint a (Some (record { row = here; next = appended_at next at; next_checkpoint = next_checkpoint }))
+    → FindsFrom header first next_checkpoint a (Some (record { row = here.registers; next = appended_at next at; next_checkpoint = next_checkpoint }))
 stops_above header first here next old new next_checkpoint a i at e-at h is given above = λ there rows e.
     let runs = given there in
     let later = runs.so_far rows e in
     let t = of_next header first here next new a i rows (next_of header here old new next runs.stands is) later in
-    let next_row = next_is header next new later.others (stands_on header here next old new runs.stands is.spans) t in (
+    let next_row = next_is header next new later.others (stands_on header here next old new runs.stands is.spans) t in
+    let all = checkpoint_row first ∷ up_to_end rows in
+    let own : up_to_end later.others ≡ drop (i + 1) all = behind i (checkpoint_row here) (up_to_end later.others) all later.rest in (
       sym (ap (option_map row_told) (reached header first here next new a i rows true next.ends h (lt-ltb a next.registers.address above) refl later t)),
       record {
         passed = i;
         number = refl;
         is = record {
-          is = record { others = later.others; appends = later.appends; rest = later.rest; within = runs.stands.within };
-          next = subst (λ (n : ℕ). IsNextRow header (drop (i + 1) (checkpoint_row first ∷ up_to_end rows)) (appended_at next n)) (sym e-at)
-              (subst (λ (own : List Row). IsNextRow header own (appended_at next new.at)) (behind i (checkpoint_row here) (up_to_end later.others) (checkpoint_row first ∷ up_to_end rows) later.rest) next_row);
+          is = ap (λ (own : List Row). checkpoint_row here ∷ own) (sym own) ∙ later.rest;
+          next = subst (λ (n : ℕ). IsNextRow header (drop (i + 1) all) (appended_at next n)) (sym e-at) (subst (λ (own : List Row). IsNextRow header own (appended_at next new.at)) own next_row);
         };
       },
     )

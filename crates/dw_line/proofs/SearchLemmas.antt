@@ -11,7 +11,7 @@ use Rattle.dw_model.specs.LineHeader.{LineHeader}
 use Rattle.dw_model.specs.Matrix.{Row, never_falls, is_used, first_address, last_address, row_in}
 use Rattle.dw_line.specs.declared.checkpoints.Checkpoint.{Checkpoint}
 use Rattle.dw_line.specs.declared.search.Reached.{Reached}
-use Rattle.dw_line.specs.Sequences.{up_to_end, checkpoint_row, IsCheckpoint, AreCheckpoints, HasCheckpoints}
+use Rattle.dw_line.specs.Sequences.{up_to_end, kept_row, checkpoint_row, IsCheckpoint, AreCheckpoints, HasCheckpoints}
 use Rattle.dw_line.specs.Search.{row_told, row_before_address}
 use Rattle.dw_line.specs.Reached.{reaches, is_before, IsReached, IsPassed, IsNextRow, HoldsAddress, FindsFrom, FindsIn}
 
@@ -272,12 +272,13 @@ later_reached header rows place number r own None h near passed = tt
 later_reached header rows place number r own (Some reached) h near is =
     let all : (n : ℕ) → drop n (r ∷ own) ≡ drop (place + n) rows = λ n. ap (drop n) h ∙ drop-drop n place rows in
     let places : place + (is.passed + 1) ≡ (place + is.passed) + 1 = omega arith in
+    let later = all (is.passed + 1) ∙ ap (λ (n : ℕ). drop n rows) places in
     record {
       passed = place + is.passed;
       behind = omega (arith, near, is.number);
       is = record {
-        is = subst (IsCheckpoint header reached.row) (all is.passed) is.is.is;
-        next = subst (λ (own : List Row). IsNextRow header own reached.next) (all (is.passed + 1) ∙ ap (λ (n : ℕ). drop n rows) places) is.is.next;
+        is = ap (λ (own : List Row). kept_row reached.row ∷ own) (sym later) ∙ is.is.is ∙ all is.passed;
+        next = subst (λ (own : List Row). IsNextRow header own reached.next) later is.is.next;
       };
     }
 
@@ -310,13 +311,13 @@ was_reached header rows was last e is = subst (λ (was : Option Reached). IfSome
 
 -- what `reaches` says
 record Within (checkpoints : List Checkpoint) (last : Reached) (a : ℕ) : Type 0 where
-  below : last.row.registers.address ≤ a
+  below : last.row.address ≤ a
   before : Before checkpoints last.next_checkpoint a
 
 within : (checkpoints : List Checkpoint) (last : Reached) (a : ℕ) → reaches last checkpoints a ≡ true → Within checkpoints last a
 within checkpoints last a e =
-    let parts = and_parts (nat_le last.row.registers.address a) (is_before a (slice_get checkpoints last.next_checkpoint)) e in
-    record { below = leb-true last.row.registers.address a parts.0; before = is_before_all checkpoints last.next_checkpoint a parts.1 }
+    let parts = and_parts (nat_le last.row.address a) (is_before a (slice_get checkpoints last.next_checkpoint)) e in
+    record { below = leb-true last.row.address a parts.0; before = is_before_all checkpoints last.next_checkpoint a parts.1 }
 
 -- a row after which an address is still below the end has others behind its next one
 more_behind : (n a : ℕ) (rows : List Row) (r : Row) (own : List Row) → r ∷ own ≡ drop n rows → r.address ≤ a → first_address own ≤ a → a < last_address rows → 1 < length own
@@ -328,18 +329,12 @@ more_behind n a rows r (s ∷ []) h below next below_end =
     absurd (omega (arith, same, next, below_end))
 more_behind n a rows r (s ∷ t ∷ own) h below next below_end = omega arith
 
--- the rows behind the one that was found
-behind_it : (header : LineHeader) (rows : List Row) (last : Reached) (is : IsReached header rows last) → up_to_end is.is.is.others ≡ drop (is.passed + 1) rows
-behind_it header rows last is = ap (drop 1) is.is.is.rest ∙ drop-drop 1 is.passed rows
-
 -- rows are run on from the next one, where it isn't above the address
-on_from_next : (header : LineHeader) (rows : List Row) (a : ℕ) (last : Reached) (is : IsReached header rows last) → last.row.registers.address ≤ a → last.next.registers.address ≤ a → a < last_address rows → IsCheckpoint header last.next (drop (is.passed + 1) rows)
+on_from_next : (header : LineHeader) (rows : List Row) (a : ℕ) (last : Reached) (is : IsReached header rows last) → last.row.address ≤ a → last.next.registers.address ≤ a → a < last_address rows → IsCheckpoint header last.next (drop (is.passed + 1) rows)
 on_from_next header rows a last is below next below_end =
-    let own = up_to_end is.is.is.others in
-    let behind = behind_it header rows last is in
-    let first : first_address own ≤ a = omega (arith, next, is.is.next.address, ap first_address behind) in
-    let more = more_behind is.passed a rows (checkpoint_row last.row) own is.is.is.rest below first below_end in
-    is.is.next.on (omega (arith, more, ap length behind))
+    let own = drop (is.passed + 1) rows in
+    let first : first_address own ≤ a = omega (arith, next, is.is.next.address) in
+    is.is.next.on (more_behind is.passed a rows (kept_row last.row) own is.is.is below first below_end)
 
 pub finds_onward : (header : LineHeader) (checkpoints : List Checkpoint) (rows : List Row) (a : ℕ) (last : Reached) (found : Option Reached) → HasCheckpoints header checkpoints rows → a < last_address rows → IsReached header rows last → reaches last checkpoints a ≡ true → last.next.registers.address ≤ a → FindsFrom header last.next last.next_checkpoint a found → (last.next.registers.address ≤ a → IfSome found (HoldsAddress a)) → FindsIn header rows a found
 finds_onward header checkpoints rows a last found has below_end is e next from holds =
@@ -353,12 +348,12 @@ own_row a r [] below above = absurd (omega (arith, above))
 own_row a r (s ∷ own) below above = rw (le-leb r.address a below, lt-ltb a s.address above) refl
 
 -- the row of an address at one of the rows or after it, and before the next
-pub row_on : (header : LineHeader) (rows : List Row) (a : ℕ) (last : Reached) → never_falls rows ≡ true → IsReached header rows last → last.row.registers.address ≤ a → a < last.next.registers.address → row_in a rows ≡ Some (checkpoint_row last.row)
+pub row_on : (header : LineHeader) (rows : List Row) (a : ℕ) (last : Reached) → never_falls rows ≡ true → IsReached header rows last → last.row.address ≤ a → a < last.next.registers.address → row_in a rows ≡ Some (kept_row last.row)
 row_on header rows a last never is below above =
-    let r = checkpoint_row last.row in
-    let own = up_to_end is.is.is.others in
-    let next : a < first_address own = omega (arith, above, is.is.next.address, ap first_address (behind_it header rows last is)) in
-    row_later is.passed a rows r own never is.is.is.rest below ∙ own_row a r own below next
+    let r = kept_row last.row in
+    let own = drop (is.passed + 1) rows in
+    let next : a < first_address own = omega (arith, above, is.is.next.address) in
+    row_later is.passed a rows r own never is.is.is below ∙ own_row a r own below next
 
 pub finds_again : (header : LineHeader) (checkpoints : List Checkpoint) (rows : List Row) (a : ℕ) (last : Reached) → HasCheckpoints header checkpoints rows → IsReached header rows last → reaches last checkpoints a ≡ true → a < last.next.registers.address → FindsIn header rows a (Some last)
 finds_again header checkpoints rows a last has is e above =

@@ -8,11 +8,11 @@ use Rattle.dw_line.specs.declared.search.Reached.{Reached}
 use Rattle.dw_line.specs.declared.search.Last.{Last}
 use Rattle.dw_line.specs.Machine.{rows_on}
 use Rattle.dw_line.specs.Search.{row_told, row_before_address, told_at}
-use Rattle.dw_line.specs.Sequences.{up_to_end, checkpoint_row, state_of, used_sequences, number_among, IsCheckpoint, HasCheckpoints}
+use Rattle.dw_line.specs.Sequences.{up_to_end, kept_row, checkpoint_row, state_of, used_sequences, number_among, IsCheckpoint, HasCheckpoints}
 
 -- the row, as a caller sees it
 abbrev pub told_of : Reached → RowTold
-told_of reached = row_told (checkpoint_row reached.row)
+told_of reached = row_told (kept_row reached.row)
 
 -- It has the address of the first of these rows, and those after it are run on from it, unless it
 -- is the last of them: after a row that ends its sequence the registers begin anew.
@@ -22,7 +22,7 @@ pub record IsNextRow (header : LineHeader) (rows : List Row) (next : Checkpoint)
 
 -- It is one of these rows, and the next one is known.
 pub record IsRow (header : LineHeader) (rows : List Row) (passed : ℕ) (reached : Reached) : Type 0 where
-  pub is : IsCheckpoint header reached.row (drop passed rows)
+  pub is : kept_row reached.row ∷ drop (passed + 1) rows ≡ drop passed rows
   pub next : IsNextRow header (drop (passed + 1) rows) reached.next
 
 -- One of these rows. From it to the checkpoint whose number it has there are at most 64 rows.
@@ -39,7 +39,7 @@ pub record IsPassed (header : LineHeader) (rows : List Row) (next_checkpoint : �
 
 -- the address lies at the row or after it, and before the next one
 abbrev pub HoldsAddress : ℕ → Reached → Type 0
-HoldsAddress a reached = (reached.row.registers.address ≤ a) × (a < reached.next.registers.address)
+HoldsAddress a reached = (reached.row.address ≤ a) × (a < reached.next.registers.address)
 
 -- What is found from a row on is the row of the address at or after it, where the rows from there
 -- on can be read.
@@ -72,7 +72,7 @@ is_before a (Some checkpoint) = nat_lt a checkpoint.registers.address
 -- the address lies at the row or after it, and before the next checkpoint of its sequence
 abbrev pub reaches : Reached → List Checkpoint → ℕ → Bool
 reaches reached checkpoints a =
-    nat_le reached.row.registers.address a && is_before a (slice_get checkpoints reached.next_checkpoint)
+    nat_le reached.row.address a && is_before a (slice_get checkpoints reached.next_checkpoint)
 
 -- the row that was found last, if it is one of the sequence with this number
 abbrev pub last_in : ℕ → Option Last → Option Reached

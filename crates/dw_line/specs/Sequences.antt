@@ -8,6 +8,7 @@ use Rattle.dw_model.specs.Registers.{row}
 use Rattle.dw_line.specs.declared.checkpoints.Checkpoint.{Checkpoint}
 use Rattle.dw_line.specs.declared.checkpoints.Sequence.{Sequence}
 use Rattle.dw_line.specs.Machine.{State, rows_on}
+use Rattle.dw_line.specs.declared.registers.Registers.{Registers}
 use Rattle.dw_line.specs.Registers.{registers_shown}
 
 abbrev pub used_sequences : List Row → List (List Row)
@@ -43,8 +44,12 @@ state_of header checkpoint = record {
   place = record { at = checkpoint.place; left = drop checkpoint.place header.program };
 }
 
+-- the row with these registers, which doesn't end its sequence
+abbrev pub kept_row : Registers → Row
+kept_row registers = row (registers_shown registers) false
+
 abbrev pub checkpoint_row : Checkpoint → Row
-checkpoint_row checkpoint = row (registers_shown checkpoint.registers) false
+checkpoint_row checkpoint = kept_row checkpoint.registers
 
 -- The checkpoint's row and those that the machine appends after it, up to the end of its sequence,
 -- are these.

@@ -19,7 +19,7 @@ use std::sync::ledger::Ledger;
 #[derive(Clone, Copy, Debug)]
 pub(crate) struct Reached {
     /// The row.
-    pub(crate) row: Checkpoint,
+    pub(crate) row: Registers,
     /// The row after it, from which later ones are run on.
     pub(crate) next: Checkpoint,
     /// The number of the next checkpoint after that from which it was found, among those of its
@@ -37,7 +37,7 @@ impl Reached {
             line,
             column,
             ..
-        } = self.row.registers;
+        } = self.row;
         Row { file, line, column }
     }
 
@@ -46,7 +46,7 @@ impl Reached {
     fn reaches(&self, checkpoints: &[Checkpoint], address: u64) -> bool
         ensures { result ≡ reaches self.now checkpoints.now address }
     {
-        if address < self.row.registers.address {
+        if address < self.row.address {
             return false;
         }
         match checkpoints.get(self.next_checkpoint) {
@@ -114,29 +114,27 @@ fn row_from<L: Ledger>(
     let Some(mut cursor) = cursor_at(header.program, row.place) else {
         return None;
     };
-    let mut last = row;
+    let mut last = row.registers;
     for _ in 0..ROWS_APART {
-        let Ok(found) = next_counted(&mut cursor, header, last.registers, steps) else {
+        let Ok(found) = next_counted(&mut cursor, header, last, steps) else {
             return None;
         };
         let Some(appended) = found else {
             return None;
         };
-        let next = Checkpoint {
-            registers: appended.registers,
-            place: cursor.at(),
-        };
-        if next.registers.address > address {
+        let registers = appended.registers;
+        if registers.address > address {
+            let place = cursor.at();
             return Some(Reached {
                 row: last,
-                next,
+                next: Checkpoint { registers, place },
                 next_checkpoint,
             });
         }
         if appended.ends {
             return None;
         }
-        last = next;
+        last = registers;
     }
     None
 }
