@@ -163,7 +163,7 @@ def functions_of_empty_values(size):
 
 
 def functions_of_empty_values_after_a_number(size):
-    """The same after a number of no one size, and before a number that 32 bits don't hold."""
+    """The same after a number of no fixed size, and before a number that 32 bits don't hold."""
     count = size // 4
     pairs = [(0x2001, UDATA), *[(0x2000, FLAG_PRESENT)] * (count // 2)]
     function = declaration(2, SUBPROGRAM, 0, [*pairs, (LOW_PC, ADDRX), (HIGH_PC, IMPLICIT_CONST, *[0x80] * 5, 1)])

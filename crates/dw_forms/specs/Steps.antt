@@ -1,4 +1,4 @@
--- Passing over values of which some have no one size, in units of the 32-bit format.
+-- Passing over values of which some have no fixed size, in units of the 32-bit format.
 use Rattle.std.specs.Prelude.{◌≡◌, ℕ, List, [], ◌∷◌, Option, Some, None, Result, ok_or, take}
 use Rattle.dw_model.specs.declared.dwarf.TheConstants.{OFFSET_SIZE_32}
 use Rattle.dw_model.specs.Results.{◌>>=◌}

@@ -141,7 +141,7 @@ fn position_at(spec: &Spec, steps: &[FixedValue], reached: Option<Reached>) -> P
     }
 }
 
-/// How far the values up to one and this one reach, where that is known: a value of no one size is
+/// How far the values up to one and this one reach, where that is known: a value of no fixed size is
 /// one step more.
 fn reached_after(spec: &Spec, steps: &[FixedValue], reached: Option<Reached>) -> Option<Reached>
     ensures { (name : ℕ) (specs others : List Specification) → (spec.now.name ≡ name → ⊥)

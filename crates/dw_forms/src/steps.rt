@@ -1,4 +1,4 @@
-//! Passing over the values of an entry of which some have no one size.
+//! Passing over the values of an entry of which some have no fixed size.
 
 ghost use Rattle.std.specs.Prelude.{◌≡◌, [], map, take, IfSome};
 ghost use Rattle.dw_model.specs.declared.dwarf.TheConstants.{OFFSET_SIZE_32};
@@ -16,14 +16,14 @@ use crate::positions::FixedValue;
 use crate::size::size_of;
 use dw_bytes::{Cursor, Width};
 
-/// How many values of no one size a declaration has room for.
+/// How many values of no fixed size a declaration has room for.
 const MOST: usize = 6;
 
 /// How the values of an entry are passed over in a unit of the 32-bit format: from each value of no
-/// one size to the next, without a look at the pairs of the declaration.
+/// fixed size to the next, without a look at the pairs of the declaration.
 #[derive(Debug, Drop)]
 pub struct Steps {
-    /// The values of no one size in order, each so far after the one before it.
+    /// The values of no fixed size in order, each so far after the one before it.
     list: [FixedValue; MOST],
     /// How many of them there are.
     count: u8,
@@ -32,9 +32,9 @@ pub struct Steps {
 }
 
 impl Steps {
-    /// Those of the attributes for which a declaration asks, of which the size is known; `None`
-    /// where more of them have no one size than there is room for, or 16 bits don't hold how far
-    /// one is or its form.
+    /// The steps over the values of a declaration; `size` is their total, where it is fixed. `None`
+    /// where more of them have no fixed size than there is room for, or where 16 bits don't hold
+    /// how far one is, or its form.
     pub(crate) fn of(specs: &[Spec], size: Option<usize>) -> Option<Self>
         requires { size ≡ size_in OFFSET_SIZE_32 (map spec_shown specs.now) }
         ensures { IfSome result (λ steps. PassesBy steps (attributes_at OFFSET_SIZE_32 (map spec_shown specs.now))) }
@@ -45,7 +45,8 @@ impl Steps {
         }
     }
 
-    /// No step, and then so many bytes, where 16 bits hold them: for values that all have one size.
+    /// No step, and then `size` bytes, where 16 bits hold them: for values that all have a fixed
+    /// size.
     fn at_once(size: usize) -> Option<Self>
         ensures { IfSome result (λ steps. (list_of steps ≡ []) × (steps.rest ≡ size)) }
     {
@@ -59,7 +60,7 @@ impl Steps {
         })
     }
 
-    /// A step for each of the attributes that have no one size.
+    /// A step for each of the attributes that have no fixed size.
     fn one_by_one(specs: &[Spec]) -> Option<Self>
         ensures { IfSome result (λ steps. PassesBy steps (attributes_at OFFSET_SIZE_32 (map spec_shown specs.now))) }
     {

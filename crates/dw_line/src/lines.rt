@@ -145,7 +145,7 @@ impl<'a> Lines<'a> {
         self.row_uncounted::<Brand>(address, Blank::new(1))
     }
 
-    /// The same as `row`, with a counter of its own.
+    /// The same as `row`, for a caller that counts no steps.
     fn row_uncounted<L: Ledger>(&self, address: u64, blank: Blank) -> Option<Row>
         requires name { blank.name ≡ L.name }
         requires parts { blank.parts ≡ L.parts }
@@ -176,7 +176,7 @@ impl<'a> Lines<'a> {
         self.row_in_order_uncounted::<Brand>(address, Blank::new(1))
     }
 
-    /// The same as `row_in_order`, with a counter of its own.
+    /// The same as `row_in_order`, for a caller that counts no steps.
     fn row_in_order_uncounted<L: Ledger>(&mut self, address: u64, blank: Blank) -> Option<Row>
         requires name { blank.name ≡ L.name }
         requires parts { blank.parts ≡ L.parts }

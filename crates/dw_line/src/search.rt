@@ -22,8 +22,7 @@ pub(crate) struct Reached {
     pub(crate) row: Registers,
     /// The row after it, from which later ones are run on.
     pub(crate) next: Checkpoint,
-    /// The number of the next checkpoint after that from which it was found, among those of its
-    /// sequence.
+    /// The index, in its sequence, of the checkpoint after the one from which the row was found.
     pub(crate) next_checkpoint: usize,
 }
 
@@ -99,7 +98,9 @@ fn cursor_at<'a>(program: &'a [u8], place: usize) -> Option<Cursor<'a>>
 
 /// The row of an address that isn't below the address of a row: the last one before the first that
 /// is above the address. At most as many rows are run again as lie from one checkpoint to the next.
-/// The number is that of the checkpoint after the row.
+/// `next_checkpoint` is the index of the checkpoint after the row. It is inlined, so that a walk
+/// keeps the registers of the machine in those of the processor.
+#[inline(always)]
 fn row_from<L: Ledger>(
     header: &Header<'_>,
     row: Checkpoint,
@@ -141,6 +142,7 @@ fn row_from<L: Ledger>(
 
 /// The row of an address below the end of a used sequence with these checkpoints, which are
 /// searched by halves.
+#[inline(never)]
 pub(crate) fn row_in_sequence<L: Ledger>(
     header: &Header<'_>,
     checkpoints: &[Checkpoint],

@@ -57,7 +57,8 @@ fn lesser(a: u64, b: u64) -> u64
     if a <= b { a } else { b }
 }
 
-/// The sequence that holds the addresses from one on, where it may be known already.
+/// The sequence that holds the addresses from `at` on: the one that is given, as long as it holds
+/// `at`, else the one that is looked up.
 fn owner_from(lines: &Lines<'_>, owner: Owner, at: u64) -> Owner
     requires at { at < last_address }
     requires owner { IsOwner lines.now.rows owner.number at owner.until }
@@ -70,8 +71,7 @@ fn owner_from(lines: &Lines<'_>, owner: Owner, at: u64) -> Owner
     lines.owner_from(at)
 }
 
-/// The row of an address in the used sequence of a number, from the row that was found last if that
-/// serves, with a counter of its own.
+/// The row of an address, as `row_of_sequence` finds it, for a caller that counts no steps.
 fn row_uncounted<L: Ledger>(
     lines: &Lines<'_>,
     number: usize,

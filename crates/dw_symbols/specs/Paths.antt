@@ -1,5 +1,5 @@
 -- Paths of a line table that are known.
-use Rattle.std.specs.Prelude.{◌≡◌, ℕ, List, Option, Some, None, option_and_then, option_map, slice_get, slice_index_or}
+use Rattle.std.specs.Prelude.{◌≡◌, ◌≤◌, ℕ, List, length, Option, Some, None, option_and_then, option_map, slice_get, slice_index_or}
 use Rattle.dw_model.specs.Answer.{Lines}
 use Rattle.dw_model.specs.Path.{path}
 use Rattle.dw_symbols.specs.declared.paths.KnownPath.{KnownPath}
@@ -12,7 +12,7 @@ file_path table number = path table.header table.comp_dir number
 abbrev pub path_in : List (Option KnownPath) → ℕ → Option (List ℕ)
 path_in paths place = option_and_then (λ known. option_map (λ path. path.items) known.path) (slice_index_or paths place None)
 
--- Each path that is known is that of its file.
-abbrev pub ArePathsOf : Lines → List (Option KnownPath) → Type 0
-ArePathsOf table paths =
-    (place : ℕ) (known : KnownPath) → slice_get paths place ≡ Some (Some known) → option_map (λ path. path.items) known.path ≡ file_path table known.number
+-- There are at most 64 places, and each path that is known is that of its file.
+pub record ArePathsOf (table : Lines) (paths : List (Option KnownPath)) : Type 0 where
+  pub few : length paths ≤ 64
+  pub each : (place : ℕ) (known : KnownPath) → slice_get paths place ≡ Some (Some known) → option_map (λ path. path.items) known.path ≡ file_path table known.number

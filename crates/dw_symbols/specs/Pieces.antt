@@ -20,8 +20,8 @@ with_path path piece = record {
   location = record { path = path; line = piece.location.line; column = piece.location.column };
 }
 
--- If they were the pieces of the addresses before another one, they are those of the addresses
--- before it, whatever was found from there on.
+-- If `old` are the pieces of the addresses up to `begin`, `new` are those of the addresses up to
+-- `end`, whatever address the pieces start from.
 abbrev pub Adds : (ℕ → Option model.Location) → (begin end : ℕ) → (old new : List model.Piece) → Type 0
 Adds here begin end old new =
     (location : ℕ → Result (Option model.Location) UnitFault) (low : ℕ) → low ≤ begin → ArePieces location low begin old

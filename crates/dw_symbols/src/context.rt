@@ -1,6 +1,6 @@
 //! Answers the addresses of a file, and keeps the units and the line tables that were used last.
 
-ghost use Rattle.std.specs.Prelude.{◌≡◌, ◌+◌, ◌<◌, ◌≤◌, ℕ, IfOk, IfSome, is_ok, length, map, slice_get, if◌then◌else◌};
+ghost use Rattle.std.specs.Prelude.{IsOk, ◌≡◌, ◌+◌, ◌<◌, ◌≤◌, ℕ, IfOk, IfSome, is_ok, length, map, slice_get, if◌then◌else◌};
 ghost use Rattle.dw_model.specs.Answer as model;
 ghost use Rattle.dw_model.specs.Section.{sections};
 ghost use Rattle.dw_model.specs.Unit.{units};
@@ -196,10 +196,11 @@ impl<'b, 'a> Context<'b, 'a> {
 
     /// All locations of the addresses from `low` on and below `high`, in pieces, by the rows of the
     /// units that answer them; or the fault of the first address that has one. It goes from one
-    /// change to the next, so its work is in proportion to the rows and the units between these
-    /// two.
+    /// change to the next, so its work is in proportion to the rows and the ranges of units between
+    /// `low` and `high`. It can't be refused where `low` isn't below `high`.
     pub fn find_location_range(&mut self, low: u64, high: u64) -> Result<Answer<'a>, AllocError>
         ensures answer { IfOk result (λ answer. answer_shown answer ≡ pieces self.old.file low high) }
+        ensures empty { high ≤ low → IsOk result }
         ensures state { self.new ≡ self.old }
     {
         law_of_pieces();

@@ -1,7 +1,7 @@
 //! The paths of a line table that were found last: most stretches of a span have a file of one a
 //! little before.
 
-ghost use Rattle.std.specs.Prelude.{◌≡◌, ◌<◌, IfOk, OnOk, length, option_map};
+ghost use Rattle.std.specs.Prelude.{IsOk, ◌≡◌, ◌<◌, IfOk, OnOk, length, option_map};
 ghost use Rattle.dw_model.specs.Answer as model;
 ghost use Rattle.dw_model.specs.Pieces.{is_same_path};
 ghost use Rattle.dw_line.specs.Lines.{lines_shown};
@@ -17,11 +17,12 @@ pub(crate) struct KnownPath {
     pub(crate) path: Option<Vec<u8>>,
 }
 
-/// How many paths are kept at most: one of the files whose numbers have one remainder by this.
+/// How many paths are kept at most: one for each remainder of a file's number by this.
 const KEPT: u64 = 64;
 
 /// Makes room for a path in a place.
 fn make_room(paths: &mut Vec<Option<KnownPath>>, place: usize) -> Result<(), AllocError>
+    requires { place < 64 }
     ensures room { OnOk result (place < length paths.new.items) }
     ensures known { (table : model.Lines) → ArePathsOf table paths.old.items → ArePathsOf table paths.new.items }
 {
@@ -66,14 +67,15 @@ pub(crate) fn is_path(paths: &[Option<KnownPath>], place: usize, other: &Option<
     }
 }
 
-/// The path in a place once more.
+/// A copy of the path in a place. It can't be refused where there is none.
 pub(crate) fn copy_path(
     alloc: Global,
     paths: &[Option<KnownPath>],
     place: usize,
 ) -> Result<Option<Vec<u8>>, AllocError>
     requires { place < length paths.now }
-    ensures { IfOk result (λ copy. option_map (λ path. path.items) copy ≡ path_in paths.now place) }
+    ensures path { IfOk result (λ copy. option_map (λ path. path.items) copy ≡ path_in paths.now place) }
+    ensures none { path_in paths.now place ≡ None → IsOk result }
 {
     let Some(known) = &paths[place] else {
         return Ok(None);

@@ -1,6 +1,6 @@
 //! The pieces of a span, found in order of address: those that touch and have one location are one.
 
-ghost use Rattle.std.specs.Prelude.{◌≡◌, ◌≤◌, ◌<◌, OnOk, length, map};
+ghost use Rattle.std.specs.Prelude.{IsOk, ◌≡◌, ◌≤◌, ◌<◌, OnOk, length, map};
 ghost use Rattle.dw_model.specs.Pieces.{joins, with_piece};
 ghost use Rattle.dw_symbols.specs.Answer.{piece_shown};
 ghost use Rattle.dw_line.specs.Lines.{lines_shown};
@@ -14,8 +14,8 @@ use dw_line::{Lines, Stretch};
 use dw_model::laws::law_of_more_pieces;
 use std::alloc::{AllocError, Global};
 
-/// The next piece, with the path in a place, touches one and has its location. The path comes last:
-/// most neighbours have one file.
+/// Whether the next piece, with the path in a place, touches this one and has its location. Paths
+/// are compared last: most neighbours have the same one.
 fn joins(piece: &Piece, next: &Piece, paths: &[Option<KnownPath>], place: usize) -> bool
     requires { place < length paths.now }
     ensures { result ≡ joins (piece_shown piece.now) (with_path (path_in paths.now place) (piece_shown next.now)) }
@@ -55,7 +55,7 @@ fn push_piece(
     Ok(())
 }
 
-/// Adds a stretch of a line table, where it has a row.
+/// Adds a stretch of a line table, where it has a row; where it has none, it can't be refused.
 fn push_stretch(
     alloc: Global,
     lines: &Lines<'_>,
@@ -67,6 +67,7 @@ fn push_stretch(
     ensures pieces { OnOk result (AddsStretch (lines_shown lines.now) stretch (map piece_shown pieces.old.items)
         (map piece_shown pieces.new.items)) }
     ensures paths { ArePathsOf (lines_shown lines.now) paths.new.items }
+    ensures none { stretch.row ≡ None → IsOk result }
 {
     law_of_more_pieces();
     let Some(row) = stretch.row else {

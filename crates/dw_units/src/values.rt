@@ -22,7 +22,7 @@ pub(crate) fn pass_attributes(
     Ok(())
 }
 
-/// Passes over the values of an entry of which some have no one size: from one to the next where
+/// Passes over the values of an entry of which some have no fixed size: from one to the next where
 /// its declaration says how far that is.
 #[inline(never)]
 fn pass_by_steps(

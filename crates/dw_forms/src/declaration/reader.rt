@@ -28,7 +28,7 @@ use std::alloc::Global;
 impl<'a> Decl<'a> {
     /// How many bytes the values of an entry take in a unit whose offsets have a width, where the
     /// form of each has one size: then each entry is read over in one step. `None` where a form has
-    /// no one size, or the sum doesn't fit 64 bits.
+    /// no fixed size, or the sum doesn't fit 64 bits.
     pub fn size(&self, width: Width) -> Option<usize>
         ensures size { result ≡ size_in (size_of width) self.now.specs }
         ensures skips { IfSome result (λ n. Skips n

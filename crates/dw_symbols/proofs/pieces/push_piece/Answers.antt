@@ -19,7 +19,7 @@ returns c =
     let old = c.args.pieces.now.items in
     let next = with_path (path_in c.args.paths.now c.args.place) (piece_shown c.args.next) in
     let other : Piece = record { begin = c.args.next.begin; end = c.args.next.end; location = record { path = c.in_ok-path.path; line = c.args.next.location.line; column = c.args.next.location.column } } in
-    let is = ap (λ (path : Option (List ℕ)). with_path path (piece_shown c.args.next)) c.in_ok-path.ensures in
+    let is = ap (λ (path : Option (List ℕ)). with_path path (piece_shown c.args.next)) c.in_ok-path.ensures.path in
     elim c.match-last_mut.branch [
       | in-Some+else-joins w ↦
           let n = vec_len c.args.pieces.now - 1 in
