@@ -141,8 +141,8 @@ fn position_at(spec: &Spec, steps: &[FixedValue], reached: Option<Reached>) -> P
     }
 }
 
-/// How far the values up to one and this one reach, where that is known: a value of no fixed size is
-/// one step more.
+/// How far the values up to one and this one reach, where that is known: a value of no fixed size
+/// is one step more.
 fn reached_after(spec: &Spec, steps: &[FixedValue], reached: Option<Reached>) -> Option<Reached>
     ensures { (name : ℕ) (specs others : List Specification) → (spec.now.name ≡ name → ⊥)
         → IsPassed name steps.now specs reached (spec_shown spec.now ∷ others)

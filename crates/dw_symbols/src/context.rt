@@ -1,6 +1,7 @@
 //! Answers the addresses of a file, and keeps the units and the line tables that were used last.
 
-ghost use Rattle.std.specs.Prelude.{IsOk, ◌≡◌, ◌+◌, ◌<◌, ◌≤◌, ℕ, IfOk, IfSome, is_ok, length, map, slice_get, if◌then◌else◌};
+ghost use Rattle.std.specs.Prelude.{◌≡◌, ◌+◌, ◌<◌, ◌≤◌, ℕ, IfOk, IfSome, IsOk, is_ok, length, map, slice_get};
+ghost use Rattle.std.specs.Prelude.{if◌then◌else◌};
 ghost use Rattle.dw_model.specs.Answer as model;
 ghost use Rattle.dw_model.specs.Section.{sections};
 ghost use Rattle.dw_model.specs.Unit.{units};

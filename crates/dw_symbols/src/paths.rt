@@ -1,7 +1,7 @@
 //! The paths of a line table that were found last: most stretches of a span have a file of one a
 //! little before.
 
-ghost use Rattle.std.specs.Prelude.{IsOk, ◌≡◌, ◌<◌, IfOk, OnOk, length, option_map};
+ghost use Rattle.std.specs.Prelude.{◌≡◌, ◌<◌, None, IfOk, IsOk, OnOk, length, option_map};
 ghost use Rattle.dw_model.specs.Answer as model;
 ghost use Rattle.dw_model.specs.Pieces.{is_same_path};
 ghost use Rattle.dw_line.specs.Lines.{lines_shown};

@@ -1,6 +1,6 @@
 //! The pieces of a span, found in order of address: those that touch and have one location are one.
 
-ghost use Rattle.std.specs.Prelude.{IsOk, ◌≡◌, ◌≤◌, ◌<◌, OnOk, length, map};
+ghost use Rattle.std.specs.Prelude.{◌≡◌, ◌≤◌, ◌<◌, None, IsOk, OnOk, length, map};
 ghost use Rattle.dw_model.specs.Pieces.{joins, with_piece};
 ghost use Rattle.dw_symbols.specs.Answer.{piece_shown};
 ghost use Rattle.dw_line.specs.Lines.{lines_shown};

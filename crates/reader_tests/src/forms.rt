@@ -299,8 +299,8 @@ static PASSED: [(u64, &[u8], Result<usize, FormFault>); 6] = [
     (3, &[], Err(FormFault::End)),
 ];
 
-/// Values of which some have no fixed size are passed over by steps, up to the first fault; a seventh
-/// of them has no step, and offsets of eight bytes have none.
+/// Values of which some have no fixed size are passed over by steps, up to the first fault; a
+/// seventh of them has no step, and offsets of eight bytes have none.
 #[test]
 fn steps_of_declarations(rt: HostRuntime) -> Result<(), Fail> {
     let bytes = &[
