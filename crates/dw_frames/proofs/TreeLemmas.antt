@@ -17,10 +17,12 @@ use Rattle.dw_index.specs.Owners.{least_owner}
 use Rattle.dw_units.specs.Entries.{Walk, IsNext}
 use Rattle.dw_units.specs.declared.entries.Next.{Next}
 use Rattle.dw_units.specs.declared.entries.Next.TheVariants.{Null, Function, Unranged, Passed}
+use Rattle.dw_frames.specs.declared.fault.TreeFault as frames
 use Rattle.dw_frames.specs.Drafts.{Drafts, no_drafts, behind}
+use Rattle.dw_frames.specs.Fault.{tree_fault}
 use Rattle.dw_frames.specs.Known.{Same}
 use Rattle.dw_frames.specs.Placed.{placed, first, Follows}
-use Rattle.dw_frames.specs.Reader.{can_be_used, nodes_on}
+use Rattle.dw_frames.specs.Reader.{can_be_used, nodes_on, read_into, FollowsOn, FollowsAll}
 use Rattle.dw_frames.specs.UnitIn.{UnitIn}
 use Rattle.dw_frames.proofs.KnownLemmas.{follows-same}
 use Rattle.dw_frames.proofs.WalkLemmas.{next, state, behind-depth, next-ended, follows-entry}
@@ -117,14 +119,20 @@ module _ (s : Sections) (unit : DwarfUnit) (walk : Walk) (size : walk.offset_siz
         follows = follows-same s unit (record { depth = 0; entry = entry } ∷ []) (behind s unit (Some entry) (no_drafts of)) new_drafts new.place.at behind_is (follows-entry s unit [] (no_drafts of) walk.offset_size walk.declarations walk.place (Some entry, new.place) read (follows-none s unit of walk.place.at));
       }
 
-  pub below-faults : (drafts new_drafts : Drafts) (new : Walk) (told : Option TreeFault) → Began drafts new_drafts new → MatchOption told (Unit {0}) (λ told. nodes_on s unit new (length new_drafts.lists) ≡ Err told) → MatchOption told (Unit {0}) (λ told. tree s unit ≡ Err told)
+  below-faults : (drafts new_drafts : Drafts) (new : Walk) (told : Option TreeFault) → Began drafts new_drafts new → MatchOption told (Unit {0}) (λ told. nodes_on s unit new (length new_drafts.lists) ≡ Err told) → MatchOption told (Unit {0}) (λ told. tree s unit ≡ Err told)
   below-faults drafts new_drafts new None b h = tt
   below-faults drafts new_drafts new (Some told) b h = b.nodes ∙ rw h refl
 
-  pub below-follows : (drafts new_drafts last : Drafts) (new : Walk) (b : Began drafts new_drafts new)
+  below-follows : (drafts new_drafts last : Drafts) (new : Walk) (b : Began drafts new_drafts new)
       → (found after : List Node) × (bound : ℕ) × (nodes_on s unit new (length new_drafts.lists) ≡ Ok found) × (reverse after ≡ reverse (record { depth = 0; entry = b.entry } ∷ []) ++ found) × Follows s unit after last bound
       → (after : List Node) × (bound : ℕ) × (tree s unit ≡ Ok (reverse after)) × Follows s unit after last bound
   below-follows drafts new_drafts last new b h =
       let node : Node = record { depth = 0; entry = b.entry } in
       let nodes : tree s unit ≡ Ok (node ∷ h.0) = b.nodes ∙ rw (h.3) refl in
       (h.1, h.2, nodes ∙ ap Ok (sym h.4), h.5)
+
+  -- what was read below the first entry, or the fault there
+  pub below-read : (drafts new_drafts last : Drafts) (new : Walk) (result : Result (Unit {0}) frames.TreeFault) (b : Began drafts new_drafts new)
+      → FollowsOn s unit (record { depth = 0; entry = b.entry } ∷ []) (nodes_on s unit new (length new_drafts.lists)) result last → FollowsAll s unit (read_into result last)
+  below-read drafts new_drafts last new (Ok done) b h = below-follows drafts new_drafts last new b h
+  below-read drafts new_drafts last new (Err fault) b h = below-faults drafts new_drafts new (tree_fault fault) b h

@@ -48,6 +48,11 @@ FollowsOn sections unit before nodes (Ok done) drafts =
 FollowsOn sections unit before nodes (Err fault) drafts =
     MatchOption (tree_fault fault) (Unit {0}) (λ told. nodes ≡ Err told)
 
+-- the drafts that were read into; or the fault
+abbrev pub read_into : Result (Unit {0}) TreeFault → Drafts → Result Drafts TreeFault
+read_into (Ok done) drafts = Ok drafts
+read_into (Err fault) drafts = Err fault
+
 -- the drafts follow all nodes of the tree; or it has a fault
 abbrev pub FollowsAll : Sections → DwarfUnit → Result Drafts TreeFault → Type 0
 FollowsAll sections unit (Ok drafts) =

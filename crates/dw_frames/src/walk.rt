@@ -1,12 +1,14 @@
 //! All entries of a unit, of which the functions are kept.
 
-ghost use Rattle.std.specs.Prelude.{◌≡◌, List, false, OnOk, IfOk, length};
+ghost use Rattle.std.specs.Prelude.{◌≡◌, List, Some, false, OnOk, IfOk, length};
 ghost use Rattle.dw_model.specs.Unit.{is_skipped};
 ghost use Rattle.dw_model.specs.Tree.{Node};
+ghost use Rattle.dw_units.specs.Entries.{WalksFrom};
 ghost use Rattle.dw_units.specs.OpenUnit.{sections_of, unit_of};
+ghost use Rattle.dw_frames.specs.Drafts.{no_drafts};
 ghost use Rattle.dw_frames.specs.Known.{Knows};
 ghost use Rattle.dw_frames.specs.Placed.{Follows};
-ghost use Rattle.dw_frames.specs.Reader.{nodes_on, FollowsOn, FollowsAll};
+ghost use Rattle.dw_frames.specs.Reader.{nodes_on, read_into, FollowsOn, FollowsAll};
 ghost use Rattle.dw_frames.specs.UnitIn.{unit_in};
 
 use crate::drafts::Drafts;
@@ -34,6 +36,25 @@ fn read_below<'b, 'a>(
     Ok(())
 }
 
+/// Reads the first entry, which is no null entry, and those below it, into drafts that have none.
+fn read_from_first<'b, 'a>(
+    reader: &mut Reader<'b, 'a>,
+    entries: &mut Entries<'b, 'a>,
+    drafts: &mut Drafts<'b, 'a>,
+) -> Result<(), TreeFault>
+    ensures of { Knows reader.old drafts.old → OnOk result (drafts.new.of ≡ reader.old.of) }
+    ensures follows { Knows reader.old drafts.old → drafts.old ≡ no_drafts reader.old.of
+        → WalksFrom reader.old.of.sections reader.old.of.unit (Some entries.old)
+        → FollowsAll reader.old.of.sections reader.old.of.unit (read_into result drafts.new) }
+{
+    let first = entries.next_function()?;
+    if let Next::Null = first {
+        return Err(TreeFault::Entry);
+    }
+    reader.keep(first, drafts)?;
+    read_below(reader, entries, drafts)
+}
+
 /// Reads the entries of a unit that isn't skipped, and keeps its functions.
 pub(crate) fn read_all<'b, 'a>(
     alloc: Global,
@@ -48,11 +69,6 @@ pub(crate) fn read_all<'b, 'a>(
     };
     let mut reader = Reader::new(alloc, unit);
     let mut drafts = Drafts::new(alloc, unit);
-    let first = entries.next_function()?;
-    if let Next::Null = first {
-        return Err(TreeFault::Entry);
-    }
-    reader.keep(first, &mut drafts)?;
-    read_below(&mut reader, &mut entries, &mut drafts)?;
+    read_from_first(&mut reader, &mut entries, &mut drafts)?;
     Ok(drafts)
 }
