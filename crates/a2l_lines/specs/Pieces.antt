@@ -1,5 +1,5 @@
 -- The lines of each query that is asked, kept once, and the text that inputs pick of them.
-use Rattle.std.specs.Prelude.{◌≡◌, ℕ, ◌+◌, ◌≤◌, List, [], ◌∷◌, length, map, take, drop, flat_map, Option, slice_index_or}
+use Rattle.std.specs.Prelude.{◌≡◌, ℕ, ◌+◌, ◌≤◌, List, [], ◌∷◌, ◌++◌, length, map, take, drop, flat_map, Option, slice_index_or}
 use Rattle.dw_model.specs.Answer.{Answer}
 use Rattle.dw_model.specs.Output as model
 use Rattle.dw_symbols.specs.declared.answer.Answer.{Answer as Found}
@@ -17,6 +17,11 @@ piece_in text span = take span.1 (drop span.0 text)
 -- it ends within the text
 abbrev pub IsWithin : List ℕ → ℕ × ℕ → Type 0
 IsWithin text span = span.0 + span.1 ≤ length text
+
+-- a text and the pieces of it, before and after a piece was added at its end
+abbrev pub HasPieceMore : List ℕ → List ℕ → List ℕ → List (ℕ × ℕ) → List (ℕ × ℕ) → Type 0
+HasPieceMore piece text new_text spans new_spans =
+    (new_text ≡ text ++ piece) × (new_spans ≡ spans ++ (length text, length piece) ∷ [])
 
 -- the lines of a query, by what it means
 abbrev pub lines_of : model.Options → (Query → Answer) → Query → List ℕ

@@ -1,7 +1,8 @@
 //! The lines of each query that is asked, kept once for all inputs that ask for it.
 
-ghost use Rattle.std.specs.Prelude.{◌≡◌, ◌<◌, [], length, slice_index_or, IfOk};
-ghost use Rattle.a2l_lines.specs.Pieces.{ArePieces};
+ghost use Rattle.std.specs.Prelude.{◌≡◌, ◌<◌, [], length, slice_index_or, IfOk, OnOk};
+ghost use Rattle.a2l_lines.specs.Pieces.{ArePieces, HasPieceMore};
+ghost use Rattle.a2l_lines.specs.Text.{query_text};
 
 use crate::options::Options;
 use crate::text::push_query;
@@ -45,6 +46,24 @@ impl Pieces {
     }
 }
 
+/// Adds a piece to a text: the lines of a query, by its answer.
+fn push_piece(
+    alloc: Global,
+    text: &mut Vec<u8>,
+    spans: &mut Vec<(usize, usize)>,
+    options: &Options<'_>,
+    query: Query,
+    answer: &Answer<'_>,
+) -> Result<(), AllocError>
+    ensures { OnOk result (HasPieceMore (query_text options.now query answer.now)
+        text.old.items text.new.items spans.old.items spans.new.items) }
+{
+    let start = text.len();
+    push_query(alloc, text, options, query, answer)?;
+    spans.push((start, text.len() - start))?;
+    Ok(())
+}
+
 /// The lines of a bad address, then those of each query that is asked, by its answer. Each answer
 /// is let go as soon as its lines are made.
 pub fn pieces_of(
@@ -62,9 +81,7 @@ pub fn pieces_of(
     spans.push((0, text.len()))?;
     let mut i = 0usize;
     for answer in answers {
-        let start = text.len();
-        push_query(alloc, &mut text, options, asked[i], &answer)?;
-        spans.push((start, text.len() - start))?;
+        push_piece(alloc, &mut text, &mut spans, options, asked[i], &answer)?;
         i += 1;
     }
     Ok(Pieces { text, spans })
