@@ -1,9 +1,9 @@
 -- The command line as `clap` has it, and what words name on it.
-use Rattle.std.specs.Prelude.{ℕ, Bool, true, List, [], Some, codes, unwrap_or}
+use Rattle.std.specs.Prelude.{Bool, true, List, [], ◌∷◌, Some, codes, unwrap_or}
 use Rattle.std.specs.Option.{option_eq}
 use Rattle.std.specs.Str.{bytes_eq}
 use Rattle.clap.specs.Lexer.{usize_max}
-use Rattle.clap.specs.Words.{App, Row, Rule, Text, all_of, first_of, matches_of, new_rule, with_rule}
+use Rattle.clap.specs.Words.{App, Row, Rule, Text, all_of, first_of, matches_of, new_rule}
 use Rattle.clap.specs.Simple.{new_shape}
 use Rattle.clap.specs.declared.builder.action.ArgAction.TheVariants.{Append, Set, SetTrue}
 use Rattle.dw_model.specs.Output.{Options}
@@ -27,44 +27,30 @@ words = record (new_rule (codes "words")) {
   range = Some (record { start_inclusive = 0; end_inclusive = usize_max });
 }
 
--- a flag with a letter, and an argument with a name
-abbrev pub with_letter : Rule → ℕ → Rule
-with_letter rule letter = record rule { short = Some letter }
+-- the arguments, with `-f`, `-i` and `-a`
+abbrev pub arguments : List Rule
+arguments =
+    file
+    ∷ record (flag (codes "functions")) { short = Some 102 }
+    ∷ record (flag (codes "inlines")) { short = Some 105 }
+    ∷ record (flag (codes "addresses")) { short = Some 97 }
+    ∷ record (option (codes "workers")) { long = Some (codes "workers") }
+    ∷ record (option (codes "senders")) { long = Some (codes "senders") }
+    ∷ record (flag (codes "units")) { long = Some (codes "units") }
+    ∷ words
+    ∷ []
 
-abbrev pub with_name : Rule → Text → Rule
-with_name rule name = record rule { long = Some name }
-
--- with `-e FILE`, `-f`, `-i` and `-a`
-abbrev pub with_letters : App → App
-with_letters app =
-    with_rule (with_rule (with_rule (with_rule app file)
-    (with_letter (flag (codes "functions")) 102))
-    (with_letter (flag (codes "inlines")) 105))
-    (with_letter (flag (codes "addresses")) 97)
-
--- with `--workers N`, `--senders N`, `--units` and all other words
-abbrev pub with_names : App → App
-with_names app =
-    with_rule (with_rule (with_rule (with_rule app
-    (with_name (option (codes "workers")) (codes "workers")))
-    (with_name (option (codes "senders")) (codes "senders")))
-    (with_name (flag (codes "units")) (codes "units")))
-    words
-
--- the command before its arguments
-abbrev pub bare : App
-bare = record {
+-- The command line: words without the program's own name, and no flag beside the arguments.
+abbrev pub command_line : App
+command_line = record {
   top = record (new_shape (codes "a2l")) {
+    rules = arguments;
     no_binary_name = true;
     disable_help_flag = true;
     disable_version_flag = true;
   };
   subs = [];
 }
-
--- The command line: words without the program's own name, and no flag beside the arguments.
-abbrev pub command_line : App
-command_line = with_names (with_letters bare)
 
 -- what is found of each argument in words
 abbrev pub found_in : List Text → List Row

@@ -81,22 +81,18 @@ fn option(alloc: Global, id: &'static str) -> Arg<'static>
     Arg::new(alloc, id).action(ArgAction::Set)
 }
 
-/// The command with `-e FILE`, `-f`, `-i` and `-a`.
-fn with_letters<'a>(alloc: Global, command: Command<'a>) -> Result<Command<'a>, AllocError>
-    ensures { IfOk result (λ added. app_of added ≡ line.with_letters (app_of command.entry)) }
+/// The command line, as `clap` reads it.
+fn command<'a>(alloc: Global) -> Result<Command<'a>, AllocError>
+    ensures { IfOk result (λ command. app_of command ≡ command_line) }
 {
-    command
+    Command::new(alloc, "a2l")
+        .no_binary_name(true)
+        .disable_help_flag(true)
+        .disable_version_flag(true)
         .arg(option(alloc, "file").short('e').required(true))?
         .arg(flag(alloc, "functions").short('f'))?
         .arg(flag(alloc, "inlines").short('i'))?
-        .arg(flag(alloc, "addresses").short('a'))
-}
-
-/// The command with `--workers N`, `--senders N`, `--units` and all other words.
-fn with_names<'a>(alloc: Global, command: Command<'a>) -> Result<Command<'a>, AllocError>
-    ensures { IfOk result (λ added. app_of added ≡ line.with_names (app_of command.entry)) }
-{
-    command
+        .arg(flag(alloc, "addresses").short('a'))?
         .arg(option(alloc, "workers").long("workers"))?
         .arg(option(alloc, "senders").long("senders"))?
         .arg(flag(alloc, "units").long("units"))?
@@ -105,18 +101,6 @@ fn with_names<'a>(alloc: Global, command: Command<'a>) -> Result<Command<'a>, Al
                 .action(ArgAction::Append)
                 .num_args(0..),
         )
-}
-
-/// The command line, as `clap` reads it.
-fn command<'a>(alloc: Global) -> Result<Command<'a>, AllocError>
-    ensures { IfOk result (λ command. app_of command ≡ command_line) }
-{
-    let bare = Command::new(alloc, "a2l")
-        .no_binary_name(true)
-        .disable_help_flag(true)
-        .disable_version_flag(true);
-    let lettered = with_letters(alloc, bare)?;
-    with_names(alloc, lettered)
 }
 
 /// A flag is there.
