@@ -52,6 +52,21 @@ fn entry_at<'a>(
     }
 }
 
+/// The entry there, which is no null entry.
+fn present_at<'a>(
+    alloc: Global,
+    units: &Units<'a>,
+    i: usize,
+    offset: u64,
+    way: Way,
+) -> Result<Entry<'a>, Fail> {
+    match entry_at(alloc, units, i, offset, way)? {
+        Ok(Some(entry)) => Ok(entry),
+        Ok(None) => Err(Fail::from("no null entry")),
+        Err(fault) => Err(Fail::from(fault)),
+    }
+}
+
 /// The attributes of the entry at 0x36 of the sample.
 static ATTRIBUTES: [(u64, Value<'static>); 6] = [
     (DW_AT_abstract_origin, Value::SectionRef(0x68)),
@@ -96,13 +111,11 @@ fn expect_inlined_call<A: Abort>(rt: &A, entry: &Entry<'_>) {
     expect(rt, "no attribute 0", &attribute(entry, 0), &None);
 }
 
-#[test]
-fn entry_of_an_inlined_call(rt: HostRuntime) -> Result<(), Fail> {
-    let file = sample(rt.alloc())?;
-    let units = units_of(rt.alloc(), &file)?;
+/// The entry of the inlined call is read in each way.
+fn expect_entry<A: Abort>(rt: &A, alloc: Global, units: &Units<'_>) -> Result<(), Fail> {
     for way in &WAYS {
-        let found = entry_at(rt.alloc(), &units, 0, 0x36, *way)??;
-        expect_inlined_call(&rt, &found.ok_or("no null entry")?);
+        let entry = present_at(alloc, units, 0, 0x36, *way)?;
+        expect_inlined_call(rt, &entry);
     }
     Ok(())
 }
@@ -145,8 +158,7 @@ fn tag_and_next(
     offset: u64,
     way: Way,
 ) -> Result<(u64, u64), Fail> {
-    let found = entry_at(alloc, units, i, offset, way)??;
-    let entry = found.ok_or("no null entry")?;
+    let entry = present_at(alloc, units, i, offset, way)?;
     Ok((entry.tag, entry.next))
 }
 
@@ -159,25 +171,22 @@ fn second_root(units: &Units<'_>) -> Result<u64, Fail> {
     Ok(root.offset)
 }
 
-#[test]
-fn entries_at_borders(rt: HostRuntime) -> Result<(), Fail> {
-    let file = sample(rt.alloc())?;
-    let units = units_of(rt.alloc(), &file)?;
+/// What is at the borders of the sample's units.
+fn expect_borders<A: Abort>(rt: &A, alloc: Global, units: &Units<'_>) -> Result<(), Fail> {
     for way in &WAYS {
         for (offset, fault) in &WITHOUT_ENTRY {
-            let found = refusal_at(rt.alloc(), &units, *offset, *way)?;
-            expect(&rt, offset, &found, fault);
+            let found = refusal_at(alloc, units, *offset, *way)?;
+            expect(rt, offset, &found, fault);
         }
-        let root = tag_and_next(rt.alloc(), &units, 1, 0x67, *way)?;
-        expect(&rt, "0x67", &root, &(DW_TAG_partial_unit, 0x68));
+        let root = tag_and_next(alloc, units, 1, 0x67, *way)?;
+        expect(rt, "0x67", &root, &(DW_TAG_partial_unit, 0x68));
     }
-    expect(&rt, "a first entry", &second_root(&units)?, &0x67);
+    expect(rt, "a first entry", &second_root(units)?, &0x67);
     Ok(())
 }
 
-/// The offset past the null entry at 0x57 of the first unit of a file.
-fn past_null(alloc: Global, file: &[u8]) -> Result<u64, Fail> {
-    let units = units_of(alloc, file)?;
+/// The offset past the null entry at 0x57 of the first unit.
+fn past_null(alloc: Global, units: &Units<'_>) -> Result<u64, Fail> {
     if units.len() == 0 {
         return Err(Fail::from("a unit"));
     }
@@ -187,13 +196,19 @@ fn past_null(alloc: Global, file: &[u8]) -> Result<u64, Fail> {
     Ok(units.past_null(0, 0x57))
 }
 
+/// The same of the sample's units and declarations, where the null entry's byte is this one.
+fn past_byte(alloc: Global, byte: u8) -> Result<u64, Fail> {
+    let info = poked(alloc, INFO, 0x57, byte)?;
+    let file = file_of(alloc, &info, ABBREVS)?;
+    let units = units_of(alloc, &file)?;
+    past_null(alloc, &units)
+}
+
 #[test]
 fn past_null_entries(rt: HostRuntime) -> Result<(), Fail> {
     // Four null entries of one byte each; then the first two bytes as one padded code.
     for (byte, past) in [(0, 0x58), (0x80, 0x59)] {
-        let info = poked(rt.alloc(), INFO, 0x57, byte)?;
-        let file = file_of(rt.alloc(), &info, ABBREVS)?;
-        expect(&rt, byte, &past_null(rt.alloc(), &file)?, &past);
+        expect(&rt, byte, &past_byte(rt.alloc(), byte)?, &past);
     }
     Ok(())
 }
@@ -204,24 +219,23 @@ fn holding(units: &Units<'_>, offset: u64) -> Option<usize> {
     units.holding(offset)
 }
 
-#[test]
-fn unit_of_an_offset(rt: HostRuntime) -> Result<(), Fail> {
-    let file = sample(rt.alloc())?;
-    let units = units_of(rt.alloc(), &file)?;
-    let rows = [
-        (0, Some(0)),
-        (0x5a, Some(0)),
-        (0x5b, Some(1)),
-        (0x6d, Some(1)),
-        (0x6e, Some(2)),
-        (0x8b, Some(2)),
-        (0x8c, None),
-        (u64::MAX, None),
-    ];
-    for (offset, unit) in rows {
-        expect(&rt, offset, &holding(&units, offset), &unit);
+/// Offsets, and which of the sample's units holds each.
+static HOLDING: [(u64, Option<usize>); 8] = [
+    (0, Some(0)),
+    (0x5a, Some(0)),
+    (0x5b, Some(1)),
+    (0x6d, Some(1)),
+    (0x6e, Some(2)),
+    (0x8b, Some(2)),
+    (0x8c, None),
+    (u64::MAX, None),
+];
+
+/// The units that hold these offsets.
+fn expect_holding<A: Abort>(rt: &A, units: &Units<'_>) {
+    for (offset, unit) in &HOLDING {
+        expect(rt, offset, &holding(units, *offset), unit);
     }
-    Ok(())
 }
 
 /// A walk over the first unit. No clause says what it gives, so that its callers are proved soon.
@@ -255,11 +269,9 @@ fn step_of(entries: &mut Entries<'_, '_>) -> Result<Step, FormFault> {
     })
 }
 
-#[test]
-fn walk_of_a_unit(rt: HostRuntime) -> Result<(), Fail> {
-    let file = sample(rt.alloc())?;
-    let units = units_of(rt.alloc(), &file)?;
-    let mut entries = walk_over(&units)?;
+/// A walk over the sample's first unit.
+fn expect_walk<A: Abort>(rt: &A, units: &Units<'_>) -> Result<(), Fail> {
+    let mut entries = walk_over(units)?;
     // The unit's first entry and the lexical block are no functions; the abstract instance at 0x1d
     // names no ranges.
     let rows = [None, None, Some(0x23), None, Some(0x36), Some(0x47)];
@@ -268,13 +280,25 @@ fn walk_of_a_unit(rt: HostRuntime) -> Result<(), Fail> {
         let (given, offset, children) = step_of(&mut entries)?;
         assert!(rt; given != Given::Null);
         assert!(rt; children == (given == Given::Passed));
-        expect(&rt, "a step", &offset, &row);
+        expect(rt, "a step", &offset, &row);
     }
     for _ in 0..4 {
-        expect(&rt, "the end", &step_of(&mut entries)?.0, &Given::Null);
+        expect(rt, "the end", &step_of(&mut entries)?.0, &Given::Null);
     }
     assert!(rt; entries.is_done());
     Ok(())
+}
+
+/// What is read of the sample's units: an entry, what is at their borders, which of them holds an
+/// offset, and a walk.
+#[test]
+fn units_of_the_sample(rt: HostRuntime) -> Result<(), Fail> {
+    let file = sample(rt.alloc())?;
+    let units = units_of(rt.alloc(), &file)?;
+    expect_entry(&rt, rt.alloc(), &units)?;
+    expect_borders(&rt, rt.alloc(), &units)?;
+    expect_holding(&rt, &units);
+    expect_walk(&rt, &units)
 }
 
 /// A unit; a function with two names, a number and a text, and the count of its addresses; one with
@@ -304,15 +328,20 @@ fn expect_two_names<A: Abort>(rt: &A, entry: &Entry<'_>) {
     expect(rt, "kept", &(low, kept_in(entry)), &(None, 1));
 }
 
+/// The second entry, read in each way, has two names.
+fn expect_names<A: Abort>(rt: &A, alloc: Global, units: &Units<'_>) -> Result<(), Fail> {
+    for way in &WAYS {
+        let entry = present_at(alloc, units, 0, 13, *way)?;
+        expect_two_names(rt, &entry);
+    }
+    Ok(())
+}
+
 #[test]
 fn first_of_two_attributes_decides(rt: HostRuntime) -> Result<(), Fail> {
     let file = file_with(rt.alloc(), &[2, 5, b'f', 0, 0x7d], DECLARATIONS)?;
     let units = units_of(rt.alloc(), &file)?;
-    for way in &WAYS {
-        let found = entry_at(rt.alloc(), &units, 0, 13, *way)??;
-        expect_two_names(&rt, &found.ok_or("no null entry")?);
-    }
-    Ok(())
+    expect_names(&rt, rt.alloc(), &units)
 }
 
 /// Attributes of a function, names and forms, with the values of an entry, and how a walk gives it:
@@ -343,14 +372,25 @@ fn second_of_walk(units: &Units<'_>) -> Result<Given, Fail> {
     Ok(step_of(&mut entries)?.0)
 }
 
-/// How a walk gives an entry of a tag with these attributes and values.
-fn given_to(alloc: Global, tag: u8, attributes: &[u8], values: &[u8]) -> Result<Given, Fail> {
+/// The declarations of a unit and of an entry of a tag with these attributes.
+fn declaring(alloc: Global, tag: u8, attributes: &[u8]) -> Result<Vec<u8>, AllocError> {
     let mut declarations = vec![in alloc; 1, 0x11, 1, 0, 0, 2, tag, 0]?;
     declarations.extend_from_slice(attributes)?;
     declarations.extend_from_slice(&[0, 0, 0])?;
+    Ok(declarations)
+}
+
+/// A file whose second entry has these values, for such declarations.
+fn declared_with(alloc: Global, declarations: &[u8], values: &[u8]) -> Result<Vec<u8>, AllocError> {
     let mut entry = vec![in alloc; 2]?;
     entry.extend_from_slice(values)?;
-    let file = file_with(alloc, &entry, &declarations)?;
+    file_with(alloc, &entry, declarations)
+}
+
+/// How a walk gives an entry of a tag with these attributes and values.
+fn given_to(alloc: Global, tag: u8, attributes: &[u8], values: &[u8]) -> Result<Given, Fail> {
+    let declarations = declaring(alloc, tag, attributes)?;
+    let file = declared_with(alloc, &declarations, values)?;
     let units = units_of(alloc, &file)?;
     second_of_walk(&units)
 }
@@ -386,16 +426,25 @@ fn fault_of_walk(units: &Units<'_>) -> Result<Option<FormFault>, Fail> {
     Ok(step_of(&mut entries).err())
 }
 
+/// Why the second entry can't be read, in each way and by a walk.
+fn faults_of_second(alloc: Global, units: &Units<'_>) -> Result<[Option<FormFault>; 3], Fail> {
+    let alone = refusal_at(alloc, units, 13, Way::Alone)?;
+    let in_place = refusal_at(alloc, units, 13, Way::InPlace)?;
+    Ok([alone, in_place, fault_of_walk(units)?])
+}
+
+/// The same of a file with this entry.
+fn faults_of(alloc: Global, entry: &[u8]) -> Result<[Option<FormFault>; 3], Fail> {
+    let file = file_with(alloc, entry, DECLARATIONS)?;
+    let units = units_of(alloc, &file)?;
+    faults_of_second(alloc, &units)
+}
+
 #[test]
 fn faults_of_entries(rt: HostRuntime) -> Result<(), Fail> {
     for (entry, fault) in &FAULTS {
-        let file = file_with(rt.alloc(), entry, DECLARATIONS)?;
-        let units = units_of(rt.alloc(), &file)?;
-        for way in &WAYS {
-            let found = refusal_at(rt.alloc(), &units, 13, *way)?;
-            expect(&rt, entry, &found, &Some(*fault));
-        }
-        expect(&rt, entry, &fault_of_walk(&units)?, &Some(*fault));
+        let found = faults_of(rt.alloc(), entry)?;
+        expect(&rt, entry, &found, &[Some(*fault); 3]);
     }
     Ok(())
 }
@@ -560,16 +609,20 @@ fn all_at_last<'a>(alloc: Global, entry: &Entry<'a>) -> Result<Vec<Attribute<'a>
     entry.attrs.to_vec(alloc)
 }
 
-/// Has the 13 attributes, whose values are 0 to 12.
-fn is_whole(alloc: Global, entry: &Entry<'_>) -> Result<bool, AllocError> {
-    let all = all_at_last(alloc, entry)?;
+/// The values are 0 to 12.
+fn are_in_order(attributes: &[Attribute<'_>]) -> bool {
     let mut wanted = 0;
-    for attribute in &all {
+    for attribute in attributes {
         if attribute.value != Value::Unsigned(wanted) {
-            return Ok(false);
+            return false;
         }
         wanted = wanted.saturating_add(1);
     }
+    wanted == 13
+}
+
+/// Has 13 attributes, of which the last three count.
+fn are_counted(entry: &Entry<'_>) -> bool {
     let counted = [
         (DW_AT_name, None),
         (DW_AT_call_column, Some(&Value::Unsigned(10))),
@@ -578,7 +631,13 @@ fn is_whole(alloc: Global, entry: &Entry<'_>) -> Result<bool, AllocError> {
     let same = counted
         .iter()
         .all(|(name, value)| attribute(entry, *name) == *value);
-    Ok(wanted == 13 && count_in(entry) == 13 && same)
+    count_in(entry) == 13 && same
+}
+
+/// Has the 13 attributes, whose values are 0 to 12.
+fn is_whole(alloc: Global, entry: &Entry<'_>) -> Result<bool, AllocError> {
+    let all = all_at_last(alloc, entry)?;
+    Ok(are_in_order(&all) && are_counted(entry))
 }
 
 /// The units of a file, read once more where an allocation was refused.
@@ -590,22 +649,36 @@ fn units_at_last<'a>(alloc: Global, file: &'a [u8]) -> Result<Units<'a>, OpenFau
     units_of(alloc, file)
 }
 
-/// The entry at 13 of the first unit is whole, by itself and read into another, where it is read
-/// once more after an allocation was refused.
-fn is_read_at_last(alloc: Global, units: &Units<'_>) -> Result<bool, Fail> {
+/// The entry at 13 of the first unit, read once more where an allocation was refused.
+fn alone_at_last<'a>(alloc: Global, units: &Units<'a>) -> Result<Option<Entry<'a>>, FormFault> {
     if units.len() == 0 {
-        return Err(Fail::from("a unit"));
+        return Ok(None);
     }
-    let found = match units.entry(alloc, 0, 13) {
-        Err(FormFault::Memory) => units.entry(alloc, 0, 13)?,
-        found => found?,
+    let found = units.entry(alloc, 0, 13);
+    let Err(FormFault::Memory) = found else {
+        return found;
     };
+    units.entry(alloc, 0, 13)
+}
+
+/// The same, read into one that is kept, and whether there is one.
+fn in_place_at_last<'a>(units: &Units<'a>, kept: &mut Entry<'a>) -> Result<bool, FormFault> {
+    if units.len() == 0 {
+        return Ok(false);
+    }
+    let read = units.read_entry(0, 13, kept);
+    let Err(FormFault::Memory) = read else {
+        return read;
+    };
+    units.read_entry(0, 13, kept)
+}
+
+/// The entry is whole, by itself and read into another, where it is read once more after an
+/// allocation was refused.
+fn is_read_at_last(alloc: Global, units: &Units<'_>) -> Result<bool, Fail> {
+    let found = alone_at_last(alloc, units)?.ok_or("no null entry")?;
     let mut kept = Entry::unread(alloc);
-    let read = match units.read_entry(0, 13, &mut kept) {
-        Err(FormFault::Memory) => units.read_entry(0, 13, &mut kept)?,
-        read => read?,
-    };
-    let found = found.ok_or("no null entry")?;
+    let read = in_place_at_last(units, &mut kept)?;
     Ok(read && is_whole(alloc, &kept)? && is_whole(alloc, &found)?)
 }
 
