@@ -137,14 +137,18 @@ fn value_of_each_form(rt: HostRuntime) {
     }
 }
 
+/// A form, the number of its declaration, and its value of no bytes.
+static WITHOUT_BYTES: [(u64, Option<i64>, Result<Value<'static>, FormFault>); 3] = [
+    (DW_FORM_flag_present, None, Ok(Value::Flag(true))),
+    (DW_FORM_implicit_const, Some(-3), Ok(Value::Signed(-3))),
+    (DW_FORM_implicit_const, None, Err(FormFault::Form)),
+];
+
 #[test]
 fn values_without_bytes(rt: HostRuntime) {
-    let flag = value_in(&[], DW_FORM_flag_present, None).0;
-    expect(&rt, "a flag", &flag, &Ok(Value::Flag(true)));
-    let number = value_in(&[], DW_FORM_implicit_const, Some(-3)).0;
-    expect(&rt, "a number", &number, &Ok(Value::Signed(-3)));
-    let nothing = value_in(&[], DW_FORM_implicit_const, None).0;
-    expect(&rt, "no number", &nothing, &Err(FormFault::Form));
+    for (form, implicit, value) in &WITHOUT_BYTES {
+        expect(&rt, form, &value_in(&[], *form, *implicit).0, value);
+    }
 }
 
 /// A form, bytes that are none of its values, and why.
@@ -195,9 +199,10 @@ fn declared<'b, 'a>(table: &'b Abbrevs<'a>, code: u64) -> Result<&'b Decl<'a>, F
     Ok(table.get(code).ok_or("a declaration")?)
 }
 
-/// A table has a declaration of a code.
-fn is_declared(table: &Abbrevs<'_>, code: u64) -> bool {
-    table.get(code).is_some()
+/// Its code, its tag, and whether it has children.
+fn head_of(table: &Abbrevs<'_>, code: u64) -> Option<(u64, u64, bool)> {
+    let declaration = table.get(code)?;
+    Some((declaration.code, declaration.tag, declaration.children))
 }
 
 /// The attributes of a declaration.
@@ -213,32 +218,38 @@ fn pairs_of(alloc: Global, declaration: &Decl<'_>) -> Result<Vec<Spec>, AllocErr
     Ok(pairs)
 }
 
-/// A table has the declarations of 1, 2 and 9 above, and no other.
-fn expect_declarations<A: Abort>(rt: &A, table: &Abbrevs<'_>) -> Result<(), Fail> {
-    let unit = declared(table, 1)?;
-    let found = (unit.code, unit.tag, unit.children);
-    expect(rt, "a unit", &found, &(1, 0x11, true));
-    let function = declared(table, 2)?;
-    let found = (function.tag, function.children, function.specs.len());
-    expect(rt, "a function", &found, &(0x2e, false, 1));
-    let variable = declared(table, 9)?;
-    let found = (variable.tag, variable.children);
-    expect(rt, "a variable", &found, &(0x34, true));
-    for code in [0, 3, u64::MAX] {
-        expect(rt, code, &is_declared(table, code), &false);
+/// Codes of the table above, and what each declares: a unit, a function, a variable, or nothing.
+static HEADS: [(u64, Option<(u64, u64, bool)>); 6] = [
+    (1, Some((1, 0x11, true))),
+    (2, Some((2, 0x2e, false))),
+    (9, Some((9, 0x34, true))),
+    (0, None),
+    (3, None),
+    (u64::MAX, None),
+];
+
+/// A table has these declarations and no other.
+fn expect_heads<A: Abort>(rt: &A, table: &Abbrevs<'_>) {
+    for (code, head) in &HEADS {
+        expect(rt, code, &head_of(table, *code), head);
     }
+}
+
+/// A declaration has one pair, whose number is -1.
+fn expect_number<A: Abort>(rt: &A, alloc: Global, declaration: &Decl<'_>) -> Result<(), Fail> {
+    expect(rt, "a function", &declaration.specs.len(), &1);
+    let pairs = pairs_of(alloc, declaration)?;
+    expect(rt, "pairs", &pairs.len(), &1);
+    let number = pairs.first().map(|spec| spec.implicit);
+    expect(rt, "the number", &number, &Some(Some(-1)));
     Ok(())
 }
 
 #[test]
 fn tables_of_declarations(rt: HostRuntime) -> Result<(), Fail> {
     let table = table_at(rt.alloc(), TABLE, 1)?;
-    expect_declarations(&rt, &table)?;
-    let pairs = pairs_of(rt.alloc(), declared(&table, 2)?)?;
-    expect(&rt, "pairs", &pairs.len(), &1);
-    let number = pairs.first().map(|spec| spec.implicit);
-    expect(&rt, "the number", &number, &Some(Some(-1)));
-    Ok(())
+    expect_heads(&rt, &table);
+    expect_number(&rt, rt.alloc(), declared(&table, 2)?)
 }
 
 /// How many bytes the values of an entry take in the 32-bit format. No clause says how many, so
@@ -247,24 +258,32 @@ fn size_of(declaration: &Decl<'_>) -> Option<usize> {
     declaration.size(Width::Four)
 }
 
-/// How many bytes the values of entries take: forms of one size, one of a length of its own, no
-/// pair, and one that names another.
-#[test]
-fn sizes_of_declarations(rt: HostRuntime) -> Result<(), Fail> {
-    let bytes = &[
-        1, 0x05, 0, 0x03, 0x0e, 0x3a, 0x21, 1, 0x3b, 0x05, 0x49, 0x13, 0x3f, 0x19, 0, 0, // 1
-        2, 0x34, 0, 0x3b, 0x05, 0x02, 0x18, 0, 0, // 2
-        3, 0x18, 0, 0, 0, // 3
-        4, 0x34, 0, 0x3b, 0x16, 0, 0, // 4
-        0,
-    ];
-    let table = table_at(rt.alloc(), bytes, 0)?;
-    let rows: &[(u64, Option<usize>)] = &[(1, Some(10)), (2, None), (3, Some(0)), (4, None)];
-    for (code, size) in rows {
-        let declaration = declared(&table, *code)?;
-        expect(&rt, code, &size_of(declaration), size);
+/// Declarations of forms of one size, of one of a length of its own, of no pair, and of one that
+/// names another.
+static SIZED: [u8; 38] = [
+    1, 0x05, 0, 0x03, 0x0e, 0x3a, 0x21, 1, 0x3b, 0x05, 0x49, 0x13, 0x3f, 0x19, 0, 0, // 1
+    2, 0x34, 0, 0x3b, 0x05, 0x02, 0x18, 0, 0, // 2
+    3, 0x18, 0, 0, 0, // 3
+    4, 0x34, 0, 0x3b, 0x16, 0, 0, // 4
+    0,
+];
+
+/// Their codes, and how many bytes the values of an entry take.
+static SIZES: [(u64, Option<usize>); 4] = [(1, Some(10)), (2, None), (3, Some(0)), (4, None)];
+
+/// The values of entries take these many bytes.
+fn expect_sizes<A: Abort>(rt: &A, table: &Abbrevs<'_>) -> Result<(), Fail> {
+    for (code, size) in &SIZES {
+        let declaration = declared(table, *code)?;
+        expect(rt, code, &size_of(declaration), size);
     }
     Ok(())
+}
+
+#[test]
+fn sizes_of_declarations(rt: HostRuntime) -> Result<(), Fail> {
+    let table = table_at(rt.alloc(), &SIZED, 0)?;
+    expect_sizes(&rt, &table)
 }
 
 /// How many bytes the steps of a declaration pass.
@@ -299,24 +318,42 @@ static PASSED: [(u64, &[u8], Result<usize, FormFault>); 6] = [
     (3, &[], Err(FormFault::End)),
 ];
 
+/// Declarations of values of which some have no fixed size, of seven of these, and of an unknown
+/// form.
+static STEPPED: [u8; 46] = [
+    1, 0x34, 0, 0x3b, 0x0b, 0x39, 0x0f, 3, 0x0e, 2, 0x18, 0x1b, 8, 0x3a, 5, 0, 0, // 1
+    2, 0x34, 0, 1, 15, 2, 15, 3, 15, 4, 15, 5, 15, 6, 15, 7, 15, 0, 0, // 2
+    3, 0x34, 0, 0x3b, 0x0b, 0x39, 0x7f, 0, 0, // 3
+    0,
+];
+
+/// A declaration has steps, in a format.
+fn has_steps(declaration: &Decl<'_>, width: Width) -> bool {
+    declaration.steps(width).is_some()
+}
+
+/// The steps of a declaration pass so many bytes of these values, and offsets of eight bytes have
+/// none.
+fn expect_passed<A: Abort>(
+    rt: &A,
+    declaration: &Decl<'_>,
+    values: &[u8],
+    passed: &Result<usize, FormFault>,
+) -> Result<(), Fail> {
+    expect(rt, values, &passed_by(declaration, values)?, passed);
+    assert!(rt; !has_steps(declaration, Width::Eight));
+    Ok(())
+}
+
 /// Values of which some have no fixed size are passed over by steps, up to the first fault; a
 /// seventh of them has no step, and offsets of eight bytes have none.
 #[test]
 fn steps_of_declarations(rt: HostRuntime) -> Result<(), Fail> {
-    let bytes = &[
-        1, 0x34, 0, 0x3b, 0x0b, 0x39, 0x0f, 3, 0x0e, 2, 0x18, 0x1b, 8, 0x3a, 5, 0, 0, // 1
-        2, 0x34, 0, 1, 15, 2, 15, 3, 15, 4, 15, 5, 15, 6, 15, 7, 15, 0, 0, // 2
-        3, 0x34, 0, 0x3b, 0x0b, 0x39, 0x7f, 0, 0, // 3
-        0,
-    ];
-    let table = table_at(rt.alloc(), bytes, 0)?;
+    let table = table_at(rt.alloc(), &STEPPED, 0)?;
     for (code, values, passed) in &PASSED {
-        let declaration = declared(&table, *code)?;
-        expect(&rt, code, &passed_by(declaration, values)?, passed);
-        assert!(rt; declaration.steps(Width::Eight).is_none());
+        expect_passed(&rt, declared(&table, *code)?, values, passed)?;
     }
-    let many = declared(&table, 2)?;
-    assert!(rt; many.steps(Width::Four).is_none());
+    assert!(rt; !has_steps(declared(&table, 2)?, Width::Four));
     Ok(())
 }
 
@@ -331,58 +368,67 @@ fn is_first(
         && declaration.first_value(name, values, Width::Eight) == *wanted
 }
 
+/// The first values of names, for a declaration of an entry with these values.
+fn expect_first_values<A: Abort>(
+    rt: &A,
+    declaration: &Decl<'_>,
+    values: &[u8],
+    rows: &[(u64, Option<Value<'static>>)],
+) {
+    let values = Cursor::new(values);
+    for (name, value) in rows {
+        let found = is_first(declaration, *name, &values, value);
+        expect(rt, name, &found, &true);
+    }
+}
+
+/// A declaration with several names, and the values of an entry.
+static NAMING: [u8; 18] = [
+    1, 0x2e, 0, 0x3f, 0x19, 0x3b, 0x0b, 0x11, 1, 3, 8, 0x12, 6, 3, 8, 0, 0, 0,
+];
+
+static NAMED: [u8; 18] = [
+    7, 1, 2, 3, 4, 5, 6, 7, 8, b'a', b'b', 0, 9, 0, 0, 0, b'c', 0,
+];
+
 /// The first value of a name: after values of one size, after a text, of two, and of none.
+static FIRST_VALUES: [(u64, Option<Value<'static>>); 6] = [
+    (DW_AT_low_pc, Some(Value::Address(0x0807_0605_0403_0201))),
+    (DW_AT_name, Some(Value::Inline(b"ab"))),
+    (DW_AT_high_pc, Some(Value::Unsigned(9))),
+    (0x3f, Some(Value::Flag(true))),
+    (0x55, None),
+    (0x49, None),
+];
+
 #[test]
 fn first_values(rt: HostRuntime) -> Result<(), Fail> {
-    let bytes = &[
-        1, 0x2e, 0, 0x3f, 0x19, 0x3b, 0x0b, 0x11, 1, 3, 8, 0x12, 6, 3, 8, 0, 0, 0,
-    ];
-    let values = Cursor::new(&[
-        7, 1, 2, 3, 4, 5, 6, 7, 8, b'a', b'b', 0, 9, 0, 0, 0, b'c', 0,
-    ]);
-    let table = table_at(rt.alloc(), bytes, 0)?;
-    let declaration = declared(&table, 1)?;
-    let rows: &[(u64, Option<Value<'static>>)] = &[
-        (DW_AT_low_pc, Some(Value::Address(0x0807_0605_0403_0201))),
-        (DW_AT_name, Some(Value::Inline(b"ab"))),
-        (DW_AT_high_pc, Some(Value::Unsigned(9))),
-        (0x3f, Some(Value::Flag(true))),
-        (0x55, None),
-        (0x49, None),
-    ];
-    for (name, value) in rows {
-        expect(
-            &rt,
-            name,
-            &is_first(declaration, *name, &values, value),
-            &true,
-        );
-    }
+    let table = table_at(rt.alloc(), &NAMING, 0)?;
+    expect_first_values(&rt, declared(&table, 1)?, &NAMED, &FIRST_VALUES);
     Ok(())
 }
 
-/// The numbers of a declaration: one of 32 bits, the least that needs more, one below 0, and a
-/// large one. No entry is looked at for them.
+/// A declaration with numbers: one of 32 bits, the least that needs more, one below 0, and a large
+/// one.
+static NUMBERED: [u8; 36] = [
+    1, 0x1d, 0, 0x3f, 0x19, 0x58, 0x21, 0xff, 0xff, 0xff, 0xff, 7, 0x59, 0x21, 0x80, 0x80, 0x80,
+    0x80, 8, 0x57, 0x21, 0x7f, 0x12, 0x21, 0x80, 0x80, 0x80, 0x80, 0x80, 0x20, 0x58, 0x21, 1, 0, 0,
+    0,
+];
+
+static NUMBERS: [(u64, Option<Value<'static>>); 5] = [
+    (DW_AT_call_file, Some(Value::Signed(0x7fff_ffff))),
+    (DW_AT_call_line, Some(Value::Signed(0x8000_0000))),
+    (DW_AT_call_column, Some(Value::Signed(-1))),
+    (DW_AT_high_pc, Some(Value::Signed(1 << 40))),
+    (DW_AT_low_pc, None),
+];
+
+/// The numbers of a declaration. No entry is looked at for them.
 #[test]
 fn declared_numbers(rt: HostRuntime) -> Result<(), Fail> {
-    let bytes = &[
-        1, 0x1d, 0, 0x3f, 0x19, 0x58, 0x21, 0xff, 0xff, 0xff, 0xff, 7, 0x59, 0x21, 0x80, 0x80,
-        0x80, 0x80, 8, 0x57, 0x21, 0x7f, 0x12, 0x21, 0x80, 0x80, 0x80, 0x80, 0x80, 0x20, 0x58,
-        0x21, 1, 0, 0, 0,
-    ];
-    let table = table_at(rt.alloc(), bytes, 0)?;
-    let declaration = declared(&table, 1)?;
-    let rows: &[(u64, Option<Value<'static>>)] = &[
-        (DW_AT_call_file, Some(Value::Signed(0x7fff_ffff))),
-        (DW_AT_call_line, Some(Value::Signed(0x8000_0000))),
-        (DW_AT_call_column, Some(Value::Signed(-1))),
-        (DW_AT_high_pc, Some(Value::Signed(1 << 40))),
-        (DW_AT_low_pc, None),
-    ];
-    for (name, value) in rows {
-        let found = is_first(declaration, *name, &Cursor::new(&[]), value);
-        expect(&rt, name, &found, &true);
-    }
+    let table = table_at(rt.alloc(), &NUMBERED, 0)?;
+    expect_first_values(&rt, declared(&table, 1)?, &[], &NUMBERS);
     Ok(())
 }
 
@@ -464,19 +510,30 @@ fn tag_in(
     Ok(Some(declaration.tag))
 }
 
+/// The tables are asked for at these offsets, and then have these tags.
+fn expect_tags<A: Abort>(
+    rt: &A,
+    alloc: Global,
+    store: &mut AbbrevStore<'_>,
+    offsets: &[u64],
+) -> Result<(), FormFault> {
+    for offset in offsets {
+        store.start(alloc, *offset)?;
+    }
+    for (offset, code, tag) in &INSIDE_ROWS {
+        let found = tag_in(alloc, store, *offset, *code)?;
+        expect(rt, (*code, *offset), &found, tag);
+    }
+    Ok(())
+}
+
 /// Tables that begin inside one another have what is declared from their beginning on, whichever
 /// was read first.
 #[test]
 fn tables_inside_one_another(rt: HostRuntime) -> Result<(), Fail> {
     for offsets in &ORDERS {
         let mut store = AbbrevStore::new(rt.alloc(), INSIDE);
-        for offset in offsets {
-            store.start(rt.alloc(), *offset)?;
-        }
-        for (offset, code, tag) in &INSIDE_ROWS {
-            let found = tag_in(rt.alloc(), &mut store, *offset, *code)?;
-            expect(&rt, (*code, *offset), &found, tag);
-        }
+        expect_tags(&rt, rt.alloc(), &mut store, offsets)?;
     }
     Ok(())
 }
@@ -573,31 +630,33 @@ const MANY: &[u8] = &[
     0, 0,
 ];
 
+/// The table of these, read once more where an allocation was refused.
+fn many_at_last(alloc: Global) -> Result<Abbrevs<'static>, FormFault> {
+    let table = table_at(alloc, MANY, 0);
+    let Err(FormFault::Memory) = table else {
+        return table;
+    };
+    table_at(alloc, MANY, 0)
+}
+
+/// The ten pairs of the first declaration.
+fn expect_ten<A: Abort>(rt: &A, pairs: &[Spec]) {
+    let first = pairs.first().map(|spec| spec.name);
+    let last = pairs.last().map(|spec| spec.name);
+    expect(rt, "pairs", &pairs.len(), &10);
+    expect(rt, "the first", &first, &Some(3));
+    expect(rt, "the last", &last, &Some(12));
+}
+
 /// A table for which an allocation is refused is out of memory, and the next reading, with memory,
 /// gives it whole.
 #[test]
 fn each_allocation_refused(rt: HostRuntime) -> Result<(), Fail> {
-    let table = match table_at(rt.alloc(), MANY, 0) {
-        Err(FormFault::Memory) => table_at(rt.alloc(), MANY, 0)?,
-        read => read?,
-    };
+    let table = many_at_last(rt.alloc())?;
     let first = declared(&table, 9)?;
     expect(&rt, "code 4", &declared(&table, 4)?.tag, &0x35);
-    let Ok(pairs) = pairs_of(rt.alloc(), first) else {
-        return Ok(());
-    };
-    expect(&rt, "pairs", &pairs.len(), &10);
-    expect(
-        &rt,
-        "the first",
-        &pairs.first().map(|spec| spec.name),
-        &Some(3),
-    );
-    expect(
-        &rt,
-        "the last",
-        &pairs.last().map(|spec| spec.name),
-        &Some(12),
-    );
+    if let Ok(pairs) = pairs_of(rt.alloc(), first) {
+        expect_ten(&rt, &pairs);
+    }
     Ok(())
 }

@@ -1,7 +1,7 @@
 //! Functions whose range lists have more ranges than a tree keeps, worked out by hand.
 
 use crate::expect::expect;
-use crate::trees::{expect_chain, kept_in, shared_units, tree_at};
+use crate::trees::{expect_chains, kept_in, tree_of};
 use dw_elf::Name;
 use std::alloc::{AllocError, Global};
 use std::test::Fail;
@@ -32,6 +32,20 @@ fn lists(alloc: Global) -> Result<Vec<u8>, AllocError> {
     Ok(lists)
 }
 
+/// A file of a unit with these entries, and the lists.
+fn file_of(alloc: Global, entries: &[u8]) -> Result<Vec<u8>, AllocError> {
+    let info = unit_of(alloc, entries)?;
+    let rnglists = lists(alloc)?;
+    elf(
+        alloc,
+        &[
+            (Name::DebugInfo, &info),
+            (Name::DebugAbbrev, ABBREVS),
+            (Name::DebugRnglists, &rnglists),
+        ],
+    )
+}
+
 /// The functions at addresses, innermost first.
 static CHAINS: [(u64, &[u64]); 8] = [
     (3, &[]),
@@ -46,22 +60,10 @@ static CHAINS: [(u64, &[u64]); 8] = [
 
 #[test]
 fn lists_read_for_each_address(rt: HostRuntime) -> Result<(), Fail> {
-    let info = unit_of(rt.alloc(), ENTRIES)?;
-    let file = elf(
-        rt.alloc(),
-        &[
-            (Name::DebugInfo, &info),
-            (Name::DebugAbbrev, ABBREVS),
-            (Name::DebugRnglists, &lists(rt.alloc())?),
-        ],
-    )?;
-    let units = shared_units(rt.alloc(), &file)?;
-    let tree = tree_at(rt.alloc(), &units, 0)??;
+    let file = file_of(rt.alloc(), ENTRIES)?;
+    let tree = tree_of(rt.alloc(), &file, 0)?;
     expect(&rt, "ranges", &kept_in(&tree), &4);
-    for (a, offsets) in &CHAINS {
-        expect_chain(&rt, rt.alloc(), &tree, *a, offsets)?;
-    }
-    Ok(())
+    expect_chains(&rt, rt.alloc(), &tree, &CHAINS, 0)
 }
 
 /// The entries of a unit with so many subprograms of the list at 54, which has two ranges; in each
@@ -81,21 +83,18 @@ fn callers(alloc: Global, count: usize) -> Result<Vec<u8>, AllocError> {
 /// noted, and those of the inlined functions as long as they fit.
 static KEPT: [(usize, usize); 5] = [(1, 2), (7, 22), (8, 24), (20, 44), (100, 264)];
 
+/// How many ranges are kept of so many callers.
+fn kept_of(alloc: Global, count: usize) -> Result<usize, Fail> {
+    let entries = callers(alloc, count)?;
+    let file = file_of(alloc, &entries)?;
+    let tree = tree_of(alloc, &file, 0)?;
+    Ok(kept_in(&tree))
+}
+
 #[test]
 fn few_ranges_of_one_list(rt: HostRuntime) -> Result<(), Fail> {
     for (count, kept) in &KEPT {
-        let info = unit_of(rt.alloc(), &callers(rt.alloc(), *count)?)?;
-        let file = elf(
-            rt.alloc(),
-            &[
-                (Name::DebugInfo, &info),
-                (Name::DebugAbbrev, ABBREVS),
-                (Name::DebugRnglists, &lists(rt.alloc())?),
-            ],
-        )?;
-        let units = shared_units(rt.alloc(), &file)?;
-        let tree = tree_at(rt.alloc(), &units, 0)??;
-        expect(&rt, count, &kept_in(&tree), kept);
+        expect(&rt, count, &kept_of(rt.alloc(), *count)?, kept);
     }
     Ok(())
 }

@@ -5,6 +5,7 @@ use dw_bytes::Width;
 use dw_forms::{Bases, Tables};
 use dw_line::{LineFault, Lines, Row};
 use std::alloc::{AllocError, Global};
+use std::process::Abort;
 use std::test::Fail;
 use test_inputs::draws::Draws;
 use test_inputs::files::{HEADER, TWO_ROWS, line_table};
@@ -64,6 +65,13 @@ fn line_at(lines: &Lines<'_>, address: u64) -> Option<u64> {
 /// The line of an address that is asked for after others, in the same way.
 fn line_in_order(lines: &mut Lines<'_>, address: u64) -> Option<u64> {
     lines.row_in_order(address).map(|row| row.line)
+}
+
+/// The lines of addresses are these.
+fn expect_lines<A: Abort>(rt: &A, lines: &Lines<'_>, rows: &[(u64, Option<u64>)]) {
+    for (address, line) in rows {
+        expect(rt, address, &line_at(lines, *address), line);
+    }
 }
 
 /// How many checkpoints a table has, in the same way.
@@ -204,53 +212,68 @@ const MANY_ROWS: &[u8] = &[
     0x21, 0x21, 2, 1, 0, 1, 1,
 ];
 
+/// The rows of file 1 and column 0 at addresses have these lines, in the i-th program.
+fn expect_rows<A: Abort>(rt: &A, lines: &Lines<'_>, i: usize, rows: &[(u64, Option<u64>)]) {
+    for (address, line) in rows {
+        let wanted = line.map(|line| Row {
+            file: 1,
+            line,
+            column: 0,
+        });
+        expect(rt, (i, *address), &row_at(lines, *address), &wanted);
+    }
+}
+
 #[test]
 fn rows_of_programs(rt: HostRuntime) -> Result<(), Fail> {
     for (i, (header, program, rows)) in PROGRAMS.iter().enumerate() {
         let section = line_table(rt.alloc(), header, program)?;
         let lines = read(rt.alloc(), &section, None)?;
-        for (address, line) in *rows {
-            let wanted = line.map(|line| Row {
-                file: 1,
-                line,
-                column: 0,
-            });
-            expect(&rt, (i, *address), &row_at(&lines, *address), &wanted);
-        }
+        expect_rows(&rt, &lines, i, rows);
     }
     Ok(())
 }
 
+/// set_file 7, set_column 8, advance_line 9, four flags and an instruction set, fixed_advance_pc
+/// 0x102, a discriminator, copy; advance_pc 5, end; then the registers begin anew.
+static OPCODES: [u8; 32] = [
+    4, 7, 5, 8, 3, 9, 6, 7, 10, 11, 12, 0x81, 1, 9, 2, 1, 0, 2, 4, 9, 1, 2, 5, 0, 1, 1, 1, 2, 1, 0,
+    1, 1,
+];
+
+/// The rows of this program at addresses.
+static OF_OPCODES: [(u64, Option<Row>); 5] = [
+    (0, Some(ANEW)),
+    (1, None),
+    (0x102, Some(FIRST)),
+    (0x106, Some(FIRST)),
+    (0x107, None),
+];
+
+const FIRST: Row = Row {
+    file: 7,
+    line: 10,
+    column: 8,
+};
+
+const ANEW: Row = Row {
+    file: 1,
+    line: 1,
+    column: 0,
+};
+
+/// A table has these rows.
+fn expect_rows_of_opcodes<A: Abort>(rt: &A, lines: &Lines<'_>) {
+    for (address, row) in &OF_OPCODES {
+        expect(rt, address, &row_at(lines, *address), row);
+    }
+}
+
 #[test]
 fn each_opcode(rt: HostRuntime) -> Result<(), Fail> {
-    // set_file 7, set_column 8, advance_line 9, four flags and an instruction set, fixed_advance_pc
-    // 0x102, a discriminator, copy; advance_pc 5, end; then the registers begin anew
-    let program = &[
-        4, 7, 5, 8, 3, 9, 6, 7, 10, 11, 12, 0x81, 1, 9, 2, 1, 0, 2, 4, 9, 1, 2, 5, 0, 1, 1, 1, 2,
-        1, 0, 1, 1,
-    ];
-    let section = line_table(rt.alloc(), HEADER, program)?;
+    let section = line_table(rt.alloc(), HEADER, &OPCODES)?;
     let lines = read(rt.alloc(), &section, None)?;
-    let first = Row {
-        file: 7,
-        line: 10,
-        column: 8,
-    };
-    let anew = Row {
-        file: 1,
-        line: 1,
-        column: 0,
-    };
-    let rows: &[(u64, Option<Row>)] = &[
-        (0, Some(anew)),
-        (1, None),
-        (0x102, Some(first)),
-        (0x106, Some(first)),
-        (0x107, None),
-    ];
-    for (address, row) in rows {
-        expect(&rt, address, &row_at(&lines, *address), row);
-    }
+    expect_rows_of_opcodes(&rt, &lines);
     Ok(())
 }
 
@@ -264,24 +287,29 @@ fn push_rows(program: &mut Vec<u8>, first: u8, count: usize) -> Result<(), Alloc
     program.extend_from_slice(&[2, 1, 0, 1, 1])
 }
 
+/// A table of one sequence with 200 rows.
+fn one_sequence(alloc: Global) -> Result<Vec<u8>, AllocError> {
+    let mut program = Vec::new(alloc);
+    push_rows(&mut program, 0, 200)?;
+    line_table(alloc, HEADER, &program)
+}
+
+/// The lines of addresses there.
+static OF_ONE: [(u64, Option<u64>); 6] = [
+    (0x1000, None),
+    (0x1001, Some(2)),
+    (0x1040, Some(65)),
+    (0x1041, Some(66)),
+    (0x10c8, Some(201)),
+    (0x10c9, None),
+];
+
 #[test]
 fn rows_behind_checkpoints(rt: HostRuntime) -> Result<(), Fail> {
-    let mut program = Vec::new(rt.alloc());
-    push_rows(&mut program, 0, 200)?;
-    let section = line_table(rt.alloc(), HEADER, &program)?;
+    let section = one_sequence(rt.alloc())?;
     let lines = read(rt.alloc(), &section, None)?;
     expect(&rt, "checkpoints", &kept_in(&lines), &4);
-    let rows = [
-        (0x1000, None),
-        (0x1001, Some(2)),
-        (0x1040, Some(65)),
-        (0x1041, Some(66)),
-        (0x10c8, Some(201)),
-        (0x10c9, None),
-    ];
-    for (address, line) in rows {
-        expect(&rt, address, &line_at(&lines, address), &line);
-    }
+    expect_lines(&rt, &lines, &OF_ONE);
     Ok(())
 }
 
@@ -320,16 +348,21 @@ fn asked_in_turn(alloc: Global) -> Result<Vec<u64>, AllocError> {
     Ok(addresses)
 }
 
+/// The lines of addresses that are asked for one after the other, where a table has two sequences.
+fn expect_in_order<A: Abort>(rt: &A, lines: &mut Lines<'_>, addresses: &[u64]) {
+    for address in addresses {
+        let line = line_in_order(lines, *address);
+        expect(rt, address, &line, &line_of_two(*address));
+    }
+}
+
 /// From the row that was found last, whatever was asked before.
 #[test]
 fn rows_in_order(rt: HostRuntime) -> Result<(), Fail> {
     let section = two_sequences(rt.alloc())?;
-    let mut lines = read(rt.alloc(), &section, None)?;
     let addresses = asked_in_turn(rt.alloc())?;
-    for address in addresses.as_slice() {
-        let line = line_in_order(&mut lines, *address);
-        expect(&rt, address, &line, &line_of_two(*address));
-    }
+    let mut lines = read(rt.alloc(), &section, None)?;
+    expect_in_order(&rt, &mut lines, &addresses);
     Ok(())
 }
 
@@ -404,17 +437,33 @@ fn bad_headers(rt: HostRuntime) -> Result<(), Fail> {
     Ok(())
 }
 
-#[test]
-fn offsets_of_tables(rt: HostRuntime) -> Result<(), Fail> {
-    let alloc = rt.alloc();
+/// A section of two tables: one without a program, and the one of two rows from 53 on.
+fn two_tables(alloc: Global) -> Result<Vec<u8>, AllocError> {
     let mut section = line_table(alloc, HEADER, &[])?;
     let second = line_table(alloc, HEADER, TWO_ROWS)?;
     section.extend_from_slice(&second)?;
-    let lines = read_at(alloc, &section, None, 53)?;
-    expect(&rt, "the second", &line_at(&lines, 0x40_1000), &Some(3));
+    Ok(section)
+}
+
+/// The line of an address in the table at an offset.
+fn line_from(
+    alloc: Global,
+    section: &[u8],
+    offset: u64,
+    address: u64,
+) -> Result<Option<u64>, LineFault> {
+    let lines = read_at(alloc, section, None, offset)?;
+    Ok(line_at(&lines, address))
+}
+
+#[test]
+fn offsets_of_tables(rt: HostRuntime) -> Result<(), Fail> {
+    let section = two_tables(rt.alloc())?;
+    let second = line_from(rt.alloc(), &section, 53, 0x40_1000);
+    expect(&rt, "the second", &second, &Ok(Some(3)));
     for offset in [1, 54, 123, 124, 125, u64::MAX] {
-        let read = read_at(alloc, &section, None, offset);
-        expect(&rt, offset, &read.err(), &Some(LineFault::Bad));
+        let found = line_from(rt.alloc(), &section, offset, 0x40_1000);
+        expect(&rt, offset, &found, &Err(LineFault::Bad));
     }
     Ok(())
 }
@@ -463,12 +512,22 @@ static FILES: [Path; 12] = [
     (NO_FORMATS, Some(b"/w"), 1, None),
 ];
 
+/// The path of a file, of the table at the front of a section.
+fn path_in(
+    alloc: Global,
+    section: &[u8],
+    comp_dir: Option<&[u8]>,
+    n: u64,
+) -> Result<Option<Vec<u8>>, Fail> {
+    let lines = read(alloc, section, comp_dir)?;
+    Ok(path_of(alloc, &lines, n)?)
+}
+
 #[test]
 fn paths_of_files(rt: HostRuntime) -> Result<(), Fail> {
     for (i, (header, comp_dir, n, path)) in FILES.iter().enumerate() {
         let section = line_table(rt.alloc(), header, &[])?;
-        let lines = read(rt.alloc(), &section, *comp_dir)?;
-        let found = path_of(rt.alloc(), &lines, *n)?;
+        let found = path_in(rt.alloc(), &section, *comp_dir, *n)?;
         expect(&rt, i, &found.as_deref(), path);
     }
     Ok(())
@@ -491,23 +550,28 @@ fn path_at_last(alloc: Global, lines: &Lines<'_>) -> Result<Option<Vec<u8>>, All
     Ok(path)
 }
 
-/// A table for which an allocation is refused is out of memory, and so is a path; the next reading,
-/// with memory, gives them whole.
-#[test]
-fn each_allocation_refused(rt: HostRuntime) -> Result<(), Fail> {
-    let alloc = rt.alloc();
-    let Ok(section) = line_table(alloc, PATHS, MANY_ROWS) else {
-        return Ok(());
-    };
-    let lines = read_at_last(alloc, &section)?;
-    expect(&rt, "rows of one", &line_at(&lines, 0x1003), &Some(4));
-    expect(&rt, "rows of two", &line_at(&lines, 0x2009), &Some(10));
-    let path = path_at_last(alloc, &lines)?;
+/// The path of file 0 is this one, where it is made once more after an allocation was refused.
+fn expect_path<A: Abort>(rt: &A, alloc: Global, lines: &Lines<'_>) -> Result<(), AllocError> {
+    let path = path_at_last(alloc, lines)?;
     expect(
-        &rt,
+        rt,
         "path",
         &path.as_deref(),
         &Some(b"/w/src/b.c".as_slice()),
     );
+    Ok(())
+}
+
+/// A table for which an allocation is refused is out of memory, and so is a path; the next reading,
+/// with memory, gives them whole.
+#[test]
+fn each_allocation_refused(rt: HostRuntime) -> Result<(), Fail> {
+    let Ok(section) = line_table(rt.alloc(), PATHS, MANY_ROWS) else {
+        return Ok(());
+    };
+    let lines = read_at_last(rt.alloc(), &section)?;
+    // a row of each sequence
+    expect_lines(&rt, &lines, &[(0x1003, Some(4)), (0x2009, Some(10))]);
+    expect_path(&rt, rt.alloc(), &lines)?;
     Ok(())
 }

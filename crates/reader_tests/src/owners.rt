@@ -3,6 +3,7 @@
 use crate::expect::expect;
 use dw_ranges::{Index, Range};
 use std::alloc::Global;
+use std::process::Abort;
 use std::test::Fail;
 use test_inputs::draws::Draws;
 
@@ -153,29 +154,28 @@ pub fn drawn(alloc: Global, count: usize) -> Result<Vec<(Range, usize)>, Fail> {
     Ok(pairs)
 }
 
+/// An index finds of an address what the scan of its pairs does.
+fn expect_scanned<A: Abort>(rt: &A, index: &Index, pairs: &[(Range, usize)], a: u64) {
+    expect(rt, a, &owner_of(index, a), &scanned(pairs, a));
+}
+
+/// The same of drawn addresses, and of the ends of the first ranges.
+fn expect_all_scanned<A: Abort>(rt: &A, index: &Index, pairs: &[(Range, usize)]) {
+    let mut draws = Draws::new(7);
+    for _ in 0..2_000 {
+        expect_scanned(rt, index, pairs, draws.next() % 1_600_000);
+    }
+    for (range, _) in pairs.iter().take(1_000) {
+        expect_scanned(rt, index, pairs, range.begin);
+        expect_scanned(rt, index, pairs, range.end);
+    }
+}
+
 #[test]
 fn agrees_with_a_scan(rt: HostRuntime) -> Result<(), Fail> {
     let pairs = drawn(rt.alloc(), 10_000)?;
     let index = Index::build(rt.alloc(), &pairs)?;
-    let mut draws = Draws::new(7);
-    for _ in 0..2_000 {
-        let a = draws.next() % 1_600_000;
-        expect(&rt, a, &owner_of(&index, a), &scanned(&pairs, a));
-    }
-    for (range, _) in pairs.iter().take(1_000) {
-        expect(
-            &rt,
-            range.begin,
-            &owner_of(&index, range.begin),
-            &scanned(&pairs, range.begin),
-        );
-        expect(
-            &rt,
-            range.end,
-            &owner_of(&index, range.end),
-            &scanned(&pairs, range.end),
-        );
-    }
+    expect_all_scanned(&rt, &index, &pairs);
     Ok(())
 }
 

@@ -109,21 +109,41 @@ fn push_value(bytes: &mut Vec<u8>, value: &Value<'_>) -> Result<(), AllocError> 
     }
 }
 
-/// A file of one unit of the 64-bit format, whose first entry has these attributes.
-fn file_of_entry(alloc: Global, pairs: &[(u64, Value<'_>)]) -> Result<Vec<u8>, AllocError> {
+/// The declaration of an entry with these attributes.
+fn declaring(alloc: Global, pairs: &[(u64, Value<'_>)]) -> Result<Vec<u8>, AllocError> {
     let mut declarations = vec![in alloc; 1, 0x11, 0]?;
-    let mut entry = vec![in alloc; 1]?;
     for (name, value) in pairs {
         declarations.push(u8::try_from(*name).unwrap_or(0))?;
         declarations.push(form_of(value))?;
-        push_value(&mut entry, value)?;
     }
     declarations.extend_from_slice(&[0, 0, 0])?;
+    Ok(declarations)
+}
+
+/// The entry itself.
+fn entry_with(alloc: Global, pairs: &[(u64, Value<'_>)]) -> Result<Vec<u8>, AllocError> {
+    let mut entry = vec![in alloc; 1]?;
+    for (_, value) in pairs {
+        push_value(&mut entry, value)?;
+    }
+    Ok(entry)
+}
+
+/// One unit of the 64-bit format with these bytes after its header.
+fn wide_unit(alloc: Global, entry: &[u8]) -> Result<Vec<u8>, AllocError> {
     let mut info = vec![in alloc; 0xff, 0xff, 0xff, 0xff]?;
     let size = entry.len().saturating_add(12) as u64;
     info.extend_from_slice(&size.to_le_bytes())?;
     info.extend_from_slice(&[5, 0, 1, 8, 0, 0, 0, 0, 0, 0, 0, 0])?;
-    info.extend_from_slice(&entry)?;
+    info.extend_from_slice(entry)?;
+    Ok(info)
+}
+
+/// A file of one unit of the 64-bit format, whose first entry has these attributes.
+fn file_of_entry(alloc: Global, pairs: &[(u64, Value<'_>)]) -> Result<Vec<u8>, AllocError> {
+    let declarations = declaring(alloc, pairs)?;
+    let entry = entry_with(alloc, pairs)?;
+    let info = wide_unit(alloc, &entry)?;
     file_of(alloc, &info, &declarations)
 }
 
@@ -147,7 +167,35 @@ fn are_expected(ranges: &[Range], expected: Expected) -> bool {
             .all(|(range, row)| range.begin == row.0 && range.end == row.1)
 }
 
-/// The ranges of an entry of a unit are as expected: read by themselves, and into a list of others.
+/// The ranges of an entry of a unit are as expected.
+fn are_read_alone(
+    alloc: Global,
+    entry: &Entry<'_>,
+    unit: &Unit<'_>,
+    tables: &Tables<'_>,
+    expected: Expected,
+) -> bool {
+    match ranges_of(alloc, entry, unit, tables) {
+        Ok(found) => are_expected(&found, expected),
+        Err(fault) => fault == RangeFault::Bad && expected.is_none(),
+    }
+}
+
+/// The same, read into a list of others.
+fn are_read_in_place(
+    kept: &mut Vec<Range>,
+    entry: &Entry<'_>,
+    unit: &Unit<'_>,
+    tables: &Tables<'_>,
+    expected: Expected,
+) -> bool {
+    match read_ranges(kept, &entry.named_ranges(), unit, tables) {
+        Ok(()) => are_expected(kept, expected),
+        Err(fault) => fault == RangeFault::Bad && expected.is_none(),
+    }
+}
+
+/// The ranges are as expected: read by themselves, and into a list of others.
 fn are_read(
     alloc: Global,
     entry: &Entry<'_>,
@@ -155,21 +203,30 @@ fn are_read(
     tables: &Tables<'_>,
     expected: Expected,
 ) -> Result<bool, Fail> {
-    let alone = match ranges_of(alloc, entry, unit, tables) {
-        Ok(found) => are_expected(&found, expected),
-        Err(fault) => fault == RangeFault::Bad && expected.is_none(),
-    };
-    let named = entry.named_ranges();
+    let alone = are_read_alone(alloc, entry, unit, tables, expected);
     let mut kept = vec![in alloc; Range { begin: 7, end: 8 }]?;
-    let in_place = match read_ranges(&mut kept, &named, unit, tables) {
-        Ok(()) => are_expected(&kept, expected),
-        Err(fault) => fault == RangeFault::Bad && expected.is_none(),
-    };
+    let in_place = are_read_in_place(&mut kept, entry, unit, tables, expected);
     Ok(alone && in_place)
 }
 
-/// The ranges of an entry with these attributes, of the unit at an index, are as expected where
+/// The ranges of the first entry of others, as one of the unit at an index, are as expected where
 /// .debug_rnglists has these bytes.
+fn first_has_ranges(
+    alloc: Global,
+    others: &Units<'_>,
+    units: &Units<'_>,
+    i: usize,
+    rnglists: &[u8],
+    expected: Expected,
+) -> Result<bool, Fail> {
+    if i >= units.len() {
+        return Err(Fail::from("a unit at the index"));
+    }
+    let entry = first_entry(others).ok_or("an entry")?;
+    are_read(alloc, entry, units.unit(i), &tables(rnglists), expected)
+}
+
+/// The same of an entry with these attributes.
 fn has_ranges(
     alloc: Global,
     units: &Units<'_>,
@@ -178,13 +235,9 @@ fn has_ranges(
     rnglists: &[u8],
     expected: Expected,
 ) -> Result<bool, Fail> {
-    if i >= units.len() {
-        return Err(Fail::from("a unit at the index"));
-    }
     let file = file_of_entry(alloc, pairs)?;
     let others = units_of(alloc, &file)?;
-    let entry = first_entry(&others).ok_or("an entry")?;
-    are_read(alloc, entry, units.unit(i), &tables(rnglists), expected)
+    first_has_ranges(alloc, &others, units, i, rnglists, expected)
 }
 
 /// Lists, each with the ranges that it has, or bad.
@@ -270,13 +323,11 @@ static LISTS: [(&[u8], Expected); 28] = [
 /// An entry has the list at the begin of .debug_rnglists.
 static LIST: [(u64, Value<'static>); 1] = [(DW_AT_ranges, Value::SectionOffset(0))];
 
-#[test]
-fn entries_of_lists(rt: HostRuntime) -> Result<(), Fail> {
-    let file = file_of_roots(rt.alloc())?;
-    let units = units_of(rt.alloc(), &file)?;
+/// Entries of the first unit have these lists.
+fn expect_lists<A: Abort>(rt: &A, alloc: Global, units: &Units<'_>) -> Result<(), Fail> {
     for (i, (list, expected)) in LISTS.iter().enumerate() {
-        let found = has_ranges(rt.alloc(), &units, BASED, &LIST, list, *expected)?;
-        expect(&rt, i, &found, &true);
+        let found = has_ranges(alloc, units, BASED, &LIST, list, *expected)?;
+        expect(rt, i, &found, &true);
     }
     Ok(())
 }
@@ -301,13 +352,11 @@ static IN_UNITS: [(usize, &[u8], Expected); 11] = [
     ),
 ];
 
-#[test]
-fn bases_of_units(rt: HostRuntime) -> Result<(), Fail> {
-    let file = file_of_roots(rt.alloc())?;
-    let units = units_of(rt.alloc(), &file)?;
+/// The bases of units count for their lists.
+fn expect_bases<A: Abort>(rt: &A, alloc: Global, units: &Units<'_>) -> Result<(), Fail> {
     for (row, (i, list, expected)) in IN_UNITS.iter().enumerate() {
-        let found = has_ranges(rt.alloc(), &units, *i, &LIST, list, *expected)?;
-        expect(&rt, row, &found, &true);
+        let found = has_ranges(alloc, units, *i, &LIST, list, *expected)?;
+        expect(rt, row, &found, &true);
     }
     Ok(())
 }
@@ -333,14 +382,12 @@ static NAMED: [(usize, Value<'static>, Expected); 12] = [
     (PLAIN, Value::RangeIndex(0), None),
 ];
 
-#[test]
-fn lists_by_offset_and_index(rt: HostRuntime) -> Result<(), Fail> {
-    let file = file_of_roots(rt.alloc())?;
-    let units = units_of(rt.alloc(), &file)?;
+/// Lists are named by their offsets and by their indexes.
+fn expect_named<A: Abort>(rt: &A, alloc: Global, units: &Units<'_>) -> Result<(), Fail> {
     for (i, value, expected) in &NAMED {
         let pairs = [(DW_AT_ranges, *value)];
-        let found = has_ranges(rt.alloc(), &units, *i, &pairs, INDEXED, *expected)?;
-        expect(&rt, value, &found, &true);
+        let found = has_ranges(alloc, units, *i, &pairs, INDEXED, *expected)?;
+        expect(rt, value, &found, &true);
     }
     Ok(())
 }
@@ -397,26 +444,15 @@ fn attribute(name: u64, value: Option<Value<'static>>) -> (u64, Value<'static>) 
     }
 }
 
-/// Both attributes.
-fn attributes(
-    alloc: Global,
-    low: Option<Value<'static>>,
-    high: Option<Value<'static>>,
-) -> Result<Vec<(u64, Value<'static>)>, AllocError> {
-    let mut pairs = Vec::new(alloc);
-    pairs.push(attribute(DW_AT_low_pc, low))?;
-    pairs.push(attribute(DW_AT_high_pc, high))?;
-    Ok(pairs)
-}
-
-#[test]
-fn low_and_high(rt: HostRuntime) -> Result<(), Fail> {
-    let file = file_of_roots(rt.alloc())?;
-    let units = units_of(rt.alloc(), &file)?;
+/// Entries with such attributes have these ranges.
+fn expect_pairs<A: Abort>(rt: &A, alloc: Global, units: &Units<'_>) -> Result<(), Fail> {
     for (i, (low, high, expected)) in PAIRS.iter().enumerate() {
-        let pairs = attributes(rt.alloc(), *low, *high)?;
-        let found = has_ranges(rt.alloc(), &units, BASED, &pairs, &[], *expected)?;
-        expect(&rt, i, &found, &true);
+        let pairs = [
+            attribute(DW_AT_low_pc, *low),
+            attribute(DW_AT_high_pc, *high),
+        ];
+        let found = has_ranges(alloc, units, BASED, &pairs, &[], *expected)?;
+        expect(rt, i, &found, &true);
     }
     Ok(())
 }
@@ -450,16 +486,27 @@ static ALL_THREE: [(&[(u64, Value<'static>)], Expected); 3] = [
     ),
 ];
 
-#[test]
-fn list_before_low_and_high(rt: HostRuntime) -> Result<(), Fail> {
-    let file = file_of_roots(rt.alloc())?;
-    let units = units_of(rt.alloc(), &file)?;
+/// A list comes before both other attributes.
+fn expect_list_first<A: Abort>(rt: &A, alloc: Global, units: &Units<'_>) -> Result<(), Fail> {
     let list = &[4, 1, 2, 0];
     for (i, (pairs, expected)) in ALL_THREE.iter().enumerate() {
-        let found = has_ranges(rt.alloc(), &units, PLAIN, pairs, list, *expected)?;
-        expect(&rt, i, &found, &true);
+        let found = has_ranges(alloc, units, PLAIN, pairs, list, *expected)?;
+        expect(rt, i, &found, &true);
     }
     Ok(())
+}
+
+/// The ranges of entries of these units: the entries of lists, the bases, what names a list, both
+/// other attributes, and all three.
+#[test]
+fn ranges_of_entries(rt: HostRuntime) -> Result<(), Fail> {
+    let file = file_of_roots(rt.alloc())?;
+    let units = units_of(rt.alloc(), &file)?;
+    expect_lists(&rt, rt.alloc(), &units)?;
+    expect_bases(&rt, rt.alloc(), &units)?;
+    expect_named(&rt, rt.alloc(), &units)?;
+    expect_pairs(&rt, rt.alloc(), &units)?;
+    expect_list_first(&rt, rt.alloc(), &units)
 }
 
 #[test]
@@ -487,20 +534,17 @@ fn alone_at_last(
 
 /// The same, read into a list that is kept.
 fn in_place_at_last(
-    alloc: Global,
+    kept: &mut Vec<Range>,
     entry: &Entry<'_>,
     unit: &Unit<'_>,
     tables: &Tables<'_>,
-) -> Result<Vec<Range>, RangeFault> {
-    let mut kept = Vec::new(alloc);
+) -> Result<(), RangeFault> {
     let named = entry.named_ranges();
-    let read = read_ranges(&mut kept, &named, unit, tables);
+    let read = read_ranges(kept, &named, unit, tables);
     let Err(RangeFault::Memory) = read else {
-        read?;
-        return Ok(kept);
+        return read;
     };
-    read_ranges(&mut kept, &named, unit, tables)?;
-    Ok(kept)
+    read_ranges(kept, &named, unit, tables)
 }
 
 /// An entry of the first unit has these ranges, where they are read once more after an allocation
@@ -518,7 +562,8 @@ fn has_ranges_at_last(
     let unit = units.unit(0);
     let tables = tables(rnglists);
     let found = alone_at_last(alloc, entry, unit, &tables)?;
-    let kept = in_place_at_last(alloc, entry, unit, &tables)?;
+    let mut kept = Vec::new(alloc);
+    in_place_at_last(&mut kept, entry, unit, &tables)?;
     Ok(are_expected(&found, expected) && are_expected(&kept, expected))
 }
 

@@ -1,7 +1,7 @@
 //! Functions that name one range list, worked out by hand.
 
 use crate::expect::expect;
-use crate::trees::{expect_chain, read_first, shared_units, tree_at};
+use crate::trees::{expect_chains, fault_of_first, tree_of};
 use dw_elf::Name;
 use dw_frames::TreeFault;
 use std::alloc::{AllocError, Global};
@@ -63,7 +63,7 @@ static OF_LATER: [(u64, &[u64]); 7] = [
 
 /// The functions at addresses are these, whose offsets are those in a unit that has none before
 /// them.
-fn expect_chains<A: Abort>(
+fn expect_chains_behind<A: Abort>(
     rt: &A,
     alloc: Global,
     loose: usize,
@@ -71,24 +71,16 @@ fn expect_chains<A: Abort>(
     chains: &[(u64, &[u64])],
 ) -> Result<(), Fail> {
     let file = file_of(alloc, loose, entries)?;
-    let units = shared_units(alloc, &file)?;
-    let tree = tree_at(alloc, &units, 0)??;
+    let tree = tree_of(alloc, &file, 0)?;
     let before = loose.saturating_mul(LOOSE.len()) as u64;
-    for (a, offsets) in chains {
-        let mut wanted = Vec::new(alloc);
-        for offset in *offsets {
-            wanted.push(before.saturating_add(*offset))?;
-        }
-        expect_chain(rt, alloc, &tree, *a, &wanted)?;
-    }
-    Ok(())
+    expect_chains(rt, alloc, &tree, chains, before)
 }
 
 /// The first of those that name one list answers.
 #[test]
 fn first_of_one_list(rt: HostRuntime) -> Result<(), Fail> {
     for loose in 0..5 {
-        expect_chains(&rt, rt.alloc(), loose, LATER, &OF_LATER)?;
+        expect_chains_behind(&rt, rt.alloc(), loose, LATER, &OF_LATER)?;
     }
     Ok(())
 }
@@ -112,7 +104,7 @@ static OF_CALLERS: [(u64, &[u64]); 5] = [
 #[test]
 fn one_list_in_each_caller(rt: HostRuntime) -> Result<(), Fail> {
     for loose in 0..5 {
-        expect_chains(&rt, rt.alloc(), loose, CALLERS, &OF_CALLERS)?;
+        expect_chains_behind(&rt, rt.alloc(), loose, CALLERS, &OF_CALLERS)?;
     }
     Ok(())
 }
@@ -140,7 +132,7 @@ fn faults_behind_a_list_that_was_read(rt: HostRuntime) -> Result<(), Fail> {
     for (i, (entries, fault)) in FAULTS.iter().enumerate() {
         for loose in 0..5 {
             let file = file_of(rt.alloc(), loose, entries)?;
-            expect(&rt, i, &read_first(rt.alloc(), &file)?.err(), fault);
+            expect(&rt, i, &fault_of_first(rt.alloc(), &file)?, fault);
         }
     }
     Ok(())

@@ -32,13 +32,29 @@ pub(crate) fn tree_at<'a>(
     }
 }
 
-/// Reads the functions of the first unit of a file.
-pub(crate) fn read_first(alloc: Global, file: &[u8]) -> Result<Result<(), TreeFault>, Fail> {
-    let units = shared_units(alloc, file)?;
-    match tree_at(alloc, &units, 0)? {
-        Ok(_tree) => Ok(Ok(())),
-        Err(fault) => Ok(Err(fault)),
+/// The same, where they can be read.
+fn readable_at<'a>(alloc: Global, units: &Arc<Units<'a>>, i: usize) -> Result<Tree<'a>, Fail> {
+    match tree_at(alloc, units, i)? {
+        Ok(tree) => Ok(tree),
+        Err(fault) => Err(Fail::from(fault)),
     }
+}
+
+/// The functions of the unit at an index of a file.
+pub(crate) fn tree_of<'a>(alloc: Global, file: &'a [u8], i: usize) -> Result<Tree<'a>, Fail> {
+    let units = shared_units(alloc, file)?;
+    readable_at(alloc, &units, i)
+}
+
+/// Why the functions of the first unit can't be read.
+fn fault_at_first(alloc: Global, units: &Arc<Units<'_>>) -> Result<Option<TreeFault>, Fail> {
+    Ok(tree_at(alloc, units, 0)?.err())
+}
+
+/// Why the functions of the first unit of a file can't be read.
+pub(crate) fn fault_of_first(alloc: Global, file: &[u8]) -> Result<Option<TreeFault>, Fail> {
+    let units = shared_units(alloc, file)?;
+    fault_at_first(alloc, &units)
 }
 
 /// The functions at an address. No clause says which they are, so that its callers are proved soon.
@@ -74,7 +90,14 @@ fn is_same(found: Option<&[u8]>, wanted: Option<&[u8]>) -> bool {
     }
 }
 
-/// The name of the entry at an offset of the first unit of these sections is the one wanted.
+/// The name of the entry at an offset of a file's first unit is the one wanted.
+fn is_named(alloc: Global, file: &[u8], offset: u64, wanted: Option<&[u8]>) -> Result<bool, Fail> {
+    let tree = tree_of(alloc, file, 0)?;
+    let id = EntryId { unit: 0, offset };
+    Ok(is_same(name_of(&tree, id), wanted))
+}
+
+/// The same of a file of these sections.
 fn expect_name<A: Abort>(
     rt: &A,
     alloc: Global,
@@ -84,26 +107,32 @@ fn expect_name<A: Abort>(
     wanted: Option<&[u8]>,
 ) -> Result<(), Fail> {
     let file = file_of(alloc, info, abbrevs)?;
-    let units = shared_units(alloc, &file)?;
-    let tree = tree_at(alloc, &units, 0)??;
-    let id = EntryId { unit: 0, offset };
-    let same = is_same(name_of(&tree, id), wanted);
+    let same = is_named(alloc, &file, offset, wanted)?;
     expect(rt, offset, &same, &true);
     Ok(())
 }
 
-/// The functions at an address are those at these offsets of the first unit, innermost first.
-pub(crate) fn expect_chain<A: Abort>(
+/// Functions are those at these offsets of the first unit, and so many bytes more.
+fn expect_functions<A: Abort>(rt: &A, a: u64, chain: &[EntryId], wanted: &[u64], before: u64) {
+    expect(rt, a, &chain.len(), &wanted.len());
+    for (id, offset) in chain.iter().zip(wanted.iter()) {
+        let offset = before.saturating_add(*offset);
+        expect(rt, a, &(id.unit, id.offset), &(0, offset));
+    }
+}
+
+/// The functions at each address are those at these offsets of the first unit, and so many bytes
+/// more, innermost first.
+pub(crate) fn expect_chains<A: Abort>(
     rt: &A,
     alloc: Global,
     tree: &Tree<'_>,
-    a: u64,
-    wanted: &[u64],
+    chains: &[(u64, &[u64])],
+    before: u64,
 ) -> Result<(), Fail> {
-    let chain = chain_at(alloc, tree, a)?;
-    expect(rt, a, &chain.len(), &wanted.len());
-    for (id, offset) in chain.iter().zip(wanted.iter()) {
-        expect(rt, a, &(id.unit, id.offset), &(0, *offset));
+    for (a, wanted) in chains {
+        let chain = chain_at(alloc, tree, *a)?;
+        expect_functions(rt, *a, &chain, wanted, before);
     }
     Ok(())
 }
@@ -124,17 +153,6 @@ static CHAINS: [(u64, &[u64]); 12] = [
     (u64::MAX, &[]),
 ];
 
-#[test]
-fn inlined_functions(rt: HostRuntime) -> Result<(), Fail> {
-    let file = sample(rt.alloc())?;
-    let units = shared_units(rt.alloc(), &file)?;
-    let tree = tree_at(rt.alloc(), &units, 0)??;
-    for (a, wanted) in &CHAINS {
-        expect_chain(&rt, rt.alloc(), &tree, *a, wanted)?;
-    }
-    Ok(())
-}
-
 /// Units and offsets of entries, and the names of functions there, asked of the first unit.
 static NAMES: [(usize, u64, Option<&[u8]>); 8] = [
     (0, 0x0c, None),
@@ -154,19 +172,20 @@ static CALLS: [(u64, Option<u64>, Option<u64>, Option<u64>); 3] = [
     (0x23, None, None, None),
 ];
 
-#[test]
-fn names_and_calls(rt: HostRuntime) -> Result<(), Fail> {
-    let file = sample(rt.alloc())?;
-    let units = shared_units(rt.alloc(), &file)?;
-    let tree = tree_at(rt.alloc(), &units, 0)??;
+/// Functions have these names.
+fn expect_names<A: Abort>(rt: &A, tree: &Tree<'_>) {
     for (unit, offset, name) in &NAMES {
         let id = EntryId {
             unit: *unit,
             offset: *offset,
         };
-        expect(&rt, offset, &name_of(&tree, id), name);
-        expect(&rt, offset, &described_name(&tree, id), name);
+        expect(rt, offset, &name_of(tree, id), name);
+        expect(rt, offset, &described_name(tree, id), name);
     }
+}
+
+/// Functions were called there.
+fn expect_calls<A: Abort>(rt: &A, tree: &Tree<'_>) {
     for (offset, file, line, column) in &CALLS {
         let id = EntryId {
             unit: 0,
@@ -177,9 +196,18 @@ fn names_and_calls(rt: HostRuntime) -> Result<(), Fail> {
             line: *line,
             column: *column,
         };
-        expect(&rt, offset, &calls_of(&tree, id), &[wanted, wanted]);
+        expect(rt, offset, &calls_of(tree, id), &[wanted, wanted]);
     }
-    Ok(())
+}
+
+/// The inlined functions of the sample, their names, and where they were called.
+#[test]
+fn functions_of_the_sample(rt: HostRuntime) -> Result<(), Fail> {
+    let file = sample(rt.alloc())?;
+    let tree = tree_of(rt.alloc(), &file, 0)?;
+    expect_names(&rt, &tree);
+    expect_calls(&rt, &tree);
+    expect_chains(&rt, rt.alloc(), &tree, &CHAINS, 0)
 }
 
 #[test]
@@ -189,19 +217,23 @@ fn names_itself(rt: HostRuntime) -> Result<(), Fail> {
     expect_name(&rt, rt.alloc(), &info, ABBREVS, 0x36, Some(b"mid"))
 }
 
-#[test]
-fn unit_of_a_target(rt: HostRuntime) -> Result<(), Fail> {
-    let file = sample(rt.alloc())?;
-    let units = shared_units(rt.alloc(), &file)?;
-    let tree = tree_at(rt.alloc(), &units, 1)??;
+/// The second unit has the entry that is the target of `mid`, and no function at an address.
+fn expect_target<A: Abort>(rt: &A, alloc: Global, tree: &Tree<'_>) -> Result<(), Fail> {
     let id = EntryId {
         unit: 1,
         offset: 0x68,
     };
-    expect(&rt, "mid", &name_of(&tree, id), &Some(b"mid".as_slice()));
-    let chain = chain_at(rt.alloc(), &tree, 0x40_1000)?;
+    expect(rt, "mid", &name_of(tree, id), &Some(b"mid".as_slice()));
+    let chain = chain_at(alloc, tree, 0x40_1000)?;
     assert!(rt; chain.is_empty());
     Ok(())
+}
+
+#[test]
+fn unit_of_a_target(rt: HostRuntime) -> Result<(), Fail> {
+    let file = sample(rt.alloc())?;
+    let tree = tree_of(rt.alloc(), &file, 1)?;
+    expect_target(&rt, rt.alloc(), &tree)
 }
 
 /// A unit with children; an inlined subroutine of another, by an offset of the unit; a subprogram
@@ -225,13 +257,23 @@ fn led(alloc: Global, references: u8) -> Result<Vec<u8>, AllocError> {
     unit_of(alloc, &entries)
 }
 
+/// Of so many references, the entry at an offset leads to this name.
+fn expect_led<A: Abort>(
+    rt: &A,
+    alloc: Global,
+    references: u8,
+    offset: u64,
+    wanted: Option<&[u8]>,
+) -> Result<(), Fail> {
+    let info = led(alloc, references)?;
+    expect_name(rt, alloc, &info, SHORT, offset, wanted)
+}
+
 #[test]
 fn sixteen_references(rt: HostRuntime) -> Result<(), Fail> {
-    let sixteen = led(rt.alloc(), 16)?;
-    expect_name(&rt, rt.alloc(), &sixteen, SHORT, 13, Some(b"n"))?;
-    let seventeen = led(rt.alloc(), 17)?;
-    expect_name(&rt, rt.alloc(), &seventeen, SHORT, 13, None)?;
-    expect_name(&rt, rt.alloc(), &seventeen, SHORT, 18, Some(b"n"))
+    expect_led(&rt, rt.alloc(), 16, 13, Some(b"n"))?;
+    expect_led(&rt, rt.alloc(), 17, 13, None)?;
+    expect_led(&rt, rt.alloc(), 17, 18, Some(b"n"))
 }
 
 #[test]
@@ -270,17 +312,33 @@ static TARGETS: [(&[u8], Option<&[u8]>); 7] = [
     (&[7, b'n', 0], Some(b"n")),
 ];
 
+/// The function at 13, which refers to what is there, leads to this name.
+fn expect_behind<A: Abort>(
+    rt: &A,
+    alloc: Global,
+    behind: &[u8],
+    wanted: Option<&[u8]>,
+) -> Result<(), Fail> {
+    let info = led_behind(alloc, behind)?;
+    expect_name(rt, alloc, &info, SHORT, 13, wanted)
+}
+
+/// A unit whose function at 13 refers to a name in a skipped unit after it.
+fn led_to_skipped(alloc: Global) -> Result<Vec<u8>, Fail> {
+    let mut skipped = led_behind(alloc, &[])?;
+    let target = skipped.get_mut(14).ok_or("a reference")?;
+    *target = 30;
+    skipped.extend_from_slice(&[11, 0, 0, 0, 4, 0, 0, 0, 0, 0, 8, 7, b'n', 0, 0])?;
+    Ok(skipped)
+}
+
 /// What can't be read is no name, and isn't out of memory.
 #[test]
 fn unreadable_targets(rt: HostRuntime) -> Result<(), Fail> {
     for (behind, name) in &TARGETS {
-        let info = led_behind(rt.alloc(), behind)?;
-        expect_name(&rt, rt.alloc(), &info, SHORT, 13, *name)?;
+        expect_behind(&rt, rt.alloc(), behind, *name)?;
     }
-    let mut skipped = led_behind(rt.alloc(), &[])?;
-    let target = skipped.get_mut(14).ok_or("a reference")?;
-    *target = 30;
-    skipped.extend_from_slice(&[11, 0, 0, 0, 4, 0, 0, 0, 0, 0, 8, 7, b'n', 0, 0])?;
+    let skipped = led_to_skipped(rt.alloc())?;
     expect_name(&rt, rt.alloc(), &skipped, SHORT, 13, None)
 }
 
@@ -303,20 +361,64 @@ static FAULTS: [(usize, &[u8], Option<TreeFault>); 11] = [
     (0, &[6, 0, 0, 0, 0, 0], None),
 ];
 
+/// A unit with so many blocks in one another, and these bytes in the last.
+fn nested(alloc: Global, blocks: usize, last: &[u8]) -> Result<Vec<u8>, AllocError> {
+    let mut entries = Vec::new(alloc);
+    entries.push(1)?;
+    for _ in 0..blocks {
+        entries.push(4)?;
+    }
+    entries.extend_from_slice(last)?;
+    unit_of(alloc, &entries)
+}
+
+/// Why its functions can't be read.
+fn fault_of(alloc: Global, blocks: usize, last: &[u8]) -> Result<Option<TreeFault>, Fail> {
+    let info = nested(alloc, blocks, last)?;
+    let file = file_of(alloc, &info, SHORT)?;
+    fault_of_first(alloc, &file)
+}
+
 #[test]
 fn faults_of_trees(rt: HostRuntime) -> Result<(), Fail> {
     for (i, (blocks, last, fault)) in FAULTS.iter().enumerate() {
-        let mut entries = Vec::new(rt.alloc());
-        entries.push(1)?;
-        for _ in 0..*blocks {
-            entries.push(4)?;
-        }
-        entries.extend_from_slice(last)?;
-        let info = unit_of(rt.alloc(), &entries)?;
-        let file = file_of(rt.alloc(), &info, SHORT)?;
-        expect(&rt, i, &read_first(rt.alloc(), &file)?.err(), fault);
+        expect(&rt, i, &fault_of(rt.alloc(), *blocks, last)?, fault);
     }
     Ok(())
+}
+
+/// The functions of the first unit, read once more where an allocation was refused.
+fn tree_at_last<'a>(alloc: Global, units: &Arc<Units<'a>>) -> Result<Tree<'a>, Fail> {
+    match tree_at(alloc, units, 0)? {
+        Ok(tree) => Ok(tree),
+        Err(TreeFault::Memory) => readable_at(alloc, units, 0),
+        Err(fault) => Err(Fail::from(fault)),
+    }
+}
+
+/// The functions at an address, asked for once more where an allocation was refused.
+fn chain_at_last(alloc: Global, tree: &Tree<'_>, a: u64) -> Result<Vec<EntryId>, AllocError> {
+    let Ok(chain) = chain_at(alloc, tree, a) else {
+        return chain_at(alloc, tree, a);
+    };
+    Ok(chain)
+}
+
+/// The innermost of three functions is `leaf`.
+fn expect_leaf<A: Abort>(rt: &A, tree: &Tree<'_>, chain: &[EntryId]) -> Result<(), Fail> {
+    expect(rt, "functions", &chain.len(), &3);
+    let innermost = chain.first().copied().ok_or("a function")?;
+    let name = name_of(tree, innermost);
+    expect(rt, "leaf", &name, &Some(b"leaf".as_slice()));
+    Ok(())
+}
+
+/// A tree and a chain are whole, where they are asked for once more after an allocation was
+/// refused.
+fn expect_whole<A: Abort>(rt: &A, alloc: Global, units: &Arc<Units<'_>>) -> Result<(), Fail> {
+    let tree = tree_at_last(alloc, units)?;
+    let chain = chain_at_last(alloc, &tree, 0x40_1004)?;
+    expect_leaf(rt, &tree, &chain)
 }
 
 /// Where an allocation is refused, a tree and a chain are out of memory, and the same call, with
@@ -330,18 +432,5 @@ fn each_allocation_refused(rt: HostRuntime) -> Result<(), Fail> {
     let Ok(units) = shared_units(alloc, &file) else {
         return Ok(());
     };
-    let units = &units;
-    let tree = match tree_at(alloc, units, 0)? {
-        Err(TreeFault::Memory) => tree_at(alloc, units, 0)??,
-        read => read?,
-    };
-    let chain = match chain_at(alloc, &tree, 0x40_1004) {
-        Ok(chain) => chain,
-        Err(_) => chain_at(alloc, &tree, 0x40_1004)?,
-    };
-    expect(&rt, "functions", &chain.len(), &3);
-    let innermost = chain.first().copied().ok_or("a function")?;
-    let name = name_of(&tree, innermost);
-    expect(&rt, "leaf", &name, &Some(b"leaf".as_slice()));
-    Ok(())
+    expect_whole(&rt, alloc, &units)
 }
