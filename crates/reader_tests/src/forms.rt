@@ -235,8 +235,9 @@ fn expect_heads<A: Abort>(rt: &A, table: &Abbrevs<'_>) {
     }
 }
 
-/// A declaration has one pair, whose number is -1.
-fn expect_number<A: Abort>(rt: &A, alloc: Global, declaration: &Decl<'_>) -> Result<(), Fail> {
+/// The declaration of 2 has one pair, whose number is -1.
+fn expect_number<A: Abort>(rt: &A, alloc: Global, table: &Abbrevs<'_>) -> Result<(), Fail> {
+    let declaration = declared(table, 2)?;
     expect(rt, "a function", &declaration.specs.len(), &1);
     let pairs = pairs_of(alloc, declaration)?;
     expect(rt, "pairs", &pairs.len(), &1);
@@ -249,7 +250,7 @@ fn expect_number<A: Abort>(rt: &A, alloc: Global, declaration: &Decl<'_>) -> Res
 fn tables_of_declarations(rt: HostRuntime) -> Result<(), Fail> {
     let table = table_at(rt.alloc(), TABLE, 1)?;
     expect_heads(&rt, &table);
-    expect_number(&rt, rt.alloc(), declared(&table, 2)?)
+    expect_number(&rt, rt.alloc(), &table)
 }
 
 /// How many bytes the values of an entry take in the 32-bit format. No clause says how many, so
@@ -347,14 +348,18 @@ fn expect_passed<A: Abort>(
 
 /// Values of which some have no fixed size are passed over by steps, up to the first fault; a
 /// seventh of them has no step, and offsets of eight bytes have none.
+fn expect_steps<A: Abort>(rt: &A, table: &Abbrevs<'_>) -> Result<(), Fail> {
+    for (code, values, passed) in &PASSED {
+        expect_passed(rt, declared(table, *code)?, values, passed)?;
+    }
+    assert!(rt; !has_steps(declared(table, 2)?, Width::Four));
+    Ok(())
+}
+
 #[test]
 fn steps_of_declarations(rt: HostRuntime) -> Result<(), Fail> {
     let table = table_at(rt.alloc(), &STEPPED, 0)?;
-    for (code, values, passed) in &PASSED {
-        expect_passed(&rt, declared(&table, *code)?, values, passed)?;
-    }
-    assert!(rt; !has_steps(declared(&table, 2)?, Width::Four));
-    Ok(())
+    expect_steps(&rt, &table)
 }
 
 /// The first value of a name is the one wanted, in both formats.
@@ -368,18 +373,20 @@ fn is_first(
         && declaration.first_value(name, values, Width::Eight) == *wanted
 }
 
-/// The first values of names, for a declaration of an entry with these values.
+/// The first values of names, for the declaration of 1 and an entry with these values.
 fn expect_first_values<A: Abort>(
     rt: &A,
-    declaration: &Decl<'_>,
+    table: &Abbrevs<'_>,
     values: &[u8],
     rows: &[(u64, Option<Value<'static>>)],
-) {
+) -> Result<(), Fail> {
+    let declaration = declared(table, 1)?;
     let values = Cursor::new(values);
     for (name, value) in rows {
         let found = is_first(declaration, *name, &values, value);
         expect(rt, name, &found, &true);
     }
+    Ok(())
 }
 
 /// A declaration with several names, and the values of an entry.
@@ -404,8 +411,7 @@ static FIRST_VALUES: [(u64, Option<Value<'static>>); 6] = [
 #[test]
 fn first_values(rt: HostRuntime) -> Result<(), Fail> {
     let table = table_at(rt.alloc(), &NAMING, 0)?;
-    expect_first_values(&rt, declared(&table, 1)?, &NAMED, &FIRST_VALUES);
-    Ok(())
+    expect_first_values(&rt, &table, &NAMED, &FIRST_VALUES)
 }
 
 /// A declaration with numbers: one of 32 bits, the least that needs more, one below 0, and a large
@@ -428,8 +434,7 @@ static NUMBERS: [(u64, Option<Value<'static>>); 5] = [
 #[test]
 fn declared_numbers(rt: HostRuntime) -> Result<(), Fail> {
     let table = table_at(rt.alloc(), &NUMBERED, 0)?;
-    expect_first_values(&rt, declared(&table, 1)?, &[], &NUMBERS);
-    Ok(())
+    expect_first_values(&rt, &table, &[], &NUMBERS)
 }
 
 /// Bytes, the offset of a table of declarations in them, and why it can't be read, if it can't.
@@ -639,7 +644,7 @@ fn many_at_last(alloc: Global) -> Result<Abbrevs<'static>, FormFault> {
     table_at(alloc, MANY, 0)
 }
 
-/// The ten pairs of the first declaration.
+/// The first declaration has ten pairs.
 fn expect_ten<A: Abort>(rt: &A, pairs: &[Spec]) {
     let first = pairs.first().map(|spec| spec.name);
     let last = pairs.last().map(|spec| spec.name);
@@ -648,15 +653,20 @@ fn expect_ten<A: Abort>(rt: &A, pairs: &[Spec]) {
     expect(rt, "the last", &last, &Some(12));
 }
 
+/// A table has all that it declares; its pairs are only looked at where memory is left for them.
+fn expect_whole<A: Abort>(rt: &A, alloc: Global, table: &Abbrevs<'_>) -> Result<(), Fail> {
+    let first = declared(table, 9)?;
+    expect(rt, "code 4", &declared(table, 4)?.tag, &0x35);
+    if let Ok(pairs) = pairs_of(alloc, first) {
+        expect_ten(rt, &pairs);
+    }
+    Ok(())
+}
+
 /// A table for which an allocation is refused is out of memory, and the next reading, with memory,
 /// gives it whole.
 #[test]
 fn each_allocation_refused(rt: HostRuntime) -> Result<(), Fail> {
     let table = many_at_last(rt.alloc())?;
-    let first = declared(&table, 9)?;
-    expect(&rt, "code 4", &declared(&table, 4)?.tag, &0x35);
-    if let Ok(pairs) = pairs_of(rt.alloc(), first) {
-        expect_ten(&rt, &pairs);
-    }
-    Ok(())
+    expect_whole(&rt, rt.alloc(), &table)
 }

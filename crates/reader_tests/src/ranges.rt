@@ -498,15 +498,19 @@ fn expect_list_first<A: Abort>(rt: &A, alloc: Global, units: &Units<'_>) -> Resu
 
 /// The ranges of entries of these units: the entries of lists, the bases, what names a list, both
 /// other attributes, and all three.
+fn expect_ranges<A: Abort>(rt: &A, alloc: Global, units: &Units<'_>) -> Result<(), Fail> {
+    expect_lists(rt, alloc, units)?;
+    expect_bases(rt, alloc, units)?;
+    expect_named(rt, alloc, units)?;
+    expect_pairs(rt, alloc, units)?;
+    expect_list_first(rt, alloc, units)
+}
+
 #[test]
 fn ranges_of_entries(rt: HostRuntime) -> Result<(), Fail> {
     let file = file_of_roots(rt.alloc())?;
     let units = units_of(rt.alloc(), &file)?;
-    expect_lists(&rt, rt.alloc(), &units)?;
-    expect_bases(&rt, rt.alloc(), &units)?;
-    expect_named(&rt, rt.alloc(), &units)?;
-    expect_pairs(&rt, rt.alloc(), &units)?;
-    expect_list_first(&rt, rt.alloc(), &units)
+    expect_ranges(&rt, rt.alloc(), &units)
 }
 
 #[test]
@@ -569,6 +573,24 @@ fn has_ranges_at_last(
 
 /// The same of an entry with these attributes; it holds too where an allocation was refused before
 /// the ranges are read.
+fn is_whole_among(
+    alloc: Global,
+    units: &Units<'_>,
+    pairs: &[(u64, Value<'_>)],
+    rnglists: &[u8],
+    expected: Expected,
+) -> Result<bool, Fail> {
+    let Ok(file) = file_of_entry(alloc, pairs) else {
+        return Ok(true);
+    };
+    let Ok(others) = units_of(alloc, &file) else {
+        return Ok(true);
+    };
+    let entry = first_entry(&others).ok_or("an entry")?;
+    has_ranges_at_last(alloc, units, entry, rnglists, expected)
+}
+
+/// The same among the units above.
 fn is_whole_at_last(
     alloc: Global,
     pairs: &[(u64, Value<'_>)],
@@ -581,14 +603,7 @@ fn is_whole_at_last(
     let Ok(units) = units_of(alloc, &file) else {
         return Ok(true);
     };
-    let Ok(entry_file) = file_of_entry(alloc, pairs) else {
-        return Ok(true);
-    };
-    let Ok(others) = units_of(alloc, &entry_file) else {
-        return Ok(true);
-    };
-    let entry = first_entry(&others).ok_or("an entry")?;
-    has_ranges_at_last(alloc, &units, entry, rnglists, expected)
+    is_whole_among(alloc, &units, pairs, rnglists, expected)
 }
 
 /// An entry from address 5 on with eight bytes.

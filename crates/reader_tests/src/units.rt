@@ -67,14 +67,16 @@ fn present_at<'a>(
     }
 }
 
-/// The attributes of the entry at 0x36 of the sample.
-static ATTRIBUTES: [(u64, Value<'static>); 6] = [
-    (DW_AT_abstract_origin, Value::SectionRef(0x68)),
-    (DW_AT_low_pc, Value::Address(0x40_1002)),
-    (DW_AT_high_pc, Value::Unsigned(6)),
-    (DW_AT_call_file, Value::Unsigned(0)),
-    (DW_AT_call_line, Value::Unsigned(20)),
-    (DW_AT_call_column, Value::Unsigned(7)),
+/// The six attributes of the entry at 0x36 of the sample, which has no name and no attribute 0.
+static ATTRIBUTES: [(u64, Option<Value<'static>>); 8] = [
+    (DW_AT_abstract_origin, Some(Value::SectionRef(0x68))),
+    (DW_AT_low_pc, Some(Value::Address(0x40_1002))),
+    (DW_AT_high_pc, Some(Value::Unsigned(6))),
+    (DW_AT_call_file, Some(Value::Unsigned(0))),
+    (DW_AT_call_line, Some(Value::Unsigned(20))),
+    (DW_AT_call_column, Some(Value::Unsigned(7))),
+    (DW_AT_name, None),
+    (0, None),
 ];
 
 /// The attribute of a name that counts. No clause says which it is, so that its callers are proved
@@ -105,10 +107,8 @@ fn expect_inlined_call<A: Abort>(rt: &A, entry: &Entry<'_>) {
     expect(rt, "the entry", &found, &wanted);
     expect(rt, "attributes", &count_in(entry), &6);
     for (name, value) in &ATTRIBUTES {
-        expect(rt, name, &attribute(entry, *name), &Some(value));
+        expect(rt, name, &attribute(entry, *name), &value.as_ref());
     }
-    expect(rt, "no name", &attribute(entry, DW_AT_name), &None);
-    expect(rt, "no attribute 0", &attribute(entry, 0), &None);
 }
 
 /// The entry of the inlined call is read in each way.
@@ -291,14 +291,18 @@ fn expect_walk<A: Abort>(rt: &A, units: &Units<'_>) -> Result<(), Fail> {
 
 /// What is read of the sample's units: an entry, what is at their borders, which of them holds an
 /// offset, and a walk.
+fn expect_sample<A: Abort>(rt: &A, alloc: Global, units: &Units<'_>) -> Result<(), Fail> {
+    expect_entry(rt, alloc, units)?;
+    expect_borders(rt, alloc, units)?;
+    expect_holding(rt, units);
+    expect_walk(rt, units)
+}
+
 #[test]
 fn units_of_the_sample(rt: HostRuntime) -> Result<(), Fail> {
     let file = sample(rt.alloc())?;
     let units = units_of(rt.alloc(), &file)?;
-    expect_entry(&rt, rt.alloc(), &units)?;
-    expect_borders(&rt, rt.alloc(), &units)?;
-    expect_holding(&rt, &units);
-    expect_walk(&rt, &units)
+    expect_sample(&rt, rt.alloc(), &units)
 }
 
 /// A unit; a function with two names, a number and a text, and the count of its addresses; one with
@@ -316,16 +320,26 @@ fn file_with(alloc: Global, entry: &[u8], declarations: &[u8]) -> Result<Vec<u8>
     file_of(alloc, &info, declarations)
 }
 
-/// An entry has two names, of which the first is a number, and so none.
+/// Names of attributes of an entry that has two names, and of each the value that counts and the
+/// first one. The first name is a number, and so none.
+static TWO_NAMES: [(u64, Option<Value<'static>>, Option<Value<'static>>); 3] = [
+    (DW_AT_name, None, Some(Value::Unsigned(5))),
+    (
+        DW_AT_high_pc,
+        Some(Value::Signed(-3)),
+        Some(Value::Signed(-3)),
+    ),
+    (DW_AT_low_pc, None, None),
+];
+
+/// An entry has these three attributes, of which one is kept.
 fn expect_two_names<A: Abort>(rt: &A, entry: &Entry<'_>) {
-    expect(rt, "the entry", &(entry.next, count_in(entry)), &(18, 3));
-    expect(rt, "no name", &attribute(entry, DW_AT_name), &None);
-    let name = first_attribute(entry, DW_AT_name);
-    expect(rt, "the first name", &name, &Some(Value::Unsigned(5)));
-    let high = attribute(entry, DW_AT_high_pc);
-    expect(rt, "a number", &high, &Some(&Value::Signed(-3)));
-    let low = first_attribute(entry, DW_AT_low_pc);
-    expect(rt, "kept", &(low, kept_in(entry)), &(None, 1));
+    let found = (entry.next, count_in(entry), kept_in(entry));
+    expect(rt, "the entry", &found, &(18, 3, 1));
+    for (name, value, first) in &TWO_NAMES {
+        expect(rt, name, &attribute(entry, *name), &value.as_ref());
+        expect(rt, name, &first_attribute(entry, *name), first);
+    }
 }
 
 /// The second entry, read in each way, has two names.
@@ -466,38 +480,46 @@ static UNREADABLE_TABLES: [&[u8]; 7] = [
     ],
 ];
 
+/// Why the units with these declarations can't be read.
+fn refusal_of(
+    alloc: Global,
+    info: &[u8],
+    declarations: &[u8],
+) -> Result<Option<OpenFault>, AllocError> {
+    let file = file_of(alloc, info, declarations)?;
+    Ok(units_of(alloc, &file).err())
+}
+
+/// The same where the first declaration is the one that the unit asks for, and a table follows.
+fn refusal_behind(
+    alloc: Global,
+    info: &[u8],
+    table: &[u8],
+) -> Result<Option<OpenFault>, AllocError> {
+    let mut behind = Vec::from_slice(alloc, &[1, 0x11, 1, 0, 0])?;
+    behind.extend_from_slice(table)?;
+    refusal_of(alloc, info, &behind)
+}
+
+/// A unit can't be read with any of these tables.
+fn expect_unreadable<A: Abort>(rt: &A, alloc: Global, info: &[u8]) -> Result<(), Fail> {
+    let root = Some(OpenFault::Root(0));
+    for (i, table) in UNREADABLE_TABLES.iter().enumerate() {
+        expect(rt, i, &refusal_of(alloc, info, table)?, &root);
+        expect(rt, i, &refusal_behind(alloc, info, table)?, &root);
+    }
+    Ok(())
+}
+
 /// The abbreviations of a unit can't be read where anything in their table can't be, and that isn't
 /// out of memory.
 #[test]
 fn unreadable_tables(rt: HostRuntime) -> Result<(), Fail> {
     let info = unit_of(rt.alloc(), &[1, 0])?;
-    for (i, table) in UNREADABLE_TABLES.iter().enumerate() {
-        let file = file_of(rt.alloc(), &info, table)?;
-        expect(
-            &rt,
-            i,
-            &units_of(rt.alloc(), &file).err(),
-            &Some(OpenFault::Root(0)),
-        );
-        // The first declaration is the one that the unit asks for, and what follows can't be read.
-        let mut behind = Vec::from_slice(rt.alloc(), &[1, 0x11, 1, 0, 0])?;
-        behind.extend_from_slice(table)?;
-        let file = file_of(rt.alloc(), &info, &behind)?;
-        expect(
-            &rt,
-            i,
-            &units_of(rt.alloc(), &file).err(),
-            &Some(OpenFault::Root(0)),
-        );
-    }
+    expect_unreadable(&rt, rt.alloc(), &info)?;
     let past_the_end = poked(rt.alloc(), &info, 8, 99)?;
-    let file = file_of(rt.alloc(), &past_the_end, DECLARATIONS)?;
-    expect(
-        &rt,
-        "past the end",
-        &units_of(rt.alloc(), &file).err(),
-        &Some(OpenFault::Root(0)),
-    );
+    let found = refusal_of(rt.alloc(), &past_the_end, DECLARATIONS)?;
+    expect(&rt, "past the end", &found, &Some(OpenFault::Root(0)));
     Ok(())
 }
 
@@ -517,13 +539,8 @@ static NO_ROOTS: [&[u8]; 6] = [
 fn units_without_a_root(rt: HostRuntime) -> Result<(), Fail> {
     for (i, entries) in NO_ROOTS.iter().enumerate() {
         let info = unit_of(rt.alloc(), entries)?;
-        let file = file_of(rt.alloc(), &info, DECLARATIONS)?;
-        expect(
-            &rt,
-            i,
-            &units_of(rt.alloc(), &file).err(),
-            &Some(OpenFault::Root(0)),
-        );
+        let found = refusal_of(rt.alloc(), &info, DECLARATIONS)?;
+        expect(&rt, i, &found, &Some(OpenFault::Root(0)));
     }
     Ok(())
 }
@@ -562,36 +579,57 @@ fn faults_at<'a>(
     Ok([alone, in_place])
 }
 
-#[test]
-fn skeleton_and_skipped_units(rt: HostRuntime) -> Result<(), Fail> {
-    let file = file_of(rt.alloc(), SKELETON, DECLARATIONS)?;
-    let units = units_of(rt.alloc(), &file)?;
-    expect(&rt, "units", &units.len(), &2);
-    let skeleton = unit_at(&units, 0)?;
+/// The first unit is a skeleton, whose first entry is read in each way.
+fn expect_skeleton<A: Abort>(rt: &A, alloc: Global, units: &Units<'_>) -> Result<(), Fail> {
+    let skeleton = unit_at(units, 0)?;
     expect(
-        &rt,
+        rt,
         "a skeleton",
         &(skeleton.0, skeleton.1),
         &(Kind::Skeleton, 20),
     );
     for way in &WAYS {
-        let root = tag_and_next(rt.alloc(), &units, 0, 20, *way)?;
-        expect(&rt, "a first entry", &root, &(DW_TAG_compile_unit, 21));
+        let root = tag_and_next(alloc, units, 0, 20, *way)?;
+        expect(rt, "a first entry", &root, &(DW_TAG_compile_unit, 21));
     }
-    let skipped = unit_at(&units, 1)?;
+    Ok(())
+}
+
+/// The second one is skipped, and has no entry that is read.
+fn expect_skipped<'a, A: Abort>(
+    rt: &A,
+    alloc: Global,
+    units: &Units<'a>,
+    kept: &mut Entry<'a>,
+) -> Result<(), Fail> {
+    let skipped = unit_at(units, 1)?;
     let wanted = (Kind::Skipped, false, false);
-    expect(&rt, "skipped", &(skipped.0, skipped.2, skipped.3), &wanted);
-    let mut kept = Entry::unread(rt.alloc());
+    expect(rt, "skipped", &(skipped.0, skipped.2, skipped.3), &wanted);
     for offset in [0, 22, 33, 35, 36, u64::MAX] {
-        let faults = faults_at(rt.alloc(), &units, offset, &mut kept)?;
+        let faults = faults_at(alloc, units, offset, kept)?;
         expect(
-            &rt,
+            rt,
             offset,
             &faults,
             &[Some(FormFault::End), Some(FormFault::End)],
         );
     }
     Ok(())
+}
+
+/// There are both, and no other.
+fn expect_both<A: Abort>(rt: &A, alloc: Global, units: &Units<'_>) -> Result<(), Fail> {
+    expect(rt, "units", &units.len(), &2);
+    expect_skeleton(rt, alloc, units)?;
+    let mut kept = Entry::unread(alloc);
+    expect_skipped(rt, alloc, units, &mut kept)
+}
+
+#[test]
+fn skeleton_and_skipped_units(rt: HostRuntime) -> Result<(), Fail> {
+    let file = file_of(rt.alloc(), SKELETON, DECLARATIONS)?;
+    let units = units_of(rt.alloc(), &file)?;
+    expect_both(&rt, rt.alloc(), &units)
 }
 
 /// A unit and a function of 13 attributes, of which the last three count.
@@ -673,13 +711,24 @@ fn in_place_at_last<'a>(units: &Units<'a>, kept: &mut Entry<'a>) -> Result<bool,
     units.read_entry(0, 13, kept)
 }
 
-/// The entry is whole, by itself and read into another, where it is read once more after an
-/// allocation was refused.
-fn is_read_at_last(alloc: Global, units: &Units<'_>) -> Result<bool, Fail> {
-    let found = alone_at_last(alloc, units)?.ok_or("no null entry")?;
+/// The entry is whole, where it is read once more after an allocation was refused.
+fn is_whole_alone(alloc: Global, units: &Units<'_>) -> Result<bool, Fail> {
+    match alone_at_last(alloc, units)? {
+        Some(found) => Ok(is_whole(alloc, &found)?),
+        None => Err(Fail::from("no null entry")),
+    }
+}
+
+/// The same, read into another.
+fn is_whole_in_place(alloc: Global, units: &Units<'_>) -> Result<bool, Fail> {
     let mut kept = Entry::unread(alloc);
     let read = in_place_at_last(units, &mut kept)?;
-    Ok(read && is_whole(alloc, &kept)? && is_whole(alloc, &found)?)
+    Ok(read && is_whole(alloc, &kept)?)
+}
+
+/// Both hold.
+fn is_read_at_last(alloc: Global, units: &Units<'_>) -> Result<bool, Fail> {
+    Ok(is_whole_alone(alloc, units)? && is_whole_in_place(alloc, units)?)
 }
 
 /// Where an allocation is refused, units and an entry are out of memory, and the same call, with
