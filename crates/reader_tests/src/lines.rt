@@ -212,24 +212,31 @@ const MANY_ROWS: &[u8] = &[
     0x21, 0x21, 2, 1, 0, 1, 1,
 ];
 
-/// The rows of file 1 and column 0 at addresses have these lines, in the i-th program.
-fn expect_rows<A: Abort>(rt: &A, lines: &Lines<'_>, i: usize, rows: &[(u64, Option<u64>)]) {
+/// The rows of file 1 and column 0 at addresses have these lines, in the table of the i-th program.
+fn expect_rows<A: Abort>(
+    rt: &A,
+    alloc: Global,
+    section: &[u8],
+    i: usize,
+    rows: &[(u64, Option<u64>)],
+) -> Result<(), LineFault> {
+    let lines = read(alloc, section, None)?;
     for (address, line) in rows {
         let wanted = line.map(|line| Row {
             file: 1,
             line,
             column: 0,
         });
-        expect(rt, (i, *address), &row_at(lines, *address), &wanted);
+        expect(rt, (i, *address), &row_at(&lines, *address), &wanted);
     }
+    Ok(())
 }
 
 #[test]
 fn rows_of_programs(rt: HostRuntime) -> Result<(), Fail> {
     for (i, (header, program, rows)) in PROGRAMS.iter().enumerate() {
         let section = line_table(rt.alloc(), header, program)?;
-        let lines = read(rt.alloc(), &section, None)?;
-        expect_rows(&rt, &lines, i, rows);
+        expect_rows(&rt, rt.alloc(), &section, i, rows)?;
     }
     Ok(())
 }
@@ -461,8 +468,8 @@ fn offsets_of_tables(rt: HostRuntime) -> Result<(), Fail> {
     let section = two_tables(rt.alloc())?;
     let second = line_from(rt.alloc(), &section, 53, 0x40_1000);
     expect(&rt, "the second", &second, &Ok(Some(3)));
-    for offset in [1, 54, 123, 124, 125, u64::MAX] {
-        let found = line_from(rt.alloc(), &section, offset, 0x40_1000);
+    for offset in &[1, 54, 123, 124, 125, u64::MAX] {
+        let found = line_from(rt.alloc(), &section, *offset, 0x40_1000);
         expect(&rt, offset, &found, &Err(LineFault::Bad));
     }
     Ok(())
@@ -551,7 +558,7 @@ fn path_at_last(alloc: Global, lines: &Lines<'_>) -> Result<Option<Vec<u8>>, All
 }
 
 /// The path of file 0 is this one, where it is made once more after an allocation was refused.
-fn expect_path<A: Abort>(rt: &A, alloc: Global, lines: &Lines<'_>) -> Result<(), AllocError> {
+fn expect_path<A: Abort>(rt: &A, alloc: Global, lines: &Lines<'_>) -> Result<(), Fail> {
     let path = path_at_last(alloc, lines)?;
     expect(
         rt,
@@ -572,6 +579,5 @@ fn each_allocation_refused(rt: HostRuntime) -> Result<(), Fail> {
     let lines = read_at_last(rt.alloc(), &section)?;
     // a row of each sequence
     expect_lines(&rt, &lines, &[(0x1003, Some(4)), (0x2009, Some(10))]);
-    expect_path(&rt, rt.alloc(), &lines)?;
-    Ok(())
+    expect_path(&rt, rt.alloc(), &lines)
 }

@@ -404,8 +404,9 @@ fn chain_at_last(alloc: Global, tree: &Tree<'_>, a: u64) -> Result<Vec<EntryId>,
     Ok(chain)
 }
 
-/// The innermost of three functions is `leaf`.
-fn expect_leaf<A: Abort>(rt: &A, tree: &Tree<'_>, chain: &[EntryId]) -> Result<(), Fail> {
+/// The innermost of three functions at an address is `leaf`.
+fn expect_leaf<A: Abort>(rt: &A, alloc: Global, tree: &Tree<'_>) -> Result<(), Fail> {
+    let chain = chain_at_last(alloc, tree, 0x40_1004)?;
     expect(rt, "functions", &chain.len(), &3);
     let innermost = chain.first().copied().ok_or("a function")?;
     let name = name_of(tree, innermost);
@@ -417,8 +418,7 @@ fn expect_leaf<A: Abort>(rt: &A, tree: &Tree<'_>, chain: &[EntryId]) -> Result<(
 /// refused.
 fn expect_whole<A: Abort>(rt: &A, alloc: Global, units: &Arc<Units<'_>>) -> Result<(), Fail> {
     let tree = tree_at_last(alloc, units)?;
-    let chain = chain_at_last(alloc, &tree, 0x40_1004)?;
-    expect_leaf(rt, &tree, &chain)
+    expect_leaf(rt, alloc, &tree)
 }
 
 /// Where an allocation is refused, a tree and a chain are out of memory, and the same call, with

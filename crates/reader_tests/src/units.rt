@@ -207,8 +207,8 @@ fn past_byte(alloc: Global, byte: u8) -> Result<u64, Fail> {
 #[test]
 fn past_null_entries(rt: HostRuntime) -> Result<(), Fail> {
     // Four null entries of one byte each; then the first two bytes as one padded code.
-    for (byte, past) in [(0, 0x58), (0x80, 0x59)] {
-        expect(&rt, byte, &past_byte(rt.alloc(), byte)?, &past);
+    for (byte, past) in &[(0, 0x58), (0x80, 0x59)] {
+        expect(&rt, byte, &past_byte(rt.alloc(), *byte)?, past);
     }
     Ok(())
 }
@@ -269,21 +269,21 @@ fn step_of(entries: &mut Entries<'_, '_>) -> Result<Step, FormFault> {
     })
 }
 
-/// A walk over the sample's first unit.
-fn expect_walk<A: Abort>(rt: &A, units: &Units<'_>) -> Result<(), Fail> {
-    let mut entries = walk_over(units)?;
-    // The unit's first entry and the lexical block are no functions; the abstract instance at 0x1d
-    // names no ranges.
-    let rows = [None, None, Some(0x23), None, Some(0x36), Some(0x47)];
-    for row in rows {
+/// The offsets of the functions that a walk over the sample's first unit gives. The unit's first
+/// entry and the lexical block are no functions; the abstract instance at 0x1d names no ranges.
+static STEPS: [Option<u64>; 6] = [None, None, Some(0x23), None, Some(0x36), Some(0x47)];
+
+/// The steps of this walk.
+fn expect_steps<A: Abort>(rt: &A, entries: &mut Entries<'_, '_>) -> Result<(), Fail> {
+    for row in &STEPS {
         assert!(rt; !entries.is_done());
-        let (given, offset, children) = step_of(&mut entries)?;
+        let (given, offset, children) = step_of(entries)?;
         assert!(rt; given != Given::Null);
         assert!(rt; children == (given == Given::Passed));
-        expect(rt, "a step", &offset, &row);
+        expect(rt, "a step", &offset, row);
     }
     for _ in 0..4 {
-        expect(rt, "the end", &step_of(&mut entries)?.0, &Given::Null);
+        expect(rt, "the end", &step_of(entries)?.0, &Given::Null);
     }
     assert!(rt; entries.is_done());
     Ok(())
@@ -295,7 +295,8 @@ fn expect_sample<A: Abort>(rt: &A, alloc: Global, units: &Units<'_>) -> Result<(
     expect_entry(rt, alloc, units)?;
     expect_borders(rt, alloc, units)?;
     expect_holding(rt, units);
-    expect_walk(rt, units)
+    let mut entries = walk_over(units)?;
+    expect_steps(rt, &mut entries)
 }
 
 #[test]
@@ -379,11 +380,11 @@ static FUNCTIONS: [(&[u8], &[u8], Given); 9] = [
     (&[3, 8], &[b'f', 0], Given::Unranged),
 ];
 
-/// How a walk over the first unit gives its second entry.
-fn second_of_walk(units: &Units<'_>) -> Result<Given, Fail> {
+/// The second step of a walk over the first unit, or why its entry can't be read.
+fn second_step(units: &Units<'_>) -> Result<Result<Step, FormFault>, Fail> {
     let mut entries = walk_over(units)?;
     let _first = step_of(&mut entries)?;
-    Ok(step_of(&mut entries)?.0)
+    Ok(step_of(&mut entries))
 }
 
 /// The declarations of a unit and of an entry of a tag with these attributes.
@@ -406,16 +407,16 @@ fn given_to(alloc: Global, tag: u8, attributes: &[u8], values: &[u8]) -> Result<
     let declarations = declaring(alloc, tag, attributes)?;
     let file = declared_with(alloc, &declarations, values)?;
     let units = units_of(alloc, &file)?;
-    second_of_walk(&units)
+    Ok(second_step(&units)??.0)
 }
 
 #[test]
 fn functions_by_their_declarations(rt: HostRuntime) -> Result<(), Fail> {
-    for tag in [0x2e, 0x1d, 0x0b] {
+    for tag in &[0x2e, 0x1d, 0x0b] {
         for (attributes, values, given) in &FUNCTIONS {
-            let found = given_to(rt.alloc(), tag, attributes, values)?;
+            let found = given_to(rt.alloc(), *tag, attributes, values)?;
             // A lexical block is no function.
-            let expected = if tag == 0x0b { Given::Passed } else { *given };
+            let expected = if *tag == 0x0b { Given::Passed } else { *given };
             expect(&rt, attributes, &found, &expected);
         }
     }
@@ -433,18 +434,12 @@ static FAULTS: [(&[u8], FormFault); 4] = [
     (&[5], FormFault::Code),
 ];
 
-/// Why a walk over the first unit can't read its second entry.
-fn fault_of_walk(units: &Units<'_>) -> Result<Option<FormFault>, Fail> {
-    let mut entries = walk_over(units)?;
-    let _first = step_of(&mut entries)?;
-    Ok(step_of(&mut entries).err())
-}
-
 /// Why the second entry can't be read, in each way and by a walk.
 fn faults_of_second(alloc: Global, units: &Units<'_>) -> Result<[Option<FormFault>; 3], Fail> {
     let alone = refusal_at(alloc, units, 13, Way::Alone)?;
     let in_place = refusal_at(alloc, units, 13, Way::InPlace)?;
-    Ok([alone, in_place, fault_of_walk(units)?])
+    let by_a_walk = second_step(units)?.err();
+    Ok([alone, in_place, by_a_walk])
 }
 
 /// The same of a file with this entry.
