@@ -557,8 +557,10 @@ fn path_at_last(alloc: Global, lines: &Lines<'_>) -> Result<Option<Vec<u8>>, All
     Ok(path)
 }
 
-/// The path of file 0 is this one, where it is made once more after an allocation was refused.
-fn expect_path<A: Abort>(rt: &A, alloc: Global, lines: &Lines<'_>) -> Result<(), Fail> {
+/// A table has a row of each sequence, and the path of file 0, which is made once more where an
+/// allocation was refused.
+fn expect_whole<A: Abort>(rt: &A, alloc: Global, lines: &Lines<'_>) -> Result<(), Fail> {
+    expect_lines(rt, lines, &[(0x1003, Some(4)), (0x2009, Some(10))]);
     let path = path_at_last(alloc, lines)?;
     expect(
         rt,
@@ -577,7 +579,5 @@ fn each_allocation_refused(rt: HostRuntime) -> Result<(), Fail> {
         return Ok(());
     };
     let lines = read_at_last(rt.alloc(), &section)?;
-    // a row of each sequence
-    expect_lines(&rt, &lines, &[(0x1003, Some(4)), (0x2009, Some(10))]);
-    expect_path(&rt, rt.alloc(), &lines)
+    expect_whole(&rt, rt.alloc(), &lines)
 }

@@ -387,6 +387,11 @@ fn second_step(units: &Units<'_>) -> Result<Result<Step, FormFault>, Fail> {
     Ok(step_of(&mut entries))
 }
 
+/// How such a walk gives its second entry.
+fn second_given(units: &Units<'_>) -> Result<Given, Fail> {
+    Ok(second_step(units)??.0)
+}
+
 /// The declarations of a unit and of an entry of a tag with these attributes.
 fn declaring(alloc: Global, tag: u8, attributes: &[u8]) -> Result<Vec<u8>, AllocError> {
     let mut declarations = vec![in alloc; 1, 0x11, 1, 0, 0, 2, tag, 0]?;
@@ -407,7 +412,7 @@ fn given_to(alloc: Global, tag: u8, attributes: &[u8], values: &[u8]) -> Result<
     let declarations = declaring(alloc, tag, attributes)?;
     let file = declared_with(alloc, &declarations, values)?;
     let units = units_of(alloc, &file)?;
-    Ok(second_step(&units)??.0)
+    second_given(&units)
 }
 
 #[test]
