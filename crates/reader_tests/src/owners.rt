@@ -26,12 +26,22 @@ fn differs(index: &Index, rows: &[(u64, Option<usize>)]) -> Option<u64> {
     None
 }
 
+/// An index of these pairs finds these owners.
+fn expect_owners<A: Abort>(
+    rt: &A,
+    alloc: Global,
+    name: &str,
+    pairs: &[(Range, usize)],
+    rows: &[(u64, Option<usize>)],
+) -> Result<(), Fail> {
+    let index = Index::build(alloc, pairs)?;
+    expect(rt, name, &differs(&index, rows), &None);
+    Ok(())
+}
+
 #[test]
 fn nested_ranges(rt: HostRuntime) -> Result<(), Fail> {
-    let outer_first = Index::build(
-        rt.alloc(),
-        &[pair(0x1000, 0x3000, 0), pair(0x2000, 0x2010, 1)],
-    )?;
+    let pairs = &[pair(0x1000, 0x3000, 0), pair(0x2000, 0x2010, 1)];
     let rows: &[(u64, Option<usize>)] = &[
         (0x0fff, None),
         (0x1000, Some(0)),
@@ -39,30 +49,22 @@ fn nested_ranges(rt: HostRuntime) -> Result<(), Fail> {
         (0x2fff, Some(0)),
         (0x3000, None),
     ];
-    expect(&rt, "outer first", &differs(&outer_first, rows), &None);
-    let inner_first = Index::build(
-        rt.alloc(),
-        &[pair(0x1000, 0x3000, 1), pair(0x2000, 0x2010, 0)],
-    )?;
+    expect_owners(&rt, rt.alloc(), "outer first", pairs, rows)?;
+    let pairs = &[pair(0x1000, 0x3000, 1), pair(0x2000, 0x2010, 0)];
     let rows: &[(u64, Option<usize>)] = &[
         (0x1fff, Some(1)),
         (0x2000, Some(0)),
         (0x200f, Some(0)),
         (0x2010, Some(1)),
     ];
-    expect(&rt, "inner first", &differs(&inner_first, rows), &None);
-    Ok(())
+    expect_owners(&rt, rt.alloc(), "inner first", pairs, rows)
 }
 
 #[test]
 fn no_ranges(rt: HostRuntime) -> Result<(), Fail> {
-    let index = Index::build(rt.alloc(), &[])?;
     let rows: &[(u64, Option<usize>)] = &[(0, None), (0x1000, None), (u64::MAX, None)];
-    expect(&rt, "none", &differs(&index, rows), &None);
-    let index = Index::build(
-        rt.alloc(),
-        &[pair(5, 5, 0), pair(9, 3, 1), pair(u64::MAX, 0, 2)],
-    )?;
+    expect_owners(&rt, rt.alloc(), "none", &[], rows)?;
+    let pairs = &[pair(5, 5, 0), pair(9, 3, 1), pair(u64::MAX, 0, 2)];
     let rows: &[(u64, Option<usize>)] = &[
         (0, None),
         (3, None),
@@ -71,19 +73,15 @@ fn no_ranges(rt: HostRuntime) -> Result<(), Fail> {
         (u64::MAX - 1, None),
         (u64::MAX, None),
     ];
-    expect(&rt, "empty", &differs(&index, rows), &None);
-    Ok(())
+    expect_owners(&rt, rt.alloc(), "empty", pairs, rows)
 }
 
 #[test]
 fn ranges_at_the_ends(rt: HostRuntime) -> Result<(), Fail> {
-    let index = Index::build(
-        rt.alloc(),
-        &[
-            pair(0, 1, 7),
-            pair(0xffff_ffff_ffff_fff0, u64::MAX, usize::MAX),
-        ],
-    )?;
+    let pairs = &[
+        pair(0, 1, 7),
+        pair(0xffff_ffff_ffff_fff0, u64::MAX, usize::MAX),
+    ];
     let rows: &[(u64, Option<usize>)] = &[
         (0, Some(7)),
         (1, None),
@@ -92,24 +90,20 @@ fn ranges_at_the_ends(rt: HostRuntime) -> Result<(), Fail> {
         (u64::MAX - 1, Some(usize::MAX)),
         (u64::MAX, None),
     ];
-    expect(&rt, "ends", &differs(&index, rows), &None);
-    Ok(())
+    expect_owners(&rt, rt.alloc(), "ends", pairs, rows)
 }
 
 /// Equal ranges, ranges that touch, and owners that own several.
 #[test]
 fn ranges_side_by_side(rt: HostRuntime) -> Result<(), Fail> {
-    let index = Index::build(
-        rt.alloc(),
-        &[
-            pair(10, 20, 3),
-            pair(10, 20, 2),
-            pair(20, 30, 2),
-            pair(30, 40, 1),
-            pair(15, 35, 9),
-            pair(50, 60, 3),
-        ],
-    )?;
+    let pairs = &[
+        pair(10, 20, 3),
+        pair(10, 20, 2),
+        pair(20, 30, 2),
+        pair(30, 40, 1),
+        pair(15, 35, 9),
+        pair(50, 60, 3),
+    ];
     let rows: &[(u64, Option<usize>)] = &[
         (9, None),
         (10, Some(2)),
@@ -122,8 +116,7 @@ fn ranges_side_by_side(rt: HostRuntime) -> Result<(), Fail> {
         (50, Some(3)),
         (60, None),
     ];
-    expect(&rt, "sides", &differs(&index, rows), &None);
-    Ok(())
+    expect_owners(&rt, rt.alloc(), "sides", pairs, rows)
 }
 
 /// The least owner of the ranges that hold an address, one after the other.

@@ -333,7 +333,7 @@ static TWO_NAMES: [(u64, Option<Value<'static>>, Option<Value<'static>>); 3] = [
     (DW_AT_low_pc, None, None),
 ];
 
-/// An entry has these three attributes, of which one is kept.
+/// An entry has three attributes, of which one is kept, and these values of them.
 fn expect_two_names<A: Abort>(rt: &A, entry: &Entry<'_>) {
     let found = (entry.next, count_in(entry), kept_in(entry));
     expect(rt, "the entry", &found, &(18, 3, 1));
@@ -490,7 +490,7 @@ fn refusal_of(
     Ok(units_of(alloc, &file).err())
 }
 
-/// The same where the first declaration is the one that the unit asks for, and a table follows.
+/// The same where a table follows the declaration that the unit asks for.
 fn refusal_behind(
     alloc: Global,
     info: &[u8],
@@ -506,6 +506,7 @@ fn expect_unreadable<A: Abort>(rt: &A, alloc: Global, info: &[u8]) -> Result<(),
     let root = Some(OpenFault::Root(0));
     for (i, table) in UNREADABLE_TABLES.iter().enumerate() {
         expect(rt, i, &refusal_of(alloc, info, table)?, &root);
+        // The first declaration is the one that the unit asks for, and what follows can't be read.
         expect(rt, i, &refusal_behind(alloc, info, table)?, &root);
     }
     Ok(())
