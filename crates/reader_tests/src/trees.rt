@@ -13,12 +13,12 @@ use std::test::Fail;
 use test_inputs::files::{ABBREVS, INFO, file_of, poked, sample, unit_of};
 
 /// The units of a file, for trees that keep them.
-pub(crate) fn shared_units<'a>(alloc: Global, file: &'a [u8]) -> Result<Arc<Units<'a>>, OpenFault> {
+fn shared_units<'a>(alloc: Global, file: &'a [u8]) -> Result<Arc<Units<'a>>, OpenFault> {
     Ok(Arc::new(alloc, units_of(alloc, file)?)?)
 }
 
 /// The functions of the unit at an index, which isn't skipped.
-pub(crate) fn tree_at<'a>(
+fn tree_at<'a>(
     alloc: Global,
     units: &Arc<Units<'a>>,
     i: usize,
