@@ -1,8 +1,12 @@
 //! Frames of addresses, worked out by hand, and what no clause says: that calls succeed, and that
 //! contexts go to threads.
 
+use crate::answers::{
+    Question, Row, Wanted, expect_answer, expect_answers, expect_at_last, expect_each_alone,
+    expect_of_image,
+};
 use crate::expect::expect;
-use crate::spans::{PIECES, expect_pieces};
+use crate::spans::PIECES;
 use dw_elf::OpenFault;
 use dw_symbols::{Answer, Context, Image, UnitFault};
 use std::alloc::{AllocError, Global};
@@ -10,29 +14,30 @@ use std::num::NonZeroUsize;
 use std::process::Abort;
 use std::test::Fail;
 use std::thread;
+use std::thread::Threads;
 use test_inputs::files::{ABBREVS, INFO, file_of, poked, sample, with_lines};
 use ticket_core::{NoMemory, Query, Solver};
 
 /// The name of a frame, and its path, line and column.
-pub type Wanted<'a> = (Option<&'a [u8]>, Option<&'a [u8]>, Option<u64>, Option<u64>);
+pub type WantedFrame<'a> = (Option<&'a [u8]>, Option<&'a [u8]>, Option<u64>, Option<u64>);
 
 /// The frames at 0x401004 of the sample, and where that address comes from.
-pub const INLINED: &[Wanted<'_>] = &[
+pub const INLINED: &[WantedFrame<'_>] = &[
     (Some(b"leaf"), Some(b"/w/a.c"), Some(4), Some(0)),
     (Some(b"mid"), Some(b"/w/a.c"), Some(30), None),
     (Some(b"main"), Some(b"/w/z.c"), Some(20), Some(7)),
 ];
 
 /// The frames at 0x401000 of the sample.
-pub const IN_MAIN: &[Wanted<'_>] = &[(Some(b"main"), Some(b"/w/a.c"), Some(3), Some(0))];
+pub const IN_MAIN: &[WantedFrame<'_>] = &[(Some(b"main"), Some(b"/w/a.c"), Some(3), Some(0))];
 
-const LINE: &[Wanted<'_>] = &[(None, Some(b"/w/a.c"), Some(4), Some(0))];
+const LINE: &[WantedFrame<'_>] = &[(None, Some(b"/w/a.c"), Some(4), Some(0))];
 
 /// The frame where nothing is known.
-const UNKNOWN: &[Wanted<'_>] = &[(None, None, None, None)];
+const UNKNOWN: &[WantedFrame<'_>] = &[(None, None, None, None)];
 
 /// An answer is of a unit and has these frames.
-pub fn expect_frames<A: Abort>(rt: &A, answer: &Answer<'_>, unit: u64, wanted: &[Wanted<'_>]) {
+pub fn expect_frames<A: Abort>(rt: &A, answer: &Answer<'_>, unit: u64, wanted: &[WantedFrame<'_>]) {
     let Answer::Found {
         unit: found,
         frames,
@@ -79,74 +84,104 @@ pub fn location_at<'a>(context: &mut Context<'_, 'a>, a: u64) -> Result<Answer<'
     context.find_location(a)
 }
 
-#[test]
-fn units_come_and_go(rt: HostRuntime) -> Result<(), Fail> {
-    let file = sample(rt.alloc())?;
-    let image = image_of(rt.alloc(), &file)?;
-    let mut context = context_of(rt.alloc(), &image)?;
-    let rows = [
-        (0x40_1004, 0, INLINED),
-        (0x50_0001, 0x6e, UNKNOWN),
-        (0x40_1004, 0, INLINED),
-    ];
-    for (a, unit, wanted) in rows {
-        expect_frames(&rt, &frames_at(&mut context, a)?, unit, wanted);
-    }
-    expect_frames(&rt, &location_at(&mut context, 0x40_1004)?, 0, LINE);
-    assert!(rt; matches!(frames_at(&mut context, 0x50_0004)?, Answer::NotCovered));
-    assert!(rt; matches!(location_at(&mut context, 0x50_0004)?, Answer::NotCovered));
-    Ok(())
-}
+/// What the sample answers, whose units come and go.
+static UNITS: [Row<'static>; 6] = [
+    (Question::Frames(0x40_1004), Wanted::Frames(0, INLINED)),
+    (Question::Frames(0x50_0001), Wanted::Frames(0x6e, UNKNOWN)),
+    (Question::Frames(0x40_1004), Wanted::Frames(0, INLINED)),
+    (Question::Location(0x40_1004), Wanted::Frames(0, LINE)),
+    (Question::Frames(0x50_0004), Wanted::NotCovered),
+    (Question::Location(0x50_0004), Wanted::NotCovered),
+];
 
 /// Asks by the bound alone.
 fn solved<S: Solver>(solver: &mut S, query: Query) -> Result<S::Answer, NoMemory> {
     solver.solve(query)
 }
 
-#[test]
-fn as_solver(rt: HostRuntime) -> Result<(), Fail> {
-    let file = sample(rt.alloc())?;
-    let image = image_of(rt.alloc(), &file)?;
-    let mut context = context_of(rt.alloc(), &image)?;
-    assert!(rt; context.key() == file.as_slice());
-    expect_frames(
-        &rt,
-        &solved(&mut context, Query::address(0x40_1004))?,
-        0,
-        INLINED,
-    );
-    expect_frames(
-        &rt,
-        &solved(&mut context, Query::address(0x50_0001))?,
-        0x6e,
-        UNKNOWN,
-    );
+/// A query is answered by the bound alone.
+fn expect_solved<A: Abort>(
+    rt: &A,
+    context: &mut Context<'_, '_>,
+    query: Query,
+    wanted: &Wanted<'_>,
+) -> Result<(), NoMemory> {
+    expect_answer(rt, &solved(context, query)?, wanted);
+    Ok(())
+}
+
+/// A context has the file as its key, and answers addresses and a span.
+fn expect_solver<A: Abort>(rt: &A, context: &mut Context<'_, '_>, file: &[u8]) -> Result<(), Fail> {
+    assert!(rt; context.key() == file);
     let Some(span) = Query::range(0x40_1002, 0x40_1006) else {
         return Err(Fail::from("a span"));
     };
-    expect_pieces(&rt, &solved(&mut context, span)?, PIECES);
+    let rows = &[
+        (Query::address(0x40_1004), Wanted::Frames(0, INLINED)),
+        (Query::address(0x50_0001), Wanted::Frames(0x6e, UNKNOWN)),
+        (span, Wanted::Pieces(PIECES)),
+    ];
+    for (query, wanted) in rows {
+        expect_solved(rt, context, *query, wanted)?;
+    }
     Ok(())
+}
+
+/// A context is a solver.
+fn as_solver<A: Abort>(rt: &A, alloc: Global, image: &Image<'_>, file: &[u8]) -> Result<(), Fail> {
+    let mut context = context_of(alloc, image)?;
+    expect_solver(rt, &mut context, file)
 }
 
 /// What may go to threads and be shared by them.
 fn crosses<T: Send + Sync>(_value: &T) {}
 
-#[test]
-fn on_threads(rt: HostRuntime) -> Result<(), Fail> {
-    let file = sample(rt.alloc())?;
-    let image = image_of(rt.alloc(), &file)?;
-    let mut first = context_of(rt.alloc(), &image)?;
-    let mut second = context_of(rt.alloc(), &image)?;
-    crosses(&image);
-    crosses(&first);
+/// Two contexts go to threads.
+fn on_threads<R: Abort + Threads>(
+    rt: &R,
+    mut first: Context<'_, '_>,
+    mut second: Context<'_, '_>,
+) -> Result<(), AllocError> {
     let (one, other) = thread::join(
-        &rt,
+        rt,
         move || frames_at(&mut first, 0x40_1004),
         move || frames_at(&mut second, 0x50_0001),
     );
-    expect_frames(&rt, &one?, 0, INLINED);
-    expect_frames(&rt, &other?, 0x6e, UNKNOWN);
+    expect_frames(rt, &one?, 0, INLINED);
+    expect_frames(rt, &other?, 0x6e, UNKNOWN);
     Ok(())
+}
+
+/// Two contexts over one image cross to threads.
+fn of_two_threads<R: Abort + Threads>(
+    rt: &R,
+    alloc: Global,
+    image: &Image<'_>,
+) -> Result<(), AllocError> {
+    crosses(image);
+    let first = context_of(alloc, image)?;
+    crosses(&first);
+    let second = context_of(alloc, image)?;
+    on_threads(rt, first, second)
+}
+
+/// Contexts over the image of a file: one answers rows, one is a solver, and two go to threads.
+fn expect_contexts<R: Abort + Threads>(
+    rt: &R,
+    alloc: Global,
+    image: &Image<'_>,
+    file: &[u8],
+) -> Result<(), Fail> {
+    expect_of_image(rt, alloc, image, &UNITS)?;
+    as_solver(rt, alloc, image, file)?;
+    Ok(of_two_threads(rt, alloc, image)?)
+}
+
+#[test]
+fn contexts_over_one_image(rt: HostRuntime) -> Result<(), Fail> {
+    let file = sample(rt.alloc())?;
+    let image = image_of(rt.alloc(), &file)?;
+    expect_contexts(&rt, rt.alloc(), &image, &file)
 }
 
 /// Why a unit can't be read, one after the other.
@@ -188,71 +223,64 @@ fn behind(alloc: Global, units: &[u8]) -> Result<Vec<u8>, AllocError> {
     Ok(info)
 }
 
-/// A file whose unit over 0x401000 is at 0x1af and can't be read, for this reason.
-pub fn unreadable(alloc: Global, fault: UnitFault) -> Result<Vec<u8>, Fail> {
-    let units = match fault {
+/// The units of `unreadable`, before they are behind another.
+fn broken(alloc: Global, fault: UnitFault) -> Result<Vec<u8>, Fail> {
+    match fault {
         // no declaration has this code
-        UnitFault::Entry => poked(alloc, INFO, MAIN, 0x63)?,
-        UnitFault::Depth => deep(alloc)?,
-        UnitFault::Ranges | UnitFault::Line => Vec::from_slice(alloc, INFO)?,
-    };
-    let info = behind(alloc, &units)?;
-    let file = match fault {
-        // DW_FORM_addrx leads into .debug_addr, which isn't there
-        UnitFault::Ranges => {
-            let abbrevs = poked(alloc, ABBREVS, LOW_PC_FORM, 0x1b)?;
-            with_lines(alloc, &info, &abbrevs)?
-        }
-        UnitFault::Line => file_of(alloc, &info, ABBREVS)?,
-        UnitFault::Entry | UnitFault::Depth => with_lines(alloc, &info, ABBREVS)?,
-    };
-    Ok(file)
+        UnitFault::Entry => poked(alloc, INFO, MAIN, 0x63),
+        UnitFault::Depth => Ok(deep(alloc)?),
+        UnitFault::Ranges | UnitFault::Line => Ok(Vec::from_slice(alloc, INFO)?),
+    }
 }
 
-/// The answer is that the unit at 0x1af can't be read, for this reason.
-fn is_fault(answer: &Answer<'_>, fault: UnitFault) -> bool {
-    match answer {
-        Answer::Fault { unit, code } => *unit == 0x1af && *code == fault,
-        _ => false,
+/// A file with lines whose DW_FORM_addrx leads into .debug_addr, which isn't there.
+fn without_addresses(alloc: Global, info: &[u8]) -> Result<Vec<u8>, Fail> {
+    let abbrevs = poked(alloc, ABBREVS, LOW_PC_FORM, 0x1b)?;
+    Ok(with_lines(alloc, info, &abbrevs)?)
+}
+
+/// The file of `unreadable` with these units.
+fn file_with(alloc: Global, units: &[u8], fault: UnitFault) -> Result<Vec<u8>, Fail> {
+    let info = behind(alloc, units)?;
+    match fault {
+        UnitFault::Ranges => without_addresses(alloc, &info),
+        UnitFault::Line => Ok(file_of(alloc, &info, ABBREVS)?),
+        UnitFault::Entry | UnitFault::Depth => Ok(with_lines(alloc, &info, ABBREVS)?),
     }
+}
+
+/// A file whose unit over 0x401000 is at 0x1af and can't be read, for this reason.
+pub fn unreadable(alloc: Global, fault: UnitFault) -> Result<Vec<u8>, Fail> {
+    let units = broken(alloc, fault)?;
+    file_with(alloc, &units, fault)
 }
 
 #[test]
 fn faults_of_units(rt: HostRuntime) -> Result<(), Fail> {
     for fault in &FAULTS {
         let file = unreadable(rt.alloc(), *fault)?;
-        let image = image_of(rt.alloc(), &file)?;
-        let mut context = context_of(rt.alloc(), &image)?;
-        let answer = frames_at(&mut context, 0x40_1000)?;
-        assert!(rt; is_fault(&answer, *fault), "{fault:?}");
+        let row = (Question::Frames(0x40_1000), Wanted::Fault(0x1af, *fault));
+        expect_answers(&rt, rt.alloc(), &file, &[row])?;
     }
     Ok(())
 }
 
+/// A location and a span need the lines alone.
+static FAULTS_OF_LINES: [Row<'static>; 2] = [
+    (
+        Question::Location(0x40_1000),
+        Wanted::Fault(0x1af, UnitFault::Line),
+    ),
+    (
+        Question::Span(0x40_0000, 0x40_1001),
+        Wanted::Fault(0x1af, UnitFault::Line),
+    ),
+];
+
 #[test]
-fn fault_of_lines(rt: HostRuntime) -> Result<(), Fail> {
+fn faults_of_lines(rt: HostRuntime) -> Result<(), Fail> {
     let file = unreadable(rt.alloc(), UnitFault::Line)?;
-    let image = image_of(rt.alloc(), &file)?;
-    let mut context = context_of(rt.alloc(), &image)?;
-    let answer = location_at(&mut context, 0x40_1000)?;
-    assert!(rt; is_fault(&answer, UnitFault::Line));
-    Ok(())
-}
-
-/// Asks once more where memory was refused.
-fn frames_at_last<'a>(context: &mut Context<'_, 'a>, a: u64) -> Result<Answer<'a>, AllocError> {
-    let Ok(answer) = frames_at(context, a) else {
-        return frames_at(context, a);
-    };
-    Ok(answer)
-}
-
-/// The same for the location alone.
-fn location_at_last<'a>(context: &mut Context<'_, 'a>, a: u64) -> Result<Answer<'a>, AllocError> {
-    let Ok(answer) = location_at(context, a) else {
-        return location_at(context, a);
-    };
-    Ok(answer)
+    expect_each_alone(&rt, rt.alloc(), &file, &FAULTS_OF_LINES)
 }
 
 /// A file, opened once more where memory was refused.
@@ -275,19 +303,17 @@ pub fn context_at_last<'b, 'a>(
     Ok(context)
 }
 
-/// Where an allocation is refused, opening and asking are out of memory and nothing else; the same
-/// call, with memory, is right.
+/// What is asked where an allocation is refused.
+static REFUSED: [Row<'static>; 3] = [
+    (Question::Frames(0x40_1004), Wanted::Frames(0, INLINED)),
+    (Question::Frames(0x50_0001), Wanted::Frames(0x6e, UNKNOWN)),
+    (Question::Location(0x40_1004), Wanted::Frames(0, LINE)),
+];
+
 #[test]
 fn each_allocation_refused(rt: HostRuntime) -> Result<(), Fail> {
     let Ok(file) = sample(rt.alloc()) else {
         return Ok(());
     };
-    let image = open_at_last(rt.alloc(), &file)?;
-    let mut context = context_at_last(rt.alloc(), &image)?;
-    for (a, unit, wanted) in [(0x40_1004, 0, INLINED), (0x50_0001, 0x6e, UNKNOWN)] {
-        expect_frames(&rt, &frames_at_last(&mut context, a)?, unit, wanted);
-    }
-    let location = location_at_last(&mut context, 0x40_1004)?;
-    expect_frames(&rt, &location, 0, LINE);
-    Ok(())
+    expect_at_last(&rt, rt.alloc(), &file, &REFUSED)
 }

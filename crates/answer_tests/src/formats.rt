@@ -1,7 +1,8 @@
 //! The 64-bit format (sections 7.2.2, 7.4 and 7.5.1 of DWARF 5), alone and beside the 32-bit one,
 //! worked out by hand.
 
-use crate::contexts::{Wanted, context_of, expect_frames, frames_at, image_of};
+use crate::answers::{Question, Row, Wanted, expect_answers};
+use crate::contexts::WantedFrame;
 use crate::expect::expect;
 use crate::texts::units_of;
 use dw_bytes::{Cursor, Initial, Width};
@@ -13,8 +14,9 @@ use dw_model::dwarf::{
     DW_FORM_ref_addr, DW_FORM_ref4, DW_FORM_sec_offset, DW_FORM_strp, DW_FORM_strp_sup,
     DW_FORM_strx4,
 };
-use dw_units::Kind;
+use dw_units::{Kind, Units};
 use std::alloc::{AllocError, Global};
+use std::process::Abort;
 use std::test::Fail;
 use test_inputs::files::{HEADER, elf, file_of, line_table};
 
@@ -138,17 +140,25 @@ fn value_in(bytes: &[u8], form: u64, width: Width) -> (Result<Value<'_>, FormFau
     (read, cursor.at())
 }
 
+/// In a format, bytes begin with this value of a form, or with none, and so many are passed.
+fn expect_value<A: Abort>(
+    rt: &A,
+    bytes: &[u8],
+    form: u64,
+    width: Width,
+    wanted: (Result<Value<'_>, FormFault>, usize),
+) {
+    expect(rt, form, &value_in(bytes, form, width), &wanted);
+}
+
 #[test]
 fn values_of_offsets(rt: HostRuntime) {
     let cut = EIGHT.split_at(3).0;
     for (form, short, long) in &FORMS {
-        let narrow = value_in(EIGHT, *form, Width::Four);
-        expect(&rt, form, &narrow, &(Ok(*short), 4));
+        expect_value(&rt, EIGHT, *form, Width::Four, (Ok(*short), 4));
         let passed = if short == long { 4 } else { 8 };
-        let wide = value_in(EIGHT, *form, Width::Eight);
-        expect(&rt, form, &wide, &(Ok(*long), passed));
-        let unread = value_in(cut, *form, Width::Eight);
-        expect(&rt, form, &unread, &(Err(FormFault::End), 0));
+        expect_value(&rt, EIGHT, *form, Width::Eight, (Ok(*long), passed));
+        expect_value(&rt, cut, *form, Width::Eight, (Err(FormFault::End), 0));
     }
     let bytes = &[0x0e, 1, 2, 3, 4, 5, 6, 7, 8];
     let indirect = value_in(bytes, DW_FORM_indirect, Width::Eight).0;
@@ -162,10 +172,9 @@ const SIZED: &[u8] = &[
 ];
 
 /// The sizes of the declaration of a code in both formats.
-fn sizes_of(alloc: Global, code: u64) -> Result<[Option<usize>; 2], Fail> {
-    let abbrevs = Abbrevs::read(alloc, SIZED, 0)?;
-    let declaration = abbrevs.get(code).ok_or("a declaration")?;
-    Ok([
+fn sizes_of(abbrevs: &Abbrevs<'_>, code: u64) -> Option<[Option<usize>; 2]> {
+    let declaration = abbrevs.get(code)?;
+    Some([
         declaration.size(Width::Four),
         declaration.size(Width::Eight),
     ])
@@ -173,8 +182,9 @@ fn sizes_of(alloc: Global, code: u64) -> Result<[Option<usize>; 2], Fail> {
 
 #[test]
 fn sizes_by_width(rt: HostRuntime) -> Result<(), Fail> {
-    expect(&rt, 1, &sizes_of(rt.alloc(), 1)?, &[Some(9), Some(17)]);
-    expect(&rt, 2, &sizes_of(rt.alloc(), 2)?, &[None, None]);
+    let abbrevs = Abbrevs::read(rt.alloc(), SIZED, 0)?;
+    expect(&rt, 1, &sizes_of(&abbrevs, 1), &Some([Some(9), Some(17)]));
+    expect(&rt, 2, &sizes_of(&abbrevs, 2), &Some([None, None]));
     Ok(())
 }
 
@@ -277,47 +287,67 @@ pub fn overlapping(
     )
 }
 
-/// Two units, where the second begins, and the frame at 0x2000.
-type Overlapping = (&'static [u8], &'static [u8], u64, Wanted<'static>);
-
 /// Where both units of a file begin.
-fn begins_of(alloc: Global, file: &[u8]) -> Result<(u64, u64), Fail> {
-    let units = units_of(alloc, file)?;
+fn begins_in(units: &Units<'_>) -> Option<(u64, u64)> {
     if units.len() != 2 {
-        return Err(Fail::from("two units"));
+        return None;
     }
-    Ok((units.unit(0).offset, units.unit(1).offset))
+    Some((units.unit(0).offset, units.unit(1).offset))
 }
+
+/// Both units of a file begin at 0 and where the second is wanted.
+fn expect_begins<A: Abort>(
+    rt: &A,
+    alloc: Global,
+    file: &[u8],
+    behind: u64,
+) -> Result<(), OpenFault> {
+    let units = units_of(alloc, file)?;
+    expect(rt, behind, &begins_in(&units), &Some((0, behind)));
+    Ok(())
+}
+
+/// The frame at 0x2000 where the first unit has no lines, and where it has.
+const NOTHING: &[WantedFrame<'_>] = &[(None, None, None, None)];
+
+const LINE: &[WantedFrame<'_>] = &[(None, Some(b"/w/a.c"), Some(3), Some(0))];
+
+/// Two units, where the second begins, and the frame at 0x2000.
+type Overlapping = (
+    &'static [u8],
+    &'static [u8],
+    u64,
+    &'static [WantedFrame<'static>],
+);
+
+static BOTH_FORMATS: [Overlapping; 3] = [
+    (X_WIDE, Y, 0x25, NOTHING),
+    (Y_WIDE, X, 0x2d, LINE),
+    (Y, X_WIDE, 0x1d, LINE),
+];
 
 #[test]
 fn overlapping_units_of_both_formats(rt: HostRuntime) -> Result<(), Fail> {
-    let nothing: Wanted<'_> = (None, None, None, None);
-    let line: Wanted<'_> = (None, Some(b"/w/a.c"), Some(3), Some(0));
-    let rows: [Overlapping; 3] = [
-        (X_WIDE, Y, 0x25, nothing),
-        (Y_WIDE, X, 0x2d, line),
-        (Y, X_WIDE, 0x1d, line),
-    ];
-    for (first, second, behind, wanted) in rows {
+    for (first, second, behind, wanted) in &BOTH_FORMATS {
         let file = overlapping(rt.alloc(), first, second, ONE_ROW)?;
-        expect(&rt, behind, &begins_of(rt.alloc(), &file)?, &(0, behind));
-        let image = image_of(rt.alloc(), &file)?;
-        let mut context = context_of(rt.alloc(), &image)?;
-        expect_frames(&rt, &frames_at(&mut context, 0x2000)?, 0, &[wanted]);
+        expect_begins(&rt, rt.alloc(), &file, *behind)?;
+        let row = (Question::Frames(0x2000), Wanted::Frames(0, wanted));
+        expect_answers(&rt, rt.alloc(), &file, &[row])?;
     }
     Ok(())
 }
 
 /// Of the only unit of a file its kind, where it, its first entry and what is after it begin, and
 /// the widths of its offsets and of those at its bases.
-fn only_unit(alloc: Global, file: &[u8]) -> Result<(Kind, [u64; 3], [Width; 2]), Fail> {
-    let units = units_of(alloc, file)?;
+type Only = (Kind, [u64; 3], [Width; 2]);
+
+fn only_unit(units: &Units<'_>) -> Option<Only> {
     if units.len() != 1 {
-        return Err(Fail::from("one unit"));
+        return None;
     }
     let unit = units.unit(0);
     let offsets = [unit.offset, unit.first_entry, unit.end];
-    Ok((unit.kind, offsets, [unit.width, unit.bases.width]))
+    Some((unit.kind, offsets, [unit.width, unit.bases.width]))
 }
 
 #[test]
@@ -329,10 +359,9 @@ fn headers_of_the_64_bit_format(rt: HostRuntime) -> Result<(), Fail> {
         0, 0, 0, 0, 0, 0, 0,
     ];
     let file = file_of(rt.alloc(), info, OVERLAPPING)?;
-    let (kind, offsets, widths) = only_unit(rt.alloc(), &file)?;
-    expect(&rt, "the kind", &kind, &Kind::Skeleton);
-    expect(&rt, "the unit", &offsets, &[12, 44, 57]);
-    expect(&rt, "widths", &widths, &[Width::Eight, Width::Eight]);
+    let units = units_of(rt.alloc(), &file)?;
+    let wanted: Only = (Kind::Skeleton, [12, 44, 57], [Width::Eight, Width::Eight]);
+    expect(&rt, "the unit", &only_unit(&units), &Some(wanted));
     Ok(())
 }
 
@@ -451,26 +480,45 @@ fn both(alloc: Global) -> Result<Vec<u8>, AllocError> {
     )
 }
 
-/// An address, its unit, and the name and line there.
-static FRAMES: [(u64, u64, &[u8], u64); 6] = [
-    (0x1000, 0, b"wide", 3),
-    (0x1010, 0, b"narrow", 3),
-    (0x102f, 0, b"wide", 3),
-    (0x2000, 0x79, b"narrow", 4),
-    (0x2010, 0x79, b"wide", 4),
-    (0x202f, 0x79, b"narrow", 4),
+/// The path of each frame of both units.
+const PATH: Option<&[u8]> = Some(b"/w/a.c");
+
+static FRAMES: [Row<'static>; 6] = [
+    (
+        Question::Frames(0x1000),
+        Wanted::Frames(0, &[(Some(b"wide"), PATH, Some(3), Some(0))]),
+    ),
+    (
+        Question::Frames(0x1010),
+        Wanted::Frames(0, &[(Some(b"narrow"), PATH, Some(3), Some(0))]),
+    ),
+    (
+        Question::Frames(0x102f),
+        Wanted::Frames(0, &[(Some(b"wide"), PATH, Some(3), Some(0))]),
+    ),
+    (
+        Question::Frames(0x2000),
+        Wanted::Frames(0x79, &[(Some(b"narrow"), PATH, Some(4), Some(0))]),
+    ),
+    (
+        Question::Frames(0x2010),
+        Wanted::Frames(0x79, &[(Some(b"wide"), PATH, Some(4), Some(0))]),
+    ),
+    (
+        Question::Frames(0x202f),
+        Wanted::Frames(0x79, &[(Some(b"narrow"), PATH, Some(4), Some(0))]),
+    ),
 ];
 
 #[test]
 fn two_formats_over_one_table(rt: HostRuntime) -> Result<(), Fail> {
     let file = both(rt.alloc())?;
-    let image = image_of(rt.alloc(), &file)?;
-    let mut context = context_of(rt.alloc(), &image)?;
-    for (address, unit, name, line) in &FRAMES {
-        let wanted: Wanted<'_> = (Some(name), Some(b"/w/a.c"), Some(*line), Some(0));
-        expect_frames(&rt, &frames_at(&mut context, *address)?, *unit, &[wanted]);
-    }
-    Ok(())
+    expect_answers(&rt, rt.alloc(), &file, &FRAMES)
+}
+
+/// Whether a line table is read.
+fn is_read(alloc: Global, section: &[u8]) -> bool {
+    Lines::read(alloc, section, &TABLES, &NARROW, None, 0).is_ok()
 }
 
 /// Initial lengths before the rest of a line table with `n` bytes, and whether it can be read then.
@@ -478,14 +526,11 @@ fn two_formats_over_one_table(rt: HostRuntime) -> Result<(), Fail> {
 fn lengths_of_line_tables(rt: HostRuntime) -> Result<(), Fail> {
     let reserved = &[0xfe, 0xff, 0xff, 0xff];
     let table = LINES.split_at(0x46).1;
-    let read = |section: &[u8]| {
-        Lines::read(rt.alloc(), section, &TABLES, &NARROW, None, 0).is_ok()
-    };
-    assert!(rt; read(table));
-    assert!(rt; !read(table.split_at(table.len().saturating_sub(1)).0));
-    assert!(rt; !read(table.split_at(11).0));
+    assert!(rt; is_read(rt.alloc(), table));
+    assert!(rt; !is_read(rt.alloc(), table.split_at(table.len().saturating_sub(1)).0));
+    assert!(rt; !is_read(rt.alloc(), table.split_at(11).0));
     let mut other = Vec::from_slice(rt.alloc(), reserved)?;
     other.extend_from_slice(table.split_at(4).1)?;
-    assert!(rt; !read(&other));
+    assert!(rt; !is_read(rt.alloc(), &other));
     Ok(())
 }

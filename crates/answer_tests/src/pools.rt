@@ -1,12 +1,14 @@
 //! Pools of two workers, each of which waits for the other.
 
-use crate::contexts::{IN_MAIN, INLINED, expect_frames, image_of};
+use crate::answers::{Wanted, expect_answer};
+use crate::contexts::{IN_MAIN, INLINED, image_of};
 use crate::expect::expect;
-use crate::spans::{PIECES, expect_pieces};
+use crate::spans::PIECES;
 use crate::texts::{Asked, Open, PLAIN, status_of};
 use a2l_lines::{Status, run_pool};
 use dw_symbols::{Answer, Image};
 use std::alloc::Global;
+use std::process::Abort;
 use std::sync::Wait;
 use std::sync::atomic::{AtomicU64, Ordering};
 use std::test::Fail;
@@ -80,69 +82,136 @@ fn answers_of<'a, R: Threads + Wait + Sync, G: Gate + Sync>(
 /// Each of two numbers entered once, and the limit wasn't reached.
 const BOTH_ENTERED: (u64, u64, u64) = (1, 1, 0);
 
-#[test]
-fn two_workers_at_once(rt: HostRuntime) -> Result<(), Fail> {
-    let file = sample(rt.alloc())?;
-    let image = image_of(rt.alloc(), &file)?;
+/// What a pool is asked, and what it answers.
+#[derive(Clone, Copy)]
+struct Asking<'a> {
+    shape: Shape,
+    queries: &'a [Query],
+    wanted: &'a [Wanted<'a>],
+}
+
+/// A pool answers each query.
+fn expect_pool<R: Threads + Wait + Sync + Abort, G: Gate + Sync>(
+    rt: &R,
+    alloc: Global,
+    image: &Image<'_>,
+    asking: &Asking<'_>,
+    gate: &G,
+) -> Result<(), PoolFault> {
+    let answers = answers_of(rt, alloc, image, asking.shape, asking.queries, gate)?;
+    expect(rt, "answers", &answers.len(), &asking.wanted.len());
+    for (answer, wanted) in answers.iter().zip(asking.wanted.iter()) {
+        expect_answer(rt, answer, wanted);
+    }
+    Ok(())
+}
+
+/// Two workers answer at once.
+fn two_workers_at_once<R: Threads + Wait + Sync + Abort>(
+    rt: &R,
+    alloc: Global,
+    image: &Image<'_>,
+) -> Result<(), PoolFault> {
     let gate = Meeting::new();
-    let shape = Shape {
-        senders: 1,
-        workers: 2,
-        window: 2,
-        most: 1 << 60,
+    let asking = Asking {
+        shape: Shape {
+            senders: 1,
+            workers: 2,
+            window: 2,
+            most: 1 << 60,
+        },
+        queries: &[Query::address(0x401000), Query::address(0x401004)],
+        wanted: &[Wanted::Frames(0, IN_MAIN), Wanted::Frames(0, INLINED)],
     };
-    let queries = [Query::address(0x401000), Query::address(0x401004)];
-    let answers = answers_of(&rt, rt.alloc(), &image, shape, &queries, &gate)?;
-    let [first, second] = answers.as_slice() else {
-        return Err(Fail::from("two answers"));
-    };
-    expect_frames(&rt, first, 0, IN_MAIN);
-    expect_frames(&rt, second, 0, INLINED);
-    expect(&rt, "entered", &gate.counts(), &BOTH_ENTERED);
+    expect_pool(rt, alloc, image, &asking, &gate)?;
+    expect(rt, "entered", &gate.counts(), &BOTH_ENTERED);
     Ok(())
 }
 
 /// A span between addresses, of which one is in it and one isn't covered.
-#[test]
-fn pool_with_a_span(rt: HostRuntime) -> Result<(), Fail> {
-    let file = sample(rt.alloc())?;
-    let image = image_of(rt.alloc(), &file)?;
-    let shape = Shape {
-        senders: 2,
-        workers: 3,
-        window: 1,
-        most: 2,
-    };
+fn pool_with_a_span<R: Threads + Wait + Sync + Abort>(
+    rt: &R,
+    alloc: Global,
+    image: &Image<'_>,
+) -> Result<(), Fail> {
     let Some(span) = Query::range(0x40_1002, 0x40_1006) else {
         return Err(Fail::from("a span"));
     };
-    let queries = [Query::address(0x401004), span, Query::address(0)];
-    let answers = answers_of(&rt, rt.alloc(), &image, shape, &queries, &Open)?;
-    let [first, second, third] = answers.as_slice() else {
-        return Err(Fail::from("three answers"));
+    let asking = Asking {
+        shape: Shape {
+            senders: 2,
+            workers: 3,
+            window: 1,
+            most: 2,
+        },
+        queries: &[Query::address(0x401004), span, Query::address(0)],
+        wanted: &[
+            Wanted::Frames(0, INLINED),
+            Wanted::Pieces(PIECES),
+            Wanted::NotCovered,
+        ],
     };
-    expect_frames(&rt, first, 0, INLINED);
-    expect_pieces(&rt, second, PIECES);
-    assert!(rt; matches!(third, Answer::NotCovered));
-    Ok(())
+    Ok(expect_pool(rt, alloc, image, &asking, &Open)?)
+}
+
+/// Shapes past the limits, for three queries.
+static PAST: [Shape; 4] = [
+    Shape {
+        senders: 0,
+        workers: 1,
+        window: 2,
+        most: 1,
+    },
+    Shape {
+        senders: 1,
+        workers: 65,
+        window: 2,
+        most: 1,
+    },
+    Shape {
+        senders: 1,
+        workers: 1,
+        window: 2,
+        most: (1 << 60) + 1,
+    },
+    Shape {
+        senders: 2,
+        workers: 1,
+        window: 2,
+        most: 1,
+    },
+];
+
+/// No pool has this shape.
+fn expect_bad_shape<R: Threads + Wait + Sync + Abort>(
+    rt: &R,
+    alloc: Global,
+    image: &Image<'_>,
+    shape: Shape,
+) {
+    let queries = &[Query::address(1), Query::address(2), Query::address(3)];
+    let fault = answers_of(rt, alloc, image, shape, queries, &Meeting::new()).err();
+    assert!(rt; matches!(fault, Some(PoolFault::BadShape)));
+}
+
+/// Pools over an image: two that answer, and shapes of which there is none.
+fn expect_pools<R: Threads + Wait + Sync + Abort>(
+    rt: &R,
+    alloc: Global,
+    image: &Image<'_>,
+) -> Result<(), Fail> {
+    for shape in &PAST {
+        expect_bad_shape(rt, alloc, image, *shape);
+    }
+    two_workers_at_once(rt, alloc, image)?;
+    pool_with_a_span(rt, alloc, image)
 }
 
 #[test]
-fn shapes_past_the_limits(rt: HostRuntime) -> Result<(), Fail> {
+fn pools_over_one_image(rt: HostRuntime) -> Result<(), Fail> {
     let file = sample(rt.alloc())?;
     let image = image_of(rt.alloc(), &file)?;
-    for (senders, workers, most) in [(0, 1, 1), (1, 65, 1), (1, 1, (1 << 60) + 1), (2, 1, 1)] {
-        let shape = Shape {
-            senders,
-            workers,
-            window: 2,
-            most,
-        };
-        let queries = [Query::address(1), Query::address(2), Query::address(3)];
-        let answers = answers_of(&rt, rt.alloc(), &image, shape, &queries, &Meeting::new());
-        assert!(rt; matches!(answers, Err(PoolFault::BadShape)));
-    }
-    Ok(())
+    expect_pools(&rt, rt.alloc(), &image)
 }
 
 #[test]

@@ -5,6 +5,7 @@ use crate::expect::expect;
 use dw_elf::{Name, OpenFault};
 use dw_symbols::Image;
 use std::alloc::{AllocError, Global};
+use std::process::Abort;
 use std::test::Fail;
 use test_inputs::files::{elf, push_unit};
 
@@ -28,30 +29,22 @@ fn info_of(alloc: Global, roots: &[&[u8]]) -> Result<Vec<u8>, AllocError> {
     Ok(info)
 }
 
-/// A file of units with these first entries, and the lists of `LISTS`.
-fn file_of(alloc: Global, roots: &[&[u8]]) -> Result<Vec<u8>, AllocError> {
-    let info = info_of(alloc, roots)?;
+/// A file of units and lists.
+fn file_with<'a>(alloc: Global, info: &'a [u8], lists: &'a [u8]) -> Result<Vec<u8>, AllocError> {
     elf(
         alloc,
         &[
-            (Name::DebugInfo, &info),
+            (Name::DebugInfo, info),
             (Name::DebugAbbrev, ABBREVS),
-            (Name::DebugRnglists, LISTS),
+            (Name::DebugRnglists, lists),
         ],
     )
 }
 
-/// A file of units with these first entries, and the lists of `FEW`.
-fn file_of_few(alloc: Global, roots: &[&[u8]]) -> Result<Vec<u8>, AllocError> {
+/// A file of units with these first entries, and these lists.
+fn file_of(alloc: Global, roots: &[&[u8]], lists: &[u8]) -> Result<Vec<u8>, AllocError> {
     let info = info_of(alloc, roots)?;
-    elf(
-        alloc,
-        &[
-            (Name::DebugInfo, &info),
-            (Name::DebugAbbrev, ABBREVS),
-            (Name::DebugRnglists, FEW),
-        ],
-    )
+    file_with(alloc, &info, lists)
 }
 
 /// The units 0 and 1 have the list at 0 and no address, 2 and 4 the same list and the address
@@ -64,8 +57,10 @@ const ROOTS: &[&[u8]] = &[
     &[2, 0, 0, 0, 0, 0, 1, 0, 0, 0, 0, 0, 0],
 ];
 
-/// The indexes of the units that answer.
-static PLACES: [(u64, Option<usize>); 9] = [
+/// An address, and the index of the unit that answers.
+type Place = (u64, Option<usize>);
+
+static PLACES: [Place; 9] = [
     (0x0f, None),
     (0x10, Some(0)),
     (0x1f, Some(0)),
@@ -93,29 +88,18 @@ fn kept_in(image: &Image<'_>) -> usize {
     image.kept()
 }
 
-#[test]
-fn units_of_one_list(rt: HostRuntime) -> Result<(), Fail> {
-    let file = file_of(rt.alloc(), ROOTS)?;
-    let image = image_of(rt.alloc(), &file)?;
-    for (a, wanted) in &PLACES {
-        expect(&rt, a, &place_of(&image, *a), wanted);
+/// These units answer.
+fn expect_places<A: Abort>(rt: &A, image: &Image<'_>, places: &[Place]) {
+    for (a, wanted) in places {
+        expect(rt, a, &place_of(image, *a), wanted);
     }
-    Ok(())
 }
 
-/// A list that can't be read is reported of the first unit that names it, after units of a list
-/// that was read.
 #[test]
-fn bad_list_behind_one_that_was_read(rt: HostRuntime) -> Result<(), Fail> {
-    let roots: &[&[u8]] = &[
-        &[1, 0, 0, 0, 0],
-        &[1, 0, 0, 0, 0],
-        &[1, 8, 0, 0, 0],
-        &[1, 8, 0, 0, 0],
-    ];
-    let file = file_of(rt.alloc(), roots)?;
-    let fault = image_of(rt.alloc(), &file).err();
-    expect(&rt, "fault", &fault, &Some(OpenFault::RootRanges(34)));
+fn units_of_one_list(rt: HostRuntime) -> Result<(), Fail> {
+    let file = file_of(rt.alloc(), ROOTS, LISTS)?;
+    let image = image_of(rt.alloc(), &file)?;
+    expect_places(&rt, &image, &PLACES);
     Ok(())
 }
 
@@ -134,7 +118,7 @@ const HELD: &[&[u8]] = &[
 ];
 
 /// The indexes of the units that answer the first and the last address of each stretch.
-static HELD_PLACES: [(u64, Option<usize>); 25] = [
+static HELD_PLACES: [Place; 25] = [
     (0, None),
     (0x0f, None),
     (0x10, Some(0)),
@@ -162,17 +146,6 @@ static HELD_PLACES: [(u64, Option<usize>); 25] = [
     (0x150, None),
 ];
 
-#[test]
-fn units_held_by_their_lists(rt: HostRuntime) -> Result<(), Fail> {
-    let file = file_of_few(rt.alloc(), HELD)?;
-    let image = image_of(rt.alloc(), &file)?;
-    expect(&rt, "ranges", &kept_in(&image), &3);
-    for (a, wanted) in &HELD_PLACES {
-        expect(&rt, a, &place_of(&image, *a), wanted);
-    }
-    Ok(())
-}
-
 /// The first units of spans, some of which begin where no unit is.
 static HELD_SPANS: [(u64, u64, Option<usize>); 4] = [
     (0, 0x11, Some(0)),
@@ -181,27 +154,57 @@ static HELD_SPANS: [(u64, u64, Option<usize>); 4] = [
     (0x150, u64::MAX, None),
 ];
 
-#[test]
-fn held_units_of_spans(rt: HostRuntime) -> Result<(), Fail> {
-    let file = file_of_few(rt.alloc(), HELD)?;
-    let image = image_of(rt.alloc(), &file)?;
+/// The units are held, and answer addresses and spans.
+fn expect_held<A: Abort>(rt: &A, image: &Image<'_>) {
+    expect(rt, "ranges", &kept_in(image), &3);
+    expect_places(rt, image, &HELD_PLACES);
     for (low, high, wanted) in &HELD_SPANS {
-        let place = first_place_of(&image, *low, *high);
-        expect(&rt, low, &place, wanted);
+        expect(rt, low, &first_place_of(image, *low, *high), wanted);
     }
+}
+
+#[test]
+fn units_held_by_their_lists(rt: HostRuntime) -> Result<(), Fail> {
+    let file = file_of(rt.alloc(), HELD, FEW)?;
+    let image = image_of(rt.alloc(), &file)?;
+    expect_held(&rt, &image);
     Ok(())
 }
 
-/// A list that can't be read is reported where no more ranges are kept, too.
+/// Units with lists, and where the unit begins of which the list can't be read.
+type Bad = (&'static [&'static [u8]], &'static [u8], u64);
+
+static BAD: [Bad; 2] = [
+    // A list that can't be read is reported of the first unit that names it, after units of a list
+    // that was read.
+    (
+        &[
+            &[1, 0, 0, 0, 0],
+            &[1, 0, 0, 0, 0],
+            &[1, 8, 0, 0, 0],
+            &[1, 8, 0, 0, 0],
+        ],
+        LISTS,
+        34,
+    ),
+    // It is reported where no more ranges are kept, too.
+    (
+        &[
+            &[1, 0, 0, 0, 0],
+            &[2, 0, 0, 0, 0, 0, 1, 0, 0, 0, 0, 0, 0],
+            &[2, 7, 0, 0, 0, 0, 1, 0, 0, 0, 0, 0, 0],
+        ],
+        FEW,
+        42,
+    ),
+];
+
 #[test]
-fn bad_list_of_a_held_unit(rt: HostRuntime) -> Result<(), Fail> {
-    let roots: &[&[u8]] = &[
-        &[1, 0, 0, 0, 0],
-        &[2, 0, 0, 0, 0, 0, 1, 0, 0, 0, 0, 0, 0],
-        &[2, 7, 0, 0, 0, 0, 1, 0, 0, 0, 0, 0, 0],
-    ];
-    let file = file_of_few(rt.alloc(), roots)?;
-    let fault = image_of(rt.alloc(), &file).err();
-    expect(&rt, "fault", &fault, &Some(OpenFault::RootRanges(42)));
+fn bad_lists(rt: HostRuntime) -> Result<(), Fail> {
+    for (roots, lists, unit) in &BAD {
+        let file = file_of(rt.alloc(), roots, lists)?;
+        let fault = image_of(rt.alloc(), &file).err();
+        expect(&rt, unit, &fault, &Some(OpenFault::RootRanges(*unit)));
+    }
     Ok(())
 }

@@ -1,12 +1,9 @@
 //! Units that name one line table, each with its own directory and texts, worked out by hand.
 
-use crate::contexts::{Wanted, context_of, expect_frames, frames_at, image_of, location_at};
-use crate::expect::expect;
-use crate::spans::span_at;
+use crate::answers::{Question, Row, Wanted, expect_answers};
 use dw_elf::Name;
-use dw_symbols::{Answer, UnitFault};
+use dw_symbols::UnitFault;
 use std::alloc::{AllocError, Global};
-use std::process::Abort;
 use std::test::Fail;
 use test_inputs::files::{elf, line_table};
 
@@ -58,62 +55,59 @@ fn shared(alloc: Global) -> Result<Vec<u8>, AllocError> {
     )
 }
 
-const FIRST: Wanted<'_> = (None, Some(b"/a/one.c"), Some(3), Some(0));
+/// At 0x1000 to 0x1010.
+const FIRST: Wanted<'_> = Wanted::Frames(0, &[(None, Some(b"/a/one.c"), Some(3), Some(0))]);
 
-const SECOND: Wanted<'_> = (None, Some(b"/b/two.c"), Some(4), Some(0));
-
-/// An address, its unit and its frame.
-static FRAMES: [(u64, u64, Wanted<'_>); 5] = [
-    (0x1000, 0, FIRST),
-    (0x1010, 0x24, SECOND),
-    (0x100f, 0, FIRST),
-    (0x101f, 0x24, SECOND),
-    (0x1000, 0, FIRST),
-];
+/// At 0x1010 to 0x1020.
+const SECOND: Wanted<'_> = Wanted::Frames(0x24, &[(None, Some(b"/b/two.c"), Some(4), Some(0))]);
 
 /// The unit at 0x48 can't be answered, since its line table can't be read.
-fn expect_fault<A: Abort>(rt: &A, answer: &Answer<'_>) {
-    let Answer::Fault { unit, code } = answer else {
-        assert!(rt; false, "no fault");
-        return;
-    };
-    expect(rt, unit, &(*unit, *code), &(0x48, UnitFault::Line));
-}
+const FAULT: Wanted<'_> = Wanted::Fault(0x48, UnitFault::Line);
+
+/// Units that have one table, by turns, and after each of them the one that can't be answered.
+static FRAMES: [Row<'static>; 25] = [
+    (Question::Frames(0x1000), FIRST),
+    (Question::Location(0x1000), FIRST),
+    (Question::Location(0x1020), FAULT),
+    (Question::Location(0x1000), FIRST),
+    (Question::Frames(0x1020), FAULT),
+    (Question::Frames(0x1010), SECOND),
+    (Question::Location(0x1010), SECOND),
+    (Question::Location(0x1020), FAULT),
+    (Question::Location(0x1010), SECOND),
+    (Question::Frames(0x1020), FAULT),
+    (Question::Frames(0x100f), FIRST),
+    (Question::Location(0x100f), FIRST),
+    (Question::Location(0x1020), FAULT),
+    (Question::Location(0x100f), FIRST),
+    (Question::Frames(0x1020), FAULT),
+    (Question::Frames(0x101f), SECOND),
+    (Question::Location(0x101f), SECOND),
+    (Question::Location(0x1020), FAULT),
+    (Question::Location(0x101f), SECOND),
+    (Question::Frames(0x1020), FAULT),
+    (Question::Frames(0x1000), FIRST),
+    (Question::Location(0x1000), FIRST),
+    (Question::Location(0x1020), FAULT),
+    (Question::Location(0x1000), FIRST),
+    (Question::Frames(0x1020), FAULT),
+];
+
+/// Spans over the first two units, and over all three.
+static SPANS: [Row<'static>; 2] = [
+    (
+        Question::Span(0x1000, 0x1020),
+        Wanted::Pieces(&[
+            (0x1000, 0x1010, b"/a/one.c", 3),
+            (0x1010, 0x1020, b"/b/two.c", 4),
+        ]),
+    ),
+    (Question::Span(0x1000, 0x1030), FAULT),
+];
 
 #[test]
 fn two_directories_of_one_table(rt: HostRuntime) -> Result<(), Fail> {
     let file = shared(rt.alloc())?;
-    let image = image_of(rt.alloc(), &file)?;
-    let mut context = context_of(rt.alloc(), &image)?;
-    for (address, unit, wanted) in &FRAMES {
-        let wanted = &[*wanted];
-        expect_frames(&rt, &frames_at(&mut context, *address)?, *unit, wanted);
-        expect_frames(&rt, &location_at(&mut context, *address)?, *unit, wanted);
-        expect_fault(&rt, &location_at(&mut context, 0x1020)?);
-        expect_frames(&rt, &location_at(&mut context, *address)?, *unit, wanted);
-        expect_fault(&rt, &frames_at(&mut context, 0x1020)?);
-    }
-    Ok(())
-}
-
-#[test]
-fn pieces_of_one_table(rt: HostRuntime) -> Result<(), Fail> {
-    let file = shared(rt.alloc())?;
-    let image = image_of(rt.alloc(), &file)?;
-    let mut context = context_of(rt.alloc(), &image)?;
-    let Answer::Pieces(pieces) = span_at(&mut context, 0x1000, 0x1020)? else {
-        return Err(Fail::from("pieces"));
-    };
-    let wanted: [(u64, u64, &[u8], u64); 2] = [
-        (0x1000, 0x1010, b"/a/one.c", 3),
-        (0x1010, 0x1020, b"/b/two.c", 4),
-    ];
-    expect(&rt, "pieces", &pieces.len(), &wanted.len());
-    for (piece, (begin, end, path, line)) in pieces.iter().zip(wanted.iter()) {
-        expect(&rt, begin, &(piece.begin, piece.end), &(*begin, *end));
-        expect(&rt, begin, &piece.location.path.as_deref(), &Some(*path));
-        expect(&rt, begin, &piece.location.line, &Some(*line));
-    }
-    expect_fault(&rt, &span_at(&mut context, 0x1000, 0x1030)?);
-    Ok(())
+    expect_answers(&rt, rt.alloc(), &file, &FRAMES)?;
+    expect_answers(&rt, rt.alloc(), &file, &SPANS)
 }

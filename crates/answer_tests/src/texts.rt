@@ -131,8 +131,22 @@ fn options<'a>(alloc: Global, asked: &Asked<'a>) -> Result<Options<'a>, AllocErr
     })
 }
 
-/// Answers the addresses that are asked for in a file, and says how that ended; where the lines
+/// Answers the addresses that are asked for in an image, and says how that ended; where the lines
 /// aren't those, it says nothing.
+fn status_in<T: Threads + Wait + Sync, G: Gate + Sync>(
+    rt: &T,
+    alloc: Global,
+    image: &Image<'_>,
+    asked: &Asked<'_>,
+    gate: &G,
+) -> Result<Option<Status>, RunFault> {
+    let options = options(alloc, asked)?;
+    let mut lines = Compared::new(asked.text);
+    let status = symbolize(rt, alloc, &mut Nothing, &mut lines, image, &options, gate)?;
+    Ok(lines.is_whole().then_some(status))
+}
+
+/// The same of a file.
 pub fn status_of<T: Threads + Wait + Sync, G: Gate + Sync>(
     rt: &T,
     alloc: Global,
@@ -141,16 +155,10 @@ pub fn status_of<T: Threads + Wait + Sync, G: Gate + Sync>(
     gate: &G,
 ) -> Result<Option<Status>, Fail> {
     let image = image_of(alloc, file)?;
-    let options = options(alloc, asked)?;
-    let mut lines = Compared::new(asked.text);
-    let status = symbolize(rt, alloc, &mut Nothing, &mut lines, &image, &options, gate)?;
-    if !lines.is_whole() {
-        return Ok(None);
-    }
-    Ok(Some(status))
+    Ok(status_in(rt, alloc, &image, asked, gate)?)
 }
 
-/// Of the sample.
+/// Of the sample, without faults.
 static ANSWERS: [Asked<'static>; 5] = [
     Asked {
         flags: ALL,
@@ -184,29 +192,33 @@ const SPANNED: Asked<'static> = Asked {
         ??\n??:0\n",
 };
 
+/// Addresses that are asked more than once, with bad addresses between them.
+static AGAIN: Asked<'static> = Asked {
+    flags: PLAIN,
+    words: &["401004", "zz", "401000", "401004", "2", "zz", "2", "401000"],
+    text: "/w/a.c:4\n!bad address\n/w/a.c:3\n/w/a.c:4\n??:0\n!bad address\n??:0\n/w/a.c:3\n",
+};
+
+/// A file is answered by the lines that are asked for, with this status.
+fn expect_lines<R: Threads + Wait + Sync + Abort>(
+    rt: &R,
+    alloc: Global,
+    file: &[u8],
+    asked: &Asked<'_>,
+    status: Status,
+) -> Result<(), Fail> {
+    let found = status_of(rt, alloc, file, asked, &Open)?;
+    expect(rt, asked.text, &found, &Some(status));
+    Ok(())
+}
+
 #[test]
 fn lines_of_frames(rt: HostRuntime) -> Result<(), Fail> {
     let file = sample(rt.alloc())?;
     for asked in &ANSWERS {
-        let status = status_of(&rt, rt.alloc(), &file, asked, &Open)?;
-        let text = asked.text;
-        expect(&rt, text, &status, &Some(Status::Clean));
+        expect_lines(&rt, rt.alloc(), &file, asked, Status::Clean)?;
     }
-    Ok(())
-}
-
-/// Addresses that are asked more than once, with bad addresses between them.
-#[test]
-fn the_same_address_again(rt: HostRuntime) -> Result<(), Fail> {
-    let file = sample(rt.alloc())?;
-    let asked = Asked {
-        flags: PLAIN,
-        words: &["401004", "zz", "401000", "401004", "2", "zz", "2", "401000"],
-        text: "/w/a.c:4\n!bad address\n/w/a.c:3\n/w/a.c:4\n??:0\n!bad address\n??:0\n/w/a.c:3\n",
-    };
-    let status = status_of(&rt, rt.alloc(), &file, &asked, &Open)?;
-    expect(&rt, "status", &status, &Some(Status::Faults));
-    Ok(())
+    expect_lines(&rt, rt.alloc(), &file, &AGAIN, Status::Faults)
 }
 
 /// 0x401000 line 0, 0x401001 line 20 in file 9, which isn't there, end 0x40100e.
@@ -214,23 +226,28 @@ const UNKNOWN: &[u8] = &[
     0, 9, 2, 0, 0x10, 0x40, 0, 0, 0, 0, 0, 3, 0x7f, 1, 2, 1, 4, 9, 3, 20, 1, 2, 0x0d, 0, 1, 1,
 ];
 
+/// A file with these lines.
+fn file_with(alloc: Global, program: &[u8]) -> Result<Vec<u8>, AllocError> {
+    let lines = line_table(alloc, HEADER, program)?;
+    elf(
+        alloc,
+        &[
+            (Name::DebugInfo, INFO),
+            (Name::DebugAbbrev, ABBREVS),
+            (Name::DebugLine, &lines),
+        ],
+    )
+}
+
 #[test]
 fn parts_that_are_not_known(rt: HostRuntime) -> Result<(), Fail> {
-    let lines = line_table(rt.alloc(), HEADER, UNKNOWN)?;
-    let sections: [(Name, &[u8]); 3] = [
-        (Name::DebugInfo, INFO),
-        (Name::DebugAbbrev, ABBREVS),
-        (Name::DebugLine, &lines),
-    ];
-    let file = elf(rt.alloc(), &sections)?;
+    let file = file_with(rt.alloc(), UNKNOWN)?;
     let asked = Asked {
         flags: PLAIN,
         words: &["401000", "401001", "2"],
         text: "/w/a.c:?\n??:20\n??:0\n",
     };
-    let status = status_of(&rt, rt.alloc(), &file, &asked, &Open)?;
-    expect(&rt, "status", &status, &Some(Status::Clean));
-    Ok(())
+    expect_lines(&rt, rt.alloc(), &file, &asked, Status::Clean)
 }
 
 /// The lines of each fault of a unit, and of a word that is no address.
@@ -250,8 +267,7 @@ fn faults_by_their_numbers(rt: HostRuntime) -> Result<(), Fail> {
             words: &["401000", "zz"],
             text,
         };
-        let status = status_of(&rt, rt.alloc(), &file, &asked, &Open)?;
-        expect(&rt, text, &status, &Some(Status::Faults));
+        expect_lines(&rt, rt.alloc(), &file, &asked, Status::Faults)?;
     }
     Ok(())
 }
@@ -269,14 +285,24 @@ fn list(alloc: Global, lines: &mut Compared<'_>, units: &Units<'_>) -> Result<()
     list_units(alloc, lines, units)
 }
 
+/// Units are listed by these lines.
+fn expect_listed<A: Abort>(
+    rt: &A,
+    alloc: Global,
+    units: &Units<'_>,
+    text: &str,
+) -> Result<(), RunFault> {
+    let mut lines = Compared::new(text);
+    list(alloc, &mut lines, units)?;
+    assert!(rt; lines.is_whole());
+    Ok(())
+}
+
 #[test]
 fn lines_of_units(rt: HostRuntime) -> Result<(), Fail> {
     let file = sample(rt.alloc())?;
     let units = units_of(rt.alloc(), &file)?;
-    let mut lines = Compared::new(UNITS);
-    list(rt.alloc(), &mut lines, &units)?;
-    assert!(rt; lines.is_whole());
-    Ok(())
+    Ok(expect_listed(&rt, rt.alloc(), &units, UNITS)?)
 }
 
 /// Answers what is asked for, in the same way.
@@ -323,24 +349,39 @@ fn is_listed_at_last(alloc: Global, units: &Units<'_>, text: &str) -> Result<boo
     Ok(lines.is_whole())
 }
 
+/// An image is answered at last.
+fn expect_answered_at_last<R: Threads + Wait + Sync + Abort>(
+    rt: &R,
+    alloc: Global,
+    image: &Image<'_>,
+) -> Result<(), RunFault> {
+    let Ok(options) = options(alloc, &SPANNED) else {
+        return Ok(());
+    };
+    assert!(rt; is_answered_at_last(rt, alloc, image, &options, SPANNED.text)?);
+    Ok(())
+}
+
+/// The units of a file are listed at last.
+fn expect_listed_at_last<A: Abort>(rt: &A, alloc: Global, file: &[u8]) -> Result<(), RunFault> {
+    let Ok(units) = units_of(alloc, file) else {
+        return Ok(());
+    };
+    assert!(rt; is_listed_at_last(alloc, &units, UNITS)?);
+    Ok(())
+}
+
 /// Where an allocation or a thread is refused, answering and listing are out of memory, and nothing
 /// is written; the same call, with memory, writes all lines.
 #[test]
 fn each_allocation_refused(rt: HostRuntime) -> Result<(), Fail> {
-    let alloc = rt.alloc();
-    let Ok(file) = sample(alloc) else {
+    let Ok(file) = sample(rt.alloc()) else {
         return Ok(());
     };
-    let Ok(image) = image_of(alloc, &file) else {
+    let Ok(image) = image_of(rt.alloc(), &file) else {
         return Ok(());
     };
-    let Ok(units) = units_of(alloc, &file) else {
-        return Ok(());
-    };
-    let Ok(options) = options(alloc, &SPANNED) else {
-        return Ok(());
-    };
-    assert!(rt; is_answered_at_last(&rt, alloc, &image, &options, SPANNED.text)?);
-    assert!(rt; is_listed_at_last(alloc, &units, UNITS)?);
+    expect_answered_at_last(&rt, rt.alloc(), &image)?;
+    expect_listed_at_last(&rt, rt.alloc(), &file)?;
     Ok(())
 }
