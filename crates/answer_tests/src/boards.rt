@@ -2,17 +2,18 @@
 //! and that a query whose answer was refused memory is answered by a later turn.
 
 ghost use Rattle.std.specs.Prelude.{◌≡◌};
+ghost use Rattle.std.specs.List.{AllByRecursion};
 ghost use Rattle.ticket_board.specs.Seats.{IsClientOf, IsWorkerOf};
 
-use crate::contexts::{IN_MAIN, INLINED, context_at_last, expect_frames, open_at_last};
+use crate::answers::{Wanted, expect_answer};
+use crate::contexts::{IN_MAIN, INLINED, context_at_last, context_of, image_of, open_at_last};
 use crate::texts::Open;
-use dw_symbols::{Context, Image};
-use std::alloc::Global;
-use std::num::NonZeroUsize;
+use dw_symbols::{Answer, Context, Image};
+use std::alloc::{AllocError, Global};
 use std::process::Abort;
 use std::test::Fail;
 use test_inputs::files::sample;
-use ticket_board::{AskFault, Board, BoardFault, Client, Next, Turn, Worker, open};
+use ticket_board::{AskFault, Board, Client, Next, Turn, Worker, open};
 use ticket_core::{NoMemory, Query, Shape, Solver};
 
 const ONE_CELL: Shape = Shape {
@@ -41,22 +42,24 @@ fn expect_asked<'a, S: Solver>(
     assert!(rt; matches!(client.next(board), Next::Pending));
 }
 
-/// The answer to a number that was answered.
-fn answer_of<'a, S: Solver>(
+/// A number was answered, and this is its answer.
+fn expect_answered<'a, 'c, S: Solver<Answer = Answer<'c>>>(
     rt: &impl Abort,
     board: &Board<'a, S>,
     client: &mut Client<S>,
     number: u64,
-) -> Result<S::Answer, Fail>
+    wanted: &Wanted<'_>,
+)
     requires { IsClientOf board.now client.old }
     ensures { IsClientOf board.now client.new }
 {
     assert!(rt; client.ready(board));
     let Next::Answer(found, answer) = client.next(board) else {
-        return Err(BoardFault::BadShape.into());
+        assert!(rt; false, "no answer");
+        return;
     };
     assert_eq!(rt; found, number);
-    Ok(answer)
+    expect_answer(rt, &answer, wanted);
 }
 
 /// A client that received everything ends.
@@ -72,44 +75,44 @@ fn expect_end<'a, S: Solver>(rt: &impl Abort, board: &Board<'a, S>, client: &mut
     );
 }
 
-/// The answers to 0x401000 and 0x401004; what each other call of the board returns on the way is
-/// asserted.
-fn answers_of<S: Solver>(
+/// A worker's turn ends so.
+fn expect_turn<'a, S: Solver>(
     rt: &impl Abort,
-    alloc: Global,
-    key: &[u8],
+    board: &Board<'a, S>,
+    worker: &mut Worker<S>,
     solver: &mut S,
-) -> Result<(S::Answer, S::Answer), Fail>
-    requires { S.key solver.old ≡ key.now }
+    wanted: Turn,
+)
+    requires worker { IsWorkerOf board.now worker.old }
+    requires key { S.key solver.old ≡ board.now.key }
+    ensures worker { IsWorkerOf board.now worker.new }
+    ensures key { S.key solver.new ≡ board.now.key }
 {
-    let (board, mut clients, mut workers) = open::<S>(alloc, ONE_CELL, key)?;
-    let Some(mut client) = clients.pop() else {
-        return Err(BoardFault::BadShape.into());
-    };
-    let Some(mut worker) = workers.pop() else {
-        return Err(BoardFault::BadShape.into());
-    };
-    expect_asked(rt, &board, &mut client, 0x40_1000, 0);
-    let turn = worker.turn(&board, solver, &Open);
-    assert_eq!(rt; turn, Ok(Turn::Answered(0, 0)));
-    let first = answer_of(rt, &board, &mut client, 0)?;
-    expect_asked(rt, &board, &mut client, 0x40_1004, 1);
-    let turn = worker.turn(&board, solver, &Open);
-    assert_eq!(rt; turn, Ok(Turn::Answered(0, 1)));
-    let second = answer_of(rt, &board, &mut client, 1)?;
-    expect_end(rt, &board, &mut client);
-    Ok((first, second))
+    let turn = worker.turn(board, solver, &Open);
+    assert_eq!(rt; turn, Ok(wanted));
 }
 
-#[test]
-fn one_cell(rt: HostRuntime) -> Result<(), Fail> {
-    let file = sample(rt.alloc())?;
-    let image = Image::open(rt.alloc(), &file)?;
-    let mut context = Context::new(rt.alloc(), &image, NonZeroUsize::MIN)?;
-    let (first, second) = answers_of(&rt, rt.alloc(), &file, &mut context)?;
-    expect_frames(&rt, &first, 0, IN_MAIN);
-    expect_frames(&rt, &second, 0, INLINED);
-    Ok(())
+/// The answers to 0x401000 and 0x401004; what each other call of the board returns on the way is
+/// asserted.
+fn expect_both<'a, 'c, S: Solver<Answer = Answer<'c>>>(
+    rt: &impl Abort,
+    board: &Board<'a, S>,
+    client: &mut Client<S>,
+    worker: &mut Worker<S>,
+    solver: &mut S,
+)
+    requires client { IsClientOf board.now client.old }
+    requires worker { IsWorkerOf board.now worker.old }
+    requires key { S.key solver.old ≡ board.now.key }
+    ensures key { S.key solver.new ≡ board.now.key }
+{
+    expect_asked(rt, board, client, 0x40_1000, 0);
+    expect_turn(rt, board, worker, solver, Turn::Answered(0, 0));
+    expect_answered(rt, board, client, 0, &Wanted::Frames(0, IN_MAIN));
+    expect_asked(rt, board, client, 0x40_1004, 1);
+    expect_turn(rt, board, worker, solver, Turn::Answered(0, 1));
+    expect_answered(rt, board, client, 1, &Wanted::Frames(0, INLINED));
+    expect_end(rt, board, client);
 }
 
 /// Answers number 0, which is asked. A turn that is refused memory gives it back, and the next one
@@ -132,36 +135,112 @@ fn answer_at_last<'a, S: Solver>(
         return;
     };
     assert!(rt; matches!(client.next(board), Next::Pending));
-    let turn = worker.turn(board, solver, &Open);
-    assert_eq!(rt; turn, Ok(Turn::Answered(0, 0)));
+    expect_turn(rt, board, worker, solver, Turn::Answered(0, 0));
 }
 
-/// The answer to 0x401004, which is given once; `None` where the board can't be opened.
-fn answered_once<S: Solver>(
+/// The answer to 0x401004, which is given once.
+fn expect_one<'a, 'c, S: Solver<Answer = Answer<'c>>>(
+    rt: &impl Abort,
+    board: &Board<'a, S>,
+    client: &mut Client<S>,
+    worker: &mut Worker<S>,
+    solver: &mut S,
+)
+    requires client { IsClientOf board.now client.old }
+    requires worker { IsWorkerOf board.now worker.old }
+    requires key { S.key solver.old ≡ board.now.key }
+    ensures key { S.key solver.new ≡ board.now.key }
+{
+    assert_eq!(rt; client.ask(board, Query::address(0x40_1004)), Ok(0));
+    answer_at_last(rt, board, client, worker, solver);
+    expect_turn(rt, board, worker, solver, Turn::Idle);
+    expect_answered(rt, board, client, 0, &Wanted::Frames(0, INLINED));
+    expect_end(rt, board, client);
+}
+
+/// What the only client and the only worker do: where allocations are refused, for one address, and
+/// else for two.
+fn expect_cell<'a, 'c, S: Solver<Answer = Answer<'c>>>(
+    rt: &impl Abort,
+    board: &Board<'a, S>,
+    clients: &mut Vec<Client<S>>,
+    workers: &mut Vec<Worker<S>>,
+    solver: &mut S,
+    refused: bool,
+)
+    requires clients { AllByRecursion (IsClientOf board.now) clients.old.items }
+    requires workers { AllByRecursion (IsWorkerOf board.now) workers.old.items }
+    requires key { S.key solver.old ≡ board.now.key }
+    ensures key { S.key solver.new ≡ board.now.key }
+{
+    let Some(mut client) = clients.pop() else {
+        assert!(rt; false, "no client");
+        return;
+    };
+    let Some(mut worker) = workers.pop() else {
+        assert!(rt; false, "no worker");
+        return;
+    };
+    if refused {
+        expect_one(rt, board, &mut client, &mut worker, solver);
+    } else {
+        expect_both(rt, board, &mut client, &mut worker, solver);
+    }
+}
+
+/// Whether a board is opened, whose client and worker do this then.
+fn is_opened<'c, S: Solver<Answer = Answer<'c>>>(
     rt: &impl Abort,
     alloc: Global,
     key: &[u8],
     solver: &mut S,
-) -> Result<Option<S::Answer>, Fail>
+    refused: bool,
+) -> bool
     requires { S.key solver.old ≡ key.now }
     ensures { S.key solver.new ≡ key.now }
 {
-    let Ok((board, mut clients, mut workers)) = open::<S>(alloc, ONE_CELL, key) else {
-        return Ok(None);
+    let Ok((board, mut clients, mut workers)) = open(alloc, ONE_CELL, key) else {
+        return false;
     };
-    let Some(mut client) = clients.pop() else {
-        return Err(BoardFault::BadShape.into());
-    };
-    let Some(mut worker) = workers.pop() else {
-        return Err(BoardFault::BadShape.into());
-    };
-    assert_eq!(rt; client.ask(&board, Query::address(0x40_1004)), Ok(0));
-    answer_at_last(rt, &board, &mut client, &mut worker, solver);
-    let turn = worker.turn(&board, solver, &Open);
-    assert_eq!(rt; turn, Ok(Turn::Idle));
-    let answer = answer_of(rt, &board, &mut client, 0)?;
-    expect_end(rt, &board, &mut client);
-    Ok(Some(answer))
+    expect_cell(rt, &board, &mut clients, &mut workers, solver, refused);
+    true
+}
+
+/// A board is opened, where allocations are refused by the second call at the latest.
+fn expect_opened(rt: &impl Abort, alloc: Global, context: &mut Context<'_, '_>, refused: bool) {
+    let key = context.bytes();
+    if is_opened(rt, alloc, key, context, refused) {
+        return;
+    }
+    assert!(rt;
+        refused && is_opened(rt, alloc, key, context, refused),
+        "no board"
+    );
+}
+
+/// A board is opened, by a context over an image.
+fn expect_board(rt: &impl Abort, alloc: Global, image: &Image<'_>) -> Result<(), AllocError> {
+    let mut context = context_of(alloc, image)?;
+    expect_opened(rt, alloc, &mut context, false);
+    Ok(())
+}
+
+#[test]
+fn one_cell(rt: HostRuntime) -> Result<(), Fail> {
+    let file = sample(rt.alloc())?;
+    let image = image_of(rt.alloc(), &file)?;
+    Ok(expect_board(&rt, rt.alloc(), &image)?)
+}
+
+/// A board is opened at last, by a context over an image.
+fn expect_board_at_last(
+    rt: &impl Abort,
+    alloc: Global,
+    image: &Image<'_>,
+) -> Result<(), AllocError> {
+    let mut context = context_at_last(alloc, image)?;
+    expect_opened(rt, alloc, &mut context, true);
+    Ok(())
 }
 
 /// Where an allocation is refused, a board isn't opened, or a turn is out of memory; the same call,
@@ -172,15 +251,5 @@ fn each_allocation_refused(rt: HostRuntime) -> Result<(), Fail> {
         return Ok(());
     };
     let image = open_at_last(rt.alloc(), &file)?;
-    let mut context = context_at_last(rt.alloc(), &image)?;
-    let key = context.bytes();
-    if let Some(answer) = answered_once(&rt, rt.alloc(), key, &mut context)? {
-        expect_frames(&rt, &answer, 0, INLINED);
-        return Ok(());
-    }
-    let Some(answer) = answered_once(&rt, rt.alloc(), key, &mut context)? else {
-        return Err(Fail::from("an answer"));
-    };
-    expect_frames(&rt, &answer, 0, INLINED);
-    Ok(())
+    Ok(expect_board_at_last(&rt, rt.alloc(), &image)?)
 }
