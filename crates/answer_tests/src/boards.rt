@@ -7,6 +7,7 @@ ghost use Rattle.ticket_board.specs.Seats.{IsClientOf, IsWorkerOf};
 
 use crate::answers::{Wanted, expect_answer};
 use crate::contexts::{IN_MAIN, INLINED, context_at_last, context_of, image_of, open_at_last};
+use crate::expect::expect;
 use crate::texts::Open;
 use dw_symbols::{Answer, Context, Image};
 use std::alloc::{AllocError, Global};
@@ -34,11 +35,14 @@ fn expect_asked<'a, S: Solver>(
     requires { IsClientOf board.now client.old }
     ensures { IsClientOf board.now client.new }
 {
-    assert_eq!(rt; client.ask(board, Query::address(a)), Ok(number));
-    assert_eq!(rt;
-        client.ask(board, Query::address(0x40_1004)),
-        Err(AskFault::Full)
+    expect(
+        rt,
+        number,
+        &client.ask(board, Query::address(a)),
+        &Ok(number),
     );
+    let refused = client.ask(board, Query::address(0x40_1004));
+    expect(rt, number, &refused, &Err(AskFault::Full));
     assert!(rt; matches!(client.next(board), Next::Pending));
 }
 
@@ -58,7 +62,7 @@ fn expect_answered<'a, 'c, S: Solver<Answer = Answer<'c>>>(
         assert!(rt; false, "no answer");
         return;
     };
-    assert_eq!(rt; found, number);
+    expect(rt, "answered", &found, &number);
     expect_answer(rt, &answer, wanted);
 }
 
@@ -69,10 +73,8 @@ fn expect_end<'a, S: Solver>(rt: &impl Abort, board: &Board<'a, S>, client: &mut
     client.close();
     assert!(rt; matches!(client.next(board), Next::Ended));
     assert!(rt; matches!(client.next(board), Next::Ended));
-    assert_eq!(rt;
-        client.ask(board, Query::address(0x40_1004)),
-        Err(AskFault::Closed)
-    );
+    let refused = client.ask(board, Query::address(0x40_1004));
+    expect(rt, "closed", &refused, &Err(AskFault::Closed));
 }
 
 /// A worker's turn ends so.
@@ -89,7 +91,7 @@ fn expect_turn<'a, S: Solver>(
     ensures key { S.key solver.new ≡ board.now.key }
 {
     let turn = worker.turn(board, solver, &Open);
-    assert_eq!(rt; turn, Ok(wanted));
+    expect(rt, "turn", &turn, &Ok(wanted));
 }
 
 /// The answers to 0x401000 and 0x401004; what each other call of the board returns on the way is
@@ -151,7 +153,8 @@ fn expect_one<'a, 'c, S: Solver<Answer = Answer<'c>>>(
     requires key { S.key solver.old ≡ board.now.key }
     ensures key { S.key solver.new ≡ board.now.key }
 {
-    assert_eq!(rt; client.ask(board, Query::address(0x40_1004)), Ok(0));
+    let asked = client.ask(board, Query::address(0x40_1004));
+    expect(rt, "asked", &asked, &Ok(0));
     answer_at_last(rt, board, client, worker, solver);
     expect_turn(rt, board, worker, solver, Turn::Idle);
     expect_answered(rt, board, client, 0, &Wanted::Frames(0, INLINED));

@@ -8,7 +8,7 @@ use crate::answers::{
 use crate::expect::expect;
 use crate::spans::PIECES;
 use dw_elf::OpenFault;
-use dw_symbols::{Answer, Context, Image, UnitFault};
+use dw_symbols::{Answer, Context, Frame, Image, UnitFault};
 use std::alloc::{AllocError, Global};
 use std::num::NonZeroUsize;
 use std::process::Abort;
@@ -36,6 +36,16 @@ const LINE: &[WantedFrame<'_>] = &[(None, Some(b"/w/a.c"), Some(4), Some(0))];
 /// The frame where nothing is known.
 const UNKNOWN: &[WantedFrame<'_>] = &[(None, None, None, None)];
 
+/// A frame of a unit is as it is wanted.
+fn expect_frame<A: Abort>(rt: &A, unit: u64, frame: &Frame<'_>, wanted: &WantedFrame<'_>) {
+    let (name, path, line, column) = wanted;
+    let location = &frame.location;
+    expect(rt, unit, &frame.name, name);
+    expect(rt, unit, &location.path.as_deref(), path);
+    let place = (location.line, location.column);
+    expect(rt, unit, &place, &(*line, *column));
+}
+
 /// An answer is of a unit and has these frames.
 pub fn expect_frames<A: Abort>(rt: &A, answer: &Answer<'_>, unit: u64, wanted: &[WantedFrame<'_>]) {
     let Answer::Found {
@@ -48,16 +58,8 @@ pub fn expect_frames<A: Abort>(rt: &A, answer: &Answer<'_>, unit: u64, wanted: &
     };
     expect(rt, unit, found, &unit);
     expect(rt, "frames", &frames.len(), &wanted.len());
-    for (frame, (name, path, line, column)) in frames.iter().zip(wanted.iter()) {
-        let location = &frame.location;
-        expect(rt, unit, &frame.name, name);
-        expect(rt, unit, &location.path.as_deref(), path);
-        expect(
-            rt,
-            unit,
-            &(location.line, location.column),
-            &(*line, *column),
-        );
+    for (frame, wanted) in frames.iter().zip(wanted.iter()) {
+        expect_frame(rt, unit, frame, wanted);
     }
 }
 
@@ -200,15 +202,16 @@ const MAIN: usize = 0x23;
 
 const LOW_PC_FORM: usize = 17;
 
+/// The code of a block, as often as blocks are in one another.
+static BLOCKS: [u8; 513] = [4; 513];
+
 /// The sample's units, the first of them with blocks in one another, of which the last is below 513
 /// entries.
 fn deep(alloc: Global) -> Result<Vec<u8>, AllocError> {
     let (front, rest) = INFO.split_at(FIRST_CHILD);
     let mut info = Vec::from_slice(alloc, &[0x58, 2])?;
     info.extend_from_slice(front.split_at(2).1)?;
-    for _ in 0..513 {
-        info.push(4)?;
-    }
+    info.extend_from_slice(&BLOCKS)?;
     info.extend_from_slice(rest)?;
     Ok(info)
 }
