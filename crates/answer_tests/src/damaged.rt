@@ -13,8 +13,8 @@ use test_inputs::files::{poked, sample};
 /// Bytes of a file header.
 const HEADER_SIZE: usize = 64;
 
-/// The sample, cut, isn't opened. Its section header table is after its header, and the section with
-/// the names is its last: it isn't whole in a file that is cut.
+/// The sample isn't opened where it is cut. Its section header table is after its header, and the
+/// section with the names is its last: it isn't whole in a file that is cut.
 fn expect_cut<A: Abort>(rt: &A, alloc: Global, file: &[u8]) {
     let wanted = if file.len() < HEADER_SIZE {
         OpenFault::NotElf
@@ -34,7 +34,7 @@ fn cut_at_each_length(rt: HostRuntime) -> Result<(), Fail> {
     Ok(())
 }
 
-/// Addresses of the sample are asked for.
+/// Asks for addresses of the sample, and says whether memory was refused.
 fn ask(context: &mut Context<'_, '_>) -> Result<(), AllocError> {
     for a in &[0x40_1000, 0x40_1004, 0x50_0001, 0] {
         frames_at(context, *a)?;
@@ -43,7 +43,7 @@ fn ask(context: &mut Context<'_, '_>) -> Result<(), AllocError> {
     Ok(())
 }
 
-/// They are asked for by a context over an image.
+/// Asks for them by a context over an image.
 fn ask_of(alloc: Global, image: &Image<'_>) -> Result<(), AllocError> {
     let mut context = context_of(alloc, image)?;
     ask(&mut context)

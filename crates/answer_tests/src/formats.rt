@@ -350,6 +350,18 @@ fn only_unit(units: &Units<'_>) -> Option<Only> {
     Some((unit.kind, offsets, [unit.width, unit.bases.width]))
 }
 
+/// The only unit of a file is as it is wanted.
+fn expect_only<A: Abort>(
+    rt: &A,
+    alloc: Global,
+    file: &[u8],
+    wanted: Only,
+) -> Result<(), OpenFault> {
+    let units = units_of(alloc, file)?;
+    expect(rt, "the unit", &only_unit(&units), &Some(wanted));
+    Ok(())
+}
+
 #[test]
 fn headers_of_the_64_bit_format(rt: HostRuntime) -> Result<(), Fail> {
     // Padding of 12 bytes, and then a skeleton unit, whose header has 32 bytes.
@@ -359,10 +371,8 @@ fn headers_of_the_64_bit_format(rt: HostRuntime) -> Result<(), Fail> {
         0, 0, 0, 0, 0, 0, 0,
     ];
     let file = file_of(rt.alloc(), info, OVERLAPPING)?;
-    let units = units_of(rt.alloc(), &file)?;
     let wanted: Only = (Kind::Skeleton, [12, 44, 57], [Width::Eight, Width::Eight]);
-    expect(&rt, "the unit", &only_unit(&units), &Some(wanted));
-    Ok(())
+    Ok(expect_only(&rt, rt.alloc(), &file, wanted)?)
 }
 
 /// Beginnings of .debug_info of which the header at an offset can't be read: the length is cut,
@@ -483,6 +493,7 @@ fn both(alloc: Global) -> Result<Vec<u8>, AllocError> {
 /// The path of each frame of both units.
 const PATH: Option<&[u8]> = Some(b"/w/a.c");
 
+/// An address, its unit, and the name and line there.
 static FRAMES: [Row<'static>; 6] = [
     (
         Question::Frames(0x1000),

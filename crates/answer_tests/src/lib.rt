@@ -4,7 +4,9 @@
 //!
 //! Each test is proved, too. To keep that short, tables of rows are statics, since a constant is
 //! built anew where it is used; a call whose contract is long stands in a function without clauses,
-//! whose callers see nothing of it; and `expect` stands for `assert_eq!`.
+//! whose callers see nothing of it; `expect` stands for `assert_eq!`; and what is dropped, as a
+//! file, an image or a context, is owned by a function that only makes it and lends it to the next,
+//! since each call and each `?` is long where much is dropped.
 #![tactic(auto)]
 
 #[cfg(test)]

@@ -56,6 +56,7 @@ pub fn expect_pieces<A: Abort>(rt: &A, answer: &Answer<'_>, wanted: &[WantedPiec
     }
 }
 
+/// Spans of the sample, of lines, of parts of them and of none.
 static SPANS: [Row<'static>; 7] = [
     (Question::Span(0x40_0000, 0x50_0000), Wanted::Pieces(WHOLE)),
     (Question::Span(0x40_1002, 0x40_1006), Wanted::Pieces(PIECES)),
@@ -107,6 +108,7 @@ fn spans_over_units(rt: HostRuntime) -> Result<(), Fail> {
     Ok(())
 }
 
+/// What is asked where an allocation is refused.
 static REFUSED: [Row<'static>; 1] = [(Question::Span(0x40_0000, 0x50_0000), Wanted::Pieces(WHOLE))];
 
 #[test]

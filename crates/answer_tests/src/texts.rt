@@ -285,15 +285,11 @@ fn list(alloc: Global, lines: &mut Compared<'_>, units: &Units<'_>) -> Result<()
     list_units(alloc, lines, units)
 }
 
-/// Units are listed by these lines.
-fn expect_listed<A: Abort>(
-    rt: &A,
-    alloc: Global,
-    units: &Units<'_>,
-    text: &str,
-) -> Result<(), RunFault> {
+/// The units of a file are listed by these lines.
+fn expect_listed<A: Abort>(rt: &A, alloc: Global, file: &[u8], text: &str) -> Result<(), Fail> {
+    let units = units_of(alloc, file)?;
     let mut lines = Compared::new(text);
-    list(alloc, &mut lines, units)?;
+    list(alloc, &mut lines, &units)?;
     assert!(rt; lines.is_whole());
     Ok(())
 }
@@ -301,8 +297,7 @@ fn expect_listed<A: Abort>(
 #[test]
 fn lines_of_units(rt: HostRuntime) -> Result<(), Fail> {
     let file = sample(rt.alloc())?;
-    let units = units_of(rt.alloc(), &file)?;
-    Ok(expect_listed(&rt, rt.alloc(), &units, UNITS)?)
+    expect_listed(&rt, rt.alloc(), &file, UNITS)
 }
 
 /// Answers what is asked for, in the same way.
