@@ -19,3 +19,4 @@ pub mod InlinedLemmas
 pub mod LinkLemmas
 pub mod TailLemmas
 pub mod CountLemmas
+pub mod ToldLemmas

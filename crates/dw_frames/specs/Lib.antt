@@ -1,4 +1,5 @@
 pub mod Call
+pub mod Descriptions
 pub mod Drafts
 pub mod DraftsInside
 pub mod Fault

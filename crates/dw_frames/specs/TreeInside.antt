@@ -1,5 +1,6 @@
 -- What a tree is seen as.
 use Rattle.dw_units.specs.UnitAt.{unit_at}
+use Rattle.dw_frames.specs.Descriptions.{AreTold}
 use Rattle.dw_frames.specs.Tree.{IsTreeOf}
 use Rattle.dw_frames.specs.UnitIn.{UnitIn}
 use Rattle.dw_frames.specs.declared.tree.Tree.TheInside.{Inside}
@@ -11,6 +12,7 @@ unit_of_tree tree = record {
   unit = unit_at tree.units.value tree.chains.unit;
 }
 
--- the chains are those of the unit
-abbrev pub IsTree : Inside → Type 0
-IsTree tree = IsTreeOf (unit_of_tree tree) tree.chains
+-- the chains are those of the unit, and what is kept of its functions is told of them
+pub record IsTree (tree : Inside) : Type 0 where
+  pub chains : IsTreeOf (unit_of_tree tree) tree.chains
+  pub told : AreTold (unit_of_tree tree) tree.told.kept.items

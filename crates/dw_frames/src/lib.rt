@@ -3,6 +3,7 @@
 #![tactic(auto)]
 
 mod chains;
+mod descriptions;
 mod drafts;
 mod fault;
 mod function;

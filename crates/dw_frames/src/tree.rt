@@ -18,6 +18,7 @@ ghost use Rattle.dw_frames.specs.Told.{described_shown, told_of};
 ghost use Rattle.dw_frames.specs.Tree.{chain_in, function_at, function_of, most_ranges, told_at, nodes_of};
 
 use crate::chains::Chains;
+use crate::descriptions::Descriptions;
 use crate::fault::TreeFault;
 use crate::function::{Call, Described, EntryId, call_of, no_call};
 use crate::name::{UnitEntry, name_of};
@@ -34,6 +35,8 @@ use std::sync::Arc;
 pub struct Tree<'a> {
     units: Arc<Units<'a>>,
     chains: Chains,
+    /// What was told of its functions. Contracts don't see it.
+    told: Descriptions<'a>,
 }
 
 impl<'a> Model for Tree<'a> {
@@ -67,7 +70,12 @@ impl<'a> Tree<'a> {
         let drafts = read_all(alloc, units.at(i))?;
         let chains = drafts.chains(alloc)?;
         let units = Arc::try_clone(units)?;
-        Ok(Tree { units, chains })
+        let told = Descriptions::new(alloc);
+        Ok(Tree {
+            units,
+            chains,
+            told,
+        })
     }
 
     /// How many ranges of functions are kept: of range lists at most a quarter of the bytes of the
@@ -159,16 +167,44 @@ impl<'a> Tree<'a> {
         }
     }
 
+    /// Makes room to keep what is told of each function.
+    fn make_room(&mut self)
+        ensures { self.new ≡ self.old }
+    {
+        self.told.make_room(self.chains.functions.len());
+    }
+
+    /// What `describe` tells of a function, which is kept, so that each is described once.
+    fn recall(&mut self, id: EntryId) -> Described<'a>
+        ensures told { described_shown result ≡ told_at self.old id }
+        ensures same { self.new ≡ self.old }
+    {
+        if id.unit != self.chains.unit {
+            return self.describe(id);
+        }
+        let Ok(number) = self.chains.functions.binary_search(&id.offset) else {
+            return self.describe(id);
+        };
+        if let Some(told) = self.told.get(number, id.offset) {
+            return told;
+        }
+        let told = self.describe(id);
+        self.told.put(number, id.offset, told);
+        told
+    }
+
     /// The functions at an address, innermost first, as `chain` finds them, with what is told of
-    /// each.
-    pub fn functions(&self, alloc: Global, a: u64) -> Result<Vec<Described<'a>>, AllocError>
-        ensures { IfOk result (λ found. map described_shown found.items
-            ≡ map (λ node. told_of self.now.sections self.now.unit node.entry) (chain_in self.now a)) }
+    /// each. That is kept where there is memory for it, so that a function is described once.
+    pub fn functions(&mut self, alloc: Global, a: u64) -> Result<Vec<Described<'a>>, AllocError>
+        ensures functions { IfOk result (λ found. map described_shown found.items
+            ≡ map (λ node. told_of self.old.sections self.old.unit node.entry) (chain_in self.old a)) }
+        ensures same { self.new ≡ self.old }
     {
         let ids = self.chain(alloc, a)?;
         let mut found = Vec::with_capacity(alloc, ids.len())?;
+        self.make_room();
         for id in &ids {
-            found.push(self.describe(*id))?;
+            found.push(self.recall(*id))?;
         }
         Ok(found)
     }

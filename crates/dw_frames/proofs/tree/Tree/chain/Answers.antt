@@ -16,7 +16,7 @@ returns-clause-told c =
     let ids = reverse (chain_at of.sections.tables c.self.inside.chains c.args.a) in
     let tables : tables_shown c.tables.result.now ≡ of.sections.tables = c.tables.ensures ∙ ap (λ (sections : Sections). sections.tables) c.deref.ensures in
     rw (c.reverse.ensures.items, c.in_ok-ids.ensures, tables)
-    (subst (λ (of : UnitIn). map (told_at of) ids ≡ map (λ (node : Node). told_of of.sections of.unit node.entry) (chain_in of c.args.a)) c.self.view_is (all-told of ids (chain_in of c.args.a) c.self.invariant.read (c.self.invariant.chains c.args.a)))
+    (subst (λ (of : UnitIn). map (told_at of) ids ≡ map (λ (node : Node). told_of of.sections of.unit node.entry) (chain_in of c.args.a)) c.self.view_is (all-told of ids (chain_in of c.args.a) c.self.invariant.chains.read (c.self.invariant.chains.chains c.args.a)))
 
 pub returns-clause-named : goal.returns-clause-named
 returns-clause-named c =
@@ -24,4 +24,4 @@ returns-clause-named c =
     let ids = reverse (chain_at of.sections.tables c.self.inside.chains c.args.a) in
     let tables : tables_shown c.tables.result.now ≡ of.sections.tables = c.tables.ensures ∙ ap (λ (sections : Sections). sections.tables) c.deref.ensures in
     rw (c.reverse.ensures.items, c.in_ok-ids.ensures, tables)
-    (subst (λ (of : UnitIn). All (λ id. IsSome (function_at of id)) ids) c.self.view_is (all-named of ids (chain_in of c.args.a) (c.self.invariant.chains c.args.a)))
+    (subst (λ (of : UnitIn). All (λ id. IsSome (function_at of id)) ids) c.self.view_is (all-named of ids (chain_in of c.args.a) (c.self.invariant.chains.chains c.args.a)))

@@ -8,12 +8,12 @@ use Rattle.dw_frames.proofs.tree.Tree.function.Goals as goal
 
 pub returns-in_err-entry-clause-stands : goal.returns-in_err-entry-clause-stands
 returns-in_err-entry-clause-stands c =
-    subst (λ (of : UnitIn). (node : Node) → function_at of c.args.id ≡ Some node → function_of of c.args.id ≡ Some node.entry) c.self.view_is (λ node e. function-stands (unit_of_tree c.self.inside) c.args.id node c.self.invariant.read e)
+    subst (λ (of : UnitIn). (node : Node) → function_at of c.args.id ≡ Some node → function_of of c.args.id ≡ Some node.entry) c.self.view_is (λ node e. function-stands (unit_of_tree c.self.inside) c.args.id node c.self.invariant.chains.read e)
 
 pub returns-then-tag-eq-DW_TAG_subprogram-clause-stands : goal.returns-then-tag-eq-DW_TAG_subprogram-clause-stands
 returns-then-tag-eq-DW_TAG_subprogram-clause-stands c =
-    subst (λ (of : UnitIn). (node : Node) → function_at of c.args.id ≡ Some node → function_of of c.args.id ≡ Some node.entry) c.self.view_is (λ node e. function-stands (unit_of_tree c.self.inside) c.args.id node c.self.invariant.read e)
+    subst (λ (of : UnitIn). (node : Node) → function_at of c.args.id ≡ Some node → function_of of c.args.id ≡ Some node.entry) c.self.view_is (λ node e. function-stands (unit_of_tree c.self.inside) c.args.id node c.self.invariant.chains.read e)
 
 pub returns-clause-stands : goal.returns-clause-stands
 returns-clause-stands c =
-    subst (λ (of : UnitIn). (node : Node) → function_at of c.args.id ≡ Some node → function_of of c.args.id ≡ Some node.entry) c.self.view_is (λ node e. function-stands (unit_of_tree c.self.inside) c.args.id node c.self.invariant.read e)
+    subst (λ (of : UnitIn). (node : Node) → function_at of c.args.id ≡ Some node → function_of of c.args.id ≡ Some node.entry) c.self.view_is (λ node e. function-stands (unit_of_tree c.self.inside) c.args.id node c.self.invariant.chains.read e)

@@ -11,6 +11,6 @@ use Rattle.dw_frames.proofs.tree.Tree.kept.Goals as goal
 pub returns-clause-bytes : goal.returns-clause-bytes
 returns-clause-bytes c =
     let of = unit_of_tree c.self.inside in
-    let few = c.self.invariant.few in
-    let functions = unit-few of.sections of.unit (λ (node : Node). is_kept of.sections of.unit node.entry) (nodes_of of.sections of.unit) c.self.invariant.read in
+    let few = c.self.invariant.chains.few in
+    let functions = unit-few of.sections of.unit (λ (node : Node). is_kept of.sections of.unit node.entry) (nodes_of of.sections of.unit) c.self.invariant.chains.read in
     subst (λ (of : UnitIn). c.self.inside.chains.ranges ≤ most_listed of.unit + (of.unit.end - of.unit.first_entry)) c.self.view_is (omega (arith, few, functions))

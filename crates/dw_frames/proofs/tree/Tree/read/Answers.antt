@@ -9,6 +9,7 @@ use Rattle.dw_frames.specs.Kept.{most_listed}
 use Rattle.dw_frames.specs.Tree.{all_inlined, outermost_at, IsTreeOf}
 use Rattle.dw_frames.specs.UnitIn.{UnitIn, unit_in}
 use Rattle.dw_frames.proofs.BuiltLemmas.{is-tree}
+use Rattle.dw_frames.proofs.ToldLemmas.{none-told}
 use Rattle.dw_frames.proofs.tree.Tree.read.Goals as goal
 
 -- the unit that was opened is the one of its index in the file
@@ -30,4 +31,7 @@ invariant_of-result c =
     let outermost = subst (λ (of : UnitIn). (a : ℕ) → outermost_at of.sections.tables chains a ≡ least_owner drafts.outermost a) same built.outermost in
     let room = subst (λ (of : UnitIn). chains.ranges ≤ most_listed of.unit + length drafts.functions) same built.few in
     let tree = is-tree of read.0 drafts read.1 chains read.2 read.3 index c.at.result.within built.functions inlined outermost room in
-    of-file c.at.result c.in_ok-units.units.value chains.unit chains (c.at.ensures.sections ∙ c.deref.ensures ∙ sym c.in_ok-units.ensures) (sym index) tree
+    record {
+      chains = of-file c.at.result c.in_ok-units.units.value chains.unit chains (c.at.ensures.sections ∙ c.deref.ensures ∙ sym c.in_ok-units.ensures) (sym index) tree;
+      told = none-told _ c.new-told.result.kept.items c.new-told.ensures;
+    }

@@ -1,0 +1,65 @@
+//! What was told of functions, kept for the next time that they are asked for.
+
+ghost use Rattle.std.specs.Prelude.{◌≡◌, [], IfSome};
+ghost use Rattle.dw_frames.specs.Told.{described_shown};
+ghost use Rattle.dw_frames.specs.Tree.{told_at};
+ghost use Rattle.dw_frames.specs.Descriptions.{AreTold, id_in};
+ghost use Rattle.dw_frames.specs.UnitIn.{UnitIn};
+
+use crate::function::Described;
+use std::alloc::Global;
+
+/// What was told of the functions of a unit, at the numbers of their order, each with the offset of
+/// its entry in .debug_info.
+#[derive(Drop)]
+pub(crate) struct Descriptions<'a> {
+    pub(crate) kept: Vec<Option<(u64, Described<'a>)>>,
+}
+
+impl<'a> Descriptions<'a> {
+    /// Nothing was told yet.
+    pub(crate) fn new(alloc: Global) -> Self
+        ensures { result.kept.items ≡ [] }
+    {
+        Descriptions {
+            kept: Vec::new(alloc),
+        }
+    }
+
+    /// Makes room for so many functions, unless it is there. Where an allocation is refused nothing
+    /// is kept.
+    pub(crate) fn make_room(&mut self, functions: usize)
+        ensures { (of : UnitIn) → AreTold of self.old.kept.items → AreTold of self.new.kept.items }
+    {
+        if !self.kept.is_empty() {
+            return;
+        }
+        match self.kept.resize(functions, None) {
+            Ok(()) => {}
+            Err(_) => {}
+        }
+    }
+
+    /// What was told of the function of a number, where its entry is at this offset.
+    pub(crate) fn get(&self, number: usize, offset: u64) -> Option<Described<'a>>
+        ensures { (of : UnitIn) → AreTold of self.now.kept.items
+            → IfSome result (λ told. described_shown told ≡ told_at of (id_in of offset)) }
+    {
+        let kept = self.kept.get(number)?;
+        let (at, told) = (*kept)?;
+        if at == offset {
+            return Some(told);
+        }
+        None
+    }
+
+    /// Keeps what is told of the function of a number, where there is room.
+    pub(crate) fn put(&mut self, number: usize, offset: u64, told: Described<'a>)
+        ensures { (of : UnitIn) → AreTold of self.old.kept.items
+            → described_shown told.entry ≡ told_at of (id_in of offset) → AreTold of self.new.kept.items }
+    {
+        if let Some(slot) = self.kept.get_mut(number) {
+            *slot = Some((offset, told));
+        }
+    }
+}
