@@ -236,8 +236,8 @@ impl<'b, 'a> Context<'b, 'a> {
         if let Some(answer) = kept_answer(&mut self.trees, &mut self.tables, alloc, image, i, a) {
             return answer;
         }
-        let tree = read_tree(alloc, image, i)?;
-        let answer = tree_answer(&mut self.tables, &tree, alloc, image, i, a)?;
+        let mut tree = read_tree(alloc, image, i)?;
+        let answer = tree_answer(&mut self.tables, &mut tree, alloc, image, i, a)?;
         keep_tree(&mut self.trees, i, tree);
         Ok(answer)
     }

@@ -60,12 +60,13 @@ pub(crate) fn frames_of<'a>(
 pub(crate) fn answer_of<'a>(
     alloc: Global,
     unit: u64,
-    tree: &Tree<'a>,
+    tree: &mut Tree<'a>,
     lines: &Option<Lines<'_>>,
     location: Location,
     a: u64,
 ) -> Result<Answer<'a>, AllocError>
-    ensures { IfOk result (λ answer. (s : Sections) (of : DwarfUnit) → IsTreeOf s of tree.now
+    ensures tree { tree.new ≡ tree.old }
+    ensures answer { IfOk result (λ answer. (s : Sections) (of : DwarfUnit) → IsTreeOf s of tree.old
         → answer_shown answer ≡ model.found unit
         (model.frames (λ entry. name s (record { unit = of; entry = entry })) (option_map lines_shown lines.now)
         (location_shown location) (chain s of (nodes_of s of) a))) }

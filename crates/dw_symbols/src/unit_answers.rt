@@ -53,7 +53,7 @@ pub(crate) fn location_by<'a>(
 /// What an address means, by the functions of its unit and the line table.
 pub(crate) fn frames_by<'a>(
     lines: &mut UnitLines<'a>,
-    tree: &Tree<'a>,
+    tree: &mut Tree<'a>,
     alloc: Global,
     image: &Image<'a>,
     i: usize,
@@ -61,9 +61,10 @@ pub(crate) fn frames_by<'a>(
 ) -> Result<Answer<'a>, AllocError>
     requires unit { i < length (units (sections image.now).info) }
     requires tree { IfSome (slice_get (units (sections image.now).info) i)
-        (λ unit. IsTreeOf (sections image.now) unit tree.now) }
+        (λ unit. IsTreeOf (sections image.now) unit tree.old) }
     requires named { IfSome (slice_get (units (sections image.now).info) i)
         (λ unit. IsNamed (sections image.now) unit lines.old) }
+    ensures tree { tree.new ≡ tree.old }
     ensures named { IfSome (slice_get (units (sections image.now).info) i)
         (λ unit. IsNamed (sections image.now) unit lines.new) }
     ensures answer { IfOk result (λ answer. IfSome (slice_get (units (sections image.now).info) i)

@@ -114,7 +114,7 @@ pub(crate) fn kept_pieces<'a>(
 /// it isn't.
 fn kept_frames<'a>(
     kept: &mut Tables<'a>,
-    tree: &Tree<'a>,
+    tree: &mut Tree<'a>,
     alloc: Global,
     image: &Image<'a>,
     i: usize,
@@ -122,8 +122,9 @@ fn kept_frames<'a>(
 ) -> Option<Result<Answer<'a>, AllocError>>
     requires unit { i < length (units (sections image.now).info) }
     requires tree { IfSome (slice_get (units (sections image.now).info) i)
-        (λ unit. IsTreeOf (sections image.now) unit tree.now) }
+        (λ unit. IsTreeOf (sections image.now) unit tree.old) }
     requires kept { AreTables (sections image.now) kept.old.entries }
+    ensures tree { tree.new ≡ tree.old }
     ensures kept { AreTables (sections image.now) kept.new.entries }
     ensures answer { IfSome result (λ result. IfOk result
         (λ answer. IfSome (slice_get (units (sections image.now).info) i)
@@ -137,7 +138,7 @@ fn kept_frames<'a>(
 /// What an address means, by the functions of its unit.
 pub(crate) fn tree_answer<'a>(
     tables: &mut Tables<'a>,
-    tree: &UnitTree<'a>,
+    tree: &mut UnitTree<'a>,
     alloc: Global,
     image: &Image<'a>,
     i: usize,
@@ -145,8 +146,9 @@ pub(crate) fn tree_answer<'a>(
 ) -> Result<Answer<'a>, AllocError>
     requires unit { i < length (units (sections image.now).info) }
     requires tree { IfSome (slice_get (units (sections image.now).info) i)
-        (λ unit. HasTree (sections image.now) unit tree.now) }
+        (λ unit. HasTree (sections image.now) unit tree.old) }
     requires kept { AreTables (sections image.now) tables.old.entries }
+    ensures tree { tree.new ≡ tree.old }
     ensures kept { AreTables (sections image.now) tables.new.entries }
     ensures answer { IfOk result (λ answer. IfSome (slice_get (units (sections image.now).info) i)
         (λ unit. answer_shown answer ≡ as_answer unit.offset (unit_answer (sections image.now) unit a))) }

@@ -9,5 +9,5 @@ tree_answer-requires-clause-tree c = looked-up (IsTreeAt (sections c.args.image.
 pub returns-clause-trees : goal.returns-clause-trees
 returns-clause-trees c =
     let s = sections c.args.image.now in
-    after-set (IsTreeAt s) c.args.trees.now.entries c.args.i c.in_ok-tree.tree.now c.requires.trees
-    (looked-up (IsTreeAt s) c.args.trees.now.entries c.args.i c.in_ok-tree.tree.now c.requires.trees c.in_ok-tree.ensures.value)
+    rw (c.tree_answer.ensures.tree) (after-set (IsTreeAt s) c.args.trees.now.entries c.args.i c.in_ok-tree.tree.now c.requires.trees
+    (looked-up (IsTreeAt s) c.args.trees.now.entries c.args.i c.in_ok-tree.tree.now c.requires.trees c.in_ok-tree.ensures.value))

@@ -29,6 +29,6 @@ invariant_of-self-2 c =
     let s = sections c.image-image.result.now in
     record {
       trees = subst (λ (file : List ℕ). AreTrees (sections file) c.keep_tree.new.kept.entries) c.image-image.ensures
-          (c.keep_tree.ensures s c.in_default-kept_answer.ensures.trees (each-some (slice_get (units s.info) c.in-Some.i) (λ unit. HasTree s unit c.in_ok-tree.tree) c.in_ok-tree.ensures));
+          (c.keep_tree.ensures s c.in_default-kept_answer.ensures.trees (each-some (slice_get (units s.info) c.in-Some.i) (λ unit. HasTree s unit c.tree_answer.new.tree) (rw (c.tree_answer.ensures.tree) c.in_ok-tree.ensures)));
       tables = subst (λ (file : List ℕ). AreTables (sections file) c.tree_answer.new.tables.entries) c.image-image.ensures c.tree_answer.ensures.kept;
     }
