@@ -174,7 +174,7 @@ impl<'a> Tree<'a> {
         self.told.make_room(self.chains.functions.len());
     }
 
-    /// What `describe` tells of a function, which is kept, so that each is described once.
+    /// What `describe` tells of a function. It is kept, and the entry is not read again.
     fn recall(&mut self, id: EntryId) -> Described<'a>
         ensures told { described_shown result ≡ told_at self.old id }
         ensures same { self.new ≡ self.old }
@@ -194,7 +194,7 @@ impl<'a> Tree<'a> {
     }
 
     /// The functions at an address, innermost first, as `chain` finds them, with what is told of
-    /// each. That is kept where there is memory for it, so that a function is described once.
+    /// each. Descriptions are kept, where there is memory for them, and given again.
     pub fn functions(&mut self, alloc: Global, a: u64) -> Result<Vec<Described<'a>>, AllocError>
         ensures functions { IfOk result (λ found. map described_shown found.items
             ≡ map (λ node. told_of self.old.sections self.old.unit node.entry) (chain_in self.old a)) }
