@@ -2,9 +2,10 @@
 """What the prover doesn't look at in the sources.
 
 Each crate uses each crate that crates.txt names for it. No line of an .rt file is longer than 120 columns, but for
-attributes, and no line of a comment longer than 100. The text that an edit of must-fail/ replaces is in its file just once, and what it puts there differs; there
-are no more edits than the gate has time for. Each file that docs/ARCHITECTURE.md names in the section of a crate is in
-that crate, or in the one that it names beside it. The last line counts crates and edits; it fails where one is wrong.
+attributes, and no line of a comment longer than 100. The text that an edit of must-fail/ replaces is in its file just
+once, and what it puts there differs; there are no more edits than the gate has time for. Each file that
+docs/ARCHITECTURE.md names in the section of a crate is in that crate, or in the one that it names beside it. The last
+line counts crates and edits; it fails where one is wrong.
 """
 
 import os
@@ -14,7 +15,7 @@ import sys
 TOP = os.path.join(os.path.dirname(os.path.abspath(__file__)), '..')
 WIDEST, WIDEST_COMMENT = 120, 100
 # An edit takes the gate some 40 seconds of a processor.
-MOST_EDITS = 185
+MOST_EDITS = 140
 # `thiserror` is used by its attribute, and these by what stands for them in the sources.
 USES = {'thiserror': r'#\[derive\([^)]*\bError\b|\bthiserror\b'}
 
