@@ -1,5 +1,5 @@
-"""Rows that were worked out by hand from the standards' tables, the same as in the tests of the crates: what whole runs
-write, and what parts of the model read. `check` compares the model with each, and the program with the runs."""
+"""Rows that were worked out by hand from the standards' tables: what whole runs write, and what parts of the model read.
+Some stand in tests of the crates too. `check` compares the model with each, and the program with the runs."""
 import os
 
 from model import ranges

@@ -8,15 +8,11 @@
 #![tactic(auto)]
 
 #[cfg(test)]
-mod bytes;
-#[cfg(test)]
 mod expect;
 #[cfg(test)]
 mod forms;
 #[cfg(test)]
 mod growth;
-#[cfg(test)]
-mod held_lists;
 #[cfg(test)]
 mod lines;
 #[cfg(test)]

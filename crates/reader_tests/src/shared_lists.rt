@@ -1,4 +1,5 @@
-//! Functions that name one range list, worked out by hand.
+//! Functions that name one range list, and lists with more ranges than a tree keeps, worked out by
+//! hand.
 
 use crate::expect::expect;
 use crate::trees::{expect_chains, fault_of_first, tree_of};
@@ -23,24 +24,46 @@ const LISTS: &[u8] = &[
 /// The bytes of a function that is inlined in none, with the list at 0.
 const LOOSE: &[u8] = &[3, 0, 0, 0, 0];
 
-/// The file of a unit whose first entry has so many functions of `LOOSE` below it, and then these
-/// entries; the first is at 13, where there are none of `LOOSE`. Three of them read as many bytes
-/// of lists as there are, so that lists are noted from then on.
-fn file_of(alloc: Global, loose: usize, entries: &[u8]) -> Result<Vec<u8>, AllocError> {
+/// The entries of a unit whose first entry has so many functions of `LOOSE` below it, and then
+/// these; the first is at 13, where there are none of `LOOSE`.
+fn entries_behind(alloc: Global, loose: usize, entries: &[u8]) -> Result<Vec<u8>, AllocError> {
     let mut all = Vec::from_slice(alloc, &[1])?;
     for _ in 0..loose {
         all.extend_from_slice(LOOSE)?;
     }
     all.extend_from_slice(entries)?;
-    let info = unit_of(alloc, &all)?;
+    Ok(all)
+}
+
+/// A file of units and lists.
+fn file_with<'a>(alloc: Global, info: &'a [u8], lists: &'a [u8]) -> Result<Vec<u8>, AllocError> {
     elf(
         alloc,
         &[
-            (Name::DebugInfo, &info),
+            (Name::DebugInfo, info),
             (Name::DebugAbbrev, ABBREVS),
-            (Name::DebugRnglists, LISTS),
+            (Name::DebugRnglists, lists),
         ],
     )
+}
+
+/// A file of a unit with these entries, and lists.
+fn file_of(alloc: Global, entries: &[u8], lists: &[u8]) -> Result<Vec<u8>, AllocError> {
+    let info = unit_of(alloc, entries)?;
+    file_with(alloc, &info, lists)
+}
+
+/// The functions at addresses are these, whose offsets are those in a unit that has so many bytes
+/// less before them.
+fn expect_functions<A: Abort>(
+    rt: &A,
+    alloc: Global,
+    file: &[u8],
+    chains: &[(u64, &[u64])],
+    before: usize,
+) -> Result<(), Fail> {
+    let tree = tree_of(alloc, file)?;
+    expect_chains(rt, alloc, &tree, chains, before as u64)
 }
 
 /// Subprograms at 13 and 34 of the list at 0, with functions inlined at 18, 23 and 28, and at 39;
@@ -51,7 +74,7 @@ const LATER: &[u8] = &[
 ];
 
 /// The functions at addresses, innermost first.
-static OF_LATER: [(u64, &[u64]); 7] = [
+const OF_LATER: &[(u64, &[u64])] = &[
     (0x0f, &[]),
     (0x10, &[18, 13]),
     (0x17, &[18, 13]),
@@ -61,30 +84,6 @@ static OF_LATER: [(u64, &[u64]); 7] = [
     (0x50, &[]),
 ];
 
-/// The functions at addresses are these, whose offsets are those in a unit that has none before
-/// them.
-fn expect_chains_behind<A: Abort>(
-    rt: &A,
-    alloc: Global,
-    loose: usize,
-    entries: &[u8],
-    chains: &[(u64, &[u64])],
-) -> Result<(), Fail> {
-    let file = file_of(alloc, loose, entries)?;
-    let tree = tree_of(alloc, &file, 0)?;
-    let before = loose.saturating_mul(LOOSE.len()) as u64;
-    expect_chains(rt, alloc, &tree, chains, before)
-}
-
-/// The first of those that name one list answers.
-#[test]
-fn first_of_one_list(rt: HostRuntime) -> Result<(), Fail> {
-    for loose in 0..5 {
-        expect_chains_behind(&rt, rt.alloc(), loose, LATER, &OF_LATER)?;
-    }
-    Ok(())
-}
-
 /// A subprogram at 13 of the list at 11, with one inlined at 18 of the list at 0; one at 24 of the
 /// list at 0, with two inlined at 29 and 34 of the same list.
 const CALLERS: &[u8] = &[
@@ -92,7 +91,7 @@ const CALLERS: &[u8] = &[
 ];
 
 /// The functions at addresses, innermost first.
-static OF_CALLERS: [(u64, &[u64]); 5] = [
+const OF_CALLERS: &[(u64, &[u64])] = &[
     (0x10, &[29, 24]),
     (0x20, &[]),
     (0x40, &[18, 13]),
@@ -100,11 +99,20 @@ static OF_CALLERS: [(u64, &[u64]); 5] = [
     (0x48, &[29, 24]),
 ];
 
-/// A list of a function that is inlined in another caller, or of the caller, is one's own too.
+/// Entries, and the functions at addresses: the first of those that name one list answers, and a
+/// list of a function that is inlined in another caller, or of the caller, is one's own too.
+static SHARING: [(&[u8], &[(u64, &[u64])]); 2] = [(LATER, OF_LATER), (CALLERS, OF_CALLERS)];
+
+/// Three functions of `LOOSE` read as many bytes of lists as there are, so that lists are noted
+/// from then on.
 #[test]
-fn one_list_in_each_caller(rt: HostRuntime) -> Result<(), Fail> {
-    for loose in 0..5 {
-        expect_chains_behind(&rt, rt.alloc(), loose, CALLERS, &OF_CALLERS)?;
+fn functions_of_one_list(rt: HostRuntime) -> Result<(), Fail> {
+    for (entries, chains) in &SHARING {
+        for loose in 0..5 {
+            let entries = entries_behind(rt.alloc(), loose, entries)?;
+            let file = file_of(rt.alloc(), &entries, LISTS)?;
+            expect_functions(&rt, rt.alloc(), &file, chains, loose * LOOSE.len())?;
+        }
     }
     Ok(())
 }
@@ -131,9 +139,49 @@ static FAULTS: [(&[u8], Option<TreeFault>); 4] = [
 fn faults_behind_a_list_that_was_read(rt: HostRuntime) -> Result<(), Fail> {
     for (i, (entries, fault)) in FAULTS.iter().enumerate() {
         for loose in 0..5 {
-            let file = file_of(rt.alloc(), loose, entries)?;
+            let entries = entries_behind(rt.alloc(), loose, entries)?;
+            let file = file_of(rt.alloc(), &entries, LISTS)?;
             expect(&rt, i, &fault_of_first(rt.alloc(), &file)?, fault);
         }
     }
     Ok(())
+}
+
+/// Subprograms at 13, 29 and 45, of the lists at 54, 0 and 61; of functions inlined in the first
+/// one at 18 and 23 of the lists at 57 and 0, and in the second at 34 and 39 of those at 3 and 61.
+/// The unit has 52 bytes, so 13 ranges may be kept of lists that have more than one: the lists at 0
+/// and 3 are too long.
+const HELD: &[u8] = &[
+    1, 2, 54, 0, 0, 0, 3, 57, 0, 0, 0, 3, 0, 0, 0, 0, 0, 2, 0, 0, 0, 0, 3, 3, 0, 0, 0, 3, 61, 0, 0,
+    0, 0, 2, 61, 0, 0, 0, 0, 0,
+];
+
+/// Twenty ranges: two addresses from 4 on, two from 8 on, and so on to those from 80 on; the list
+/// at 3 * n has all but the first n. At 61 is a list of the two addresses from 8 on.
+fn held_lists(alloc: Global) -> Result<Vec<u8>, AllocError> {
+    let mut lists = Vec::new(alloc);
+    for i in 1..21u8 {
+        lists.extend_from_slice(&[4, 4 * i, 4 * i + 2])?;
+    }
+    lists.extend_from_slice(&[0, 4, 8, 10, 0])?;
+    Ok(lists)
+}
+
+/// The functions at addresses, innermost first.
+const OF_HELD: &[(u64, &[u64])] = &[
+    (3, &[]),
+    (4, &[29]),
+    (6, &[]),
+    (8, &[34, 29]),
+    (32, &[34, 29]),
+    (76, &[23, 13]),
+    (80, &[18, 13]),
+    (82, &[]),
+];
+
+#[test]
+fn lists_read_for_each_address(rt: HostRuntime) -> Result<(), Fail> {
+    let lists = held_lists(rt.alloc())?;
+    let file = file_of(rt.alloc(), HELD, &lists)?;
+    expect_functions(&rt, rt.alloc(), &file, OF_HELD, 0)
 }
