@@ -2,6 +2,7 @@ pub mod Status
 pub mod SessionState
 pub mod Session
 pub mod Held
+pub mod Question
 pub mod Structs
 pub mod Answers
 pub mod Calls

@@ -1,5 +1,5 @@
 -- What the structs of the header report.
-use Rattle.std.specs.Prelude.{◌≡◌, ℕ, List, [], Bool, Option, Some, None, if◌then◌else◌, length, take, ◌<◌, MatchOption}
+use Rattle.std.specs.Prelude.{◌≡◌, ℕ, List, [], Bool, true, Option, Some, None, if◌then◌else◌, length, take, ◌<◌, MatchOption}
 use Rattle.dw_model.specs.Answer.{Answer, Location, Frame, Piece, Code, tree_fault, line_fault, not_covered, fault, found, located}
 use Rattle.dw_model.specs.Faults.{entry_fault, depth_fault, ranges_fault}
 use Rattle.dw_elf.specs.declared.fault.OpenFault.{OpenFault}
@@ -72,7 +72,7 @@ piece_told told buffer = record { begin = told.begin; end = told.end; location =
 abbrev pub TellsLength : CLocation → Location → (size : ℕ) → Type 0
 TellsLength told location size =
     (if_known told.line_known told.line ≡ location.line) × (if_known told.column_known told.column ≡ location.column)
-    × MatchOption location.path ⊥ (λ path. (told.path_length ≡ length path) × (size < length path))
+    × (told.path_known ≡ true) × MatchOption location.path ⊥ (λ path. (told.path_length ≡ length path) × (size < length path))
 
 abbrev pub TellsFrameLength : CFrame → Frame → (size : ℕ) → Type 0
 TellsFrameLength told frame size = (if_known told.name_known told.name.now ≡ frame.name) × TellsLength told.location frame.location size

@@ -5,19 +5,18 @@
 //! bytes of a file stay until the last handle over it is closed. Numbers of `Status` are what the
 //! calls return.
 
-ghost use Rattle.std.specs.Prelude.{◌≡◌, ◌⊎◌, ◌≢◌, ◌<◌, [], ◌∷◌, true, false, None, Some, length, map};
-ghost use Rattle.std.specs.Prelude.{option_map};
-ghost use Rattle.std.specs.Prelude.{slice_get, MatchOption};
+ghost use Rattle.std.specs.Prelude.{◌≡◌, ◌⊎◌, ◌≢◌, [], ◌∷◌, true, false, None, length, map};
 ghost use Rattle.dw_model.specs.Answer.{answer, location};
 ghost use Rattle.dw_model.specs.Pieces.{pieces};
 ghost use Rattle.dw_model.specs.Refusal.{refusal};
-ghost use Rattle.a2l_c.specs.SessionState.{SessionState};
-ghost use Rattle.a2l_c.specs.Answers.{frame_in, piece_in};
-ghost use Rattle.a2l_c.specs.Calls.{IsValid, Holds, Stays, Answers, TellsRefusal};
-ghost use Rattle.a2l_c.specs.Structs.{TellsFrameLength, TellsPieceLength, answer_told, frame_told, piece_told};
+ghost use Rattle.a2l_c.specs.Question.{answers_to};
+ghost use Rattle.a2l_c.specs.Calls.{IsValid, Holds, HoldsSuch, MayOpenBeside, Stays, Answers, answering, Exactly};
+ghost use Rattle.a2l_c.specs.Calls.{TellsRefusal, ReportsAnswer, LacksAnswer, ReportsFrame, LacksFrame};
+ghost use Rattle.a2l_c.specs.Calls.{ReportsLongFrame, ReportsPiece, LacksPiece, ReportsLongPiece};
 
 use crate::handle::Handle;
 use crate::lookup::{answer_at, frame_at, piece_at};
+use crate::question::Question;
 use crate::session::Session;
 use crate::status::Status;
 use crate::structs::{CAnswer, CFrame, CHandle, CPiece, CRefusal, tell_refusal};
@@ -80,9 +79,10 @@ pub extern "C" fn a2l_open(
     ensures opened { result ≡ 0 → Holds handle.new (record { file = file.now; answers = [] }) }
     ensures accepted { result ≡ 0 → refusal file.now ≡ None }
     ensures refused { result ≡ 2 → TellsRefusal (refusal file.now) why.new }
-    ensures capacity { result ≡ 3 → capacity ≡ 0 }
-    ensures open { result ≡ 5 → handle.old.open ≡ true }
+    ensures capacity { Exactly (result ≡ 3) ((handle.old.open ≡ false) × (capacity ≡ 0)) }
+    ensures open { Exactly (result ≡ 5) (handle.old.open ≡ true) }
     ensures stays { result ≢ 0 → handle.new ≡ handle.old }
+    ensures ends { (result ≡ 0) ⊎ ((result ≡ 1) ⊎ ((result ≡ 2) ⊎ ((result ≡ 3) ⊎ (result ≡ 5)))) }
 {
     if handle.open {
         return Status::Open.number();
@@ -105,11 +105,13 @@ pub extern "C" fn a2l_beside(
     requires other { IsValid other.old }
     ensures valid { IsValid handle.new }
     ensures other { IsValid other.new }
-    ensures opened { result ≡ 0 → (session : SessionState) → Holds handle.old session
-        → Holds other.new (record { file = session.file; answers = [] }) }
+    ensures opened { result ≡ 0 → HoldsSuch handle.old (λ session. Holds other.new (answering (λ _. []) session)) }
     ensures stays { Stays handle.old handle.new }
     ensures unopened { result ≢ 0 → other.new ≡ other.old }
-    ensures closed { result ≡ 4 → handle.old.open ≡ false }
+    ensures closed { Exactly (result ≡ 4) (handle.old.open ≡ false) }
+    ensures open { Exactly (result ≡ 5) ((handle.old.open ≡ true) × (other.old.open ≡ true)) }
+    ensures capacity { Exactly (result ≡ 3) (MayOpenBeside handle.old other.old × (capacity ≡ 0)) }
+    ensures ends { (result ≡ 0) ⊎ ((result ≡ 1) ⊎ ((result ≡ 3) ⊎ ((result ≡ 4) ⊎ (result ≡ 5)))) }
 {
     if !handle.open {
         return Status::Closed.number();
@@ -134,7 +136,8 @@ pub extern "C" fn a2l_beside(
 pub extern "C" fn a2l_close(alloc: Global, handle: &mut CHandle) -> u32
     requires valid { IsValid handle.old }
     ensures closed { handle.new.open ≡ false }
-    ensures status { result ≡ 0 → handle.old.open ≡ true }
+    ensures done { Exactly (result ≡ 0) (handle.old.open ≡ true) }
+    ensures ends { (result ≡ 0) ⊎ (result ≡ 4) }
 {
     if !handle.open {
         return Status::Closed.number();
@@ -144,6 +147,27 @@ pub extern "C" fn a2l_close(alloc: Global, handle: &mut CHandle) -> u32
     Status::Done.number()
 }
 
+/// Asks a question of a handle, which has the answers then.
+fn ask(alloc: Global, handle: &mut CHandle, question: Question<'_>) -> Status
+    requires valid { IsValid handle.old }
+    ensures valid { IsValid handle.new }
+    ensures found { result ≡ Status.Done → Answers (answers_to question.entry) handle.old handle.new }
+    ensures stays { result ≢ Status.Done → Stays handle.old handle.new }
+    ensures closed { Exactly (result ≡ Status.Closed) (handle.old.open ≡ false) }
+    ensures ends { (result ≡ Status.Done) ⊎ ((result ≡ Status.Memory) ⊎ (result ≡ Status.Closed)) }
+{
+    if !handle.open {
+        return Status::Closed;
+    }
+    let mut session = handle.handle.take(alloc);
+    let asked = session.ask(question);
+    handle.handle.put(session);
+    match asked {
+        Ok(()) => Status::Done,
+        Err(_) => Status::Memory,
+    }
+}
+
 /// Asks what addresses mean.
 #[unsafe(no_mangle)]
 pub extern "C" fn a2l_find_frames(alloc: Global, handle: &mut CHandle, addresses: &[u64]) -> u32
@@ -151,19 +175,10 @@ pub extern "C" fn a2l_find_frames(alloc: Global, handle: &mut CHandle, addresses
     ensures valid { IsValid handle.new }
     ensures found { result ≡ 0 → Answers (λ file. map (answer file) addresses.now) handle.old handle.new }
     ensures stays { result ≢ 0 → Stays handle.old handle.new }
-    ensures closed { result ≡ 4 → handle.old.open ≡ false }
+    ensures closed { Exactly (result ≡ 4) (handle.old.open ≡ false) }
     ensures ends { (result ≡ 0) ⊎ ((result ≡ 1) ⊎ (result ≡ 4)) }
 {
-    if !handle.open {
-        return Status::Closed.number();
-    }
-    let mut session = handle.handle.take(alloc);
-    let found = session.find_frames(addresses);
-    handle.handle.put(session);
-    match found {
-        Ok(()) => Status::Done.number(),
-        Err(_) => Status::Memory.number(),
-    }
+    ask(alloc, handle, Question::Frames(addresses)).number()
 }
 
 /// Asks where addresses come from, by line tables alone.
@@ -173,19 +188,10 @@ pub extern "C" fn a2l_find_locations(alloc: Global, handle: &mut CHandle, addres
     ensures valid { IsValid handle.new }
     ensures found { result ≡ 0 → Answers (λ file. map (location file) addresses.now) handle.old handle.new }
     ensures stays { result ≢ 0 → Stays handle.old handle.new }
-    ensures closed { result ≡ 4 → handle.old.open ≡ false }
+    ensures closed { Exactly (result ≡ 4) (handle.old.open ≡ false) }
     ensures ends { (result ≡ 0) ⊎ ((result ≡ 1) ⊎ (result ≡ 4)) }
 {
-    if !handle.open {
-        return Status::Closed.number();
-    }
-    let mut session = handle.handle.take(alloc);
-    let found = session.find_locations(addresses);
-    handle.handle.put(session);
-    match found {
-        Ok(()) => Status::Done.number(),
-        Err(_) => Status::Memory.number(),
-    }
+    ask(alloc, handle, Question::Locations(addresses)).number()
 }
 
 /// Asks for the pieces of a span.
@@ -195,19 +201,10 @@ pub extern "C" fn a2l_find_pieces(alloc: Global, handle: &mut CHandle, low: u64,
     ensures valid { IsValid handle.new }
     ensures found { result ≡ 0 → Answers (λ file. pieces file low high ∷ []) handle.old handle.new }
     ensures stays { result ≢ 0 → Stays handle.old handle.new }
-    ensures closed { result ≡ 4 → handle.old.open ≡ false }
+    ensures closed { Exactly (result ≡ 4) (handle.old.open ≡ false) }
     ensures ends { (result ≡ 0) ⊎ ((result ≡ 1) ⊎ (result ≡ 4)) }
 {
-    if !handle.open {
-        return Status::Closed.number();
-    }
-    let mut session = handle.handle.take(alloc);
-    let found = session.find_pieces(low, high);
-    handle.handle.put(session);
-    match found {
-        Ok(()) => Status::Done.number(),
-        Err(_) => Status::Memory.number(),
-    }
+    ask(alloc, handle, Question::Pieces { low, high }).number()
 }
 
 /// Fills in what the answer at an index is.
@@ -220,12 +217,10 @@ pub extern "C" fn a2l_answer_at(
 ) -> u32
     requires valid { IsValid handle.old }
     ensures valid { IsValid handle.new }
-    ensures told { result ≡ 0 → (session : SessionState) → Holds handle.old session
-        → option_map answer_told (slice_get session.answers i) ≡ Some told.new }
-    ensures outside { result ≡ 6 → (session : SessionState) → Holds handle.old session
-        → slice_get session.answers i ≡ None }
+    ensures told { result ≡ 0 → HoldsSuch handle.old (ReportsAnswer i told.new) }
+    ensures outside { result ≡ 6 → HoldsSuch handle.old (LacksAnswer i) }
     ensures stays { Stays handle.old handle.new }
-    ensures closed { result ≡ 4 → handle.old.open ≡ false }
+    ensures closed { Exactly (result ≡ 4) (handle.old.open ≡ false) }
     ensures ends { (result ≡ 0) ⊎ ((result ≡ 4) ⊎ (result ≡ 6)) }
 {
     if !handle.open {
@@ -249,15 +244,11 @@ pub extern "C" fn a2l_frame_at(
 ) -> u32
     requires valid { IsValid handle.old }
     ensures valid { IsValid handle.new }
-    ensures told { result ≡ 0 → (session : SessionState) → Holds handle.old session
-        → frame_in session.answers i j ≡ Some (frame_told told.new path.new) }
-    ensures outside { result ≡ 6 → (session : SessionState) → Holds handle.old session
-        → frame_in session.answers i j ≡ None }
-    ensures short { result ≡ 7 → (session : SessionState) → Holds handle.old session
-        → MatchOption (frame_in session.answers i j) ⊥
-        (λ frame. TellsFrameLength told.new frame (length path.old)) }
+    ensures told { result ≡ 0 → HoldsSuch handle.old (ReportsFrame i j told.new path.new) }
+    ensures outside { result ≡ 6 → HoldsSuch handle.old (LacksFrame i j) }
+    ensures short { result ≡ 7 → HoldsSuch handle.old (ReportsLongFrame i j told.new (length path.old)) }
     ensures stays { Stays handle.old handle.new }
-    ensures closed { result ≡ 4 → handle.old.open ≡ false }
+    ensures closed { Exactly (result ≡ 4) (handle.old.open ≡ false) }
     ensures ends { (result ≡ 0) ⊎ ((result ≡ 4) ⊎ ((result ≡ 6) ⊎ (result ≡ 7))) }
 {
     if !handle.open {
@@ -280,14 +271,11 @@ pub extern "C" fn a2l_piece_at(
 ) -> u32
     requires valid { IsValid handle.old }
     ensures valid { IsValid handle.new }
-    ensures told { result ≡ 0 → (session : SessionState) → Holds handle.old session
-        → piece_in session.answers j ≡ Some (piece_told told.new path.new) }
-    ensures outside { result ≡ 6 → (session : SessionState) → Holds handle.old session
-        → piece_in session.answers j ≡ None }
-    ensures short { result ≡ 7 → (session : SessionState) → Holds handle.old session
-        → MatchOption (piece_in session.answers j) ⊥ (λ piece. TellsPieceLength told.new piece (length path.old)) }
+    ensures told { result ≡ 0 → HoldsSuch handle.old (ReportsPiece j told.new path.new) }
+    ensures outside { result ≡ 6 → HoldsSuch handle.old (LacksPiece j) }
+    ensures short { result ≡ 7 → HoldsSuch handle.old (ReportsLongPiece j told.new (length path.old)) }
     ensures stays { Stays handle.old handle.new }
-    ensures closed { result ≡ 4 → handle.old.open ≡ false }
+    ensures closed { Exactly (result ≡ 4) (handle.old.open ≡ false) }
     ensures ends { (result ≡ 0) ⊎ ((result ≡ 4) ⊎ ((result ≡ 6) ⊎ (result ≡ 7))) }
 {
     if !handle.open {

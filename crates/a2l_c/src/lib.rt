@@ -8,6 +8,7 @@ mod calls;
 mod handle;
 mod lookup;
 mod parts;
+mod question;
 mod session;
 mod status;
 mod structs;

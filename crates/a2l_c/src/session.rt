@@ -8,7 +8,9 @@ ghost use Rattle.dw_model.specs.Pieces.{pieces};
 ghost use Rattle.dw_model.specs.Refusal.{refusal};
 ghost use Rattle.dw_elf.specs.OpenFault.{RefusesUnlessMemory};
 ghost use Rattle.dw_symbols.specs.Answer.{answer_shown};
+ghost use Rattle.a2l_c.specs.Question.{answers_to};
 
+use crate::question::Question;
 use dw_elf::OpenFault;
 use dw_symbols::{Answer, Context, Image};
 use std::alloc::{AllocError, Global};
@@ -88,6 +90,23 @@ fn pieces_of(
     Ok(vec![in alloc; answer]?)
 }
 
+/// The answers of a question, in the order in which it asks.
+fn answers_of(
+    alloc: Global,
+    context: &mut Context<'static, 'static>,
+    question: Question<'_>,
+) -> Result<Vec<Answer<'static>>, AllocError>
+    ensures answers { IfOk result (λ answers. map answer_shown answers.items
+        ≡ answers_to question.entry context.old.file) }
+    ensures file { context.new.file ≡ context.old.file }
+{
+    match question {
+        Question::Frames(addresses) => frames_of(alloc, context, addresses),
+        Question::Locations(addresses) => locations_of(alloc, context, addresses),
+        Question::Pieces { low, high } => pieces_of(alloc, context, low, high),
+    }
+}
+
 impl Session {
     /// Opens a file, of which the functions of so many units are kept, and as many line tables.
     /// Nothing was asked yet.
@@ -124,33 +143,13 @@ impl Session {
         })
     }
 
-    /// Asks what addresses mean. Out of memory changes nothing.
-    pub(crate) fn find_frames(&mut self, addresses: &[u64]) -> Result<(), AllocError>
-        ensures found { OnOk result (self.new.answers ≡ map (model.answer self.old.file) addresses.now) }
+    /// Asks a question. Out of memory changes nothing.
+    pub(crate) fn ask(&mut self, question: Question<'_>) -> Result<(), AllocError>
+        ensures found { OnOk result (self.new.answers ≡ answers_to question.entry self.old.file) }
         ensures file { self.new.file ≡ self.old.file }
         ensures refused { IfErr result (λ _. self.new ≡ self.old) }
     {
-        self.answers = frames_of(self.alloc, &mut self.context, addresses)?;
-        Ok(())
-    }
-
-    /// Asks where addresses come from, by line tables alone. Out of memory changes nothing.
-    pub(crate) fn find_locations(&mut self, addresses: &[u64]) -> Result<(), AllocError>
-        ensures found { OnOk result (self.new.answers ≡ map (model.location self.old.file) addresses.now) }
-        ensures file { self.new.file ≡ self.old.file }
-        ensures refused { IfErr result (λ _. self.new ≡ self.old) }
-    {
-        self.answers = locations_of(self.alloc, &mut self.context, addresses)?;
-        Ok(())
-    }
-
-    /// Asks for the pieces of a span. Out of memory changes nothing.
-    pub(crate) fn find_pieces(&mut self, low: u64, high: u64) -> Result<(), AllocError>
-        ensures found { OnOk result (self.new.answers ≡ pieces self.old.file low high ∷ []) }
-        ensures file { self.new.file ≡ self.old.file }
-        ensures refused { IfErr result (λ _. self.new ≡ self.old) }
-    {
-        self.answers = pieces_of(self.alloc, &mut self.context, low, high)?;
+        self.answers = answers_of(self.alloc, &mut self.context, question)?;
         Ok(())
     }
 
