@@ -105,8 +105,8 @@ if has "the calls under valgrind" valgrind; then
 fi
 
 if has "the Rust crate" cargo; then
-    A2L_LIB_DIR=$here/out CARGO_TARGET_DIR=$work/target cargo test --offline --quiet \
-        --manifest-path "$here/examples/rust/Cargo.toml" > cargo.log 2>&1 || { cat cargo.log; exit 1; }
+    A2L_LIB_DIR=$here/out CARGO_TARGET_DIR=$work/target "$here/rust/cargo.sh" test --quiet --package a2l \
+        > cargo.log 2>&1 || { cat cargo.log; exit 1; }
 fi
 
 # What is installed is enough for a program.

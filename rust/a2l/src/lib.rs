@@ -9,7 +9,14 @@
 //! }
 //! ```
 
+mod cut_off;
 mod ffi;
+mod file;
+mod program;
+
+pub use cut_off::end_where_cut_off;
+pub use file::{File, Part};
+pub use program::{Program, UnitFrames};
 
 use std::fmt;
 use std::marker::PhantomData;
@@ -17,6 +24,9 @@ use std::ptr::null_mut;
 
 /// How many units a context keeps, where nothing else is said.
 const CAPACITY: usize = 1024;
+
+/// The number of the refusal of a file whose sections are compressed.
+pub const COMPRESSED: u32 = 6;
 
 /// Why a file or an address isn't answered.
 #[derive(Debug, Clone, PartialEq, Eq)]
@@ -191,11 +201,23 @@ impl<'a> Context<'a> {
 
     /// Where an address comes from, by line tables alone; nothing where no unit covers it.
     pub fn find_location(&mut self, address: u64) -> Result<Option<Location>, Error> {
+        self.find_all_locations(&[address])?;
+        Ok(self.frames(0)?.next().map(|frame| frame.location))
+    }
+
+    /// Asks where many addresses come from, in one question. `frames` gives what was found, a frame without a name each.
+    pub fn find_all_locations(&mut self, addresses: &[u64]) -> Result<(), Error> {
         // SAFETY: the handle is open.
-        match unsafe { ffi::a2l_find_locations(&mut self.handle, &address, 1) } {
-            ffi::DONE => Ok(self.frames(0)?.next().map(|frame| frame.location)),
+        match unsafe { ffi::a2l_find_locations(&mut self.handle, addresses.as_ptr(), addresses.len()) } {
+            ffi::DONE => Ok(()),
             _ => Err(Error::Memory),
         }
+    }
+
+    /// The unit that has the answer at a place of the last question, by its offset in .debug_info.
+    pub fn unit_of(&mut self, place: usize) -> Result<Option<u64>, Error> {
+        let answer = self.answer(place)?;
+        Ok(known(answer.kind == ffi::FRAMES, answer.unit))
     }
 
     /// The locations of all addresses from `low` on and below `high`, in order of address.

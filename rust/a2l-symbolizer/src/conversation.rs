@@ -1,0 +1,185 @@
+//! The conversation: a reply for each line, written before the next line is read.
+
+use std::io::{self, BufRead, Write};
+
+use lru::LruCache;
+
+use crate::arguments::OutputStyle;
+use crate::gnu;
+use crate::identity::{Identity, Protocol};
+use crate::json;
+use crate::llvm;
+use crate::program::Answerer;
+use crate::programs::{Found, Programs};
+use crate::reply::{Answer, Reply};
+use crate::request::{parse, Kind, Module, Request, Target};
+use crate::shape::Shape;
+
+/// What the command line says of a conversation.
+#[derive(Debug, Clone)]
+pub struct Settings {
+    pub identity: Identity,
+    pub style: OutputStyle,
+    pub shape: Shape,
+    /// The file that is asked about, where lines don't say.
+    pub module: Option<Module>,
+    /// Is subtracted from each address.
+    pub adjust: u64,
+    /// Addresses count from the begin of this section.
+    pub section: Option<String>,
+    pub verbose: bool,
+}
+
+/// A conversation with its open files.
+pub struct Conversation {
+    settings: Settings,
+    programs: Programs,
+    /// The files of which a line was written to standard error.
+    reported: LruCache<Module, ()>,
+    /// A file couldn't be opened that the command line has.
+    failed: bool,
+}
+
+/// Of so many files it is known that they were reported.
+const REPORTED: usize = 4096;
+
+impl Conversation {
+    pub fn new(settings: Settings, programs: Programs) -> Conversation {
+        Conversation { settings, programs, reported: LruCache::new(REPORTED), failed: false }
+    }
+
+    /// Whether the file of the command line couldn't be opened.
+    pub fn has_failed(&self) -> bool {
+        self.failed
+    }
+
+    /// Opens the file of the command line, where it has one.
+    pub fn open_module(&mut self) -> Result<(), String> {
+        match self.settings.module.clone() {
+            Some(module) => self.programs.get(&module).map(drop),
+            None => Ok(()),
+        }
+    }
+
+    /// Replies to each line until there is no more.
+    pub fn run(&mut self, mut input: impl BufRead, mut output: impl Write) -> io::Result<()> {
+        let (mut line, mut reply) = (Vec::new(), Vec::new());
+        while input.read_until(b'\n', &mut line)? > 0 {
+            line.retain(|byte| !matches!(byte, b'\n' | b'\r'));
+            self.reply(&line, &mut reply);
+            output.write_all(&reply)?;
+            output.flush()?;
+            line.clear();
+            reply.clear();
+        }
+        Ok(())
+    }
+
+    /// Replies to requests of the command line.
+    pub fn reply_to_all(&mut self, lines: &[&[u8]], mut output: impl Write) -> io::Result<()> {
+        let mut replies = Vec::new();
+        if self.settings.style == OutputStyle::Json {
+            let objects: Vec<_> = lines.iter().map(|line| self.with_reply(line, |_, reply| json::object(reply))).collect();
+            llvm::say(&mut replies, format_args!("{}\n", serde_json::Value::from(objects)));
+        } else {
+            lines.iter().for_each(|line| self.reply(line, &mut replies));
+        }
+        output.write_all(&replies)?;
+        output.flush()
+    }
+
+    /// Writes the reply to a line without its end.
+    pub fn reply(&mut self, line: &[u8], out: &mut Vec<u8>) {
+        self.with_reply(line, |settings, reply| match (settings.style, settings.identity) {
+            (OutputStyle::Llvm, _) => llvm::write(&settings.shape, reply, out),
+            (OutputStyle::Gnu, Identity::Addr2line) => gnu::write(gnu::Tool::Binutils, &settings.shape, reply, out),
+            (OutputStyle::Gnu, _) => gnu::write(gnu::Tool::Llvm, &settings.shape, reply, out),
+            (OutputStyle::Json, _) => llvm::say(out, format_args!("{}\n", json::object(reply))),
+        });
+    }
+
+    fn with_reply<T>(&mut self, line: &[u8], write: impl FnOnce(&Settings, &Reply<'_>) -> T) -> T {
+        let request = parse(self.settings.identity.protocol(), self.settings.module.as_ref(), line);
+        let answered = request.as_ref().map_or(Ok(Answer::Frames(Vec::new())), |request| self.answer(request));
+        let (answer, failure) = match (answered, &request) {
+            (Ok(answer), _) => (answer, None),
+            (Err(why), Some(request)) => (nothing(request.kind), Some(why)),
+            (Err(why), None) => (Answer::Frames(Vec::new()), Some(why)),
+        };
+        let answer = self.settings.shape.shown(answer);
+        write(&self.settings, &Reply { line, request: request.as_ref(), failure, answer })
+    }
+
+    fn answer(&mut self, request: &Request) -> Result<Answer, String> {
+        let found = match self.programs.get(&request.module) {
+            Ok(found) => found,
+            Err(why) => {
+                self.failed |= self.settings.module.is_some();
+                if !matches!(self.settings.identity.protocol(), Protocol::Llvm(_)) || self.settings.verbose {
+                    self.report(&request.module, &why);
+                }
+                return Err(why);
+            }
+        };
+        let who = (found.is_new && self.settings.verbose).then(|| answerer(&found));
+        let answer = answer(&self.settings, found, request);
+        if let Some(who) = who {
+            self.report(&request.module, &who);
+        }
+        Ok(answer)
+    }
+
+    /// Writes a line to standard error, once for each file.
+    fn report(&mut self, module: &Module, what: &str) {
+        if self.reported.put(module.clone(), ()).is_none() {
+            let name = self.settings.identity.name();
+            // Nobody is left who could be told where this can't be written.
+            let _ = writeln!(io::stderr(), "{name}: '{}': {what}", module_name(module));
+        }
+    }
+}
+
+/// What is answered where a file can't be asked.
+fn nothing(kind: Kind) -> Answer {
+    match kind {
+        Kind::Code => Answer::Frames(Vec::new()),
+        Kind::Data => Answer::Variable(None),
+        Kind::Frame => Answer::Locals,
+    }
+}
+
+fn answer(settings: &Settings, found: Found<'_>, request: &Request) -> Answer {
+    let Found { program, sources, .. } = found;
+    let address = match &request.target {
+        // The greatest number is what clients send where they want nothing to be found.
+        Target::Address(u64::MAX) => None,
+        Target::Address(address) => {
+            let begin = settings.section.as_ref().map_or(Some(0), |name| program.section_address(name));
+            begin.map(|begin| begin.wrapping_add(address.wrapping_sub(settings.adjust)))
+        }
+        Target::Symbol { name, offset } => program.find_symbol(name, *offset, sources),
+    };
+    match (request.kind, address) {
+        (Kind::Code, Some(address)) => Answer::Frames(program.find_frames(address, sources)),
+        (Kind::Data, Some(address)) => Answer::Variable(program.find_variable(address, sources)),
+        (kind, _) => nothing(kind),
+    }
+}
+
+/// Who answers for a file, as it is reported.
+fn answerer(found: &Found<'_>) -> String {
+    let path = found.program.debug_path().display();
+    match found.program.answerer() {
+        Answerer::Library => format!("answered by liba2l, of {path}"),
+        Answerer::Others(why) if found.sources.fallback => format!("answered by the addr2line crate, of {path}: {why}"),
+        Answerer::Others(why) => format!("not answered, of {path}: {why}"),
+        Answerer::Nobody => "no debug information, answered by symbols alone".to_owned(),
+    }
+}
+
+fn module_name(module: &Module) -> String {
+    match module {
+        Module::Path(path) => path.display().to_string(),
+        Module::BuildId(id) => id.iter().map(|byte| format!("{byte:02x}")).collect(),
+    }
+}

@@ -1,0 +1,73 @@
+//! Answers of the addr2line crate, for debug information that the library doesn't read.
+
+use std::path::Path;
+use std::sync::Arc;
+
+use a2l::{File, Part};
+use addr2line::Context;
+use gimli::{Dwarf, EndianReader, RunTimeEndian, SectionId};
+use object::{Object, ObjectKind};
+
+use crate::debug_files::DebugFiles;
+use crate::guard::guarded;
+use crate::relocated::relocated;
+use crate::reply::Frame;
+use crate::sections::{part, Error};
+
+type Reader = EndianReader<RunTimeEndian, Part>;
+
+/// A file that the addr2line crate has opened.
+pub struct Fallback {
+    context: Context<Reader>,
+}
+
+impl Fallback {
+    /// Opens a file; none where the crate can't read it.
+    pub fn open(path: &Path, file: &Arc<File>, debug_files: &DebugFiles) -> Option<Fallback> {
+        guarded(|| {
+            let object = object::File::parse(&***file).ok()?;
+            let mut dwarf = dwarf(file, &object).ok()?;
+            if let Some(other) = debug_files.supplementary(path, &object) {
+                let object = object::File::parse(&**other).ok()?;
+                dwarf.load_sup(|id| section(&other, &object, id)).ok()?;
+            }
+            Some(Fallback { context: Context::from_dwarf(dwarf).ok()? })
+        })?
+    }
+
+    /// The functions at an address, innermost first; none where it isn't covered, or can't be answered.
+    pub fn find_frames(&self, address: u64) -> Vec<Frame> {
+        guarded(|| self.frames(address)).flatten().unwrap_or_default()
+    }
+
+    fn frames(&self, address: u64) -> Option<Vec<Frame>> {
+        let mut found = self.context.find_frames(address).ok()?;
+        let mut frames = Vec::new();
+        while let Some(frame) = found.next().ok()? {
+            let name = frame.function.as_ref().map(|function| function.name.bytes().to_vec());
+            let location = frame.location.as_ref();
+            frames.push(Frame {
+                name: name.filter(|name| !name.is_empty()),
+                path: location.and_then(|location| location.file).map(|path| path.as_bytes().to_vec()),
+                line: location.and_then(|location| location.line).unwrap_or(0).into(),
+                column: location.and_then(|location| location.column).unwrap_or(0).into(),
+                start: None,
+            });
+        }
+        Some(frames)
+    }
+}
+
+/// The sections of a file, as gimli takes them.
+pub fn dwarf(file: &Arc<File>, object: &object::File<'_>) -> Result<Dwarf<Reader>, Error> {
+    Dwarf::load(|id| section(file, object, id))
+}
+
+fn section(file: &Arc<File>, object: &object::File<'_>, id: SectionId) -> Result<Reader, Error> {
+    let bytes = match object.kind() {
+        ObjectKind::Relocatable => relocated(object, id.name())?,
+        _ => part(file, object, id.name())?,
+    };
+    let endian = if object.is_little_endian() { RunTimeEndian::Little } else { RunTimeEndian::Big };
+    Ok(EndianReader::new(bytes, endian))
+}

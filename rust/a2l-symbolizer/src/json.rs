@@ -1,0 +1,76 @@
+//! Replies in LLVM's JSON: an object on a line of its own for each request.
+
+use std::borrow::Cow;
+use std::os::unix::ffi::OsStrExt;
+
+use serde_json::{json, Map, Value};
+
+use crate::reply::{Answer, Frame, Reply};
+use crate::request::{Kind, Module, Target};
+
+/// The object of a reply, whose answer is as a shape shows it.
+pub fn object(reply: &Reply<'_>) -> Value {
+    let mut object = Map::new();
+    let module = reply.request.map_or(Cow::Borrowed(""), |request| module_name(&request.module));
+    object.insert("ModuleName".to_owned(), json!(module));
+    match reply.request.map(|request| &request.target) {
+        Some(Target::Address(address)) => object.insert("Address".to_owned(), json!(hexadecimal(*address))),
+        Some(Target::Symbol { name, .. }) => object.insert("SymName".to_owned(), json!(text(name))),
+        None => object.insert("SymName".to_owned(), json!(text(reply.line))),
+    };
+    let (name, value) = content(reply);
+    object.insert(name.to_owned(), value);
+    Value::Object(object)
+}
+
+fn content(reply: &Reply<'_>) -> (&'static str, Value) {
+    if let Some(message) = &reply.failure {
+        return ("Error", json!({ "Message": message }));
+    }
+    match (&reply.answer, reply.request) {
+        (_, None) => ("Loc", json!([])),
+        (Answer::Frames(frames), Some(request)) if matches!(request.target, Target::Symbol { .. }) => {
+            ("Loc", frames.iter().map(symbol).collect())
+        }
+        (Answer::Frames(frames), _) if frames.is_empty() => ("Symbol", json!([symbol(&Frame::default())])),
+        (Answer::Frames(frames), _) => ("Symbol", frames.iter().map(symbol).collect()),
+        (Answer::Variable(variable), _) => {
+            let (name, start, size) =
+                variable.as_ref().map_or((Cow::Borrowed(""), 0, 0), |it| (text(&it.name), it.start, it.size));
+            ("Data", json!({ "Name": name, "Start": hexadecimal(start), "Size": hexadecimal(size) }))
+        }
+        (Answer::Locals, Some(request)) => {
+            debug_assert_eq!(request.kind, Kind::Frame);
+            ("Frame", json!([]))
+        }
+    }
+}
+
+fn symbol(frame: &Frame) -> Value {
+    json!({
+        "FunctionName": frame.name.as_deref().map_or(Cow::Borrowed(""), text),
+        "FileName": frame.path.as_deref().map_or(Cow::Borrowed(""), text),
+        "Line": frame.line,
+        "Column": frame.column,
+        "Discriminator": 0,
+        "StartAddress": frame.start.map(hexadecimal).unwrap_or_default(),
+        "StartFileName": "",
+        "StartLine": 0,
+    })
+}
+
+fn module_name(module: &Module) -> Cow<'_, str> {
+    match module {
+        Module::Path(path) => text(path.as_os_str().as_bytes()),
+        Module::BuildId(id) => id.iter().map(|byte| format!("{byte:02X}")).collect(),
+    }
+}
+
+fn hexadecimal(number: u64) -> String {
+    format!("{number:#x}")
+}
+
+/// Bytes that are no UTF-8 are replaced: JSON has none.
+fn text(bytes: &[u8]) -> Cow<'_, str> {
+    String::from_utf8_lossy(bytes)
+}

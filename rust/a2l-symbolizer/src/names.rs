@@ -1,0 +1,93 @@
+//! Names of functions as people read them.
+
+use std::fmt::{self, Write};
+
+use cpp_demangle::{DemangleOptions, Symbol};
+
+use crate::guard::guarded;
+
+/// A readable name isn't longer than this; a name of which it would be stays as it is.
+const LONGEST: usize = 64 << 10;
+
+/// How much of a name is shown.
+#[derive(Debug, Clone, Copy, PartialEq, Eq)]
+pub enum Length {
+    /// With all types.
+    Whole,
+    /// Without parameters, return type and the scopes around it.
+    Short,
+}
+
+/// The name is of a scheme of C++ or Rust.
+pub fn is_mangled(name: &[u8]) -> bool {
+    name.starts_with(b"_Z") || name.starts_with(b"_R")
+}
+
+/// The name that stands behind a mangled one; none where it is of no scheme, or would be too long.
+pub fn demangled(name: &[u8], length: Length) -> Option<Vec<u8>> {
+    if !is_mangled(name) {
+        return None;
+    }
+    let readable = guarded(|| rust(name).or_else(|| cpp(name, length)))??;
+    let readable = readable.into_bytes();
+    Some(if length == Length::Short { without_scopes(&readable).to_vec() } else { readable })
+}
+
+/// A name of either of Rust's schemes.
+fn rust(name: &[u8]) -> Option<String> {
+    if !name.starts_with(b"_R") && !has_rust_hash(name) {
+        return None;
+    }
+    let readable = rustc_demangle::try_demangle(std::str::from_utf8(name).ok()?).ok()?;
+    let mut bounded = Bounded::default();
+    write!(bounded, "{readable:#}").ok()?;
+    Some(bounded.0)
+}
+
+/// A name of Rust's first scheme is one of C++ that ends in a hash: 17h, 16 digits and E.
+fn has_rust_hash(name: &[u8]) -> bool {
+    let end = name.iter().position(|&byte| byte == b'.').unwrap_or(name.len());
+    let hash = name[..end].strip_suffix(b"E").and_then(|rest| rest.get(rest.len().checked_sub(19)?..));
+    hash.is_some_and(|hash| hash.starts_with(b"17h") && hash[3..].iter().all(u8::is_ascii_hexdigit))
+}
+
+fn cpp(name: &[u8], length: Length) -> Option<String> {
+    let options = match length {
+        Length::Whole => DemangleOptions::new(),
+        Length::Short => DemangleOptions::new().no_params().no_return_type(),
+    };
+    let mut bounded = Bounded::default();
+    Symbol::new(name).ok()?.structured_demangle(&mut bounded, &options).ok()?;
+    Some(bounded.0)
+}
+
+/// A text that refuses to be longer than `LONGEST`: a short mangled name can stand for an endless one.
+#[derive(Default)]
+struct Bounded(String);
+
+impl Write for Bounded {
+    fn write_str(&mut self, text: &str) -> fmt::Result {
+        if self.0.len() + text.len() > LONGEST {
+            return Err(fmt::Error);
+        }
+        self.0.push_str(text);
+        Ok(())
+    }
+}
+
+/// The last part of a name that isn't inside of parentheses or brackets.
+fn without_scopes(name: &[u8]) -> &[u8] {
+    let (mut depth, mut begin) = (0_usize, 0);
+    for (at, pair) in name.windows(2).enumerate() {
+        match pair {
+            [b'<' | b'(' | b'{' | b'[', _] => depth += 1,
+            [b'>' | b')' | b'}' | b']', _] => depth = depth.saturating_sub(1),
+            b"::" if depth == 0 => begin = at + 2,
+            _ => {}
+        }
+    }
+    match &name[begin..] {
+        b"" => name,
+        last => last,
+    }
+}

@@ -1,0 +1,62 @@
+//! Numbers as clients spell them.
+
+/// How numbers are spelled in LLVM's requests.
+#[derive(Debug, Clone, Copy, PartialEq, Eq)]
+pub enum Spelling {
+    /// As in C: hexadecimal after 0x, binary after 0b, octal after 0 or 0o, decimal.
+    OfC,
+    /// Hexadecimal, after 0x or without.
+    Hexadecimal,
+}
+
+/// The number that a word is, the whole word; none where it doesn't fit into 64 bits.
+pub fn number(spelling: Spelling, word: &[u8]) -> Option<u64> {
+    match (spelling, word) {
+        (_, [b'0', b'x' | b'X', digits @ ..]) => digits_of(digits, 16),
+        (Spelling::Hexadecimal, digits) => digits_of(digits, 16),
+        (Spelling::OfC, [b'0', b'b' | b'B', digits @ ..]) => digits_of(digits, 2),
+        (Spelling::OfC, [b'0', b'o', digits @ ..]) => digits_of(digits, 8),
+        (Spelling::OfC, [b'0', digits @ ..]) if !digits.is_empty() => digits_of(digits, 8),
+        (Spelling::OfC, digits) => digits_of(digits, 10),
+    }
+}
+
+/// The number at the front of a line, as the function `strtoul` of C reads it with base 16; none where there is no digit.
+/// A number that doesn't fit is the greatest one.
+pub fn gnu_number(line: &[u8]) -> Option<u64> {
+    let line = line.trim_ascii_start();
+    let (negative, line) = match line {
+        [b'-', rest @ ..] => (true, rest),
+        [b'+', rest @ ..] => (false, rest),
+        rest => (false, rest),
+    };
+    let line = match line {
+        [b'0', b'x' | b'X', rest @ ..] => rest,
+        rest => rest,
+    };
+    let end = line.iter().position(|byte| !byte.is_ascii_hexdigit()).unwrap_or(line.len());
+    if end == 0 {
+        return None;
+    }
+    Some(match digits_of(&line[..end], 16) {
+        Some(number) if negative => number.wrapping_neg(),
+        Some(number) => number,
+        None => u64::MAX,
+    })
+}
+
+/// The bytes of a text of hexadecimal digits.
+pub fn hexadecimal_bytes(digits: &[u8]) -> Option<Vec<u8>> {
+    if digits.is_empty() || digits.len() % 2 != 0 {
+        return None;
+    }
+    digits.chunks(2).map(|pair| u8::try_from(digits_of(pair, 16)?).ok()).collect()
+}
+
+/// The number of some digits, all of them; none where it doesn't fit.
+fn digits_of(digits: &[u8], radix: u32) -> Option<u64> {
+    if !digits.first()?.is_ascii_alphanumeric() {
+        return None;
+    }
+    u64::from_str_radix(std::str::from_utf8(digits).ok()?, radix).ok()
+}

@@ -1,0 +1,231 @@
+//! A file that is asked about: who answers for it, and the answers.
+
+use std::path::Path;
+
+use a2l::UnitFrames;
+use object::{Object, ObjectSection};
+
+use crate::debug_files::DebugFiles;
+use crate::fallback::Fallback;
+use crate::names::is_mangled;
+use crate::open_file::OpenFile;
+use crate::reply::{Frame, Variable};
+use crate::sections::{has_debug_info, image};
+use crate::symbols::{Kind, Symbols};
+use crate::units::has_unread_units;
+
+/// So many units are kept by the library.
+const CAPACITY: usize = 1024;
+
+/// Who may be asked beside the library, and with how much memory.
+#[derive(Debug, Clone)]
+pub struct Sources {
+    pub debug_files: DebugFiles,
+    /// Names come from symbol tables too.
+    pub symbols: bool,
+    /// The addr2line crate answers where the library doesn't.
+    pub fallback: bool,
+    /// Paths are those from the folder on in which the compiler ran.
+    pub relative: bool,
+    /// An image of decompressed sections takes at most so many bytes.
+    pub most: u64,
+}
+
+/// Who answers for the debug information of a file.
+#[derive(Debug, Clone, PartialEq, Eq)]
+pub enum Answerer {
+    Library,
+    /// The library refuses the file, for this reason.
+    Others(String),
+    /// There is no debug information.
+    Nobody,
+}
+
+/// A file that is open.
+pub struct Program {
+    file: OpenFile,
+    /// The file that has the debug information, where that is another one.
+    debug: Option<OpenFile>,
+    library: Option<a2l::Program>,
+    answerer: Answerer,
+    /// Made when they are first needed.
+    unread_units: Option<bool>,
+    fallback: Option<Option<Box<Fallback>>>,
+    functions: Option<Symbols>,
+    variables: Option<Symbols>,
+}
+
+impl Program {
+    /// Opens the debug information of a file, which may be in another one.
+    pub fn open(file: OpenFile, sources: &Sources) -> Program {
+        let found = has_debug_info(&file.file);
+        let debug = if found { None } else { sources.debug_files.of_program(&file.path, &file.file) };
+        let mut program = Program {
+            file,
+            debug,
+            library: None,
+            answerer: Answerer::Nobody,
+            unread_units: None,
+            fallback: None,
+            functions: None,
+            variables: None,
+        };
+        if found || program.debug.is_some() {
+            program.open_library(sources);
+        }
+        program
+    }
+
+    fn open_library(&mut self, sources: &Sources) {
+        let file = &self.with_debug_info().file;
+        let opened = a2l::Program::open(file.clone(), CAPACITY);
+        let opened = match opened {
+            Err(why @ a2l::Error::Refused { number: a2l::COMPRESSED, .. }) => match image(file, sources.most) {
+                Ok(image) => a2l::Program::open(image.into(), CAPACITY).map_err(|why| why.to_string()),
+                Err(other) => Err(format!("{why}: {other}")),
+            },
+            other => other.map_err(|why| why.to_string()),
+        };
+        match opened {
+            Ok(library) => (self.library, self.answerer) = (Some(library), Answerer::Library),
+            Err(why) => self.answerer = Answerer::Others(why),
+        }
+    }
+
+    fn with_debug_info(&self) -> &OpenFile {
+        self.debug.as_ref().unwrap_or(&self.file)
+    }
+
+    /// Who answers for the debug information.
+    pub fn answerer(&self) -> &Answerer {
+        &self.answerer
+    }
+
+    /// The path of the file that has the debug information.
+    pub fn debug_path(&self) -> &Path {
+        &self.with_debug_info().path
+    }
+
+    /// How many bytes of files and of memory this takes.
+    pub fn bytes(&self) -> u64 {
+        let library = self.library.as_ref().map_or(0, |library| library.file().len());
+        let debug = self.debug.as_ref().map_or(0, |debug| debug.file.len());
+        (self.file.file.len() + debug + library) as u64
+    }
+
+    /// One of its files isn't what it was.
+    pub fn has_changed(&self) -> bool {
+        self.file.has_changed() || self.debug.as_ref().is_some_and(OpenFile::has_changed)
+    }
+
+    /// The functions at an address, innermost first; none where nothing is known.
+    pub fn find_frames(&mut self, address: u64, sources: &Sources) -> Vec<Frame> {
+        let mut frames = self.frames_of_debug_info(address, sources);
+        if sources.symbols {
+            self.name_outermost(address, &mut frames);
+        }
+        frames.retain(|frame| !frame.is_unknown());
+        frames
+    }
+
+    fn frames_of_debug_info(&mut self, address: u64, sources: &Sources) -> Vec<Frame> {
+        let found = match self.library.as_mut().map(|library| library.find_frames(address)) {
+            Some(Ok(Some(found))) => return frames(found),
+            Some(Ok(None)) => self.has_unread_units(),
+            Some(Err(_)) => true,
+            None => self.answerer != Answerer::Nobody,
+        };
+        if !found || !sources.fallback {
+            return Vec::new();
+        }
+        self.fallback(sources).map_or_else(Vec::new, |fallback| fallback.find_frames(address))
+    }
+
+    fn has_unread_units(&mut self) -> bool {
+        let library = self.library.as_ref();
+        *self.unread_units.get_or_insert_with(|| library.is_some_and(|library| has_unread_units(library.file())))
+    }
+
+    fn fallback(&mut self, sources: &Sources) -> Option<&Fallback> {
+        if self.fallback.is_none() {
+            let debug = self.with_debug_info();
+            let opened = Fallback::open(&debug.path, &debug.file, &sources.debug_files);
+            self.fallback = Some(opened.map(Box::new));
+        }
+        self.fallback.as_ref()?.as_deref()
+    }
+
+    /// The outermost function has the name of its symbol where it has none, or a plain one and the symbol's is mangled:
+    /// compilers give functions of unnamed namespaces, local classes and lambdas no linkage name.
+    fn name_outermost(&mut self, address: u64, frames: &mut Vec<Frame>) {
+        let outermost = frames.last().and_then(|frame| frame.name.as_deref());
+        if outermost.is_some_and(is_mangled) {
+            return;
+        }
+        let Some(symbol) = self.symbols(Kind::Functions).find(address) else {
+            return;
+        };
+        if outermost.is_some() && !is_mangled(symbol.name) {
+            return;
+        }
+        let (name, start) = (symbol.name.to_vec(), symbol.start);
+        if frames.is_empty() {
+            frames.push(Frame::default());
+        }
+        let last = frames.len() - 1;
+        frames[last].name = Some(name);
+        frames[last].start = Some(start);
+    }
+
+    fn symbols(&mut self, kind: Kind) -> &Symbols {
+        let place = match kind {
+            Kind::Functions => &mut self.functions,
+            Kind::Variables => &mut self.variables,
+        };
+        let files: Vec<_> = [Some(&self.file), self.debug.as_ref()].into_iter().flatten().map(|file| &file.file).collect();
+        place.get_or_insert_with(|| Symbols::read(&files, kind))
+    }
+
+    /// The first address of a section.
+    pub fn section_address(&self, name: &str) -> Option<u64> {
+        let object = object::File::parse(&**self.file.file).ok()?;
+        Some(object.section_by_name(name)?.address())
+    }
+
+    /// The variable at an address, or the function there.
+    pub fn find_variable(&mut self, address: u64, sources: &Sources) -> Option<Variable> {
+        if !sources.symbols {
+            return None;
+        }
+        let kinds = [Kind::Variables, Kind::Functions];
+        kinds.into_iter().find_map(|kind| {
+            let symbol = self.symbols(kind).find(address)?;
+            Some(Variable { name: symbol.name.to_vec(), start: symbol.start, size: symbol.size })
+        })
+    }
+
+    /// The address of what has a name in the symbol table, and so many bytes after it where it is that long.
+    pub fn find_symbol(&mut self, name: &[u8], offset: u64, sources: &Sources) -> Option<u64> {
+        if !sources.symbols {
+            return None;
+        }
+        let kinds = [Kind::Functions, Kind::Variables];
+        kinds.into_iter().find_map(|kind| {
+            let symbol = self.symbols(kind).named(name)?;
+            Some(if offset < symbol.size { symbol.start + offset } else { symbol.start })
+        })
+    }
+}
+
+/// The frames of the library, as they are written.
+fn frames(found: UnitFrames<'_>) -> Vec<Frame> {
+    let known = |bytes: &Vec<u8>| !bytes.is_empty();
+    let frame = |frame: a2l::Frame<'_>| Frame {
+        name: frame.function.map(<[u8]>::to_vec).filter(known),
+        path: frame.location.file.filter(known),
+        line: frame.location.line.unwrap_or(0),
+        column: frame.location.column.unwrap_or(0),
+        start: None,
+    };
+    found.frames.into_iter().map(frame).collect()
+}

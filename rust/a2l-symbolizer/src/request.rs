@@ -1,0 +1,142 @@
+//! Request lines: what is asked of which file at which address.
+
+use std::ffi::OsStr;
+use std::os::unix::ffi::OsStrExt;
+use std::path::PathBuf;
+
+use crate::identity::Protocol;
+use crate::numbers::{gnu_number, hexadecimal_bytes, number, Spelling};
+
+/// What is asked for.
+#[derive(Debug, Clone, Copy, PartialEq, Eq)]
+pub enum Kind {
+    /// The functions at an address of code.
+    Code,
+    /// The variable at an address of data.
+    Data,
+    /// The variables in the stack frame of the function at an address of code.
+    Frame,
+}
+
+/// The file that is asked about.
+#[derive(Debug, Clone, PartialEq, Eq, Hash)]
+pub enum Module {
+    Path(PathBuf),
+    /// A build id, by its bytes.
+    BuildId(Vec<u8>),
+}
+
+/// Where in the file.
+#[derive(Debug, Clone, PartialEq, Eq)]
+pub enum Target {
+    Address(u64),
+    /// So many bytes after the begin of what has this name in the symbol table.
+    Symbol { name: Vec<u8>, offset: u64 },
+}
+
+/// A request.
+#[derive(Debug, Clone, PartialEq, Eq)]
+pub struct Request {
+    pub kind: Kind,
+    pub module: Module,
+    pub target: Target,
+}
+
+/// The request of a line without its end; none where it has no number that fits into 64 bits, or no module. `given` is the
+/// module that the command line has, if it has one: then a line has no module.
+pub fn parse(protocol: Protocol, given: Option<&Module>, line: &[u8]) -> Option<Request> {
+    match protocol {
+        Protocol::Gnu => {
+            let target = Target::Address(gnu_number(line)?);
+            Some(Request { kind: Kind::Code, module: given?.clone(), target })
+        }
+        Protocol::Llvm(spelling) => parse_llvm(spelling, given, line),
+    }
+}
+
+fn parse_llvm(spelling: Spelling, given: Option<&Module>, line: &[u8]) -> Option<Request> {
+    let (kind, rest) = kind(line);
+    let rest = rest.trim_ascii_start();
+    if let Some(module) = given {
+        return Some(Request { kind, module: module.clone(), target: first_target(spelling, rest)? });
+    }
+    let (rest, by_build_id) = match (rest.strip_prefix(b"FILE:"), rest.strip_prefix(b"BUILDID:")) {
+        (Some(rest), _) => (rest, false),
+        (_, Some(rest)) => (rest, true),
+        _ => (rest, false),
+    };
+    let (name, target) = name_and_target(spelling, rest.trim_ascii_start())?;
+    let module = if by_build_id {
+        Module::BuildId(hexadecimal_bytes(name)?)
+    } else {
+        Module::Path(PathBuf::from(OsStr::from_bytes(without_architecture(name))))
+    };
+    Some(Request { kind, module, target })
+}
+
+/// The word before the module, if it is there.
+fn kind(line: &[u8]) -> (Kind, &[u8]) {
+    let words: [(&[u8], Kind); 3] = [(b"CODE ", Kind::Code), (b"DATA ", Kind::Data), (b"FRAME ", Kind::Frame)];
+    let found = words.into_iter().find_map(|(word, kind)| Some((kind, line.strip_prefix(word)?)));
+    found.unwrap_or((Kind::Code, line))
+}
+
+/// The name of the module and what is asked for in it. Names that LLVM can't spell are taken too: one in quotes ends at the
+/// first quote that a number follows, so that it may have quotes itself; and where no number follows a word without
+/// quotes, but the last word is a number, the name is all before it, so that it may have blanks.
+fn name_and_target(spelling: Spelling, text: &[u8]) -> Option<(&[u8], Target)> {
+    let (name, rest) = first_word(text)?;
+    let mut found = first_target(spelling, rest).map(|target| (name, target));
+    if !matches!(found, Some((_, Target::Address(_)))) {
+        found = longer_name(spelling, text).map(|(name, address)| (name, Target::Address(address))).or(found);
+    }
+    found.filter(|(name, _)| !name.is_empty())
+}
+
+/// The first word, or what stands in quotes, and what follows it.
+fn first_word(text: &[u8]) -> Option<(&[u8], &[u8])> {
+    match text.first()? {
+        quote @ (b'"' | b'\'') => {
+            let end = 1 + text[1..].iter().position(|byte| byte == quote)?;
+            Some((&text[1..end], &text[end + 1..]))
+        }
+        _ => Some(text.split_at(text.iter().position(|&byte| byte == b' ').unwrap_or(text.len()))),
+    }
+}
+
+fn longer_name(spelling: Spelling, text: &[u8]) -> Option<(&[u8], u64)> {
+    let text = text.trim_ascii();
+    let (name, last) = text.split_at(text.iter().rposition(|&byte| byte == b' ')?);
+    let address = number(spelling, &last[1..])?;
+    let name = name.trim_ascii_end();
+    match name.first()? {
+        quote @ (b'"' | b'\'') => Some((name[1..].strip_suffix(&[*quote])?, address)),
+        _ => Some((name, address)),
+    }
+}
+
+/// What the first word of a text asks for; whatever follows it doesn't count.
+fn first_target(spelling: Spelling, text: &[u8]) -> Option<Target> {
+    let word = text.trim_ascii().split(|&byte| byte == b' ').next()?;
+    if let Some(address) = number(spelling, word) {
+        return Some(Target::Address(address));
+    }
+    if word.first()?.is_ascii_digit() {
+        return None;
+    }
+    let plus = word.iter().rposition(|&byte| byte == b'+').filter(|&plus| plus > 0);
+    let (name, offset) = plus
+        .and_then(|plus| Some((&word[..plus], number(Spelling::OfC, &word[plus + 1..])?)))
+        .unwrap_or((word, 0));
+    Some(Target::Symbol { name: name.to_vec(), offset })
+}
+
+/// A name of a module without the architecture that clang's runtimes may append.
+fn without_architecture(name: &[u8]) -> &[u8] {
+    const ARCHITECTURES: [&[u8]; 9] =
+        [b"x86_64", b"x86_64h", b"i386", b"i686", b"aarch64", b"arm64", b"arm", b"riscv64", b"ppc64le"];
+    match name.iter().rposition(|&byte| byte == b':') {
+        Some(colon) if colon > 0 && ARCHITECTURES.contains(&&name[colon + 1..]) => &name[..colon],
+        _ => name,
+    }
+}

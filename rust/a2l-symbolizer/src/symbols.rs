@@ -1,0 +1,182 @@
+//! Names from symbol tables: which function or variable has an address.
+
+use std::sync::Arc;
+
+use a2l::{File, Part};
+use object::elf::{
+    FileHeader32, FileHeader64, SHF_EXECINSTR, SHT_DYNSYM, SHT_SYMTAB, STB_GLOBAL, STB_WEAK, STT_FUNC, STT_GNU_IFUNC,
+    STT_NOTYPE, STT_OBJECT,
+};
+use object::read::elf::{FileHeader, SectionHeader, SectionTable, Sym, SymbolTable};
+use object::read::{Error, FileKind};
+use object::Endianness;
+
+/// What symbols are looked for.
+#[derive(Debug, Clone, Copy, PartialEq, Eq)]
+pub enum Kind {
+    Functions,
+    Variables,
+}
+
+/// The symbols of one kind of a file, in order of address.
+#[derive(Debug)]
+pub struct Symbols {
+    entries: Vec<Entry>,
+    names: Option<Part>,
+}
+
+/// A symbol that is found.
+#[derive(Debug, Clone, Copy, PartialEq, Eq)]
+pub struct Symbol<'s> {
+    pub name: &'s [u8],
+    pub start: u64,
+    pub size: u64,
+}
+
+#[derive(Debug)]
+struct Entry {
+    start: u64,
+    /// The address after the last one; until all are known, the end of the section where the symbol has no size.
+    end: u64,
+    /// The greatest end of this entry and those before it.
+    reach: u64,
+    /// Where the name begins in the string table.
+    name: u32,
+    rank: Rank,
+}
+
+/// Of symbols that begin at one address the last one in this order is taken.
+#[derive(Debug, Clone, Copy, PartialEq, Eq, PartialOrd, Ord)]
+struct Rank {
+    typed: bool,
+    sized: bool,
+    binding: u8,
+}
+
+impl Symbols {
+    /// The symbols of the first of these files that has some in .symtab, else in .dynsym.
+    pub fn read(files: &[&Arc<File>], kind: Kind) -> Symbols {
+        let tables = [SHT_SYMTAB, SHT_DYNSYM];
+        let mut found = tables.into_iter().flat_map(|table| files.iter().map(move |file| of_file(file, table, kind)));
+        found
+            .find_map(|symbols| symbols.ok().filter(|symbols| !symbols.entries.is_empty()))
+            .unwrap_or(Symbols { entries: Vec::new(), names: None })
+    }
+
+    /// The symbol that has an address: of those that hold it, the one that begins last.
+    pub fn find(&self, address: u64) -> Option<Symbol<'_>> {
+        let after = self.entries.partition_point(|entry| entry.start <= address);
+        let entry = self.entries[..after]
+            .iter()
+            .rev()
+            .take_while(|entry| entry.reach > address)
+            .find(|entry| entry.end > address)?;
+        self.symbol(entry)
+    }
+
+    /// The first symbol, by address, that has a name.
+    pub fn named(&self, name: &[u8]) -> Option<Symbol<'_>> {
+        let entry = self.entries.iter().find(|entry| self.name(entry) == Some(name))?;
+        self.symbol(entry)
+    }
+
+    fn symbol(&self, entry: &Entry) -> Option<Symbol<'_>> {
+        Some(Symbol { name: self.name(entry)?, start: entry.start, size: entry.end - entry.start })
+    }
+
+    fn name(&self, entry: &Entry) -> Option<&[u8]> {
+        let text = self.names.as_ref()?.get(entry.name as usize..)?;
+        text.split(|&byte| byte == 0).next().filter(|name| !name.is_empty())
+    }
+}
+
+fn of_file(file: &Arc<File>, table: u32, kind: Kind) -> Result<Symbols, Error> {
+    match FileKind::parse(&***file)? {
+        FileKind::Elf32 => of_elf::<FileHeader32<Endianness>>(file, table, kind),
+        FileKind::Elf64 => of_elf::<FileHeader64<Endianness>>(file, table, kind),
+        _ => Ok(Symbols { entries: Vec::new(), names: None }),
+    }
+}
+
+fn of_elf<Elf: FileHeader<Endian = Endianness>>(file: &Arc<File>, table: u32, kind: Kind) -> Result<Symbols, Error> {
+    let data: &[u8] = file;
+    let header = Elf::parse(data)?;
+    let endian = header.endian()?;
+    let sections = header.sections(endian, data)?;
+    let symbols = sections.symbols(endian, data, table)?;
+    let of_kind = OfKind { endian, sections: &sections, symbols: &symbols, kind };
+    let mut entries: Vec<Entry> =
+        symbols.iter().enumerate().filter_map(|(index, symbol)| of_kind.entry(index, symbol)).collect();
+    entries.sort_by_key(|entry| (entry.start, entry.rank, entry.end));
+    end_unsized(&mut entries);
+    set_reach(&mut entries);
+    let names = sections.section(symbols.string_section()).ok().and_then(|section| section.file_range(endian));
+    let names = names.and_then(|(offset, size)| {
+        Part::new(file, usize::try_from(offset).ok()?..usize::try_from(offset.checked_add(size)?).ok()?)
+    });
+    Ok(Symbols { entries, names })
+}
+
+/// Where the symbols of one kind stand.
+struct OfKind<'s, 'data, Elf: FileHeader> {
+    endian: Endianness,
+    sections: &'s SectionTable<'data, Elf>,
+    symbols: &'s SymbolTable<'data, Elf>,
+    kind: Kind,
+}
+
+impl<Elf: FileHeader<Endian = Endianness>> OfKind<'_, '_, Elf> {
+    /// The entry of a symbol, where it is of the kind and stands in a section.
+    fn entry(&self, index: usize, symbol: &Elf::Sym) -> Option<Entry> {
+        let typed = match (self.kind, symbol.st_type()) {
+            (Kind::Functions, STT_FUNC | STT_GNU_IFUNC) | (Kind::Variables, STT_OBJECT) => true,
+            (Kind::Functions, STT_NOTYPE) => false,
+            _ => return None,
+        };
+        let section = self.symbols.symbol_section(self.endian, symbol, index).ok()??;
+        let section = self.sections.section(section).ok()?;
+        if !typed && !self.may_be_function(symbol, section) {
+            return None;
+        }
+        let start: u64 = symbol.st_value(self.endian).into();
+        let size: u64 = symbol.st_size(self.endian).into();
+        let section_end = section.sh_addr(self.endian).into().saturating_add(section.sh_size(self.endian).into());
+        let end = if size > 0 { start.saturating_add(size) } else { section_end };
+        let binding = match symbol.st_bind() {
+            STB_GLOBAL => 2,
+            STB_WEAK => 1,
+            _ => 0,
+        };
+        let rank = Rank { typed, sized: size > 0, binding };
+        Some(Entry { start, end, reach: end, name: symbol.st_name(self.endian), rank })
+    }
+
+    /// A symbol without a type is a label of assembly, if it stands among instructions and marks no kind of bytes there
+    /// ($x, $d).
+    fn may_be_function(&self, symbol: &Elf::Sym, section: &Elf::SectionHeader) -> bool {
+        let flags: u64 = section.sh_flags(self.endian).into();
+        let named = symbol.name(self.endian, self.symbols.strings());
+        flags & u64::from(SHF_EXECINSTR) != 0 && named.is_ok_and(|name| !name.is_empty() && name[0] != b'$')
+    }
+}
+
+/// A symbol without a size ends where the next one begins, or with its section.
+fn end_unsized(entries: &mut [Entry]) {
+    let (mut start, mut next) = (u64::MAX, u64::MAX);
+    for entry in entries.iter_mut().rev() {
+        if entry.start != start {
+            (start, next) = (entry.start, start);
+        }
+        if !entry.rank.sized {
+            entry.end = entry.end.min(next).max(entry.start);
+        }
+    }
+}
+
+fn set_reach(entries: &mut [Entry]) {
+    let mut reach = 0;
+    for entry in entries {
+        reach = entry.end.max(reach);
+        entry.reach = reach;
+    }
+}
