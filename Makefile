@@ -1,12 +1,19 @@
-# The libraries for C and Python, and what is installed. `make` builds the libraries, `make install` puts them in place
-# with the program.
+# The libraries for C and Python, the symbolizer for other tools, and what is installed. `make` builds the libraries,
+# `make install` puts all in place with the program, and `make uninstall` takes it away.
 PREFIX ?= /usr/local
 DESTDIR ?=
 KIT = $(shell dirname "$$(rt doc)")
 VERSION = 0.1.0
 PROGRAM = crates/a2l/out/a2l
+SYMBOLIZER = rust/target/release/a2l-symbolizer
 
-.PHONY: all library shared program install install-files
+# All that is installed, below PREFIX, and the folders that hold nothing else.
+INSTALLED = bin/a2l bin/a2l-symbolizer bin/llvm-symbolizer-a2l lib/liba2l.a lib/pkgconfig/a2l.pc include/a2l.h \
+    include/a2l_file.h share/man/man1/a2l.1 share/man/man1/a2l-symbolizer.1 lib/a2l/python/a2l.py \
+    lib/a2l/python/liba2l.so lib/a2l/tools/llvm-symbolizer lib/a2l/tools/addr2line
+FOLDERS = lib/a2l/python lib/a2l/tools lib/a2l
+
+.PHONY: all library shared program symbolizer install install-files install-symbolizer uninstall
 
 all: library shared
 
@@ -28,8 +35,12 @@ shared: library
 program:
 	cd crates/a2l && rt run > /dev/null
 
-install: library shared program
-	$(MAKE) install-files
+# The program that sanitizers, perf and others start, with the library in it.
+symbolizer: library
+	A2L_LIB_DIR="$(CURDIR)/out" rust/cargo.sh build --release --package a2l-symbolizer
+
+install: library shared program symbolizer
+	$(MAKE) install-files install-symbolizer
 
 # The same of what is built already. The shared object is put beside a2l.py and not into lib, where `-la2l` would prefer
 # it, so that programs of C would need it when they run.
@@ -45,3 +56,18 @@ install-files:
 	sed -e 's|@PREFIX@|$(PREFIX)|' -e 's|@VERSION@|$(VERSION)|' include/a2l.pc.in \
 	    > "$(DESTDIR)$(PREFIX)/lib/pkgconfig/a2l.pc"
 	chmod 644 "$(DESTDIR)$(PREFIX)/lib/pkgconfig/a2l.pc"
+
+# The symbolizer under each name by which it is started: clang's runtimes accept only names that begin so, and the folder
+# of the last two goes to the front of PATH.
+install-symbolizer:
+	install -d "$(DESTDIR)$(PREFIX)/bin" "$(DESTDIR)$(PREFIX)/lib/a2l/tools" "$(DESTDIR)$(PREFIX)/share/man/man1"
+	install -m 755 $(SYMBOLIZER) "$(DESTDIR)$(PREFIX)/bin/a2l-symbolizer"
+	install -m 644 docs/a2l-symbolizer.1 "$(DESTDIR)$(PREFIX)/share/man/man1/a2l-symbolizer.1"
+	ln -sf a2l-symbolizer "$(DESTDIR)$(PREFIX)/bin/llvm-symbolizer-a2l"
+	ln -sf ../../../bin/a2l-symbolizer "$(DESTDIR)$(PREFIX)/lib/a2l/tools/llvm-symbolizer"
+	ln -sf ../../../bin/a2l-symbolizer "$(DESTDIR)$(PREFIX)/lib/a2l/tools/addr2line"
+
+# Takes away what `make install` has put in place, with what Python has made of it, and the folders of a2l alone.
+uninstall:
+	cd "$(DESTDIR)$(PREFIX)" && rm -f $(INSTALLED) && rm -rf lib/a2l/python/__pycache__ && \
+	    for folder in $(FOLDERS); do [ ! -d $$folder ] || rmdir $$folder; done

@@ -4,6 +4,7 @@ use std::ffi::{OsStr, OsString};
 use std::os::unix::ffi::OsStrExt;
 use std::path::PathBuf;
 
+use clap::error::{ContextValue, ErrorKind};
 use clap::{ArgAction, CommandFactory, Parser};
 
 use crate::identity::Identity;
@@ -200,6 +201,14 @@ impl Arguments {
         let spelled = words.iter().map(|word| if identity.is_llvm() { with_two_dashes(word) } else { word.clone() });
         let name = OsString::from(identity.name());
         Arguments::try_parse_from(std::iter::once(name).chain(spelled))
+    }
+
+    /// The line of an error of the command line, in the words of LLVM's tools.
+    pub fn refusal(why: &clap::Error) -> String {
+        match (why.kind(), why.context().next()) {
+            (ErrorKind::UnknownArgument, Some((_, ContextValue::String(word)))) => format!("unknown argument '{word}'"),
+            _ => why.to_string().lines().next().unwrap_or_default().trim_start_matches("error: ").to_owned(),
+        }
     }
 
     pub fn inlines(&self, usual: bool) -> bool {

@@ -33,6 +33,11 @@ impl DebugFiles {
         DebugFiles { folders, asks: may_ask && servers, opener }
     }
 
+    /// How these files are opened, and others that belong to a program.
+    pub fn opener(&self) -> Opener {
+        self.opener
+    }
+
     /// The file that has the debug information of a program.
     pub fn of_program(&self, path: &Path, file: &File) -> Option<OpenFile> {
         let object = object::File::parse(&**file).ok()?;

@@ -13,12 +13,15 @@ use crate::guard::guarded;
 use crate::relocated::relocated;
 use crate::reply::Frame;
 use crate::sections::{part, Error};
+use crate::split::SplitUnits;
 
-type Reader = EndianReader<RunTimeEndian, Part>;
+/// The bytes of a section, as gimli reads them.
+pub type Reader = EndianReader<RunTimeEndian, Part>;
 
 /// A file that the addr2line crate has opened.
 pub struct Fallback {
     context: Context<Reader>,
+    split: SplitUnits,
 }
 
 impl Fallback {
@@ -31,7 +34,8 @@ impl Fallback {
                 let object = object::File::parse(&**other).ok()?;
                 dwarf.load_sup(|id| section(&other, &object, id)).ok()?;
             }
-            Some(Fallback { context: Context::from_dwarf(dwarf).ok()? })
+            let split = SplitUnits::new(path, debug_files.opener());
+            Some(Fallback { context: Context::from_dwarf(dwarf).ok()?, split })
         })?
     }
 
@@ -54,19 +58,43 @@ impl Fallback {
                 start: None,
             });
         }
-        Some(frames)
+        match frames.as_slice() {
+            [Frame { name: None, .. }] => self.split_frames(address, &frames[0]).or(Some(frames)),
+            _ => Some(frames),
+        }
+    }
+
+    /// The functions at an address of a split unit, innermost first, of which the place is known; none where it is none.
+    pub fn find_split_frames(&self, address: u64, place: &Frame) -> Option<Vec<Frame>> {
+        guarded(|| self.split_frames(address, place))?
+    }
+
+    fn split_frames(&self, address: u64, place: &Frame) -> Option<Vec<Frame>> {
+        let unit = self.context.find_dwarf_unit(address)?;
+        self.split.find_frames(self.context.dwarf(), unit, address, place.clone())
+    }
+
+    /// The folder in which the compiler ran that made the code at an address.
+    pub fn folder(&self, address: u64) -> Option<Vec<u8>> {
+        Some(self.context.find_dwarf_unit(address)?.comp_dir.as_ref()?.bytes().to_vec())
     }
 }
 
 /// The sections of a file, as gimli takes them.
-pub fn dwarf(file: &Arc<File>, object: &object::File<'_>) -> Result<Dwarf<Reader>, Error> {
+fn dwarf(file: &Arc<File>, object: &object::File<'_>) -> Result<Dwarf<Reader>, Error> {
     Dwarf::load(|id| section(file, object, id))
 }
 
 fn section(file: &Arc<File>, object: &object::File<'_>, id: SectionId) -> Result<Reader, Error> {
+    section_named(file, object, Some(id.name()))
+}
+
+/// The section of a file that has a name; empty where the file has none, or no name is known.
+pub fn section_named(file: &Arc<File>, object: &object::File<'_>, name: Option<&str>) -> Result<Reader, Error> {
+    let name = name.unwrap_or_default();
     let bytes = match object.kind() {
-        ObjectKind::Relocatable => relocated(object, id.name())?,
-        _ => part(file, object, id.name())?,
+        ObjectKind::Relocatable => relocated(object, name)?,
+        _ => part(file, object, name)?,
     };
     let endian = if object.is_little_endian() { RunTimeEndian::Little } else { RunTimeEndian::Big };
     Ok(EndianReader::new(bytes, endian))

@@ -25,3 +25,4 @@ pub mod programs;
 pub mod self_check;
 pub mod settings;
 pub mod shape;
+pub mod split;

@@ -23,7 +23,7 @@ fn main() -> ExitCode {
         Ok(arguments) if arguments.version => version(identity),
         Ok(arguments) => start(identity, &arguments),
         Err(why) if !why.use_stderr() => finish(identity, write!(io::stdout(), "{why}")),
-        Err(why) => fail(identity, why.to_string().lines().next().unwrap_or_default().trim_start_matches("error: ")),
+        Err(why) => fail(identity, &Arguments::refusal(&why)),
     }
 }
 

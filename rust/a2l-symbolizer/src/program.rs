@@ -12,7 +12,7 @@ use crate::open_file::OpenFile;
 use crate::reply::{Frame, Variable};
 use crate::sections::{has_debug_info, image};
 use crate::symbols::{Kind, Symbols};
-use crate::units::has_unread_units;
+use crate::units::UnitKinds;
 
 /// So many units are kept by the library.
 const CAPACITY: usize = 1024;
@@ -49,7 +49,7 @@ pub struct Program {
     library: Option<a2l::Program>,
     answerer: Answerer,
     /// Made when they are first needed.
-    unread_units: Option<bool>,
+    units: Option<UnitKinds>,
     fallback: Option<Option<Box<Fallback>>>,
     functions: Option<Symbols>,
     variables: Option<Symbols>,
@@ -65,7 +65,7 @@ impl Program {
             debug,
             library: None,
             answerer: Answerer::Nobody,
-            unread_units: None,
+            units: None,
             fallback: None,
             functions: None,
             variables: None,
@@ -124,13 +124,32 @@ impl Program {
         if sources.symbols {
             self.name_outermost(address, &mut frames);
         }
+        if sources.relative {
+            self.shorten_paths(address, &mut frames, sources);
+        }
         frames.retain(|frame| !frame.is_unknown());
         frames
     }
 
+    /// Takes the folder in which the compiler ran off the front of paths.
+    fn shorten_paths(&mut self, address: u64, frames: &mut [Frame], sources: &Sources) {
+        let Some(mut folder) = self.fallback(sources).and_then(|fallback| fallback.folder(address)) else {
+            return;
+        };
+        folder.push(b'/');
+        for path in frames.iter_mut().filter_map(|frame| frame.path.as_mut()) {
+            if let Some(rest) = path.strip_prefix(&*folder).filter(|rest| !rest.is_empty()) {
+                *path = rest.to_vec();
+            }
+        }
+    }
+
     fn frames_of_debug_info(&mut self, address: u64, sources: &Sources) -> Vec<Frame> {
         let found = match self.library.as_mut().map(|library| library.find_frames(address)) {
-            Some(Ok(Some(found))) => return frames(found),
+            Some(Ok(Some(found))) => {
+                let frames = frames(found);
+                return self.split_frames(address, &frames, sources).unwrap_or(frames);
+            }
             Some(Ok(None)) => self.has_unread_units(),
             Some(Err(_)) => true,
             None => self.answerer != Answerer::Nobody,
@@ -141,9 +160,28 @@ impl Program {
         self.fallback(sources).map_or_else(Vec::new, |fallback| fallback.find_frames(address))
     }
 
+    /// The functions at an address of which the library knows the place alone, as it does where a unit is split.
+    fn split_frames(&mut self, address: u64, frames: &[Frame], sources: &Sources) -> Option<Vec<Frame>> {
+        let [place @ Frame { name: None, .. }] = frames else {
+            return None;
+        };
+        if !sources.fallback || !self.has_split_units() {
+            return None;
+        }
+        self.fallback(sources)?.find_split_frames(address, place)
+    }
+
+    fn has_split_units(&mut self) -> bool {
+        self.units().split
+    }
+
     fn has_unread_units(&mut self) -> bool {
+        self.units().unread
+    }
+
+    fn units(&mut self) -> UnitKinds {
         let library = self.library.as_ref();
-        *self.unread_units.get_or_insert_with(|| library.is_some_and(|library| has_unread_units(library.file())))
+        *self.units.get_or_insert_with(|| library.map(|library| UnitKinds::of(library.file())).unwrap_or_default())
     }
 
     fn fallback(&mut self, sources: &Sources) -> Option<&Fallback> {
@@ -168,13 +206,9 @@ impl Program {
         if outermost.is_some() && !is_mangled(symbol.name) {
             return;
         }
-        let (name, start) = (symbol.name.to_vec(), symbol.start);
-        if frames.is_empty() {
-            frames.push(Frame::default());
-        }
-        let last = frames.len() - 1;
-        frames[last].name = Some(name);
-        frames[last].start = Some(start);
+        let (name, file, start) = (symbol.name.to_vec(), symbol.file.map(<[u8]>::to_vec), symbol.start);
+        let frame = frames.pop().unwrap_or_default();
+        frames.push(Frame { name: Some(name), path: frame.path.clone().or(file), start: Some(start), ..frame });
     }
 
     fn symbols(&mut self, kind: Kind) -> &Symbols {
@@ -200,7 +234,8 @@ impl Program {
         let kinds = [Kind::Variables, Kind::Functions];
         kinds.into_iter().find_map(|kind| {
             let symbol = self.symbols(kind).find(address)?;
-            Some(Variable { name: symbol.name.to_vec(), start: symbol.start, size: symbol.size })
+            let file = symbol.file.map(<[u8]>::to_vec);
+            Some(Variable { name: symbol.name.to_vec(), start: symbol.start, size: symbol.size, file })
         })
     }
 

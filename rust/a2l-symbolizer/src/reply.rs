@@ -33,6 +33,8 @@ pub struct Variable {
     pub start: u64,
     /// Its size in bytes.
     pub size: u64,
+    /// The source file, by its bytes, where it is local to one.
+    pub file: Option<Vec<u8>>,
 }
 
 /// What is known at the address of a request.

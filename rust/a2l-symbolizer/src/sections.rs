@@ -18,6 +18,7 @@ const MOST: u64 = 1024;
 #[derive(Debug)]
 pub enum Error {
     Object(object::Error),
+    Dwarf(gimli::Error),
     /// A section claims more than `MOST` times its bytes.
     TooLong,
     /// The sections take more bytes than are allowed.
@@ -28,9 +29,16 @@ impl fmt::Display for Error {
     fn fmt(&self, f: &mut fmt::Formatter<'_>) -> fmt::Result {
         match self {
             Error::Object(why) => write!(f, "{why}"),
+            Error::Dwarf(why) => write!(f, "{why}"),
             Error::TooLong => write!(f, "a compressed section claims more than {MOST} times its bytes"),
             Error::TooMany => write!(f, "the compressed sections take more memory than is allowed"),
         }
+    }
+}
+
+impl From<gimli::Error> for Error {
+    fn from(why: gimli::Error) -> Self {
+        Error::Dwarf(why)
     }
 }
 

@@ -4,8 +4,8 @@ use std::sync::Arc;
 
 use a2l::{File, Part};
 use object::elf::{
-    FileHeader32, FileHeader64, SHF_EXECINSTR, SHT_DYNSYM, SHT_SYMTAB, STB_GLOBAL, STB_WEAK, STT_FUNC, STT_GNU_IFUNC,
-    STT_NOTYPE, STT_OBJECT,
+    FileHeader32, FileHeader64, SHF_EXECINSTR, SHT_DYNSYM, SHT_SYMTAB, STB_GLOBAL, STB_LOCAL, STB_WEAK, STT_FILE,
+    STT_FUNC, STT_GNU_IFUNC, STT_NOTYPE, STT_OBJECT,
 };
 use object::read::elf::{FileHeader, SectionHeader, SectionTable, Sym, SymbolTable};
 use object::read::{Error, FileKind};
@@ -29,6 +29,8 @@ pub struct Symbols {
 #[derive(Debug, Clone, Copy, PartialEq, Eq)]
 pub struct Symbol<'s> {
     pub name: &'s [u8],
+    /// The source file, where the symbol is local to one.
+    pub file: Option<&'s [u8]>,
     pub start: u64,
     pub size: u64,
 }
@@ -40,8 +42,9 @@ struct Entry {
     end: u64,
     /// The greatest end of this entry and those before it.
     reach: u64,
-    /// Where the name begins in the string table.
+    /// Where the name begins in the string table, and that of the source file, or 0.
     name: u32,
+    file: u32,
     rank: Rank,
 }
 
@@ -76,17 +79,19 @@ impl Symbols {
 
     /// The first symbol, by address, that has a name.
     pub fn named(&self, name: &[u8]) -> Option<Symbol<'_>> {
-        let entry = self.entries.iter().find(|entry| self.name(entry) == Some(name))?;
+        let entry = self.entries.iter().find(|entry| self.text(entry.name) == Some(name))?;
         self.symbol(entry)
     }
 
     fn symbol(&self, entry: &Entry) -> Option<Symbol<'_>> {
-        Some(Symbol { name: self.name(entry)?, start: entry.start, size: entry.end - entry.start })
+        let (name, file) = (self.text(entry.name)?, self.text(entry.file));
+        Some(Symbol { name, file, start: entry.start, size: entry.end - entry.start })
     }
 
-    fn name(&self, entry: &Entry) -> Option<&[u8]> {
-        let text = self.names.as_ref()?.get(entry.name as usize..)?;
-        text.split(|&byte| byte == 0).next().filter(|name| !name.is_empty())
+    /// The text at an offset of the string table; none where it is empty, as it is at offset 0.
+    fn text(&self, offset: u32) -> Option<&[u8]> {
+        let text = self.names.as_ref()?.get(offset as usize..)?;
+        text.split(|&byte| byte == 0).next().filter(|text| !text.is_empty())
     }
 }
 
@@ -105,8 +110,7 @@ fn of_elf<Elf: FileHeader<Endian = Endianness>>(file: &Arc<File>, table: u32, ki
     let sections = header.sections(endian, data)?;
     let symbols = sections.symbols(endian, data, table)?;
     let of_kind = OfKind { endian, sections: &sections, symbols: &symbols, kind };
-    let mut entries: Vec<Entry> =
-        symbols.iter().enumerate().filter_map(|(index, symbol)| of_kind.entry(index, symbol)).collect();
+    let mut entries = of_kind.entries();
     entries.sort_by_key(|entry| (entry.start, entry.rank, entry.end));
     end_unsized(&mut entries);
     set_reach(&mut entries);
@@ -126,6 +130,19 @@ struct OfKind<'s, 'data, Elf: FileHeader> {
 }
 
 impl<Elf: FileHeader<Endian = Endianness>> OfKind<'_, '_, Elf> {
+    /// The entries of all symbols. The symbols that are local to a source file stand after its name.
+    fn entries(&self) -> Vec<Entry> {
+        let (mut entries, mut file) = (Vec::new(), 0);
+        for (index, symbol) in self.symbols.iter().enumerate() {
+            if symbol.st_type() == STT_FILE {
+                file = symbol.st_name(self.endian);
+            }
+            let own_file = if symbol.st_bind() == STB_LOCAL { file } else { 0 };
+            entries.extend(self.entry(index, symbol).map(|entry| Entry { file: own_file, ..entry }));
+        }
+        entries
+    }
+
     /// The entry of a symbol, where it is of the kind and stands in a section.
     fn entry(&self, index: usize, symbol: &Elf::Sym) -> Option<Entry> {
         let typed = match (self.kind, symbol.st_type()) {
@@ -148,7 +165,7 @@ impl<Elf: FileHeader<Endian = Endianness>> OfKind<'_, '_, Elf> {
             _ => 0,
         };
         let rank = Rank { typed, sized: size > 0, binding };
-        Some(Entry { start, end, reach: end, name: symbol.st_name(self.endian), rank })
+        Some(Entry { start, end, reach: end, name: symbol.st_name(self.endian), file: 0, rank })
     }
 
     /// A symbol without a type is a label of assembly, if it stands among instructions and marks no kind of bytes there

@@ -1,32 +1,41 @@
-//! What kinds of units a file has: whether there are some that the library doesn't read.
+//! What kinds of units a file has, by their headers alone.
 
 use a2l::File;
 use gimli::{DebugInfo, EndianSlice, LittleEndian, UnitType};
 use object::{Object, ObjectSection};
 
-/// A file has units with code that the library skips, as it does those of DWARF 2 to 4. A header that can't be read counts
-/// as such. Headers alone are read.
-pub fn has_unread_units(file: &File) -> bool {
-    let Some(bytes) = object::File::parse(&**file).ok().and_then(|object| object.section_by_name(".debug_info")?.data().ok())
-    else {
-        return false;
-    };
-    let section = DebugInfo::from(EndianSlice::new(bytes, LittleEndian));
-    let mut units = section.units();
-    loop {
-        match units.next() {
-            Ok(Some(unit)) if is_read(unit.version(), unit.type_()) => {}
-            Ok(None) => return false,
-            _ => return true,
-        }
-    }
+/// What there is in a file beside what the library reads whole.
+#[derive(Debug, Clone, Copy, Default, PartialEq, Eq)]
+pub struct UnitKinds {
+    /// Units with code that the library skips, as it does those of DWARF 2 to 4, or a header that can't be read.
+    pub unread: bool,
+    /// Units whose entries are in another file.
+    pub split: bool,
 }
 
-/// The library answers for a unit, or there is nothing in it to ask for.
-fn is_read(version: u16, kind: UnitType<usize>) -> bool {
-    match kind {
-        UnitType::Compilation | UnitType::Skeleton(_) => version == 5,
-        UnitType::Partial | UnitType::Type { .. } | UnitType::SplitType { .. } => true,
-        UnitType::SplitCompilation(_) => false,
+impl UnitKinds {
+    /// Those of the units in .debug_info.
+    pub fn of(file: &File) -> UnitKinds {
+        let object = object::File::parse(&**file).ok();
+        let bytes = object.and_then(|object| object.section_by_name(".debug_info")?.data().ok()).unwrap_or_default();
+        let section = DebugInfo::from(EndianSlice::new(bytes, LittleEndian));
+        let (mut units, mut kinds) = (section.units(), UnitKinds::default());
+        loop {
+            match units.next() {
+                Ok(Some(unit)) => kinds.add(unit.version(), unit.type_()),
+                Ok(None) => return kinds,
+                Err(_) => return UnitKinds { unread: true, ..kinds },
+            }
+        }
+    }
+
+    fn add(&mut self, version: u16, kind: UnitType<usize>) {
+        match kind {
+            UnitType::Compilation => self.unread |= version != 5,
+            UnitType::Skeleton(_) => self.split = true,
+            UnitType::SplitCompilation(_) => self.unread = true,
+            // These have nothing to ask for.
+            UnitType::Partial | UnitType::Type { .. } | UnitType::SplitType { .. } => {}
+        }
     }
 }
