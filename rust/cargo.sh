@@ -1,10 +1,12 @@
 #!/bin/sh
-# cargo for this workspace: with the crates that Debian packages (librust-*-dev), offline, where these are installed, else
-# as it is set up.
+# cargo.sh COMMAND ..: cargo for this workspace, offline with the crates that Debian packages (librust-*-dev) where these are
+# installed, else with the registry that cargo is set up for.
 registry=/usr/share/cargo/registry
+command=${1:?a command of cargo}
+shift
 cd "$(dirname "$0")" || exit
 if [ -d "$registry" ]; then
-    exec cargo --offline --config 'source.crates-io.replace-with="debian"' \
+    set -- --offline --config 'source.crates-io.replace-with="debian"' \
         --config "source.debian.directory=\"$registry\"" "$@"
 fi
-exec cargo "$@"
+exec cargo "$command" "$@"

@@ -206,7 +206,9 @@ impl Arguments {
     /// The line of an error of the command line, in the words of LLVM's tools.
     pub fn refusal(why: &clap::Error) -> String {
         match (why.kind(), why.context().next()) {
-            (ErrorKind::UnknownArgument, Some((_, ContextValue::String(word)))) => format!("unknown argument '{word}'"),
+            (ErrorKind::UnknownArgument, Some((_, ContextValue::String(word)))) => {
+                format!("unknown argument '{word}'")
+            }
             _ => why.to_string().lines().next().unwrap_or_default().trim_start_matches("error: ").to_owned(),
         }
     }
@@ -247,7 +249,7 @@ pub fn identity_of(words: &[OsString]) -> Option<Identity> {
 fn with_two_dashes(word: &OsStr) -> OsString {
     let bytes = word.as_bytes();
     let name = bytes.strip_prefix(b"-").and_then(|rest| rest.split(|&byte| byte == b'=').next()).unwrap_or_default();
-    if name.len() < 2 || !is_long_option(name) {
+    if name.len() < 2 || name.starts_with(b"-") || !is_long_option(name) {
         return word.to_owned();
     }
     let mut spelled = OsString::from("-");
@@ -262,4 +264,92 @@ fn is_long_option(name: &[u8]) -> bool {
         aliases.into_iter().chain(argument.get_long())
     });
     known.any(|long| long.as_bytes() == name)
+}
+
+#[cfg(test)]
+mod tests {
+    use super::*;
+
+    fn parsed(identity: Identity, words: &[&str]) -> Arguments {
+        let words: Vec<OsString> = words.iter().map(OsString::from).collect();
+        Arguments::parse_for(identity, &words).expect("arguments that are accepted")
+    }
+
+    fn refused(words: &[&str]) -> String {
+        let words: Vec<OsString> = words.iter().map(OsString::from).collect();
+        Arguments::refusal(&Arguments::parse_for(Identity::LlvmSymbolizer, &words).expect_err("a refusal"))
+    }
+
+    #[test]
+    fn letters_stand_together() {
+        for words in [["-aife", "x"].as_slice(), &["-afi", "-e", "x"], &["-iafe=x"], &["-a", "-f", "-i", "-ex"]] {
+            let arguments = parsed(Identity::Addr2line, words);
+            assert_eq!(arguments.object, Some(PathBuf::from("x")), "{words:?}");
+            assert_eq!(arguments.functions, Some(Functions::Linkage), "{words:?}");
+            assert!(arguments.addresses && arguments.inlines(false), "{words:?}");
+        }
+        let arguments = parsed(Identity::Addr2line, &["-Cpe", "x", "0x10"]);
+        assert!(arguments.demangles(false) && arguments.pretty_print);
+        assert_eq!(arguments.requests, ["0x10"]);
+    }
+
+    #[test]
+    fn llvm_has_one_dash_too() {
+        let words =
+            ["-inlining", "-demangle=false", "-functions=short", "-obj=x", "-print-address", "-output-style=GNU"];
+        let arguments = parsed(Identity::LlvmSymbolizer, &words);
+        assert!(arguments.inlines(false) && !arguments.demangles(true) && arguments.addresses);
+        assert_eq!(arguments.functions, Some(Functions::Short));
+        assert_eq!(arguments.object, Some(PathBuf::from("x")));
+        assert_eq!(arguments.output_style, Some(OutputStyle::Gnu));
+    }
+
+    #[test]
+    fn the_last_one_counts() {
+        let llvm = |words: &[&str]| parsed(Identity::LlvmSymbolizer, words);
+        assert!(!llvm(&["--inlines", "--no-inlines"]).inlines(true));
+        assert!(llvm(&["--no-inlines", "--inlines"]).inlines(false));
+        assert!(!llvm(&["--inlining=false"]).inlines(true));
+        assert!(!llvm(&["--demangle", "--no-demangle"]).demangles(true));
+        assert!(llvm(&["--no-demangle", "-C"]).demangles(false));
+        assert_eq!(llvm(&["-e", "x", "-e", "y"]).object, Some(PathBuf::from("y")));
+    }
+
+    #[test]
+    fn what_clients_pass_is_taken() {
+        for words in [
+            ["--demangle", "--inlines", "--default-arch=x86_64"].as_slice(),
+            &["--demangle", "--functions=linkage", "--inlines", "--default-arch=x86_64"],
+            &["--functions=linkage", "--inlining", "--demangle"],
+            &["--inlining", "--functions"],
+            &["--inlining", "-demangle=false"],
+        ] {
+            parsed(Identity::LlvmSymbolizer, words);
+        }
+        for words in [
+            ["-C", "-i", "-fe", "x"].as_slice(),
+            &["-fi", "--demangle", "-e", "x"],
+            &["-e", "x", "-i", "-f"],
+            &["-aif", "-e", "x"],
+            &["-f", "-C", "-e", "x", "-i"],
+            &["--functions", "--pretty-print", "--inlines", "--exe=x", "0x10"],
+        ] {
+            parsed(Identity::Addr2line, words);
+        }
+    }
+
+    #[test]
+    fn refusals_name_what_is_refused() {
+        assert_eq!(refused(&["--badflag"]), "unknown argument '--badflag'");
+        assert_eq!(refused(&["-Z"]), "unknown argument '-Z'");
+        assert!(refused(&["--output-style=XML"]).contains("XML"));
+        assert!(refused(&["--adjust-vma=x"]).contains("--adjust-vma"));
+    }
+
+    #[test]
+    fn sizes_of_the_cache() {
+        assert_eq!(cache_size("3"), Ok(CacheSize { files: 3, bytes: 4 << 30 }));
+        assert_eq!(cache_size("0,2M"), Ok(CacheSize { files: 1, bytes: 2 << 20 }));
+        assert!(cache_size("3,").is_err() && cache_size("x").is_err() && cache_size("1,99999999999G").is_err());
+    }
 }

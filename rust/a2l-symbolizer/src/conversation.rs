@@ -53,11 +53,15 @@ impl Conversation {
         self.failed
     }
 
-    /// Opens the file of the command line, where it has one.
+    /// Opens the file of the command line, where it has one. The text of an error says what is missing.
     pub fn open_module(&mut self) -> Result<(), String> {
-        match self.settings.module.clone() {
-            Some(module) => self.programs.get(&module).map(drop),
-            None => Ok(()),
+        let Some(module) = &self.settings.module else {
+            return Ok(());
+        };
+        let found = self.programs.get(module).map_err(|why| format!("'{}': {why}", module_name(module)))?;
+        match &self.settings.section {
+            Some(name) if found.program.section_address(name).is_none() => Err(format!("cannot find section {name}")),
+            _ => Ok(()),
         }
     }
 
@@ -79,7 +83,8 @@ impl Conversation {
     pub fn reply_to_all(&mut self, lines: &[&[u8]], mut output: impl Write) -> io::Result<()> {
         let mut replies = Vec::new();
         if self.settings.style == OutputStyle::Json {
-            let objects: Vec<_> = lines.iter().map(|line| self.with_reply(line, |_, reply| json::object(reply))).collect();
+            let objects: Vec<_> =
+                lines.iter().map(|line| self.with_reply(line, |_, reply| json::object(reply))).collect();
             llvm::say(&mut replies, format_args!("{}\n", serde_json::Value::from(objects)));
         } else {
             lines.iter().for_each(|line| self.reply(line, &mut replies));
@@ -171,7 +176,9 @@ fn answerer(found: &Found<'_>) -> String {
     let path = found.program.debug_path().display();
     match found.program.answerer() {
         Answerer::Library => format!("answered by liba2l, of {path}"),
-        Answerer::Others(why) if found.sources.fallback => format!("answered by the addr2line crate, of {path}: {why}"),
+        Answerer::Others(why) if found.sources.fallback => {
+            format!("answered by the addr2line crate, of {path}: {why}")
+        }
         Answerer::Others(why) => format!("not answered, of {path}: {why}"),
         Answerer::Nobody => "no debug information, answered by symbols alone".to_owned(),
     }

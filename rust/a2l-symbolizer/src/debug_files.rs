@@ -10,7 +10,7 @@ use std::sync::Arc;
 use a2l::File;
 use object::Object;
 
-use crate::open_file::{Opener, OpenFile};
+use crate::open_file::{OpenFile, Opener};
 use crate::sections::has_debug_info;
 
 /// Where debug files are looked for.
@@ -43,15 +43,13 @@ impl DebugFiles {
         let object = object::File::parse(&**file).ok()?;
         let build_id = object.build_id().ok().flatten();
         let by_build_id = build_id.and_then(|id| self.in_folders(id));
-        by_build_id
-            .or_else(|| self.by_link(path, &object))
-            .or_else(|| self.from_servers("debuginfo", build_id?))
+        by_build_id.or_else(|| self.by_link(path, &object)).or_else(|| self.asked_of_servers("debuginfo", build_id?))
     }
 
     /// The file with a build id: its debug file, else the program.
     pub fn by_build_id(&self, id: &[u8]) -> Option<OpenFile> {
-        let found = self.in_folders(id).or_else(|| self.from_servers("debuginfo", id));
-        found.or_else(|| self.from_servers("executable", id))
+        let found = self.in_folders(id).or_else(|| self.asked_of_servers("debuginfo", id));
+        found.or_else(|| self.asked_of_servers("executable", id))
     }
 
     /// The file of debug information that dwz has taken out of several files, of which this is one.
@@ -59,7 +57,8 @@ impl DebugFiles {
         let (name, id) = object.gnu_debugaltlink().ok().flatten()?;
         let name = Path::new(OsStr::from_bytes(name));
         let beside = std::fs::canonicalize(path).ok().and_then(|path| Some(path.parent()?.join(name)));
-        let by_path = beside.and_then(|path| self.opener.open(&path).ok()).filter(|found| has_build_id(&found.file, id));
+        let by_path =
+            beside.and_then(|path| self.opener.open(&path).ok()).filter(|found| has_build_id(&found.file, id));
         by_path.or_else(|| self.named_by_build_id(id)).map(|found| found.file)
     }
 
@@ -80,7 +79,8 @@ impl DebugFiles {
         let name = OsStr::from_bytes(name);
         let path = std::fs::canonicalize(path).ok()?;
         let folder = path.parent()?;
-        let in_folders = self.folders.iter().map(|debug| debug.join(folder.strip_prefix("/").unwrap_or(folder)).join(name));
+        let in_folders =
+            self.folders.iter().map(|debug| debug.join(folder.strip_prefix("/").unwrap_or(folder)).join(name));
         let candidates = [folder.join(name), folder.join(".debug").join(name)].into_iter().chain(in_folders);
         let mut others = candidates.filter(|candidate| *candidate != path);
         others.find_map(|candidate| {
@@ -90,7 +90,7 @@ impl DebugFiles {
     }
 
     /// Asks `debuginfod-find`, which keeps what it got.
-    fn from_servers(&self, what: &str, id: &[u8]) -> Option<OpenFile> {
+    fn asked_of_servers(&self, what: &str, id: &[u8]) -> Option<OpenFile> {
         if !self.asks {
             return None;
         }

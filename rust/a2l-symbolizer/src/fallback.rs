@@ -1,5 +1,6 @@
 //! Answers of the addr2line crate, for debug information that the library doesn't read.
 
+use std::cell::OnceCell;
 use std::path::Path;
 use std::sync::Arc;
 
@@ -14,6 +15,7 @@ use crate::relocated::relocated;
 use crate::reply::Frame;
 use crate::sections::{part, Error};
 use crate::split::SplitUnits;
+use crate::variables::{Declaration, Variables};
 
 /// The bytes of a section, as gimli reads them.
 pub type Reader = EndianReader<RunTimeEndian, Part>;
@@ -22,6 +24,8 @@ pub type Reader = EndianReader<RunTimeEndian, Part>;
 pub struct Fallback {
     context: Context<Reader>,
     split: SplitUnits,
+    /// Made when it is first needed.
+    variables: OnceCell<Option<Variables>>,
 }
 
 impl Fallback {
@@ -35,7 +39,7 @@ impl Fallback {
                 dwarf.load_sup(|id| section(&other, &object, id)).ok()?;
             }
             let split = SplitUnits::new(path, debug_files.opener());
-            Some(Fallback { context: Context::from_dwarf(dwarf).ok()?, split })
+            Some(Fallback { context: Context::from_dwarf(dwarf).ok()?, split, variables: OnceCell::new() })
         })?
     }
 
@@ -72,6 +76,12 @@ impl Fallback {
     fn split_frames(&self, address: u64, place: &Frame) -> Option<Vec<Frame>> {
         let unit = self.context.find_dwarf_unit(address)?;
         self.split.find_frames(self.context.dwarf(), unit, address, place.clone())
+    }
+
+    /// Where the variable is declared that begins at an address.
+    pub fn declaration(&self, address: u64) -> Option<Declaration> {
+        let variables = self.variables.get_or_init(|| guarded(|| Variables::read(self.context.dwarf())));
+        variables.as_ref()?.at(address).cloned()
     }
 
     /// The folder in which the compiler ran that made the code at an address.

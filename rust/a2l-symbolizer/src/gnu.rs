@@ -25,11 +25,7 @@ pub fn write(tool: Tool, shape: &Shape, reply: &Reply<'_>, out: &mut Vec<u8>) {
         Answer::Frames(frames) => {
             frames.iter().enumerate().for_each(|(index, shown)| frame(shape, shown, index > 0, out));
         }
-        Answer::Variable(None) => out.extend_from_slice(b"??\n0 0\n??:?\n"),
-        Answer::Variable(Some(variable)) => {
-            out.extend_from_slice(&variable.name);
-            llvm::say(out, format_args!("\n{} {}\n??:?\n", variable.start, variable.size));
-        }
+        Answer::Variable(shown) => llvm::variable(shown.as_ref(), out),
         Answer::Locals => out.extend_from_slice(b"??\n"),
     }
 }

@@ -3,7 +3,7 @@
 use std::io::Write;
 
 use crate::arguments::Functions;
-use crate::reply::{Answer, Frame, Reply};
+use crate::reply::{Answer, Frame, Reply, Variable};
 use crate::request::Target;
 use crate::shape::Shape;
 
@@ -15,14 +15,26 @@ pub fn write(shape: &Shape, reply: &Reply<'_>, out: &mut Vec<u8>) {
         Answer::Frames(frames) => {
             frames.iter().enumerate().for_each(|(index, shown)| frame(shape, shown, index > 0, out));
         }
-        Answer::Variable(None) => out.extend_from_slice(b"??\n0 0\n??:?\n"),
-        Answer::Variable(Some(variable)) => {
-            out.extend_from_slice(&variable.name);
-            say(out, format_args!("\n{} {}\n??:?\n", variable.start, variable.size));
-        }
+        Answer::Variable(shown) => variable(shown.as_ref(), out),
         Answer::Locals => out.extend_from_slice(b"??\n"),
     }
     out.push(b'\n');
+}
+
+/// The name of a variable, where it begins and its size, and where it is declared.
+pub fn variable(variable: Option<&Variable>, out: &mut Vec<u8>) {
+    let Some(variable) = variable else {
+        return out.extend_from_slice(b"??\n0 0\n??:?\n");
+    };
+    out.extend_from_slice(&variable.name);
+    say(out, format_args!("\n{} {}\n", variable.start, variable.size));
+    match &variable.path {
+        Some(path) => {
+            out.extend_from_slice(path);
+            say(out, format_args!(":{}\n", variable.line));
+        }
+        None => out.extend_from_slice(b"??:?\n"),
+    }
 }
 
 /// The address of a request, which isn't padded.

@@ -17,7 +17,8 @@ const FAILED: u8 = 1;
 
 fn main() -> ExitCode {
     let words: Vec<OsString> = std::env::args_os().collect();
-    let (program, words) = words.split_first().map_or((OsStr::new(""), &[][..]), |(name, rest)| (name.as_os_str(), rest));
+    let (program, words) =
+        words.split_first().map_or((OsStr::new(""), &[][..]), |(name, rest)| (name.as_os_str(), rest));
     let identity = identity_of(words).unwrap_or_else(|| Identity::of_path(program));
     match Arguments::parse_for(identity, words) {
         Ok(arguments) if arguments.version => version(identity),

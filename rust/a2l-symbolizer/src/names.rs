@@ -91,3 +91,46 @@ fn without_scopes(name: &[u8]) -> &[u8] {
         last => last,
     }
 }
+
+#[cfg(test)]
+mod tests {
+    use super::*;
+
+    fn readable(name: &str, length: Length) -> Option<String> {
+        demangled(name.as_bytes(), length).map(|name| String::from_utf8(name).expect("UTF-8"))
+    }
+
+    #[test]
+    fn schemes() {
+        for (name, whole) in [
+            ("_ZN3lib4peekEPKii", "lib::peek(int const*, int)"),
+            ("_ZN3lib3sumIiEET_PKS1_i", "int lib::sum<int>(int const*, int)"),
+            ("_ZN4core3fmt5write17h0123456789abcdefE", "core::fmt::write"),
+            ("_RNvC7mycrate4main", "mycrate::main"),
+            ("_ZN3foo3barE", "foo::bar"),
+        ] {
+            assert_eq!(readable(name, Length::Whole).as_deref(), Some(whole));
+        }
+        assert!(["main", "_start", "_Z", "_ZN3foo", "_R"].iter().all(|name| readable(name, Length::Whole).is_none()));
+    }
+
+    #[test]
+    fn short_names() {
+        for (name, short) in [
+            ("_ZN3lib4peekEPKii", "peek"),
+            ("_ZN3lib3sumIiEET_PKS1_i", "sum<int>"),
+            ("_ZN12_GLOBAL__N_14foldEv", "fold"),
+            ("_ZN1AC2ERKS_", "A"),
+        ] {
+            assert_eq!(readable(name, Length::Short).as_deref(), Some(short));
+        }
+    }
+
+    #[test]
+    fn endless_names_stay() {
+        // Each of the parameters has twice the text of the one before.
+        let parameters: String = (0..30).map(|n| format!("S{}_", char::from_digit(n, 36).expect("a digit"))).collect();
+        let name = format!("_Z1f1AIS_S_E{}", parameters.to_uppercase());
+        assert!(readable(&name, Length::Whole).is_none_or(|text| text.len() <= LONGEST));
+    }
+}

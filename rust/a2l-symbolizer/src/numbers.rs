@@ -60,3 +60,60 @@ fn digits_of(digits: &[u8], radix: u32) -> Option<u64> {
     }
     u64::from_str_radix(std::str::from_utf8(digits).ok()?, radix).ok()
 }
+
+#[cfg(test)]
+mod tests {
+    use super::*;
+
+    #[test]
+    fn numbers_of_c() {
+        for (word, wanted) in [
+            ("0x272c", Some(0x272c)),
+            ("0X272C", Some(0x272c)),
+            ("10028", Some(10028)),
+            ("010", Some(8)),
+            ("0o17", Some(15)),
+            ("0b101", Some(5)),
+            ("0", Some(0)),
+            ("0xffffffffffffffff", Some(u64::MAX)),
+            ("0xfffffffffffffffff", None),
+            ("18446744073709551616", None),
+            ("272c", None),
+            ("0x", None),
+            ("", None),
+            ("-1", None),
+            ("+1", None),
+            ("0x+1", None),
+            ("09", None),
+        ] {
+            assert_eq!(number(Spelling::OfC, word.as_bytes()), wanted, "{word}");
+        }
+        assert_eq!(number(Spelling::Hexadecimal, b"272c"), Some(0x272c));
+        assert_eq!(number(Spelling::Hexadecimal, b"0x10"), Some(0x10));
+        assert_eq!(number(Spelling::Hexadecimal, b","), None);
+    }
+
+    #[test]
+    fn numbers_of_gnu() {
+        for (line, wanted) in [
+            ("0000000000001129", Some(0x1129)),
+            ("0x1129 trailing", Some(0x1129)),
+            ("  12zz", Some(0x12)),
+            ("-1", Some(u64::MAX)),
+            ("ffffffffffffffff", Some(u64::MAX)),
+            ("fffffffffffffffff", Some(u64::MAX)),
+            (",", None),
+            ("", None),
+            ("x", None),
+            ("0x", None),
+        ] {
+            assert_eq!(gnu_number(line.as_bytes()), wanted, "{line}");
+        }
+    }
+
+    #[test]
+    fn build_ids() {
+        assert_eq!(hexadecimal_bytes(b"0aFF"), Some(vec![0x0a, 0xff]));
+        assert!([&b"0a0"[..], b"", b"zz", b"+1"].iter().all(|digits| hexadecimal_bytes(digits).is_none()));
+    }
+}

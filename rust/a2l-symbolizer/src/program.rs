@@ -216,7 +216,8 @@ impl Program {
             Kind::Functions => &mut self.functions,
             Kind::Variables => &mut self.variables,
         };
-        let files: Vec<_> = [Some(&self.file), self.debug.as_ref()].into_iter().flatten().map(|file| &file.file).collect();
+        let files: Vec<_> =
+            [Some(&self.file), self.debug.as_ref()].into_iter().flatten().map(|file| &file.file).collect();
         place.get_or_insert_with(|| Symbols::read(&files, kind))
     }
 
@@ -232,11 +233,17 @@ impl Program {
             return None;
         }
         let kinds = [Kind::Variables, Kind::Functions];
-        kinds.into_iter().find_map(|kind| {
+        let mut variable = kinds.into_iter().find_map(|kind| {
             let symbol = self.symbols(kind).find(address)?;
-            let file = symbol.file.map(<[u8]>::to_vec);
-            Some(Variable { name: symbol.name.to_vec(), start: symbol.start, size: symbol.size, file })
-        })
+            let path = symbol.file.map(<[u8]>::to_vec);
+            Some(Variable { name: symbol.name.to_vec(), start: symbol.start, size: symbol.size, path, line: 0 })
+        })?;
+        let has_debug_info = sources.fallback && self.answerer != Answerer::Nobody;
+        let fallback = if has_debug_info { self.fallback(sources) } else { None };
+        if let Some(declared) = fallback.and_then(|fallback| fallback.declaration(variable.start)) {
+            (variable.path, variable.line) = (Some(declared.path.to_vec()), declared.line);
+        }
+        Some(variable)
     }
 
     /// The address of what has a name in the symbol table, and so many bytes after it where it is that long.

@@ -1,7 +1,5 @@
 //! The files that are open: those that were used last, as many as may be.
 
-use std::path::Path;
-
 use lru::LruCache;
 
 use crate::arguments::CacheSize;
@@ -38,7 +36,7 @@ impl Programs {
 
     fn open_file(&self, module: &Module) -> Result<OpenFile, String> {
         let file = match module {
-            Module::Path(path) => self.opener.open(path).map_err(|why| reason(path, &why))?,
+            Module::Path(path) => self.opener.open(path).map_err(|why| reason(&why))?,
             Module::BuildId(id) => self.sources.debug_files.by_build_id(id).ok_or("could not find build ID")?,
         };
         if !file.file.starts_with(b"\x7fELF") {
@@ -51,7 +49,9 @@ impl Programs {
     fn make_room(&mut self, bytes: u64) {
         let mut all = bytes.saturating_add(self.open.iter().map(|(_, program)| program.bytes()).sum());
         while self.open.len() >= self.size.files || all > self.size.bytes {
-            let Some((_, gone)) = self.open.pop_lru() else { break };
+            let Some((_, gone)) = self.open.pop_lru() else {
+                break;
+            };
             all = all.saturating_sub(gone.bytes());
         }
     }
@@ -66,7 +66,7 @@ pub struct Found<'p> {
 }
 
 /// Why a file can't be opened, without the number that the system has for it.
-fn reason(_: &Path, why: &std::io::Error) -> String {
+fn reason(why: &std::io::Error) -> String {
     let text = why.to_string();
     text.split(" (os error").next().unwrap_or(&text).to_owned()
 }

@@ -33,8 +33,10 @@ pub struct Variable {
     pub start: u64,
     /// Its size in bytes.
     pub size: u64,
-    /// The source file, by its bytes, where it is local to one.
-    pub file: Option<Vec<u8>>,
+    /// The path of the source file that declares it, by its bytes; never empty.
+    pub path: Option<Vec<u8>>,
+    /// The line of the declaration, counted from 1; 0 where it isn't known.
+    pub line: u64,
 }
 
 /// What is known at the address of a request.

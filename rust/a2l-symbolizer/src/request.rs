@@ -31,7 +31,10 @@ pub enum Module {
 pub enum Target {
     Address(u64),
     /// So many bytes after the begin of what has this name in the symbol table.
-    Symbol { name: Vec<u8>, offset: u64 },
+    Symbol {
+        name: Vec<u8>,
+        offset: u64,
+    },
 }
 
 /// A request.
@@ -125,9 +128,8 @@ fn first_target(spelling: Spelling, text: &[u8]) -> Option<Target> {
         return None;
     }
     let plus = word.iter().rposition(|&byte| byte == b'+').filter(|&plus| plus > 0);
-    let (name, offset) = plus
-        .and_then(|plus| Some((&word[..plus], number(Spelling::OfC, &word[plus + 1..])?)))
-        .unwrap_or((word, 0));
+    let (name, offset) =
+        plus.and_then(|plus| Some((&word[..plus], number(Spelling::OfC, &word[plus + 1..])?))).unwrap_or((word, 0));
     Some(Target::Symbol { name: name.to_vec(), offset })
 }
 
@@ -138,5 +140,68 @@ fn without_architecture(name: &[u8]) -> &[u8] {
     match name.iter().rposition(|&byte| byte == b':') {
         Some(colon) if colon > 0 && ARCHITECTURES.contains(&&name[colon + 1..]) => &name[..colon],
         _ => name,
+    }
+}
+
+#[cfg(test)]
+mod tests {
+    use super::*;
+
+    const LLVM: Protocol = Protocol::Llvm(Spelling::OfC);
+
+    /// The kind, path and address of a line.
+    fn asked(line: &str) -> Option<(Kind, String, u64)> {
+        let Request { kind, module: Module::Path(path), target: Target::Address(address) } =
+            parse(LLVM, None, line.as_bytes())?
+        else {
+            return None;
+        };
+        Some((kind, path.display().to_string(), address))
+    }
+
+    #[test]
+    fn modules() {
+        for (line, kind, path) in [
+            (r#"CODE "a b" 0x10"#, Kind::Code, "a b"),
+            (r#""a b" 0x10"#, Kind::Code, "a b"),
+            ("'a b' 16", Kind::Code, "a b"),
+            (r#"DATA "a" 0x10 trailing"#, Kind::Data, "a"),
+            ("FRAME a 0x10", Kind::Frame, "a"),
+            ("FILE:a 0x10", Kind::Code, "a"),
+            (r#"CODE FILE: "a" 0x10"#, Kind::Code, "a"),
+            (r#"CODE "a:x86_64" 0x10"#, Kind::Code, "a"),
+            ("a:b 0x10", Kind::Code, "a:b"),
+            ("code a 0x10", Kind::Code, "code a"),
+            ("CODE a b 0x10", Kind::Code, "a b"),
+            (r#"CODE "a"b" 0x10"#, Kind::Code, r#"a"b"#),
+        ] {
+            assert_eq!(asked(line), Some((kind, path.to_owned(), 16)), "{line}");
+        }
+    }
+
+    #[test]
+    fn no_requests() {
+        for line in ["", " ", "CODE", "garbage", "CODE a 0x", "a 0xfffffffffffffffff", r#"CODE "a"#, r#"CODE "" 0x10"#]
+        {
+            assert_eq!(parse(LLVM, None, line.as_bytes()), None, "{line}");
+        }
+    }
+
+    #[test]
+    fn build_ids_and_symbols() {
+        let request = parse(LLVM, None, b"BUILDID:0aff 0x10").expect("a request");
+        assert_eq!(request.module, Module::BuildId(vec![0x0a, 0xff]));
+        assert_eq!(parse(LLVM, None, b"BUILDID:zz 0x10"), None);
+        let request = parse(LLVM, None, b"a main+0x10").expect("a request");
+        assert_eq!(request.target, Target::Symbol { name: b"main".to_vec(), offset: 16 });
+    }
+
+    #[test]
+    fn numbers_alone() {
+        let module = Module::Path(PathBuf::from("a"));
+        let request = |protocol, line| parse(protocol, Some(&module), line).map(|request| request.target);
+        assert_eq!(request(LLVM, b"CODE 0x10"), Some(Target::Address(16)));
+        assert_eq!(request(Protocol::Gnu, b"10"), Some(Target::Address(16)));
+        assert_eq!(request(Protocol::Gnu, b","), None);
     }
 }

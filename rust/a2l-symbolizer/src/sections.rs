@@ -157,3 +157,50 @@ fn header(name: usize, kind: u32, offset: usize, size: usize) -> SectionHeader64
         sh_entsize: long(0),
     }
 }
+
+#[cfg(test)]
+mod tests {
+    use super::*;
+    use object::elf::{CompressionHeader64, ELFCOMPRESS_ZLIB, SHF_COMPRESSED};
+
+    fn sample() -> File {
+        let path = concat!(env!("CARGO_MANIFEST_DIR"), "/../../samples/inlined.elf");
+        File::from(std::fs::read(path).expect("the sample"))
+    }
+
+    #[test]
+    fn an_image_has_the_same_answers() {
+        let image = image(&sample(), 1 << 20).expect("an image");
+        let mut program = a2l::Program::open(Arc::new(image), 1).expect("a file that is accepted");
+        let frames = program.find_frames(0x401004).expect("no fault").expect("frames").frames;
+        let names: Vec<_> = frames.iter().map(|frame| frame.function_name()).collect();
+        assert_eq!(names, [Some("leaf"), Some("mid"), Some("main")]);
+    }
+
+    #[test]
+    fn an_image_is_bounded() {
+        assert!(matches!(image(&sample(), 100), Err(Error::TooMany)));
+    }
+
+    /// A file whose one section claims so many bytes, of 16 that are no zlib.
+    fn claiming(size: u64) -> File {
+        let claim = CompressionHeader64 {
+            ch_type: U32::new(LittleEndian, ELFCOMPRESS_ZLIB),
+            ch_reserved: U32::new(LittleEndian, 0),
+            ch_size: U64::new(LittleEndian, size),
+            ch_addralign: U64::new(LittleEndian, 1),
+        };
+        let mut image = Image::new();
+        image.add(b".debug_info", &[bytes_of(&claim), &[0; 16][..]].concat());
+        image.sections[1].sh_flags = U64::new(LittleEndian, SHF_COMPRESSED.into());
+        let sample = sample();
+        let object = ElfFile64::<LittleEndian>::parse(&*sample).expect("the sample");
+        image.finish(object.raw_header())
+    }
+
+    #[test]
+    fn claims_are_bounded() {
+        assert!(matches!(image(&claiming(1 << 40), u64::MAX), Err(Error::TooLong)));
+        assert!(matches!(image(&claiming(1 << 10), u64::MAX), Err(Error::Object(_))));
+    }
+}

@@ -95,7 +95,8 @@ impl Tool {
     fn wanted(self, address: u64, library: &mut Program) -> Result<String, String> {
         let found = library.find_frames(address).map_err(|why| why.to_string())?;
         let frames = found.map(|found| found.frames).unwrap_or_default();
-        let mut texts: Vec<[String; 2]> = frames.iter().map(|frame| [name(frame.function), self.place(&frame.location)]).collect();
+        let mut texts: Vec<[String; 2]> =
+            frames.iter().map(|frame| [name(frame.function), self.place(&frame.location)]).collect();
         texts.retain(|[name, place]| name != "??" || *place != self.place(&Location::default()));
         let unknown = match self {
             Tool::Llvm => "??\n??:0:0\n",

@@ -35,7 +35,8 @@ impl Shape {
                 Answer::Frames(self.chosen(frames).into_iter().map(|frame| self.frame(frame)).collect())
             }
             Answer::Variable(Some(variable)) => {
-                Answer::Variable(Some(Variable { name: self.name(&variable.name, Length::Whole), ..variable }))
+                let name = self.name(&variable.name, Length::Whole);
+                Answer::Variable(Some(Variable { name, path: variable.path.map(|path| self.path(&path)), ..variable }))
             }
             other => other,
         }
@@ -58,8 +59,11 @@ impl Shape {
     fn frame(&self, frame: Frame) -> Frame {
         let length = if self.functions == Functions::Short { Length::Short } else { Length::Whole };
         let name = frame.name.map(|name| self.name(&name, length));
-        let path = frame.path.map(|path| one_line(if self.basenames { basename(&path) } else { &path }));
-        Frame { name, path, ..frame }
+        Frame { name, path: frame.path.map(|path| self.path(&path)), ..frame }
+    }
+
+    fn path(&self, path: &[u8]) -> Vec<u8> {
+        one_line(if self.basenames { basename(path) } else { path })
     }
 
     fn name(&self, name: &[u8], length: Length) -> Vec<u8> {
@@ -75,4 +79,41 @@ fn basename(path: &[u8]) -> &[u8] {
 
 fn one_line(text: &[u8]) -> Vec<u8> {
     text.iter().map(|&byte| if matches!(byte, b'\n' | b'\r') { b'?' } else { byte }).collect()
+}
+
+#[cfg(test)]
+mod tests {
+    use super::*;
+
+    fn frame(name: &str, path: &str, line: u64) -> Frame {
+        Frame { name: Some(name.into()), path: Some(path.into()), line, ..Frame::default() }
+    }
+
+    fn shown(frames: Frames, basenames: bool) -> Vec<Frame> {
+        let functions = Functions::Linkage;
+        let shape = Shape { functions, frames, addresses: false, pretty: false, demangles: true, basenames };
+        let answer = Answer::Frames(vec![frame("_Z1fi", "/a/b.c", 1), frame("two\nlines", "c\r\n/d", 2)]);
+        match shape.shown(answer) {
+            Answer::Frames(frames) => frames,
+            other => panic!("{other:?}"),
+        }
+    }
+
+    #[test]
+    fn no_ends_of_lines() {
+        assert_eq!(shown(Frames::All, false), [frame("f(int)", "/a/b.c", 1), frame("two?lines", "c??/d", 2)]);
+    }
+
+    #[test]
+    fn frames_that_are_chosen() {
+        assert_eq!(shown(Frames::Innermost, true), [frame("f(int)", "b.c", 1)]);
+        assert_eq!(shown(Frames::Compiled, false), [frame("two?lines", "/a/b.c", 1)]);
+    }
+
+    #[test]
+    fn last_parts_of_paths() {
+        for (path, last) in [("/a/b", "b"), ("b", "b"), ("a/", "a/"), ("/", "/")] {
+            assert_eq!(basename(path.as_bytes()), last.as_bytes());
+        }
+    }
 }

@@ -14,6 +14,7 @@ use crate::fallback::{section_named, Reader};
 use crate::open_file::Opener;
 use crate::reply::Frame;
 use crate::sections::Error;
+use crate::source_paths::path_of;
 
 /// The split units of a program that were asked for.
 pub struct SplitUnits {
@@ -43,7 +44,13 @@ impl SplitUnits {
 
     /// The functions at an address, innermost first, by the unit that stands for a split one in the program, and the place
     /// of the address there; none where the unit isn't split or its file isn't found.
-    pub fn find_frames(&self, main: &Dwarf<Reader>, unit: &Unit<Reader>, address: u64, place: Frame) -> Option<Vec<Frame>> {
+    pub fn find_frames(
+        &self,
+        main: &Dwarf<Reader>,
+        unit: &Unit<Reader>,
+        address: u64,
+        place: Frame,
+    ) -> Option<Vec<Frame>> {
         let id = unit.dwo_id?;
         let mut read = self.read.borrow_mut();
         let split = read.entry(id.0).or_insert_with(|| self.open(main, unit, id).map(Rc::new)).clone()?;
@@ -111,29 +118,9 @@ fn name_of_file(main: &Dwarf<Reader>, skeleton: &Unit<Reader>) -> Option<Vec<u8>
     Some(main.attr_string(skeleton, value).ok()?.bytes().to_vec())
 }
 
-/// The path of a file of the line table of a unit.
-fn path_of(main: &Dwarf<Reader>, unit: &Unit<Reader>, file: u64) -> Option<Vec<u8>> {
-    let header = unit.line_program.as_ref()?.header();
-    let file = header.file(file)?;
-    let text = |value| main.attr_string(unit, value).ok().map(|text: Reader| text.bytes().to_vec());
-    let mut path = PathBuf::new();
-    if let Some(folder) = &unit.comp_dir {
-        path.push(OsStr::from_bytes(folder.bytes()));
-    }
-    if let Some(folder) = file.directory(header).and_then(text) {
-        path.push(OsStr::from_bytes(&folder));
-    }
-    path.push(OsStr::from_bytes(&text(file.path_name())?));
-    Some(path.into_os_string().into_encoded_bytes())
-}
-
 impl SplitUnit {
     /// The functions at an address, the outermost one first.
-    fn functions(
-        &self,
-        address: u64,
-        path_of: &dyn Fn(u64) -> Option<Vec<u8>>,
-    ) -> gimli::Result<Vec<Function>> {
+    fn functions(&self, address: u64, path_of: &dyn Fn(u64) -> Option<Vec<u8>>) -> gimli::Result<Vec<Function>> {
         let mut found: Vec<Function> = Vec::new();
         let (mut entries, mut depth) = (self.unit.entries(), 0);
         while let Some((delta, entry)) = entries.next_dfs()? {

@@ -197,3 +197,47 @@ fn set_reach(entries: &mut [Entry]) {
         entry.reach = reach;
     }
 }
+
+#[cfg(test)]
+mod tests {
+    use super::*;
+
+    fn entry(start: u64, size: u64, end: u64, binding: u8, name: u32) -> Entry {
+        let end = if size > 0 { start + size } else { end };
+        Entry { start, end, reach: end, name, file: 0, rank: Rank { typed: true, sized: size > 0, binding } }
+    }
+
+    fn symbols(mut entries: Vec<Entry>) -> Symbols {
+        entries.sort_by_key(|entry| (entry.start, entry.rank, entry.end));
+        end_unsized(&mut entries);
+        set_reach(&mut entries);
+        let names = b"\0a\0b\0c\0d\0".to_vec();
+        Symbols { entries, names: Some(Part::whole(File::from(names))) }
+    }
+
+    fn name_at(symbols: &Symbols, address: u64) -> Option<&str> {
+        symbols.find(address).map(|symbol| std::str::from_utf8(symbol.name).expect("ASCII"))
+    }
+
+    #[test]
+    fn the_global_one_is_taken() {
+        let found = symbols(vec![entry(16, 8, 99, 2, 1), entry(16, 8, 99, 0, 3), entry(16, 8, 99, 1, 5)]);
+        assert_eq!(name_at(&found, 16), Some("a"));
+        assert_eq!((name_at(&found, 15), name_at(&found, 24)), (None, None));
+    }
+
+    #[test]
+    fn what_has_no_size_ends_with_the_next_one_or_its_section() {
+        let found = symbols(vec![entry(16, 0, 99, 2, 1), entry(32, 0, 99, 2, 3)]);
+        assert_eq!((name_at(&found, 31), name_at(&found, 32)), (Some("a"), Some("b")));
+        assert_eq!((name_at(&found, 98), name_at(&found, 99)), (Some("b"), None));
+    }
+
+    #[test]
+    fn the_one_around_is_found() {
+        let found =
+            symbols(vec![entry(0, 100, 0, 2, 1), entry(10, 5, 0, 2, 3), entry(20, 5, 0, 2, 5), entry(200, 8, 0, 2, 7)]);
+        let names = [5, 12, 17, 22, 99, 100, 201].map(|address| name_at(&found, address));
+        assert_eq!(names, [Some("a"), Some("b"), Some("a"), Some("c"), Some("a"), None, Some("d")]);
+    }
+}

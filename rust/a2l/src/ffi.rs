@@ -62,13 +62,26 @@ pub struct Piece {
 }
 
 unsafe extern "C" {
-    pub fn a2l_open(bytes: *const u8, length: usize, capacity: usize, handle: *mut Handle, refusal: *mut Refusal) -> u32;
+    pub fn a2l_open(
+        bytes: *const u8,
+        length: usize,
+        capacity: usize,
+        handle: *mut Handle,
+        refusal: *mut Refusal,
+    ) -> u32;
     pub fn a2l_beside(handle: *mut Handle, capacity: usize, other: *mut Handle) -> u32;
     pub fn a2l_find_frames(handle: *mut Handle, addresses: *const u64, count: usize) -> u32;
     pub fn a2l_find_locations(handle: *mut Handle, addresses: *const u64, count: usize) -> u32;
     pub fn a2l_find_pieces(handle: *mut Handle, low: u64, high: u64) -> u32;
     pub fn a2l_answer_at(handle: *mut Handle, i: usize, answer: *mut Answer) -> u32;
-    pub fn a2l_frame_at(handle: *mut Handle, i: usize, j: usize, path: *mut c_char, size: usize, frame: *mut Frame) -> u32;
+    pub fn a2l_frame_at(
+        handle: *mut Handle,
+        i: usize,
+        j: usize,
+        path: *mut c_char,
+        size: usize,
+        frame: *mut Frame,
+    ) -> u32;
     pub fn a2l_piece_at(handle: *mut Handle, j: usize, path: *mut c_char, size: usize, piece: *mut Piece) -> u32;
     pub fn a2l_close(handle: *mut Handle) -> u32;
     pub fn a2l_version() -> u32;

@@ -278,16 +278,11 @@ impl<'a> Iterator for FrameIter<'_, 'a> {
             return None;
         }
         let (handle, i, j) = (&mut self.context.handle, self.place, self.next);
-        let mut frame = ffi::Frame {
-            name: null_mut(),
-            name_length: 0,
-            location: ffi::Location::default(),
-            name_known: false,
-        };
+        let mut frame =
+            ffi::Frame { name: null_mut(), name_length: 0, location: ffi::Location::default(), name_known: false };
         let status = with_path(&mut self.path, |path| {
             // SAFETY: the handle is open, and the buffer has its length.
-            let status =
-                unsafe { ffi::a2l_frame_at(handle, i, j, path.as_mut_ptr().cast(), path.len(), &mut frame) };
+            let status = unsafe { ffi::a2l_frame_at(handle, i, j, path.as_mut_ptr().cast(), path.len(), &mut frame) };
             (status, frame.location.path_length)
         });
         if status != ffi::DONE {
@@ -295,9 +290,8 @@ impl<'a> Iterator for FrameIter<'_, 'a> {
         }
         self.next += 1;
         // SAFETY: a name that is known points into the bytes of the file, which live for `'a`.
-        let function = frame
-            .name_known
-            .then(|| unsafe { std::slice::from_raw_parts(frame.name.cast::<u8>(), frame.name_length) });
+        let function =
+            frame.name_known.then(|| unsafe { std::slice::from_raw_parts(frame.name.cast::<u8>(), frame.name_length) });
         Some(Frame { function, location: location(&frame.location, &self.path) })
     }
 }
