@@ -23,6 +23,13 @@ need_library() {
     }
 }
 
+# The program for other tools, as `symbolizer`, which is built where it isn't yet. The variable A2L_SYMBOLIZER names another.
+need_symbolizer() {
+    symbolizer=${A2L_SYMBOLIZER:-$here/rust/target/release/a2l-symbolizer}
+    [ -n "${A2L_SYMBOLIZER:-}" ] || need_library symbolizer
+    [ -x "$symbolizer" ] || { echo "no program $symbolizer"; exit 1; }
+}
+
 # Whether all commands are there; else says what is skipped for want of which.
 has() {
     local what=$1 command
