@@ -9,6 +9,7 @@ use crate::gnu;
 use crate::identity::{Identity, Protocol};
 use crate::json;
 use crate::llvm;
+use crate::names::Names;
 use crate::program::Answerer;
 use crate::programs::{Found, Programs};
 use crate::reply::{Answer, Reply};
@@ -34,6 +35,7 @@ pub struct Settings {
 pub struct Conversation {
     settings: Settings,
     programs: Programs,
+    names: Names,
     /// The files of which a line was written to standard error.
     reported: LruCache<Module, ()>,
     /// A file couldn't be opened that the command line has.
@@ -45,7 +47,8 @@ const REPORTED: usize = 4096;
 
 impl Conversation {
     pub fn new(settings: Settings, programs: Programs) -> Conversation {
-        Conversation { settings, programs, reported: LruCache::new(REPORTED), failed: false }
+        let names = settings.shape.names();
+        Conversation { settings, programs, names, reported: LruCache::new(REPORTED), failed: false }
     }
 
     /// Whether the file of the command line couldn't be opened.
@@ -111,7 +114,7 @@ impl Conversation {
             (Err(why), Some(request)) => (nothing(request.kind), Some(why)),
             (Err(why), None) => (Answer::Frames(Vec::new()), Some(why)),
         };
-        let answer = self.settings.shape.shown(answer);
+        let answer = self.settings.shape.shown(&mut self.names, answer);
         write(&self.settings, &Reply { line, request: request.as_ref(), failure, answer })
     }
 

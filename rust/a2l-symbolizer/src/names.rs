@@ -3,6 +3,7 @@
 use std::fmt::{self, Write};
 
 use cpp_demangle::{DemangleOptions, Symbol};
+use lru::LruCache;
 
 use crate::guard::guarded;
 
@@ -16,6 +17,37 @@ pub enum Length {
     Whole,
     /// Without parameters, return type and the scopes around it.
     Short,
+}
+
+/// Readable names of functions. Those that were asked for last are kept, since the same functions are inlined everywhere.
+pub struct Names {
+    length: Length,
+    kept: LruCache<Vec<u8>, Option<Vec<u8>>>,
+}
+
+impl Names {
+    /// So many names are kept, where they aren't longer than so many bytes.
+    const KEPT: usize = 2048;
+    const LONGEST_KEPT: usize = 4096;
+
+    pub fn new(length: Length) -> Names {
+        Names { length, kept: LruCache::new(Names::KEPT) }
+    }
+
+    /// The name that stands behind a mangled one; the name itself where there is none.
+    pub fn readable(&mut self, name: &[u8]) -> Vec<u8> {
+        if !is_mangled(name) {
+            return name.to_vec();
+        }
+        if let Some(kept) = self.kept.get(name) {
+            return kept.clone().unwrap_or_else(|| name.to_vec());
+        }
+        let readable = demangled(name, self.length);
+        if name.len().max(readable.as_ref().map_or(0, Vec::len)) <= Names::LONGEST_KEPT {
+            self.kept.put(name.to_vec(), readable.clone());
+        }
+        readable.unwrap_or_else(|| name.to_vec())
+    }
 }
 
 /// The name is of a scheme of C++ or Rust.
@@ -123,6 +155,16 @@ mod tests {
             ("_ZN1AC2ERKS_", "A"),
         ] {
             assert_eq!(readable(name, Length::Short).as_deref(), Some(short));
+        }
+    }
+
+    #[test]
+    fn kept_names_are_the_same() {
+        let mut names = Names::new(Length::Whole);
+        for _ in 0..2 {
+            assert_eq!(names.readable(b"_Z1fi"), b"f(int)");
+            assert_eq!(names.readable(b"_ZN3foo"), b"_ZN3foo");
+            assert_eq!(names.readable(b"main"), b"main");
         }
     }
 

@@ -10,7 +10,7 @@ use crate::fallback::Fallback;
 use crate::names::is_mangled;
 use crate::open_file::OpenFile;
 use crate::reply::{Frame, Variable};
-use crate::sections::{has_debug_info, image};
+use crate::sections::{has_debug_info, has_supplement, image};
 use crate::symbols::{Kind, Symbols};
 use crate::units::UnitKinds;
 
@@ -124,11 +124,27 @@ impl Program {
         if sources.symbols {
             self.name_outermost(address, &mut frames);
         }
+        if sources.fallback && frames.iter().any(|frame| frame.name.is_none()) {
+            self.name_by_supplement(address, &mut frames, sources);
+        }
         if sources.relative {
             self.shorten_paths(address, &mut frames, sources);
         }
         frames.retain(|frame| !frame.is_unknown());
         frames
+    }
+
+    /// Names functions whose names dwz has put into a file of its own, which the library doesn't read.
+    fn name_by_supplement(&mut self, address: u64, frames: &mut [Frame], sources: &Sources) {
+        if !has_supplement(&self.with_debug_info().file) {
+            return;
+        }
+        let named = self.fallback(sources).map(|fallback| fallback.find_frames(address)).unwrap_or_default();
+        if named.len() == frames.len() {
+            for (frame, named) in frames.iter_mut().zip(named) {
+                frame.name = frame.name.take().or(named.name);
+            }
+        }
     }
 
     /// Takes the folder in which the compiler ran off the front of paths.

@@ -31,7 +31,7 @@ pub struct Variable {
     pub name: Vec<u8>,
     /// Its first address.
     pub start: u64,
-    /// Its size in bytes.
+    /// Its size in bytes, as far as it is known; else 0.
     pub size: u64,
     /// The path of the source file that declares it, by its bytes; never empty.
     pub path: Option<Vec<u8>>,

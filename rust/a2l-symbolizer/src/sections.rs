@@ -54,6 +54,11 @@ pub fn has_debug_info(file: &File) -> bool {
     object::File::parse(&**file).map_or(true, |object| object.section_by_name(".debug_info").is_some())
 }
 
+/// A file has names in a file of dwz's.
+pub fn has_supplement(file: &File) -> bool {
+    object::File::parse(&**file).is_ok_and(|object| object.section_by_name(".gnu_debugaltlink").is_some())
+}
+
 /// The bytes of a section as the program that made it has written them.
 pub fn decompressed<'data>(section: &impl ObjectSection<'data>) -> Result<Cow<'data, [u8]>, Error> {
     let compressed = section.compressed_data()?;

@@ -30,13 +30,10 @@ pub fn self_check(arguments: &Arguments) -> Result<String, String> {
 
 /// Addresses of code, as many of each unit as there are, and how many units have them.
 fn spread(library: &mut Program) -> Result<(Vec<u64>, usize), String> {
-    let looked_at = of_code(&library.file().clone())?;
-    let mut by_unit = BTreeMap::<u64, Vec<u64>>::new();
-    let units = library.find_units(&looked_at).map_err(|why| why.to_string())?;
-    for (unit, address) in units.into_iter().zip(looked_at) {
-        by_unit.entry(unit.unwrap_or(u64::MAX)).or_default().push(address);
+    let mut by_unit = grouped(of_code(library.file())?, library)?;
+    if by_unit.is_empty() {
+        by_unit = grouped(library.find_starts().map_err(|why| why.to_string())?, library)?;
     }
-    by_unit.remove(&u64::MAX);
     let mut chosen = Vec::new();
     for turn in 0.. {
         let left = WANTED - chosen.len();
@@ -50,6 +47,17 @@ fn spread(library: &mut Program) -> Result<(Vec<u64>, usize), String> {
         return Err("no unit covers any address of code".to_owned());
     }
     Ok((chosen, by_unit.len()))
+}
+
+/// The addresses that units cover, by the offset of their unit.
+fn grouped(addresses: Vec<u64>, library: &mut Program) -> Result<BTreeMap<u64, Vec<u64>>, String> {
+    let mut found = BTreeMap::<u64, Vec<u64>>::new();
+    let units = library.find_units(&addresses).map_err(|why| why.to_string())?;
+    for (unit, address) in units.into_iter().zip(addresses) {
+        found.entry(unit.unwrap_or(u64::MAX)).or_default().push(address);
+    }
+    found.remove(&u64::MAX);
+    Ok(found)
 }
 
 /// Addresses at equal distances in the sections of code.

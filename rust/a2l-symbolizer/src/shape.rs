@@ -3,7 +3,7 @@
 use std::borrow::Cow;
 
 use crate::arguments::Functions;
-use crate::names::{demangled, Length};
+use crate::names::{Length, Names};
 use crate::reply::{Answer, Frame, Variable};
 
 /// Which of the frames are shown.
@@ -28,14 +28,19 @@ pub struct Shape {
 }
 
 impl Shape {
+    /// The names that are shown.
+    pub fn names(&self) -> Names {
+        Names::new(if self.functions == Functions::Short { Length::Short } else { Length::Whole })
+    }
+
     /// The answer as it is written: no name and no path has an end of a line.
-    pub fn shown(&self, answer: Answer) -> Answer {
+    pub fn shown(&self, names: &mut Names, answer: Answer) -> Answer {
         match answer {
             Answer::Frames(frames) => {
-                Answer::Frames(self.chosen(frames).into_iter().map(|frame| self.frame(frame)).collect())
+                Answer::Frames(self.chosen(frames).into_iter().map(|frame| self.frame(names, frame)).collect())
             }
             Answer::Variable(Some(variable)) => {
-                let name = self.name(&variable.name, Length::Whole);
+                let name = self.name(names, &variable.name);
                 Answer::Variable(Some(Variable { name, path: variable.path.map(|path| self.path(&path)), ..variable }))
             }
             other => other,
@@ -56,9 +61,8 @@ impl Shape {
         frames
     }
 
-    fn frame(&self, frame: Frame) -> Frame {
-        let length = if self.functions == Functions::Short { Length::Short } else { Length::Whole };
-        let name = frame.name.map(|name| self.name(&name, length));
+    fn frame(&self, names: &mut Names, frame: Frame) -> Frame {
+        let name = frame.name.map(|name| self.name(names, &name));
         Frame { name, path: frame.path.map(|path| self.path(&path)), ..frame }
     }
 
@@ -66,9 +70,9 @@ impl Shape {
         one_line(if self.basenames { basename(path) } else { path })
     }
 
-    fn name(&self, name: &[u8], length: Length) -> Vec<u8> {
-        let readable = if self.demangles || length == Length::Short { demangled(name, length) } else { None };
-        one_line(&readable.map_or(Cow::Borrowed(name), Cow::Owned))
+    fn name(&self, names: &mut Names, name: &[u8]) -> Vec<u8> {
+        let is_readable = self.demangles || self.functions == Functions::Short;
+        one_line(&if is_readable { Cow::Owned(names.readable(name)) } else { Cow::Borrowed(name) })
     }
 }
 
@@ -93,7 +97,7 @@ mod tests {
         let functions = Functions::Linkage;
         let shape = Shape { functions, frames, addresses: false, pretty: false, demangles: true, basenames };
         let answer = Answer::Frames(vec![frame("_Z1fi", "/a/b.c", 1), frame("two\nlines", "c\r\n/d", 2)]);
-        match shape.shown(answer) {
+        match shape.shown(&mut shape.names(), answer) {
             Answer::Frames(frames) => frames,
             other => panic!("{other:?}"),
         }

@@ -32,6 +32,7 @@ pub struct Symbol<'s> {
     /// The source file, where the symbol is local to one.
     pub file: Option<&'s [u8]>,
     pub start: u64,
+    /// The size that the table has; 0 where it has none.
     pub size: u64,
 }
 
@@ -85,7 +86,8 @@ impl Symbols {
 
     fn symbol(&self, entry: &Entry) -> Option<Symbol<'_>> {
         let (name, file) = (self.text(entry.name)?, self.text(entry.file));
-        Some(Symbol { name, file, start: entry.start, size: entry.end - entry.start })
+        let size = if entry.rank.sized { entry.end - entry.start } else { 0 };
+        Some(Symbol { name, file, start: entry.start, size })
     }
 
     /// The text at an offset of the string table; none where it is empty, as it is at offset 0.

@@ -40,6 +40,12 @@ impl Program {
         self.context.find_all_locations(addresses)?;
         Ok((0..addresses.len()).map(|place| self.context.unit_of(place).ok().flatten()).collect())
     }
+
+    /// The first address of each piece of code that has one location, in order.
+    pub fn find_starts(&mut self) -> Result<Vec<u64>, Error> {
+        let pieces = self.context.find_location_range(0, u64::MAX)?;
+        Ok(pieces.into_iter().map(|piece| piece.begin).collect())
+    }
 }
 
 /// The functions at an address, in one unit.
