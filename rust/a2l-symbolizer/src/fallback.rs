@@ -84,9 +84,15 @@ impl Fallback {
         variables.as_ref()?.at(address).cloned()
     }
 
-    /// The folder in which the compiler ran that made the code at an address.
+    /// The folder in which the compiler ran that made the code at an address: an attribute of the unit, else the first
+    /// folder of its line table.
     pub fn folder(&self, address: u64) -> Option<Vec<u8>> {
-        Some(self.context.find_dwarf_unit(address)?.comp_dir.as_ref()?.bytes().to_vec())
+        let unit = self.context.find_dwarf_unit(address)?;
+        if let Some(folder) = &unit.comp_dir {
+            return Some(folder.bytes().to_vec());
+        }
+        let first = unit.line_program.as_ref()?.header().directory(0)?;
+        Some(self.context.dwarf().attr_string(unit, first).ok()?.bytes().to_vec())
     }
 }
 
