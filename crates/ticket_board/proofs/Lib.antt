@@ -11,6 +11,7 @@ pub mod RingOpening
 pub mod RingHomes
 pub mod RingMissed
 pub mod RingAsker
+pub mod RingMoves
 pub mod RingTable
 pub mod RingRule
 pub mod RingWorkerRule

@@ -1,6 +1,7 @@
 -- What lies in a slot of the ring's table, read off what the slot shows; and words that are written
 -- as they were.
-use Rattle.std.proofs.Common.{◌≡◌, ℕ, zero, suc, List, [], ◌∷◌, map, get_or, set, replicate, Option, Some, None, refl, ap}
+use Rattle.std.proofs.Common.{◌≡◌, ℕ, zero, suc, List, [], ◌∷◌, ◌++◌, map, get_or, set, replicate, Option, Some, None, refl, sym, ◌∙◌, ap}
+use Rattle.std.proofs.lemmas.List.{map-append, map-set}
 use mathlib.Core.Option as maybe
 use lib.ListN.{get_elem?}
 use Rattle.ticket_core.specs.State.{Shown}
@@ -40,3 +41,14 @@ module _ {A : Type 0} (shown : A → Shown) where
   pub all-empty : (n : ℕ) → map (home_shown shown) (map maybe.some (replicate n None)) ≡ replicate n Empty
   all-empty zero = refl
   all-empty (suc n) = ap (λ (hs : List Home). Empty ∷ hs) (all-empty n)
+
+-- ---- what is read of each of a list
+
+module _ {X Y : Type 0} (f : X → Y) where
+  pub get-map : (xs : List X) (i : ℕ) (x : X) → get_elem? xs i ≡ maybe.some x → get_elem? (map f xs) i ≡ maybe.some (f x)
+  get-map [] i x e = absurd (maybe.some-ne-none x (sym e))
+  get-map (y ∷ ys) zero x e = ap (λ (z : X). maybe.some (f z)) (maybe.some-injective y x e)
+  get-map (y ∷ ys) (suc i) x e = get-map ys i x e
+
+  pub map-cut : (xs : List X) (i : ℕ) (x last : X) → map f (set xs i x ++ last ∷ []) ≡ set (map f xs) i (f x) ++ f last ∷ []
+  map-cut xs i x last = map-append f (set xs i x) (last ∷ []) ∙ ap (λ (zs : List Y). zs ++ f last ∷ []) (map-set f xs i x)

@@ -1,5 +1,5 @@
 -- The ring's table as it is opened, and seats that are cut off from it.
-use Rattle.std.proofs.Common.{◌≡◌, ℕ, zero, suc, ◌+◌, ◌-◌, ◌*◌, ◌%◌, ◌<◌, ◌≤◌, Bool, if◌then◌else◌, List, [], ◌∷◌, ◌++◌, length, get_or, replicate, Option, None, inl, inr, refl, sym, ◌∙◌, ap, subst, arith}
+use Rattle.std.proofs.Common.{◌≡◌, ℕ, zero, suc, ◌+◌, ◌-◌, ◌*◌, ◌%◌, ◌<◌, ◌≤◌, Bool, if◌then◌else◌, List, [], ◌∷◌, ◌++◌, length, map, get_or, replicate, Option, None, inl, inr, refl, sym, ◌∙◌, ap, subst, arith}
 use Rattle.std.proofs.lemmas.Bool.{cases_lt, lt-ltb, le-ltb}
 use Rattle.std.proofs.lemmas.List.{length-append, get_or_append_left}
 use Rattle.std.proofs.Math.Seq.{get_or-append_seam}
@@ -7,45 +7,50 @@ use Rattle.std.proofs.lemmas.Nat.{mul-le}
 use Rattle.atomic_table.specs.Table as table
 use Rattle.ticket_core.specs.declared.shape.Shape.{Shape}
 use Rattle.ticket_core.specs.Shape.{Fits}
-use Rattle.ticket_core.specs.State.{Shown, Meaning, opening}
+use Rattle.ticket_core.specs.State.{Shown, Meaning}
 use Rattle.atomic_table.specs.Seated.{TableId}
 use Rattle.ticket_board.specs.Ring.Layout.{cells_in, words_in, state_field, word_of, free_word}
 use Rattle.ticket_board.specs.Ring.Homes.{Home, Empty}
-use Rattle.ticket_board.specs.Ring.Views.{View, Asks, Works, opener, asker, worker, new_asking, new_working}
-use Rattle.ticket_board.specs.Ring.Shows.{Shows}
+use Rattle.ticket_board.specs.Ring.Views.{View, Stamped, stamped, Asks, Works, opener, asker, worker, new_asking, new_working}
 use Rattle.ticket_board.specs.Ring.Opening.{AreFree, opened, next_seat}
-use Rattle.ticket_board.specs.Ring.Rule.{board_shown, Holds, cut_of, left_after, cut_from}
+use Rattle.ticket_board.specs.Ring.Moves.{Cuts, IsMade}
+use Rattle.ticket_board.specs.Ring.Rule.{home_shown, board_shown, lasts_of, Holds, cut_of, left_after, cut_from}
 use Rattle.ticket_board.specs.Ring.Ends.{RingState, AskerState}
 use Rattle.ticket_board.specs.Ring.Takers.{TakerState}
 use Rattle.ticket_board.specs.Ring.Opened.{IsDesk, new_asker, new_taker, askers_from, takers_from}
-use Rattle.ticket_board.proofs.RingHomes.{all-empty}
-use Rattle.ticket_board.proofs.RingOpening.{opens, cuts}
+use Rattle.ticket_board.proofs.RingHomes.{all-empty, get-map, map-cut}
+use Rattle.ticket_board.proofs.RingMoves.{made-on}
 
 module _ {A : Type 0} (shown : A → Shown) (meaning : Meaning) where
-  -- the opened table shows the opening state
+  -- no move made the opened table
   pub opening-holds : (shape : Shape) (key words : List ℕ) (count : ℕ) → Fits shape → AreFree shape words → count ≡ cells_in shape
-      → Holds shown meaning shape key (table.opening words (replicate count None) (opener shape key 0))
+      → Holds shown meaning shape key (table.opening words (replicate count None) (stamped (opener shape key 0) 0))
   opening-holds shape key words count fits free is =
-      let law : Shows meaning shape key (opened shape key words) (opening shape key) = opens meaning shape key fits words free in (
-        opening shape key,
-        subst (λ (x : List Home). Shows meaning shape key (record { words = words; homes = x; views = opener shape key 0 ∷ [] }) (opening shape key))
-            (sym (all-empty shown count ∙ ap (λ (n : ℕ). replicate n Empty) is)) law,
-      )
+      let made : IsMade meaning shape key (opened shape key words) (0 ∷ []) =
+      (words, [], record { fits = fits; free = free; may = tt; is = refl; stamps_are = refl }) in
+      subst (λ (x : List Home). IsMade meaning shape key (record { words = words; homes = x; views = opener shape key 0 ∷ [] }) (0 ∷ []))
+      (sym (all-empty shown count ∙ ap (λ (n : ℕ). replicate n Empty) is)) made
 
   -- and a seat that is cut off keeps the rule
   pub splits-allowed : (shape : Shape) (key : List ℕ) (id cut : ℕ) → cut < shape.senders + shape.workers
-      → table.Splits (Holds shown meaning shape key) id (opener shape key cut) (opener shape key (suc cut)) (next_seat shape key cut)
+      → table.Splits (Holds shown meaning shape key) id (stamped (opener shape key cut) 0) (stamped (opener shape key (suc cut)) 0)
+      (stamped (next_seat shape key cut) 0)
   splits-allowed shape key id cut left state holds sits =
-      (holds.0, cuts meaning shape key (board_shown shown state) holds.0 holds.1 id cut sits left)
+      subst (λ (x : List View × List ℕ). IsMade meaning shape key (record { words = state.words; homes = map (home_shown shown) state.homes; views = x.0 }) x.1)
+      (λ i. (
+        sym (map-cut (λ (x : Stamped). x.view) state.views id (stamped (opener shape key (suc cut)) 0) (stamped (next_seat shape key cut) 0)) i,
+        sym (map-cut (λ (x : Stamped). x.last) state.views id (stamped (opener shape key (suc cut)) 0) (stamped (next_seat shape key cut) 0)) i,
+      ))
+      (made-on meaning shape key (board_shown shown state) (lasts_of state.views) holds (Cuts id cut)
+      (get-map (λ (x : Stamped). x.view) state.views id (stamped (opener shape key cut) 0) sits, left))
 
 -- the same of the seat that is the ring's
-pub desk-splits : {A : Type 0} (shown : A → Shown) (meaning : Meaning) (ring : RingState) (id : ℕ) (table_id : TableId) (me : table.Me (Option A) View)
-    → IsDesk ring (cut_of me.0.role) table_id me → cut_of me.0.role < ring.shape.senders + ring.shape.workers
+pub desk-splits : {A : Type 0} (shown : A → Shown) (meaning : Meaning) (ring : RingState) (id : ℕ) (table_id : TableId) (me : table.Me (Option A) Stamped)
+    → IsDesk ring (cut_of me.0.view.role) table_id me → cut_of me.0.view.role < ring.shape.senders + ring.shape.workers
     → table.Splits (Holds shown meaning ring.shape ring.key) id me.0 (left_after me.0) (cut_from me.0)
 desk-splits {A} shown meaning ring id table_id me desk left =
-    let view : View = opener ring.shape ring.key (cut_of me.0.role) in
-    subst (λ (x : View). table.Splits (Holds shown meaning ring.shape ring.key) id x (left_after x) (cut_from x))
-    (sym (ap (λ x. x.0) desk.1)) (splits-allowed shown meaning ring.shape ring.key id (cut_of me.0.role) left)
+    subst (λ (x : Stamped). table.Splits (Holds shown meaning ring.shape ring.key) id x (left_after x) (cut_from x))
+    (sym (ap (λ x. x.0) desk.1)) (splits-allowed shown meaning ring.shape ring.key id (cut_of me.0.view.role) left)
 
 -- there is a word
 pub some-words : (shape : Shape) → Fits shape → 0 < words_in shape
@@ -105,23 +110,23 @@ worker-next shape key cut w at =
 
 -- what the seat that was cut off next shows, in the end of a sender or of a worker
 module _ {A : Type 0} where
-  pub asker-cut : (ring : RingState) (s : ℕ) (desk me : table.Me (Option A) View) → s < ring.shape.senders → desk ≡ (opener ring.shape ring.key s, [])
-      → me ≡ (next_seat ring.shape ring.key (cut_of desk.0.role), []) → me ≡ (asker ring.shape ring.key s new_asking, [])
+  pub asker-cut : (ring : RingState) (s : ℕ) (desk me : table.Me (Option A) Stamped) → s < ring.shape.senders → desk ≡ (stamped (opener ring.shape ring.key s) 0, [])
+      → me ≡ (stamped (next_seat ring.shape ring.key (cut_of desk.0.view.role)) 0, []) → me ≡ (stamped (asker ring.shape ring.key s new_asking) 0, [])
   asker-cut ring s desk me below was is =
-      is ∙ ap (λ (x : table.Me (Option A) View). (next_seat ring.shape ring.key (cut_of x.0.role), [])) was
-      ∙ ap (λ (view : View). (view, [])) (sender-next ring.shape ring.key s below)
+      is ∙ ap (λ (x : table.Me (Option A) Stamped). (stamped (next_seat ring.shape ring.key (cut_of x.0.view.role)) 0, [])) was
+      ∙ ap (λ (view : View). (stamped view 0, [])) (sender-next ring.shape ring.key s below)
 
-  pub taker-cut : (ring : RingState) (w : ℕ) (desk me : table.Me (Option A) View) → desk ≡ (opener ring.shape ring.key (ring.shape.senders + w), [])
-      → me ≡ (next_seat ring.shape ring.key (cut_of desk.0.role), []) → me ≡ (worker ring.shape ring.key w new_working, [])
+  pub taker-cut : (ring : RingState) (w : ℕ) (desk me : table.Me (Option A) Stamped) → desk ≡ (stamped (opener ring.shape ring.key (ring.shape.senders + w)) 0, [])
+      → me ≡ (stamped (next_seat ring.shape ring.key (cut_of desk.0.view.role)) 0, []) → me ≡ (stamped (worker ring.shape ring.key w new_working) 0, [])
   taker-cut ring w desk me was is =
-      is ∙ ap (λ (x : table.Me (Option A) View). (next_seat ring.shape ring.key (cut_of x.0.role), [])) was
-      ∙ ap (λ (view : View). (view, [])) (worker-next ring.shape ring.key (ring.shape.senders + w) w refl)
+      is ∙ ap (λ (x : table.Me (Option A) Stamped). (stamped (next_seat ring.shape ring.key (cut_of x.0.view.role)) 0, [])) was
+      ∙ ap (λ (view : View). (stamped view 0, [])) (worker-next ring.shape ring.key (ring.shape.senders + w) w refl)
 
   -- the seat from which it was cut off
-  pub desk-after : (ring : RingState) (cut more : ℕ) (table_id : TableId) (desk new : table.Me (Option A) View) → desk ≡ (opener ring.shape ring.key cut, [])
-      → IsDesk ring (cut_of desk.0.role + 1) table_id new → more ≡ cut + 1 → IsDesk ring more table_id new
+  pub desk-after : (ring : RingState) (cut more : ℕ) (table_id : TableId) (desk new : table.Me (Option A) Stamped) → desk ≡ (stamped (opener ring.shape ring.key cut) 0, [])
+      → IsDesk ring (cut_of desk.0.view.role + 1) table_id new → more ≡ cut + 1 → IsDesk ring more table_id new
   desk-after ring cut more table_id desk new was is next =
-      let e : cut_of desk.0.role + 1 ≡ more = ap (λ (x : table.Me (Option A) View). cut_of x.0.role + 1) was ∙ sym next in
+      let e : cut_of desk.0.view.role + 1 ≡ more = ap (λ (x : table.Me (Option A) Stamped). cut_of x.0.view.role + 1) was ∙ sym next in
       subst (λ (n : ℕ). IsDesk ring n table_id new) e is
 
 -- one end more

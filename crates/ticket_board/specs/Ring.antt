@@ -6,6 +6,7 @@ pub mod Shows
 pub mod Steps
 pub mod Laws
 pub mod Opening
+pub mod Moves
 pub mod Codes
 pub mod Rule
 pub mod Ends

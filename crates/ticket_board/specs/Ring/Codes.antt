@@ -7,7 +7,7 @@ use Rattle.ticket_core.specs.declared.query.Query.{Query}
 use Rattle.ticket_core.specs.declared.shape.Shape.{Shape}
 use Rattle.ticket_core.specs.State.{Shown, Ticket}
 use Rattle.ticket_core.specs.Codes.{shown_code, shape_code, query_code}
-use Rattle.ticket_board.specs.Ring.Views.{Known, Nothing, FirstWord, Whole, Asking, Working, Role, Opens, Asks, Works, View}
+use Rattle.ticket_board.specs.Ring.Views.{Known, Nothing, FirstWord, Whole, Asking, Working, Role, Opens, Asks, Works, View, Stamped}
 
 abbrev pub ticket_code : Coded Ticket
 ticket_code = coded× coded_ℕ coded_ℕ
@@ -69,3 +69,6 @@ abbrev pub view_code : Coded View
 view_code =
     code_by (Shape × (List ℕ × Role)) (coded× shape_code (coded× (coded_list coded_ℕ) role_code))
     (λ view. (view.shape, (view.key, view.role))) (λ p. record { shape = p.0; key = p.1.0; role = p.1.1 }) (λ _. refl)
+
+abbrev pub stamped_code : Coded Stamped
+stamped_code = code_by (View × ℕ) (coded× view_code coded_ℕ) (λ known. (known.view, known.last)) (λ p. record { view = p.0; last = p.1 }) (λ _. refl)

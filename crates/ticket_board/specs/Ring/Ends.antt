@@ -10,7 +10,7 @@ use Rattle.ticket_core.specs.State.{Shown, Meaning}
 use Rattle.ticket_board.specs.declared.fault.AskFault.{AskFault}
 use Rattle.ticket_board.specs.declared.fault.AskFault.TheVariants.{Full, Exhausted}
 use Rattle.ticket_board.specs.Ring.Layout.{words_in}
-use Rattle.ticket_board.specs.Ring.Views.{Nothing, Asking, View, asking_of, next_asked, next_received}
+use Rattle.ticket_board.specs.Ring.Views.{Nothing, Asking, Stamped, asking_of, next_asked, next_received}
 use Rattle.ticket_board.specs.Ring.Rule.{IsSender, sender_of}
 
 -- the ring: its shape and key, and which table it is
@@ -38,22 +38,22 @@ pub record IsAskerOf (ring : RingState) (asker : AskerState) : Type 0 where
   pub table_is : asker.table ≡ ring.table
 
 module _ {S : Type 0} where
-  abbrev pub asker_shown : ℕ → TableId → table.Me S View → AskerState
-  asker_shown sender table me = record { shape = me.0.shape; key = me.0.key; table = table; sender = sender; asking = asking_of me.0.role }
+  abbrev pub asker_shown : ℕ → TableId → table.Me S Stamped → AskerState
+  asker_shown sender table me = record { shape = me.0.view.shape; key = me.0.view.key; table = table; sender = sender; asking = asking_of me.0.view.role }
 
   -- its fields are what its seat knows
-  pub record IsAsker (meaning : Meaning) (sender asked received : ℕ) (found : Bool) (shape : Shape) (me : table.Me S View) : Type 0 where
-    pub asks : IsSender me.0.role
-    pub sender_is : sender_of me.0.role ≡ sender
-    pub shape_is : me.0.shape ≡ shape
+  pub record IsAsker (meaning : Meaning) (sender asked received : ℕ) (found : Bool) (shape : Shape) (me : table.Me S Stamped) : Type 0 where
+    pub asks : IsSender me.0.view.role
+    pub sender_is : sender_of me.0.view.role ≡ sender
+    pub shape_is : me.0.view.shape ≡ shape
     pub carries : me.1 ≡ []
     pub fits : Fits shape
     pub below : sender < shape.senders
-    pub asked_is : asked ≡ next_asked (asking_of me.0.role)
-    pub received_is : received ≡ next_received (asking_of me.0.role)
-    pub found_is : found ≡ (asking_of me.0.role).found
-    pub nothing_out : (asking_of me.0.role).collecting ≡ None
-    pub right : (asking_of me.0.role).received ≡ map (meaning me.0.key) (take received (asking_of me.0.role).asked)
+    pub asked_is : asked ≡ next_asked (asking_of me.0.view.role)
+    pub received_is : received ≡ next_received (asking_of me.0.view.role)
+    pub found_is : found ≡ (asking_of me.0.view.role).found
+    pub nothing_out : (asking_of me.0.view.role).collecting ≡ None
+    pub right : (asking_of me.0.view.role).received ≡ map (meaning me.0.view.key) (take received (asking_of me.0.view.role).asked)
     pub ordered : received ≤ asked
     pub window : asked ≤ received + shape.window
     pub most : asked ≤ shape.most

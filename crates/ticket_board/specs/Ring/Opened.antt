@@ -3,7 +3,7 @@ use Rattle.std.specs.Prelude.{◌≡◌, ℕ, zero, suc, List, [], ◌∷◌}
 use Rattle.atomic_table.specs.Table as table
 use Rattle.atomic_table.specs.Seated.{TableId}
 use Rattle.ticket_core.specs.declared.shape.Shape.{Shape}
-use Rattle.ticket_board.specs.Ring.Views.{View, new_asking, new_working, opener}
+use Rattle.ticket_board.specs.Ring.Views.{Stamped, stamped, new_asking, new_working, opener}
 use Rattle.ticket_board.specs.Ring.Ends.{RingState, AskerState}
 use Rattle.ticket_board.specs.Ring.Takers.{TakerState}
 
@@ -37,5 +37,5 @@ new_takers ring = takers_from ring 0 ring.shape.workers
 
 -- the seat from which others are cut off: it is the ring's, so many were cut off from it, and no
 -- slot is out with it
-abbrev pub IsDesk : {S : Type 0} → RingState → ℕ → TableId → table.Me S View → Type 0
-IsDesk ring cut table me = (table ≡ ring.table) × (me ≡ (opener ring.shape ring.key cut, []))
+abbrev pub IsDesk : {S : Type 0} → RingState → ℕ → TableId → table.Me S Stamped → Type 0
+IsDesk ring cut table me = (table ≡ ring.table) × (me ≡ (stamped (opener ring.shape ring.key cut) 0, []))

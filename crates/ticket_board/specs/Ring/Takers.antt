@@ -8,7 +8,7 @@ use Rattle.ticket_core.specs.declared.shape.Shape.{Shape}
 use Rattle.ticket_core.specs.Shape.{Fits}
 use Rattle.ticket_core.specs.State.{Shown, Meaning, Ticket}
 use Rattle.ticket_board.specs.Ring.Layout.{cell_of, cells_in}
-use Rattle.ticket_board.specs.Ring.Views.{Nothing, Whole, Working, View, working_of}
+use Rattle.ticket_board.specs.Ring.Views.{Nothing, Whole, Working, Stamped, working_of}
 use Rattle.ticket_board.specs.Ring.Rule.{IsWorker, worker_of}
 use Rattle.ticket_board.specs.Ring.Ends.{RingState}
 
@@ -85,20 +85,20 @@ module _ {A : Type 0} where
   slots_of shape None = []
   slots_of shape (Some ticket) = (cell_of shape ticket.0 ticket.1, None) ∷ []
 
-  abbrev pub taker_shown : TableId → table.Me (Option A) View → TakerState
+  abbrev pub taker_shown : TableId → table.Me (Option A) Stamped → TakerState
   taker_shown table me = record {
-    shape = me.0.shape;
-    key = me.0.key;
+    shape = me.0.view.shape;
+    key = me.0.view.key;
     table = table;
-    worker = worker_of me.0.role;
-    working = working_of me.0.role;
+    worker = worker_of me.0.view.role;
+    working = working_of me.0.view.role;
   }
 
   -- its fields are what its seat knows
-  pub record IsTaker (hand : Option Ticket) (shape : Shape) (me : table.Me (Option A) View) : Type 0 where
-    pub works : IsWorker me.0.role
-    pub shape_is : me.0.shape ≡ shape
+  pub record IsTaker (hand : Option Ticket) (shape : Shape) (me : table.Me (Option A) Stamped) : Type 0 where
+    pub works : IsWorker me.0.view.role
+    pub shape_is : me.0.view.shape ≡ shape
     pub fits : Fits shape
-    pub hand_is : (working_of me.0.role).hand ≡ hand
+    pub hand_is : (working_of me.0.view.role).hand ≡ hand
     pub ticket : IsTicketOf shape hand
     pub carries : me.1 ≡ slots_of shape hand

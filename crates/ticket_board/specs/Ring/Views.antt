@@ -92,6 +92,15 @@ asker shape key s asking = record { shape = shape; key = key; role = Asks s aski
 abbrev pub worker : Shape → List ℕ → ℕ → Working → View
 worker shape key w working = record { shape = shape; key = key; role = Works w working }
 
+-- what a seat knows, and how many steps all seats had made with its own last one; 0 where it made
+-- none
+pub record Stamped : Type 0 where
+  pub view : View
+  pub last : ℕ
+
+abbrev pub stamped : View → ℕ → Stamped
+stamped view last = record { view = view; last = last }
+
 -- ---- seats in a row: the first opens, then come the senders, then the workers
 
 abbrev pub sender_seat : ℕ → ℕ

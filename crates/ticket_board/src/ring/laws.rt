@@ -11,6 +11,9 @@ ghost use Rattle.ticket_board.specs.Ring.Steps.{SenderStep, WritesFirst, WritesS
 ghost use Rattle.ticket_board.specs.Ring.Steps.{BringsOut, Receives, WorkerStep, LooksAt, Takes, ReadsFirst};
 ghost use Rattle.ticket_board.specs.Ring.Steps.{ReadsSecond, Answers, GivesBack};
 ghost use Rattle.ticket_board.specs.Ring.Laws.{OpeningLaw, SeatLaw, SenderLaw, WorkerLaw};
+ghost use Rattle.ticket_board.specs.Ring.Laws.{OfEachRun, ShowsReached, AllAreRight};
+
+use ticket_core::law_of_runs;
 
 /// The opened ring shows the opening state of the core, and cutting off the seat of a sender or of
 /// a worker leaves the state that it shows.
@@ -91,4 +94,15 @@ pub fn law_of_steps()
     law_of_k8();
     law_of_k9();
     law_of_k10();
+}
+
+/// Whatever moves made the ring since it was opened, each of which could be made where it was: it
+/// shows a state of the core, to which the events that they are lead from the opening one. So what
+/// the core's law over all runs says of that state holds of the ring, and of each sender's view of
+/// it.
+pub fn law_of_board()
+    ensures shows { (meaning : Meaning) → OfEachRun meaning (ShowsReached meaning) }
+    ensures right { (meaning : Meaning) → OfEachRun meaning (AllAreRight meaning) }
+{
+    law_of_runs();
 }

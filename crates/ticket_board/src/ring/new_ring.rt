@@ -3,6 +3,7 @@
 ghost use Rattle.std.specs.Prelude.{◌≡◌, ◌+◌, ◌<◌, [], IfOk, IfErr, OnOk};
 ghost use Rattle.ticket_core.specs.Shape.{Fits};
 ghost use Rattle.ticket_board.specs.Faults.{RefusesShape};
+ghost use Rattle.ticket_board.specs.Ring.Views.{stamped};
 ghost use Rattle.ticket_board.specs.Ring.Opening.{AreFree, next_seat};
 ghost use Rattle.ticket_board.specs.Ring.Rule.{cut_of};
 ghost use Rattle.ticket_board.specs.Ring.Opened.{IsDesk, IsRingOf, new_askers, new_takers};
@@ -58,11 +59,11 @@ fn lay<'a, S: Solver>(
 
 /// The seat of the next sender or worker.
 fn cut_off<'a, S: Solver>(ring: &Ring<'a, S>, desk: &mut Place<S>) -> Place<S>
-    requires desk { IsDesk ring.now (cut_of desk.old.me.0.role) desk.old.table_id desk.old.me }
-    requires left { cut_of desk.old.me.0.role < ring.now.shape.senders + ring.now.shape.workers }
-    ensures desk { IsDesk ring.now (cut_of desk.old.me.0.role + 1) desk.new.table_id desk.new.me }
+    requires desk { IsDesk ring.now (cut_of desk.old.me.0.view.role) desk.old.table_id desk.old.me }
+    requires left { cut_of desk.old.me.0.view.role < ring.now.shape.senders + ring.now.shape.workers }
+    ensures desk { IsDesk ring.now (cut_of desk.old.me.0.view.role + 1) desk.new.table_id desk.new.me }
     ensures table { result.table_id ≡ ring.now.table }
-    ensures seat { result.me ≡ (next_seat ring.now.shape ring.now.key (cut_of desk.old.me.0.role), []) }
+    ensures seat { result.me ≡ (stamped (next_seat ring.now.shape ring.now.key (cut_of desk.old.me.0.view.role)) 0, []) }
 {
     ring.table.shared.split_seat::<CutOff>(desk)
 }

@@ -36,14 +36,14 @@ pub struct WriteSecond;
 
 impl<T> Play<Option<T>, Knowledge> for WriteSecond {
     ghost then = { λ step old word new. KnowsSent
-        (WritesSecond (ahead_with old.0.role step.first)) 0 Out old.1 old new };
+        (WritesSecond (ahead_with old.0.view.role step.first)) 0 Out old.1 old new };
 }
 
 /// A number is asked.
 pub struct Publish;
 
 impl<T> Play<Option<T>, Knowledge> for Publish {
-    ghost then = { λ step old word new. KnowsSent (Publishes (ahead_of old.0.role)) 0 Out old.1 old new };
+    ghost then = { λ step old word new. KnowsSent (Publishes (ahead_of old.0.view.role)) 0 Out old.1 old new };
 }
 
 /// A sender looks for its next answer.
@@ -66,7 +66,7 @@ impl<S: Solver> Play<Option<S::Answer>, Knowledge> for BringOut<S> {
 pub struct Receive;
 
 impl<T> Play<Option<T>, Knowledge> for Receive {
-    ghost then = { λ step old word new. KnowsSent (Receives (collecting_of old.0.role)) 0 Out (rest old.1) old new };
+    ghost then = { λ step old word new. KnowsSent (Receives (collecting_of old.0.view.role)) 0 Out (rest old.1) old new };
 }
 
 /// A worker looks at a cell.
@@ -80,33 +80,33 @@ impl<T> Play<Option<T>, Knowledge> for LookAt {
 pub struct Take;
 
 impl<T> Play<Option<T>, Knowledge> for Take {
-    ghost then = { λ step old word new. KnowsTried (seen_of old.0.role) word old new };
+    ghost then = { λ step old word new. KnowsTried (seen_of old.0.view.role) word old new };
 }
 
 /// A worker reads the first word of the query of the number in its hand.
 pub struct ReadFirst;
 
 impl<T> Play<Option<T>, Knowledge> for ReadFirst {
-    ghost then = { λ step old word new. KnowsFirst (hand_of old.0.role) word old new };
+    ghost then = { λ step old word new. KnowsFirst (hand_of old.0.view.role) word old new };
 }
 
 /// A worker reads the second word, after the first.
 pub struct ReadSecond;
 
 impl<T> Play<Option<T>, Knowledge> for ReadSecond {
-    ghost then = { λ step old word new. KnowsSecond (hand_of old.0.role) (first_read_of old.0.role) word old new };
+    ghost then = { λ step old word new. KnowsSecond (hand_of old.0.view.role) (first_read_of old.0.view.role) word old new };
 }
 
 /// A worker answers the number in its hand.
 pub struct Finish;
 
 impl<T> Play<Option<T>, Knowledge> for Finish {
-    ghost then = { λ step old word new. KnowsAnswered (hand_of old.0.role) (rest old.1) old new };
+    ghost then = { λ step old word new. KnowsAnswered (hand_of old.0.view.role) (rest old.1) old new };
 }
 
 /// A worker gives the number in its hand back.
 pub struct GiveBack;
 
 impl<T> Play<Option<T>, Knowledge> for GiveBack {
-    ghost then = { λ step old word new. KnowsGivenBack (hand_of old.0.role) (rest old.1) old new };
+    ghost then = { λ step old word new. KnowsGivenBack (hand_of old.0.view.role) (rest old.1) old new };
 }

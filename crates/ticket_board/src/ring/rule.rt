@@ -1,4 +1,4 @@
-//! The table of the ring, and its rule: its words, slots and seats show a state of the core.
+//! The table of the ring, and its rule: its words, slots and seats are what some moves made of them.
 
 use atomic_table::{Seat, Shared, TableRule};
 use std::marker::{Model, PhantomData};
@@ -8,14 +8,14 @@ use ticket_core::{Shape, Solver};
 pub struct Knowledge {}
 
 impl Model for Knowledge {
-    ghost use Rattle.ticket_board.specs.Ring.Views.{View, nobody};
-    ghost use Rattle.ticket_board.specs.Ring.Codes.{view_code};
+    ghost use Rattle.ticket_board.specs.Ring.Views.{Stamped, stamped, nobody};
+    ghost use Rattle.ticket_board.specs.Ring.Codes.{stamped_code};
 
-    ghost Value = { View };
+    ghost Value = { Stamped };
 
-    ghost coded = { view_code };
+    ghost coded = { stamped_code };
 
-    ghost view = { λ _. nobody };
+    ghost view = { λ _. stamped nobody 0 };
 }
 
 /// What the table is given once: the ring's shape, and the key of its answers.
@@ -27,18 +27,18 @@ pub struct Terms<'a> {
     pub key: &'a [u8],
 }
 
-/// The table shows a state of the core.
+/// Some moves made the table what it is, each by the seat that makes it, where it may be made.
 pub struct Rule<S> {
     solved_by: PhantomData<S>,
 }
 
 impl<'a, S: Solver> TableRule<Option<S::Answer>, Knowledge, Terms<'a>> for Rule<S> {
-    ghost use Rattle.ticket_board.specs.Ring.Views.{opener};
+    ghost use Rattle.ticket_board.specs.Ring.Views.{opener, stamped};
     ghost use Rattle.ticket_board.specs.Ring.Rule.{Holds};
 
     ghost holds = { λ terms. Holds S.shown S.meaning terms.shape terms.key.now };
 
-    ghost first = { λ terms. opener terms.shape terms.key.now 0 };
+    ghost first = { λ terms. stamped (opener terms.shape terms.key.now 0) 0 };
 }
 
 /// The words and slots, as all seats share them.

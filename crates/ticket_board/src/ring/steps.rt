@@ -36,10 +36,10 @@ pub fn write_first<'a, S: Solver>(
 )
     requires table { seat.old.table_id ≡ shelf.now.table_id }
     requires within { word < shelf.now.table_id.words }
-    requires sender { IsSender seat.old.me.0.role }
-    requires room { HasRoom seat.old.me.0.shape (asking_of seat.old.me.0.role) }
-    requires place { word ≡ first_place seat.old.me.0.shape (sender_of seat.old.me.0.role)
-        (next_asked (asking_of seat.old.me.0.role)) }
+    requires sender { IsSender seat.old.me.0.view.role }
+    requires room { HasRoom seat.old.me.0.view.shape (asking_of seat.old.me.0.view.role) }
+    requires place { word ≡ first_place seat.old.me.0.view.shape (sender_of seat.old.me.0.view.role)
+        (next_asked (asking_of seat.old.me.0.view.role)) }
     ensures same { (seat.new.table_id ≡ seat.old.table_id) × (seat.new.id ≡ seat.old.id) }
     ensures told { KnowsSent (WritesFirst first) 0 Out seat.old.me.1 seat.old.me seat.new.me }
 {
@@ -55,10 +55,10 @@ pub fn write_second<'a, S: Solver>(
 )
     requires table { seat.old.table_id ≡ shelf.now.table_id }
     requires within { word < shelf.now.table_id.words }
-    requires sender { IsSender seat.old.me.0.role }
-    requires written { (asking_of seat.old.me.0.role).ahead ≡ FirstWord (first_word query) }
-    requires place { word ≡ second_place seat.old.me.0.shape (sender_of seat.old.me.0.role)
-        (next_asked (asking_of seat.old.me.0.role)) }
+    requires sender { IsSender seat.old.me.0.view.role }
+    requires written { (asking_of seat.old.me.0.view.role).ahead ≡ FirstWord (first_word query) }
+    requires place { word ≡ second_place seat.old.me.0.view.shape (sender_of seat.old.me.0.view.role)
+        (next_asked (asking_of seat.old.me.0.view.role)) }
     ensures same { (seat.new.table_id ≡ seat.old.table_id) × (seat.new.id ≡ seat.old.id) }
     ensures told { KnowsSent (WritesSecond query) 0 Out seat.old.me.1 seat.old.me seat.new.me }
 {
@@ -69,13 +69,13 @@ pub fn write_second<'a, S: Solver>(
 pub fn publish<'a, S: Solver>(shelf: &Shelf<'a, S>, seat: &mut Place<S>, word: usize, asked: u64)
     requires table { seat.old.table_id ≡ shelf.now.table_id }
     requires within { word < shelf.now.table_id.words }
-    requires sender { IsSender seat.old.me.0.role }
-    requires written { (asking_of seat.old.me.0.role).ahead ≡ Whole (ahead_of seat.old.me.0.role) }
-    requires place { word ≡ state_place seat.old.me.0.shape (sender_of seat.old.me.0.role)
-        (next_asked (asking_of seat.old.me.0.role)) }
-    requires asked { asked ≡ asked_word (next_asked (asking_of seat.old.me.0.role)) }
+    requires sender { IsSender seat.old.me.0.view.role }
+    requires written { (asking_of seat.old.me.0.view.role).ahead ≡ Whole (ahead_of seat.old.me.0.view.role) }
+    requires place { word ≡ state_place seat.old.me.0.view.shape (sender_of seat.old.me.0.view.role)
+        (next_asked (asking_of seat.old.me.0.view.role)) }
+    requires asked { asked ≡ asked_word (next_asked (asking_of seat.old.me.0.view.role)) }
     ensures same { (seat.new.table_id ≡ seat.old.table_id) × (seat.new.id ≡ seat.old.id) }
-    ensures told { KnowsSent (Publishes (ahead_of seat.old.me.0.role)) 0 Out seat.old.me.1 seat.old.me seat.new.me }
+    ensures told { KnowsSent (Publishes (ahead_of seat.old.me.0.view.role)) 0 Out seat.old.me.1 seat.old.me seat.new.me }
 {
     shelf.store::<Publish>(seat, word, asked);
 }
@@ -84,9 +84,10 @@ pub fn publish<'a, S: Solver>(shelf: &Shelf<'a, S>, seat: &mut Place<S>, word: u
 pub fn look_next<'a, S: Solver>(shelf: &Shelf<'a, S>, seat: &mut Place<S>, word: usize) -> u64
     requires table { seat.old.table_id ≡ shelf.now.table_id }
     requires within { word < shelf.now.table_id.words }
-    requires sender { IsSender seat.old.me.0.role }
-    requires place { word ≡ state_place seat.old.me.0.shape (sender_of seat.old.me.0.role)
-        (next_received (asking_of seat.old.me.0.role)) }
+    requires sender { IsSender seat.old.me.0.view.role }
+    requires idle { (asking_of seat.old.me.0.view.role).collecting ≡ None }
+    requires place { word ≡ state_place seat.old.me.0.view.shape (sender_of seat.old.me.0.view.role)
+        (next_received (asking_of seat.old.me.0.view.role)) }
     ensures same { (seat.new.table_id ≡ seat.old.table_id) × (seat.new.id ≡ seat.old.id) }
     ensures told { KnowsSent LooksNext result Out seat.old.me.1 seat.old.me seat.new.me }
 {
@@ -97,11 +98,11 @@ pub fn look_next<'a, S: Solver>(shelf: &Shelf<'a, S>, seat: &mut Place<S>, word:
 pub fn bring_out<'a, S: Solver>(shelf: &Shelf<'a, S>, seat: &mut Place<S>, word: usize, out: u64)
     requires table { seat.old.table_id ≡ shelf.now.table_id }
     requires within { word < shelf.now.table_id.words }
-    requires sender { IsSender seat.old.me.0.role }
-    requires found { (asking_of seat.old.me.0.role).found ≡ true }
-    requires place { word ≡ state_place seat.old.me.0.shape (sender_of seat.old.me.0.role)
-        (next_received (asking_of seat.old.me.0.role)) }
-    requires out { out ≡ collecting_word (next_received (asking_of seat.old.me.0.role)) }
+    requires sender { IsSender seat.old.me.0.view.role }
+    requires found { (asking_of seat.old.me.0.view.role).found ≡ true }
+    requires place { word ≡ state_place seat.old.me.0.view.shape (sender_of seat.old.me.0.view.role)
+        (next_received (asking_of seat.old.me.0.view.role)) }
+    requires out { out ≡ collecting_word (next_received (asking_of seat.old.me.0.view.role)) }
     ensures same { (seat.new.table_id ≡ seat.old.table_id) × (seat.new.id ≡ seat.old.id) }
     ensures told { (answer : S.Answer) × KnowsAnswer S.shown S.meaning answer seat.old.me seat.new.me }
 {
@@ -113,15 +114,15 @@ pub fn bring_out<'a, S: Solver>(shelf: &Shelf<'a, S>, seat: &mut Place<S>, word:
 pub fn receive<'a, S: Solver>(shelf: &Shelf<'a, S>, seat: &mut Place<S>, word: usize, free: u64)
     requires table { seat.old.table_id ≡ shelf.now.table_id }
     requires within { word < shelf.now.table_id.words }
-    requires sender { IsSender seat.old.me.0.role }
-    requires out { (asking_of seat.old.me.0.role).collecting ≡ Some (collecting_of seat.old.me.0.role) }
-    requires slot { CarriesFirst (cell_of seat.old.me.0.shape (sender_of seat.old.me.0.role)
-        (next_received (asking_of seat.old.me.0.role))) None seat.old.me }
-    requires place { word ≡ state_place seat.old.me.0.shape (sender_of seat.old.me.0.role)
-        (next_received (asking_of seat.old.me.0.role)) }
-    requires free { free ≡ free_word (next_received (asking_of seat.old.me.0.role) + seat.old.me.0.shape.window) }
+    requires sender { IsSender seat.old.me.0.view.role }
+    requires out { (asking_of seat.old.me.0.view.role).collecting ≡ Some (collecting_of seat.old.me.0.view.role) }
+    requires slot { CarriesFirst (cell_of seat.old.me.0.view.shape (sender_of seat.old.me.0.view.role)
+        (next_received (asking_of seat.old.me.0.view.role))) None seat.old.me }
+    requires place { word ≡ state_place seat.old.me.0.view.shape (sender_of seat.old.me.0.view.role)
+        (next_received (asking_of seat.old.me.0.view.role)) }
+    requires free { free ≡ free_word (next_received (asking_of seat.old.me.0.view.role) + seat.old.me.0.view.shape.window) }
     ensures same { (seat.new.table_id ≡ seat.old.table_id) × (seat.new.id ≡ seat.old.id) }
-    ensures told { KnowsSent (Receives (collecting_of seat.old.me.0.role)) 0 Out
+    ensures told { KnowsSent (Receives (collecting_of seat.old.me.0.view.role)) 0 Out
         (rest seat.old.me.1) seat.old.me seat.new.me }
 {
     shelf.store::<Receive>(seat, word, free);
@@ -137,9 +138,9 @@ pub fn look_at<'a, S: Solver, L: Ledger>(
     requires table { seat.old.table_id ≡ shelf.now.table_id }
     requires words { word_of cell state_field < shelf.now.table_id.words }
     requires few { cell < 65536 }
-    requires within { cell < cells_in seat.old.me.0.shape }
-    requires worker { IsWorker seat.old.me.0.role }
-    requires empty { (working_of seat.old.me.0.role).hand ≡ None }
+    requires within { cell < cells_in seat.old.me.0.view.shape }
+    requires worker { IsWorker seat.old.me.0.view.role }
+    requires empty { (working_of seat.old.me.0.view.role).hand ≡ None }
     ensures same { (seat.new.table_id ≡ seat.old.table_id) × (seat.new.id ≡ seat.old.id) }
     ensures told { KnowsLooked cell result seat.old.me seat.new.me }
     ensures counted { steps.new ≡ steps.old + 1 }
@@ -161,15 +162,15 @@ pub fn try_take<'a, S: Solver, L: Ledger>(
 ) -> u64
     requires table { seat.old.table_id ≡ shelf.now.table_id }
     requires within { word < shelf.now.table_id.words }
-    requires worker { IsWorker seat.old.me.0.role }
-    requires empty { (working_of seat.old.me.0.role).hand ≡ None }
-    requires seen { (working_of seat.old.me.0.role).seen ≡ Some (seen_of seat.old.me.0.role) }
-    requires place { word ≡ state_place seat.old.me.0.shape (seen_of seat.old.me.0.role).0
-        (seen_of seat.old.me.0.role).1 }
-    requires asked { asked ≡ asked_word (seen_of seat.old.me.0.role).1 }
-    requires taken { taken ≡ taken_word (seen_of seat.old.me.0.role).1 }
+    requires worker { IsWorker seat.old.me.0.view.role }
+    requires empty { (working_of seat.old.me.0.view.role).hand ≡ None }
+    requires seen { (working_of seat.old.me.0.view.role).seen ≡ Some (seen_of seat.old.me.0.view.role) }
+    requires place { word ≡ state_place seat.old.me.0.view.shape (seen_of seat.old.me.0.view.role).0
+        (seen_of seat.old.me.0.view.role).1 }
+    requires asked { asked ≡ asked_word (seen_of seat.old.me.0.view.role).1 }
+    requires taken { taken ≡ taken_word (seen_of seat.old.me.0.view.role).1 }
     ensures same { (seat.new.table_id ≡ seat.old.table_id) × (seat.new.id ≡ seat.old.id) }
-    ensures told { KnowsTried (seen_of seat.old.me.0.role) result seat.old.me seat.new.me }
+    ensures told { KnowsTried (seen_of seat.old.me.0.view.role) result seat.old.me seat.new.me }
     ensures counted { steps.new ≡ steps.old + 1 }
 {
     steps.tick();
@@ -185,12 +186,12 @@ pub fn read_first<'a, S: Solver, L: Ledger>(
 ) -> u64
     requires table { seat.old.table_id ≡ shelf.now.table_id }
     requires within { word < shelf.now.table_id.words }
-    requires worker { IsWorker seat.old.me.0.role }
-    requires held { (working_of seat.old.me.0.role).hand ≡ Some (hand_of seat.old.me.0.role) }
-    requires place { word ≡ first_place seat.old.me.0.shape (hand_of seat.old.me.0.role).0
-        (hand_of seat.old.me.0.role).1 }
+    requires worker { IsWorker seat.old.me.0.view.role }
+    requires held { (working_of seat.old.me.0.view.role).hand ≡ Some (hand_of seat.old.me.0.view.role) }
+    requires place { word ≡ first_place seat.old.me.0.view.shape (hand_of seat.old.me.0.view.role).0
+        (hand_of seat.old.me.0.view.role).1 }
     ensures same { (seat.new.table_id ≡ seat.old.table_id) × (seat.new.id ≡ seat.old.id) }
-    ensures told { KnowsFirst (hand_of seat.old.me.0.role) result seat.old.me seat.new.me }
+    ensures told { KnowsFirst (hand_of seat.old.me.0.view.role) result seat.old.me seat.new.me }
     ensures counted { steps.new ≡ steps.old + 1 }
 {
     steps.tick();
@@ -206,14 +207,14 @@ pub fn read_second<'a, S: Solver, L: Ledger>(
 ) -> u64
     requires table { seat.old.table_id ≡ shelf.now.table_id }
     requires within { word < shelf.now.table_id.words }
-    requires worker { IsWorker seat.old.me.0.role }
-    requires held { (working_of seat.old.me.0.role).hand ≡ Some (hand_of seat.old.me.0.role) }
-    requires read { (working_of seat.old.me.0.role).read ≡ FirstWord (first_read_of seat.old.me.0.role) }
-    requires place { word ≡ second_place seat.old.me.0.shape (hand_of seat.old.me.0.role).0
-        (hand_of seat.old.me.0.role).1 }
+    requires worker { IsWorker seat.old.me.0.view.role }
+    requires held { (working_of seat.old.me.0.view.role).hand ≡ Some (hand_of seat.old.me.0.view.role) }
+    requires read { (working_of seat.old.me.0.view.role).read ≡ FirstWord (first_read_of seat.old.me.0.view.role) }
+    requires place { word ≡ second_place seat.old.me.0.view.shape (hand_of seat.old.me.0.view.role).0
+        (hand_of seat.old.me.0.view.role).1 }
     ensures same { (seat.new.table_id ≡ seat.old.table_id) × (seat.new.id ≡ seat.old.id) }
-    ensures told { KnowsSecond (hand_of seat.old.me.0.role)
-        (first_read_of seat.old.me.0.role) result seat.old.me seat.new.me }
+    ensures told { KnowsSecond (hand_of seat.old.me.0.view.role)
+        (first_read_of seat.old.me.0.view.role) result seat.old.me seat.new.me }
     ensures counted { steps.new ≡ steps.old + 1 }
 {
     steps.tick();
@@ -231,15 +232,15 @@ pub fn finish<'a, S: Solver, L: Ledger>(
 )
     requires table { seat.old.table_id ≡ shelf.now.table_id }
     requires within { word < shelf.now.table_id.words }
-    requires worker { IsWorker seat.old.me.0.role }
-    requires held { (working_of seat.old.me.0.role).hand ≡ Some (hand_of seat.old.me.0.role) }
-    requires read { (working_of seat.old.me.0.role).read ≡ Whole (read_of seat.old.me.0.role) }
+    requires worker { IsWorker seat.old.me.0.view.role }
+    requires held { (working_of seat.old.me.0.view.role).hand ≡ Some (hand_of seat.old.me.0.view.role) }
+    requires read { (working_of seat.old.me.0.view.role).read ≡ Whole (read_of seat.old.me.0.view.role) }
     requires slot { CarriesMeaning S.shown S.meaning seat.old.me }
-    requires place { word ≡ state_place seat.old.me.0.shape (hand_of seat.old.me.0.role).0
-        (hand_of seat.old.me.0.role).1 }
-    requires answered { answered ≡ answered_word (hand_of seat.old.me.0.role).1 }
+    requires place { word ≡ state_place seat.old.me.0.view.shape (hand_of seat.old.me.0.view.role).0
+        (hand_of seat.old.me.0.view.role).1 }
+    requires answered { answered ≡ answered_word (hand_of seat.old.me.0.view.role).1 }
     ensures same { (seat.new.table_id ≡ seat.old.table_id) × (seat.new.id ≡ seat.old.id) }
-    ensures told { KnowsAnswered (hand_of seat.old.me.0.role) (rest seat.old.me.1) seat.old.me seat.new.me }
+    ensures told { KnowsAnswered (hand_of seat.old.me.0.view.role) (rest seat.old.me.1) seat.old.me seat.new.me }
     ensures counted { steps.new ≡ steps.old + 1 }
 {
     steps.tick();
@@ -256,15 +257,15 @@ pub fn give_back<'a, S: Solver, L: Ledger>(
 )
     requires table { seat.old.table_id ≡ shelf.now.table_id }
     requires within { word < shelf.now.table_id.words }
-    requires worker { IsWorker seat.old.me.0.role }
-    requires held { (working_of seat.old.me.0.role).hand ≡ Some (hand_of seat.old.me.0.role) }
-    requires slot { CarriesFirst (cell_of seat.old.me.0.shape (hand_of seat.old.me.0.role).0
-        (hand_of seat.old.me.0.role).1) None seat.old.me }
-    requires place { word ≡ state_place seat.old.me.0.shape (hand_of seat.old.me.0.role).0
-        (hand_of seat.old.me.0.role).1 }
-    requires asked { asked ≡ asked_word (hand_of seat.old.me.0.role).1 }
+    requires worker { IsWorker seat.old.me.0.view.role }
+    requires held { (working_of seat.old.me.0.view.role).hand ≡ Some (hand_of seat.old.me.0.view.role) }
+    requires slot { CarriesFirst (cell_of seat.old.me.0.view.shape (hand_of seat.old.me.0.view.role).0
+        (hand_of seat.old.me.0.view.role).1) None seat.old.me }
+    requires place { word ≡ state_place seat.old.me.0.view.shape (hand_of seat.old.me.0.view.role).0
+        (hand_of seat.old.me.0.view.role).1 }
+    requires asked { asked ≡ asked_word (hand_of seat.old.me.0.view.role).1 }
     ensures same { (seat.new.table_id ≡ seat.old.table_id) × (seat.new.id ≡ seat.old.id) }
-    ensures told { KnowsGivenBack (hand_of seat.old.me.0.role) (rest seat.old.me.1) seat.old.me seat.new.me }
+    ensures told { KnowsGivenBack (hand_of seat.old.me.0.view.role) (rest seat.old.me.1) seat.old.me seat.new.me }
     ensures counted { steps.new ≡ steps.old + 1 }
 {
     steps.tick();

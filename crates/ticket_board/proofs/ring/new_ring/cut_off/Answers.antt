@@ -8,7 +8,7 @@ use Rattle.ticket_board.proofs.ring.new_ring.cut_off.Goals as goal
 pub split_seat-requires : goal.split_seat-requires
 split_seat-requires g c =
     let desk = c.args.desk.now in
-    let cut : ℕ = cut_of desk.me.0.role in
+    let cut : ℕ = cut_of desk.me.0.view.role in
     let shared = c.ring.inside.table.shared in
     let ring : RingState = record { shape = shared.key.shape; key = shared.key.key.now; table = shared.table_id } in (
       c.requires.desk.0 ∙ sym (ap (λ (x : RingState). x.table) c.ring.view_is),

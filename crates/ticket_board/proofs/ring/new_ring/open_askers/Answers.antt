@@ -17,10 +17,10 @@ loop-sender-preserved g c =
       room = omega (arith, i.room, c.push_reserved.ensures.capacity);
       made = askers-then ring c.loop-sender.sender c.loop-sender.askers.items c.push_reserved.new.self.items _ i.made c.push_reserved.ensures.items
           (λ k. record {
-            shape = (me k).0.shape;
-            key = (me k).0.key;
+            shape = (me k).0.view.shape;
+            key = (me k).0.view.key;
             table = seat.ensures.table k;
             sender = c.loop-sender.sender;
-            asking = asking_of (me k).0.role;
+            asking = asking_of (me k).0.view.role;
           });
     }

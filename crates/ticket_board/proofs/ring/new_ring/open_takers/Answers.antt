@@ -9,7 +9,7 @@ use Rattle.ticket_board.proofs.ring.new_ring.open_takers.Goals as goal
 pub cut_off-seat-requires-clause-left : goal.cut_off-seat-requires-clause-left
 cut_off-seat-requires-clause-left g c κs within =
     let ring = c.args.ring.now in
-    let cut : cut_of c.loop.desk.me.0.role ≡ ring.shape.senders + c.loop.counter = ap (λ me. cut_of me.0.role) c.loop.invariant.desk.1 in
+    let cut : cut_of c.loop.desk.me.0.view.role ≡ ring.shape.senders + c.loop.counter = ap (λ me. cut_of me.0.view.role) c.loop.invariant.desk.1 in
     let below : c.loop.counter < ring.shape.workers = subst (λ (x : Shape). c.loop.counter < x.workers) (sym c.requires.shape) c.loop-test.true in
     omega arith
 
@@ -26,11 +26,11 @@ loop-preserved g c =
       room = omega (arith, i.room, c.push_reserved.ensures.capacity);
       made = takers-then ring c.loop.counter c.loop.takers.items c.push_reserved.new.self.items _ i.made c.push_reserved.ensures.items
           (λ k. record {
-            shape = (me k).0.shape;
-            key = (me k).0.key;
+            shape = (me k).0.view.shape;
+            key = (me k).0.view.key;
             table = seat.ensures.table k;
-            worker = worker_of (me k).0.role;
-            working = working_of (me k).0.role;
+            worker = worker_of (me k).0.view.role;
+            working = working_of (me k).0.view.role;
           });
     }
 

@@ -8,6 +8,6 @@ store-requires g c = (
   c.requires.within,
   answers-allowed g.S.Solver.shown g.S.Solver.meaning c.args.shelf.now.key.shape c.args.shelf.now.key.key.now c.args.shelf.now.table_id.slots
       c.args.seat.now.id c.args.seat.now.me c.requires.worker c.args.word c.args.answered
-      (hand_of c.args.seat.now.me.0.role).0 (hand_of c.args.seat.now.me.0.role).1 (read_of c.args.seat.now.me.0.role) c.requires.slot.0
+      (hand_of c.args.seat.now.me.0.view.role).0 (hand_of c.args.seat.now.me.0.view.role).1 (read_of c.args.seat.now.me.0.view.role) c.requires.slot.0
       c.requires.held c.requires.read c.requires.slot.2 c.requires.slot.1 c.requires.place c.requires.answered,
 )

@@ -6,5 +6,5 @@ load-requires g c = (
   c.requires.table,
   c.requires.within,
   looks-allowed g.S.Solver.shown g.S.Solver.meaning c.args.shelf.now.key.shape c.args.shelf.now.key.key.now c.args.shelf.now.table_id.slots
-      c.args.seat.now.id c.args.seat.now.me c.requires.sender c.args.word c.requires.place,
+      c.args.seat.now.id c.args.seat.now.me c.requires.sender c.args.word c.requires.idle c.requires.place,
 )

@@ -8,5 +8,5 @@ load-requires g c = (
   c.requires.within,
   first-allowed g.S.Solver.shown g.S.Solver.meaning c.args.shelf.now.key.shape c.args.shelf.now.key.key.now c.args.shelf.now.table_id.slots
       c.args.seat.now.id c.args.seat.now.me c.requires.worker c.args.word
-      (hand_of c.args.seat.now.me.0.role).0 (hand_of c.args.seat.now.me.0.role).1 c.requires.held c.requires.place,
+      (hand_of c.args.seat.now.me.0.view.role).0 (hand_of c.args.seat.now.me.0.view.role).1 c.requires.held c.requires.place,
 )
