@@ -12,6 +12,7 @@ pub mod RingHomes
 pub mod RingMissed
 pub mod RingAsker
 pub mod RingMoves
+pub mod RingRuns
 pub mod RingTable
 pub mod RingRule
 pub mod RingWorkerRule

@@ -46,11 +46,11 @@ module _ (meaning : Meaning) (shape : Shape) (key : List ℕ) (board : Board) (s
       abbrev views_sent : List View
       views_sent = set board.views seat (asker shape key s asking')
 
-      asking-else : (t : ℕ) → t ≢ s → asking_at views_sent t ≡ asking_at board.views t
+      pub asking-else : (t : ℕ) → t ≢ s → asking_at views_sent t ≡ asking_at board.views t
       asking-else t ne = ap (λ (view : View). asking_of view.role)
           (view-else board.views seat (sender_seat t) (asker shape key s asking') (λ e. ne (let at : seat ≡ sender_seat s = asker-seated.stands.0 in omega arith)))
 
-      asking-here : asking_at views_sent s ≡ asking'
+      pub asking-here : asking_at views_sent s ≡ asking'
       asking-here = ap (λ (view : View). asking_of view.role)
           (ap (view_at views_sent) (sym asker-seated.stands.0) ∙ view-here board.views seat (asker shape key s asking') asker-there)
 
@@ -122,7 +122,7 @@ module _ (meaning : Meaning) (shape : Shape) (key : List ℕ) (board : Board) (s
       abbrev views_worked : List View
       views_worked = set board.views seat (worker shape key w working')
 
-      asking-same : (t : ℕ) → t < shape.senders → asking_at views_worked t ≡ asking_at board.views t
+      pub asking-same : (t : ℕ) → t < shape.senders → asking_at views_worked t ≡ asking_at board.views t
       asking-same t h = ap (λ (view : View). asking_of view.role)
           (view-else board.views seat (sender_seat t) (worker shape key w working')
           (λ e. let at : seat ≡ worker_seat shape w = worker-seated.stands.0 in omega arith))

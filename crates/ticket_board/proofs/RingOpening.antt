@@ -135,8 +135,8 @@ module _ (meaning : Meaning) (shape : Shape) (key : List ℕ) (board : Board) (s
       (λ at. new ∙ ap (λ (view : View). read view.role) (sym (get_or_past board.views (suc i) nobody (omega (arith, length-set board.views seat (opener shape key (suc cut)))))))
       (λ past. ap (λ (view : View). read view.role) (sym (get_or_past board.views (suc i) nobody (omega (arith, length-set board.views seat (opener shape key (suc cut)))))))
 
-  asking-same : (s : ℕ) → asking_at views_cut s ≡ asking_at board.views s
-  asking-same s = same_view asking_of (next-asking shape key cut (ltb cut shape.senders)) s
+  pub asking-cut : (s : ℕ) → asking_at views_cut s ≡ asking_at board.views s
+  asking-cut s = same_view asking_of (next-asking shape key cut (ltb cut shape.senders)) s
 
   working-same : (w : ℕ) → working_at shape views_cut w ≡ working_at shape board.views w
   working-same w = same_view working_of (next-working shape key cut (ltb cut shape.senders)) (shape.senders + w)
@@ -164,6 +164,14 @@ module _ (meaning : Meaning) (shape : Shape) (key : List ℕ) (board : Board) (s
       (record { shape_is = refl; key_is = refl; stands = (opens-at.0, size) })
       (λ j view ne at. let was = shows.seated j view at in record { shape_is = was.shape_is; key_is = was.key_is; stands = still view.role j ne was.stands }))
 
+  -- nobody answered more
+  pub times-cut : (s n : ℕ) → times_done s n views_cut ≡ times_done s n board.views
+  times-cut s n =
+      let more : times_done s n views_cut ≡ times_done s n told + times s n (working_of (next_seat shape key cut).role).done = times-more s n told (next_seat shape key cut) in
+      let none : times s n (working_of (next_seat shape key cut).role).done ≡ 0 = ap (λ (working : Working). times s n working.done) (next-working shape key cut (ltb cut shape.senders)) in
+      let same : times_done s n told + 0 ≡ times_done s n board.views + 0 = times-set s n board.views seat (opener shape key cut) (opener shape key (suc cut)) sits in
+      omega arith
+
   pub cuts : Shows meaning shape key (cut_off shape key seat cut board) state
   cuts = record {
     shape_is = shows.shape_is;
@@ -174,12 +182,7 @@ module _ (meaning : Meaning) (shape : Shape) (key : List ℕ) (board : Board) (s
     homes = shows.homes;
     seated = cut-seated;
     senders = λ s h. subst (λ (x : Asking). SenderShows shape (state_at shape board.words s) (first_at shape board.words s) (second_at shape board.words s) (home_at shape board.homes s) x (sender_at state s))
-        (sym (asking-same s)) (shows.senders s h);
+        (sym (asking-cut s)) (shows.senders s h);
     workers = λ w. subst (λ (x : Working). WorkerShows shape state w x) (sym (working-same w)) (shows.workers w);
-    done = λ s n.
-        let more : times_done s n views_cut ≡ times_done s n told + times s n (working_of (next_seat shape key cut).role).done = times-more s n told (next_seat shape key cut) in
-        let none : times s n (working_of (next_seat shape key cut).role).done ≡ 0 = ap (λ (working : Working). times s n working.done) (next-working shape key cut (ltb cut shape.senders)) in
-        let same : times_done s n told + 0 ≡ times_done s n board.views + 0 = times-set s n board.views seat (opener shape key cut) (opener shape key (suc cut)) sits in
-        let was : times_done s n board.views ≡ once_finished (place_of (sender_at state s) n) = shows.done s n in
-        omega arith;
+    done = λ s n. times-cut s n ∙ shows.done s n;
   }

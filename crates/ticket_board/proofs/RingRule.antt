@@ -12,10 +12,10 @@ use Rattle.ticket_core.specs.State.{Shown, Meaning, State}
 use Rattle.ticket_core.proofs.QueryLemmas.{of_words-words}
 use Rattle.ticket_board.specs.Ring.Layout.{cell_of, state_place, first_place, second_place, state_at, free_word, asked_word, collecting_word}
 use Rattle.ticket_board.specs.Ring.Homes.{Home, Out, Empty, Full, home_at, answer_at_home}
-use Rattle.ticket_board.specs.Ring.Views.{FirstWord, Whole, first_known, Asking, Role, Opens, Asks, Works, View, Stamped, stamped, asker, asking_of, next_asked, next_received, HasRoom}
-use Rattle.ticket_board.specs.Ring.Shows.{Seated, Sits, Shows}
-use Rattle.ticket_board.specs.Ring.Steps.{SenderStep, MaySend, words_sent, homes_sent, WritesFirst, WritesSecond, Publishes, LooksNext, BringsOut, Receives, asking_after}
-use Rattle.ticket_board.specs.Ring.Moves.{Sends, steps_in, IsMade}
+use Rattle.ticket_board.specs.Ring.Views.{FirstWord, Whole, first_known, Asking, Role, Opens, Asks, Works, View, Stamped, stamped, asker, sender_seat, asking_of, next_asked, next_received, HasRoom}
+use Rattle.ticket_board.specs.Ring.Shows.{Board, StandsAt, Seated, Sits, Shows}
+use Rattle.ticket_board.specs.Ring.Steps.{SenderStep, MaySend, words_sent, homes_sent, WritesFirst, WritesSecond, Publishes, LooksNext, BringsOut, Receives, asking_after, sent}
+use Rattle.ticket_board.specs.Ring.Moves.{Sends, IsMade}
 use Rattle.ticket_board.specs.Ring.Rule.{home_shown, board_shown, views_of, lasts_of, Holds, sender_of, IsSender, ahead_of, collecting_of, KnowsSent, KnowsAnswer}
 use Rattle.ticket_board.proofs.RingSenderSteps.{has-answer, right-answer}
 use Rattle.ticket_board.proofs.RingMoves.{made-shows, made-on}
@@ -62,22 +62,30 @@ module _ {A : Type 0} (shown : A → Shown) (meaning : Meaning) (shape : Shape) 
       → Sits (board_shown shown state) id (asker shape key s asking)
   sits-as state seated sits = stands-in state sits ∙ ap maybe.some (view-is (length (views_of state.views)) seated)
 
+  -- it is the seat of this sender
+  seat-is : (seats : ℕ) → Seated shape key seats id me.0.view → id ≡ sender_seat s
+  seat-is seats seated = (subst (StandsAt shape seats id) (is-sender me.0.view.role sender) seated.stands).0
+
   -- a step of the seat is a move more
-  sends : (state : table.State (Option A) Stamped) → (holds : Holds shown meaning shape key state) → Sits (board_shown shown state) id (asker shape key s asking)
-      → (step : SenderStep) → MaySend shape asking step
-      → MadeWith state (suc (steps_in holds.1)) (words_sent shape s asking step state.words) (homes_sent shape s asking step (map (home_shown shown) state.homes))
+  sends : (state : table.State (Option A) Stamped) → (holds : Holds shown meaning shape key state) → Seated shape key (length (views_of state.views)) id me.0.view
+      → get_elem? state.views id ≡ maybe.some me.0 → (step : SenderStep) → MaySend shape asking step
+      → MadeWith state (suc (length holds.1)) (words_sent shape s asking step state.words) (homes_sent shape s asking step (map (home_shown shown) state.homes))
       (asking_after asking step (state_at shape state.words s (next_received asking)) (home_at shape (map (home_shown shown) state.homes) s (next_received asking)))
-  sends state holds sits step may =
+  sends state holds seated sits step may =
       let new : Stamped = stamped (asker shape key s
       (asking_after asking step (state_at shape state.words s (next_received asking)) (home_at shape (map (home_shown shown) state.homes) s (next_received asking))))
-      (suc (steps_in holds.1)) in
+      (suc (length holds.1)) in
+      let here : id ≡ sender_seat s = seat-is (length (views_of state.views)) seated in
+      let board : Board = board_shown shown state in
       subst (λ (x : List View × List ℕ). IsMade meaning shape key (record {
         words = words_sent shape s asking step state.words;
         homes = homes_sent shape s asking step (map (home_shown shown) state.homes);
         views = x.0;
       }) x.1)
       (λ i. (sym (map-set (λ (x : Stamped). x.view) state.views id new) i, sym (map-set (λ (x : Stamped). x.last) state.views id new) i))
-      (made-on meaning shape key (board_shown shown state) (lasts_of state.views) holds (Sends id s asking step) (sits, may))
+      (subst (λ (x : ℕ). IsMade meaning shape key (sent shape key x s asking step board) (set (lasts_of state.views) x (suc (length holds.1)))) (sym here)
+      (made-on meaning shape key board (lasts_of state.views) holds (Sends s asking step)
+      (subst (λ (x : ℕ). Sits board x (asker shape key s asking)) here (sits-as state seated sits), may)))
 
   pub first-allowed : (place word : ℕ) → HasRoom me.0.view.shape asking → place ≡ first_place me.0.view.shape s (next_asked asking)
       → Allowed place (λ _. word) (λ _. KnowsSent (WritesFirst word) 0 Out me.1 me)
@@ -85,11 +93,11 @@ module _ {A : Type 0} (shown : A → Shown) (meaning : Meaning) (shape : Shape) 
       let seated : Seated shape key (length (views_of state.views)) id me.0.view = (now state holds).1.seated id me.0.view (stands-in state sits) in
       let room' : HasRoom shape asking = subst (λ (x : Shape). HasRoom x asking) seated.shape_is room in
       let at' : place ≡ first_place shape s (next_asked asking) = at ∙ ap (λ (x : Shape). first_place x s (next_asked asking)) seated.shape_is in
-      let made = sends state holds (sits-as state seated sits) (WritesFirst word) room' in (
-        stamped (asker shape key s (asking_after asking (WritesFirst word) 0 Out)) (suc (steps_in holds.1)),
+      let made = sends state holds seated sits (WritesFirst word) room' in (
+        stamped (asker shape key s (asking_after asking (WritesFirst word) 0 Out)) (suc (length holds.1)),
         table.keeps,
         tt,
-        subst (λ (x : ℕ). MadeWith state (suc (steps_in holds.1)) (set state.words x word) (map (home_shown shown) state.homes) (asking_after asking (WritesFirst word) 0 Out))
+        subst (λ (x : ℕ). MadeWith state (suc (length holds.1)) (set state.words x word) (map (home_shown shown) state.homes) (asking_after asking (WritesFirst word) 0 Out))
             (sym at') made,
         (after-is (length (views_of state.views)) (asking_after asking (WritesFirst word) 0 Out) seated, refl),
       )
@@ -100,11 +108,11 @@ module _ {A : Type 0} (shown : A → Shown) (meaning : Meaning) (shape : Shape) 
   second-allowed place word query written valid is at state holds deep sits fits =
       let seated : Seated shape key (length (views_of state.views)) id me.0.view = (now state holds).1.seated id me.0.view (stands-in state sits) in
       let at' : place ≡ second_place shape s (next_asked asking) = at ∙ ap (λ (x : Shape). second_place x s (next_asked asking)) seated.shape_is in
-      let made = sends state holds (sits-as state seated sits) (WritesSecond query) (written, valid) in (
-        stamped (asker shape key s (asking_after asking (WritesSecond query) 0 Out)) (suc (steps_in holds.1)),
+      let made = sends state holds seated sits (WritesSecond query) (written, valid) in (
+        stamped (asker shape key s (asking_after asking (WritesSecond query) 0 Out)) (suc (length holds.1)),
         table.keeps,
         tt,
-        subst (λ (x : ℕ × ℕ). MadeWith state (suc (steps_in holds.1)) (set state.words x.0 x.1) (map (home_shown shown) state.homes) (asking_after asking (WritesSecond query) 0 Out))
+        subst (λ (x : ℕ × ℕ). MadeWith state (suc (length holds.1)) (set state.words x.0 x.1) (map (home_shown shown) state.homes) (asking_after asking (WritesSecond query) 0 Out))
             (λ i. (sym at' i, sym is i)) made,
         (after-is (length (views_of state.views)) (asking_after asking (WritesSecond query) 0 Out) seated, refl),
       )
@@ -127,11 +135,11 @@ module _ {A : Type 0} (shown : A → Shown) (meaning : Meaning) (shape : Shape) 
   publishes-allowed place word written at is state holds deep sits fits =
       let seated : Seated shape key (length (views_of state.views)) id me.0.view = (now state holds).1.seated id me.0.view (stands-in state sits) in
       let at' : place ≡ state_place shape s (next_asked asking) = at ∙ ap (λ (x : Shape). state_place x s (next_asked asking)) seated.shape_is in
-      let made = sends state holds (sits-as state seated sits) (Publishes (ahead_of me.0.view.role)) written in (
-        stamped (asker shape key s (asking_after asking (Publishes (ahead_of me.0.view.role)) 0 Out)) (suc (steps_in holds.1)),
+      let made = sends state holds seated sits (Publishes (ahead_of me.0.view.role)) written in (
+        stamped (asker shape key s (asking_after asking (Publishes (ahead_of me.0.view.role)) 0 Out)) (suc (length holds.1)),
         table.keeps,
         tt,
-        subst (λ (x : ℕ × ℕ). MadeWith state (suc (steps_in holds.1)) (set state.words x.0 x.1) (map (home_shown shown) state.homes)
+        subst (λ (x : ℕ × ℕ). MadeWith state (suc (length holds.1)) (set state.words x.0 x.1) (map (home_shown shown) state.homes)
             (asking_after asking (Publishes (ahead_of me.0.view.role)) 0 Out)) (λ i. (sym at' i, sym is i)) made,
         (after-is (length (views_of state.views)) (asking_after asking (Publishes (ahead_of me.0.view.role)) 0 Out) seated, refl),
       )
@@ -142,11 +150,11 @@ module _ {A : Type 0} (shown : A → Shown) (meaning : Meaning) (shape : Shape) 
       let seated : Seated shape key (length (views_of state.views)) id me.0.view = (now state holds).1.seated id me.0.view (stands-in state sits) in
       let at' : place ≡ state_place shape s (next_received asking) = at ∙ ap (λ (x : Shape). state_place x s (next_received asking)) seated.shape_is in
       let word : ℕ = get_or state.words place 0 in
-      let made = sends state holds (sits-as state seated sits) LooksNext idle in (
-        stamped (asker shape key s (asking_after asking LooksNext word Out)) (suc (steps_in holds.1)),
+      let made = sends state holds seated sits LooksNext idle in (
+        stamped (asker shape key s (asking_after asking LooksNext word Out)) (suc (length holds.1)),
         table.keeps,
         tt,
-        subst (λ (x : List ℕ × ℕ). MadeWith state (suc (steps_in holds.1)) x.0 (map (home_shown shown) state.homes) (asking_after asking LooksNext (get_or state.words x.1 0) Out))
+        subst (λ (x : List ℕ × ℕ). MadeWith state (suc (length holds.1)) x.0 (map (home_shown shown) state.homes) (asking_after asking LooksNext (get_or state.words x.1 0) Out))
             (λ i. (sym (set-same state.words place) i, sym at' i)) made,
         (after-is (length (views_of state.views)) (asking_after asking LooksNext word Out) seated, refl),
       )
@@ -162,11 +170,11 @@ module _ {A : Type 0} (shown : A → Shown) (meaning : Meaning) (shape : Shape) 
       let stood = home-full shown state.homes (cell_of shape s (next_received asking)) (answer_at_home (home_at shape (map (home_shown shown) state.homes) s (next_received asking))) there.0 in
       let right = right-answer meaning shape key (board_shown shown state) (now state holds).0 id s asking (now state holds).1 sits' found in
       let out : Asking = asking_after asking BringsOut 0 (Full (shown stood.0)) in
-      let made = sends state holds sits' BringsOut found in (
-        stamped (asker shape key s out) (suc (steps_in holds.1)),
+      let made = sends state holds seated sits BringsOut found in (
+        stamped (asker shape key s out) (suc (length holds.1)),
         table.takes (cell_of shape s (next_received asking)) (Some stood.0),
         stood.1,
-        subst (λ (x : ℕ × ℕ × List Home × Shown). MadeWith state (suc (steps_in holds.1)) (set state.words x.0 x.1) x.2 (asking_after asking BringsOut 0 (Full x.3)))
+        subst (λ (x : ℕ × ℕ × List Home × Shown). MadeWith state (suc (length holds.1)) (set state.words x.0 x.1) x.2 (asking_after asking BringsOut 0 (Full x.3)))
             (λ i. (
               sym at' i,
               sym is i,
@@ -199,10 +207,10 @@ module _ {A : Type 0} (shown : A → Shown) (meaning : Meaning) (shape : Shape) 
       ∙ map-set (home_shown shown) state.homes (cell_of me.0.view.shape s (next_received asking)) (maybe.some None)
       ∙ ap (λ (x : Shape). set (map (home_shown shown) state.homes) (cell_of x s (next_received asking)) Empty) seated.shape_is in
       let new : Asking = asking_after asking (Receives (collecting_of me.0.view.role)) 0 Out in
-      let made = sends state holds (sits-as state seated sits) (Receives (collecting_of me.0.view.role)) out in (
-        stamped (asker shape key s new) (suc (steps_in holds.1)),
+      let made = sends state holds seated sits (Receives (collecting_of me.0.view.role)) out in (
+        stamped (asker shape key s new) (suc (length holds.1)),
         table.gives,
         tt,
-        subst (λ (x : ℕ × ℕ × List Home). MadeWith state (suc (steps_in holds.1)) (set state.words x.0 x.1) x.2 new) (λ i. (sym at' i, sym is' i, sym home i)) made,
+        subst (λ (x : ℕ × ℕ × List Home). MadeWith state (suc (length holds.1)) (set state.words x.0 x.1) x.2 new) (λ i. (sym at' i, sym is' i, sym home i)) made,
         (after-is (length (views_of state.views)) new seated, refl),
       )

@@ -1,5 +1,5 @@
 -- The ring's table as it is opened, and seats that are cut off from it.
-use Rattle.std.proofs.Common.{◌≡◌, ℕ, zero, suc, ◌+◌, ◌-◌, ◌*◌, ◌%◌, ◌<◌, ◌≤◌, Bool, if◌then◌else◌, List, [], ◌∷◌, ◌++◌, length, map, get_or, replicate, Option, None, inl, inr, refl, sym, ◌∙◌, ap, subst, arith}
+use Rattle.std.proofs.Common.{◌≡◌, ℕ, zero, suc, ◌+◌, ◌-◌, ◌*◌, ◌%◌, ◌<◌, ◌≤◌, Bool, if◌then◌else◌, List, [], ◌∷◌, ◌++◌, length, map, get_or, set, replicate, Option, None, inl, inr, refl, sym, ◌∙◌, ap, subst, arith}
 use Rattle.std.proofs.lemmas.Bool.{cases_lt, lt-ltb, le-ltb}
 use Rattle.std.proofs.lemmas.List.{length-append, get_or_append_left}
 use Rattle.std.proofs.Math.Seq.{get_or-append_seam}
@@ -12,14 +12,15 @@ use Rattle.atomic_table.specs.Seated.{TableId}
 use Rattle.ticket_board.specs.Ring.Layout.{cells_in, words_in, state_field, word_of, free_word}
 use Rattle.ticket_board.specs.Ring.Homes.{Home, Empty}
 use Rattle.ticket_board.specs.Ring.Views.{View, Stamped, stamped, Asks, Works, opener, asker, worker, new_asking, new_working}
-use Rattle.ticket_board.specs.Ring.Opening.{AreFree, opened, next_seat}
+use Rattle.ticket_board.specs.Ring.Shows.{Board, Sits}
+use Rattle.ticket_board.specs.Ring.Opening.{AreFree, opened, next_seat, cut_off}
 use Rattle.ticket_board.specs.Ring.Moves.{Cuts, IsMade}
 use Rattle.ticket_board.specs.Ring.Rule.{home_shown, board_shown, lasts_of, Holds, cut_of, left_after, cut_from}
 use Rattle.ticket_board.specs.Ring.Ends.{RingState, AskerState}
 use Rattle.ticket_board.specs.Ring.Takers.{TakerState}
 use Rattle.ticket_board.specs.Ring.Opened.{IsDesk, new_asker, new_taker, askers_from, takers_from}
 use Rattle.ticket_board.proofs.RingHomes.{all-empty, get-map, map-cut}
-use Rattle.ticket_board.proofs.RingMoves.{made-on}
+use Rattle.ticket_board.proofs.RingMoves.{made-shows, made-on}
 
 module _ {A : Type 0} (shown : A → Shown) (meaning : Meaning) where
   -- no move made the opened table
@@ -27,7 +28,7 @@ module _ {A : Type 0} (shown : A → Shown) (meaning : Meaning) where
       → Holds shown meaning shape key (table.opening words (replicate count None) (stamped (opener shape key 0) 0))
   opening-holds shape key words count fits free is =
       let made : IsMade meaning shape key (opened shape key words) (0 ∷ []) =
-      (words, [], record { fits = fits; free = free; may = tt; is = refl; stamps_are = refl }) in
+      (words, [], record { may = (fits, free); is = refl; stamps_are = refl }) in
       subst (λ (x : List Home). IsMade meaning shape key (record { words = words; homes = x; views = opener shape key 0 ∷ [] }) (0 ∷ []))
       (sym (all-empty shown count ∙ ap (λ (n : ℕ). replicate n Empty) is)) made
 
@@ -36,13 +37,17 @@ module _ {A : Type 0} (shown : A → Shown) (meaning : Meaning) where
       → table.Splits (Holds shown meaning shape key) id (stamped (opener shape key cut) 0) (stamped (opener shape key (suc cut)) 0)
       (stamped (next_seat shape key cut) 0)
   splits-allowed shape key id cut left state holds sits =
+      let board : Board = board_shown shown state in
+      let stands : Sits board id (opener shape key cut) = get-map (λ (x : Stamped). x.view) state.views id (stamped (opener shape key cut) 0) sits in
+      let here : id ≡ 0 = ((made-shows meaning shape key board (lasts_of state.views) holds).1.seated id (opener shape key cut) stands).stands.0 in
       subst (λ (x : List View × List ℕ). IsMade meaning shape key (record { words = state.words; homes = map (home_shown shown) state.homes; views = x.0 }) x.1)
       (λ i. (
         sym (map-cut (λ (x : Stamped). x.view) state.views id (stamped (opener shape key (suc cut)) 0) (stamped (next_seat shape key cut) 0)) i,
         sym (map-cut (λ (x : Stamped). x.last) state.views id (stamped (opener shape key (suc cut)) 0) (stamped (next_seat shape key cut) 0)) i,
       ))
-      (made-on meaning shape key (board_shown shown state) (lasts_of state.views) holds (Cuts id cut)
-      (get-map (λ (x : Stamped). x.view) state.views id (stamped (opener shape key cut) 0) sits, left))
+      (subst (λ (x : ℕ). IsMade meaning shape key (cut_off shape key x cut board) (set (lasts_of state.views) x 0 ++ 0 ∷ [])) (sym here)
+      (made-on meaning shape key board (lasts_of state.views) holds (Cuts cut)
+      (subst (λ (x : ℕ). Sits board x (opener shape key cut)) here stands, left)))
 
 -- the same of the seat that is the ring's
 pub desk-splits : {A : Type 0} (shown : A → Shown) (meaning : Meaning) (ring : RingState) (id : ℕ) (table_id : TableId) (me : table.Me (Option A) Stamped)

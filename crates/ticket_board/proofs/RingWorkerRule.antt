@@ -13,11 +13,11 @@ use Rattle.ticket_core.specs.Query.{AreWords}
 use Rattle.ticket_core.specs.State.{Shown, Meaning, Place, Unasked, Waiting, Held, Answered, Collected, State, sender_at, place_of}
 use Rattle.ticket_board.specs.Ring.Layout.{cell_of, cells_in, cell_words, state_field, word_of, state_place, first_place, second_place, state_at, asked_word, taken_word, answered_word, collecting_word}
 use Rattle.ticket_board.specs.Ring.Homes.{Home, Out, Empty, Full, home_at}
-use Rattle.ticket_board.specs.Ring.Views.{Nothing, FirstWord, Whole, Working, Role, Opens, Asks, Works, View, Stamped, stamped, worker, working_of, next_received, asking_at}
-use Rattle.ticket_board.specs.Ring.Shows.{Board, CellShows, Seated, Sits, Shows}
-use Rattle.ticket_board.specs.Ring.Steps.{WorkerStep, MayWork, word_worked, words_worked, homes_worked, LooksAt, Takes, ReadsFirst, ReadsSecond, Answers, GivesBack, working_after}
+use Rattle.ticket_board.specs.Ring.Views.{Nothing, FirstWord, Whole, Working, Role, Opens, Asks, Works, View, Stamped, stamped, worker, worker_seat, working_of, next_received, asking_at}
+use Rattle.ticket_board.specs.Ring.Shows.{Board, CellShows, StandsAt, Seated, Sits, Shows}
+use Rattle.ticket_board.specs.Ring.Steps.{WorkerStep, MayWork, word_worked, words_worked, homes_worked, LooksAt, Takes, ReadsFirst, ReadsSecond, Answers, GivesBack, working_after, worked}
 use Rattle.ticket_board.specs.Ring.Moves as Moves
-use Rattle.ticket_board.specs.Ring.Moves.{steps_in, IsMade}
+use Rattle.ticket_board.specs.Ring.Moves.{IsMade}
 use Rattle.ticket_board.specs.Ring.Rule.{home_shown, board_shown, views_of, lasts_of, Holds, worker_of, IsWorker, IsOfCell, KnowsWorked, KnowsLooked, KnowsTried, KnowsSecond}
 use Rattle.ticket_board.proofs.RingPlaces.{standing}
 use Rattle.ticket_board.proofs.RingWorkerSteps.{are-words, slot-waits}
@@ -89,22 +89,30 @@ module _ {A : Type 0} (shown : A → Shown) (meaning : Meaning) (shape : Shape) 
       → Sits (board_shown shown state) id (worker shape key w working)
   sits-as state seated sits = stands-in state sits ∙ ap maybe.some (view-is (length (views_of state.views)) seated)
 
+  -- it is the seat of this worker
+  seat-is : (seats : ℕ) → Seated shape key seats id me.0.view → id ≡ worker_seat shape w
+  seat-is seats seated = (subst (StandsAt shape seats id) (is-worker me.0.view.role works) seated.stands).0
+
   -- a step of the seat is a move more
-  works-on : (state : table.State (Option A) Stamped) → (holds : Holds shown meaning shape key state) → Sits (board_shown shown state) id (worker shape key w working)
-      → (step : WorkerStep) → MayWork meaning shape key working step
-      → MadeWith state (suc (steps_in holds.1)) (words_worked shape step (get_or state.words (word_worked shape step) 0) state.words)
+  works-on : (state : table.State (Option A) Stamped) → (holds : Holds shown meaning shape key state) → Seated shape key (length (views_of state.views)) id me.0.view
+      → get_elem? state.views id ≡ maybe.some me.0 → (step : WorkerStep) → MayWork meaning shape key working step
+      → MadeWith state (suc (length holds.1)) (words_worked shape step (get_or state.words (word_worked shape step) 0) state.words)
       (homes_worked shape step (get_or state.words (word_worked shape step) 0) (map (home_shown shown) state.homes))
       (working_after shape working step (get_or state.words (word_worked shape step) 0))
-  works-on state holds sits step may =
+  works-on state holds seated sits step may =
       let found : ℕ = get_or state.words (word_worked shape step) 0 in
-      let new : Stamped = stamped (worker shape key w (working_after shape working step found)) (suc (steps_in holds.1)) in
+      let new : Stamped = stamped (worker shape key w (working_after shape working step found)) (suc (length holds.1)) in
+      let here : id ≡ worker_seat shape w = seat-is (length (views_of state.views)) seated in
+      let board : Board = board_shown shown state in
       subst (λ (x : List View × List ℕ). IsMade meaning shape key (record {
         words = words_worked shape step found state.words;
         homes = homes_worked shape step found (map (home_shown shown) state.homes);
         views = x.0;
       }) x.1)
       (λ i. (sym (map-set (λ (x : Stamped). x.view) state.views id new) i, sym (map-set (λ (x : Stamped). x.last) state.views id new) i))
-      (made-on meaning shape key (board_shown shown state) (lasts_of state.views) holds (Moves.Works id w working step) (sits, may))
+      (subst (λ (x : ℕ). IsMade meaning shape key (worked shape key x w working step board) (set (lasts_of state.views) x (suc (length holds.1)))) (sym here)
+      (made-on meaning shape key board (lasts_of state.views) holds (Moves.Works w working step)
+      (subst (λ (x : ℕ). Sits board x (worker shape key w working)) here (sits-as state seated sits), may)))
 
   pub looks-allowed : (place cell : ℕ) → working.hand ≡ None → cell < cells_in me.0.view.shape → place ≡ word_of cell state_field
       → Allowed place (λ word. word) (λ word. KnowsLooked cell word me)
@@ -112,12 +120,12 @@ module _ {A : Type 0} (shown : A → Shown) (meaning : Meaning) (shape : Shape) 
       let seated : Seated shape key (length (views_of state.views)) id me.0.view = (now state holds).1.seated id me.0.view (stands-in state sits) in
       let within' : cell < cells_in shape = subst (λ (x : Shape). cell < cells_in x) seated.shape_is within in
       let word : ℕ = get_or state.words place 0 in
-      let made = works-on state holds (sits-as state seated sits) (LooksAt cell) (empty, within') in
+      let made = works-on state holds seated sits (LooksAt cell) (empty, within') in
       let of : IsOfCell shape cell (get_or state.words (word_of cell state_field) 0) = of-cell meaning shape key (board_shown shown state) (now state holds).0 (now state holds).1 cell within' in (
-        stamped (worker shape key w (working_after shape working (LooksAt cell) word)) (suc (steps_in holds.1)),
+        stamped (worker shape key w (working_after shape working (LooksAt cell) word)) (suc (length holds.1)),
         table.keeps,
         tt,
-        subst (λ (x : List ℕ × ℕ). MadeWith state (suc (steps_in holds.1)) x.0 (map (home_shown shown) state.homes) (working_after shape working (LooksAt cell) (get_or state.words x.1 0)))
+        subst (λ (x : List ℕ × ℕ). MadeWith state (suc (length holds.1)) x.0 (map (home_shown shown) state.homes) (working_after shape working (LooksAt cell) (get_or state.words x.1 0)))
             (λ i. (sym (set-same state.words place) i, sym at i)) made,
         (
           ((λ i. worker (sym seated.shape_is i) (sym seated.key_is i) w (working_after (sym seated.shape_is i) working (LooksAt cell) word)), refl),
@@ -168,23 +176,23 @@ module _ {A : Type 0} (shown : A → Shown) (meaning : Meaning) (shape : Shape) 
     abbrev Ends : Bool → Type 0
     Ends hit =
         (act : table.Act (Option A)) × table.Valid state.homes me.1 act
-        × Holds shown meaning shape key (table.stepped state place (either hit (taken_word n) word) id me.1 (stamped (worker shape key w (tried hit)) (suc (steps_in holds.1))) act)
+        × Holds shown meaning shape key (table.stepped state place (either hit (taken_word n) word) id me.1 (stamped (worker shape key w (tried hit)) (suc (length holds.1))) act)
         × (table.carried_after me.1 act ≡ (if hit then (cell_of shape s n, None) ∷ me.1 else me.1))
 
     -- what the move makes of the table, where it hits and where it misses
     abbrev MadeBy : Bool → Type 0
     MadeBy hit =
-        MadeWith state (suc (steps_in holds.1)) (if hit then set state.words (state_place shape s n) (taken_word n) else state.words)
+        MadeWith state (suc (length holds.1)) (if hit then set state.words (state_place shape s n) (taken_word n) else state.words)
         (if hit then set (map (home_shown shown) state.homes) (cell_of shape s n) Out else map (home_shown shown) state.homes) (tried hit)
 
     made : MadeBy (eqb (state_at shape state.words s n) (asked_word n))
-    made = works-on state holds sits' (Takes s n) (empty, saw)
+    made = works-on state holds seated sits (Takes s n) (empty, saw)
 
     ends-taken : word ≡ asked_word n → Ends true
     ends-taken is = (
       table.takes (cell_of shape s n) None,
       home-empty shown state.homes (cell_of shape s n) (slot-waits meaning shape key (board_shown shown state) (now state holds).0 (now state holds).1 id w working sits' s n empty saw (sym found ∙ is)),
-      subst (λ (x : ℕ × List Home). MadeWith state (suc (steps_in holds.1)) (set state.words x.0 (taken_word n)) x.1 (tried true))
+      subst (λ (x : ℕ × List Home). MadeWith state (suc (length holds.1)) (set state.words x.0 (taken_word n)) x.1 (tried true))
           (λ i. (sym at' i, sym (map-set (home_shown shown) state.homes (cell_of shape s n) maybe.none) i))
           (subst MadeBy (eq-eqb (state_at shape state.words s n) (asked_word n) (sym found ∙ is)) made),
       refl,
@@ -194,7 +202,7 @@ module _ {A : Type 0} (shown : A → Shown) (meaning : Meaning) (shape : Shape) 
     ends-missed ne = (
       table.keeps,
       tt,
-      subst (λ (x : List ℕ). MadeWith state (suc (steps_in holds.1)) x (map (home_shown shown) state.homes) (tried false)) (sym (set-same state.words place))
+      subst (λ (x : List ℕ). MadeWith state (suc (length holds.1)) x (map (home_shown shown) state.homes) (tried false)) (sym (set-same state.words place))
           (subst MadeBy (ne_eqb (state_at shape state.words s n) (asked_word n) (λ e. ne (found ∙ e))) made),
       refl,
     )
@@ -213,7 +221,7 @@ module _ {A : Type 0} (shown : A → Shown) (meaning : Meaning) (shape : Shape) 
       let word : ℕ = get_or state.words place 0 in
       let slots_are : table.carried_after me.1 done.0 ≡ (if eqb word (asked_word n) then (cell_of me.0.view.shape s n, None) ∷ me.1 else me.1) =
       done.3 ∙ ap (λ (x : Shape). if eqb word (asked_word n) then (cell_of x s n, None) ∷ me.1 else me.1) (sym seat.shape_is) in (
-        stamped (worker shape key w (working_after shape working (Takes s n) word)) (suc (steps_in holds.1)),
+        stamped (worker shape key w (working_after shape working (Takes s n) word)) (suc (length holds.1)),
         done.0,
         done.1,
         done.2,
@@ -235,11 +243,11 @@ module _ {A : Type 0} (shown : A → Shown) (meaning : Meaning) (shape : Shape) 
       let seated : Seated shape key (length (views_of state.views)) id me.0.view = (now state holds).1.seated id me.0.view (stands-in state sits) in
       let at' : place ≡ first_place shape s n = at ∙ ap (λ (x : Shape). first_place x s n) seated.shape_is in
       let word : ℕ = get_or state.words place 0 in
-      let made = works-on state holds (sits-as state seated sits) (ReadsFirst s n) holding in (
-        stamped (worker shape key w (working_after shape working (ReadsFirst s n) word)) (suc (steps_in holds.1)),
+      let made = works-on state holds seated sits (ReadsFirst s n) holding in (
+        stamped (worker shape key w (working_after shape working (ReadsFirst s n) word)) (suc (length holds.1)),
         table.keeps,
         tt,
-        subst (λ (x : List ℕ × ℕ). MadeWith state (suc (steps_in holds.1)) x.0 (map (home_shown shown) state.homes) (working_after shape working (ReadsFirst s n) (get_or state.words x.1 0)))
+        subst (λ (x : List ℕ × ℕ). MadeWith state (suc (length holds.1)) x.0 (map (home_shown shown) state.homes) (working_after shape working (ReadsFirst s n) (get_or state.words x.1 0)))
             (λ i. (sym (set-same state.words place) i, sym at' i)) made,
         ((λ i. worker (sym seated.shape_is i) (sym seated.key_is i) w (working_after (sym seated.shape_is i) working (ReadsFirst s n) word)), refl),
       )
@@ -251,12 +259,12 @@ module _ {A : Type 0} (shown : A → Shown) (meaning : Meaning) (shape : Shape) 
       let sits' = sits-as state seated sits in
       let at' : place ≡ second_place shape s n = at ∙ ap (λ (x : Shape). second_place x s n) seated.shape_is in
       let word : ℕ = get_or state.words place 0 in
-      let made = works-on state holds sits' (ReadsSecond s n first) (holding, read) in
+      let made = works-on state holds seated sits (ReadsSecond s n first) (holding, read) in
       let both = are-words meaning shape key (board_shown shown state) (now state holds).0 (now state holds).1 id w working sits' s n first holding read in (
-        stamped (worker shape key w (working_after shape working (ReadsSecond s n first) word)) (suc (steps_in holds.1)),
+        stamped (worker shape key w (working_after shape working (ReadsSecond s n first) word)) (suc (length holds.1)),
         table.keeps,
         tt,
-        subst (λ (x : List ℕ × ℕ). MadeWith state (suc (steps_in holds.1)) x.0 (map (home_shown shown) state.homes) (working_after shape working (ReadsSecond s n first) (get_or state.words x.1 0)))
+        subst (λ (x : List ℕ × ℕ). MadeWith state (suc (length holds.1)) x.0 (map (home_shown shown) state.homes) (working_after shape working (ReadsSecond s n first) (get_or state.words x.1 0)))
             (λ i. (sym (set-same state.words place) i, sym at' i)) made,
         (
           ((λ i. worker (sym seated.shape_is i) (sym seated.key_is i) w (working_after (sym seated.shape_is i) working (ReadsSecond s n first) word)), refl),
@@ -278,11 +286,11 @@ module _ {A : Type 0} (shown : A → Shown) (meaning : Meaning) (shape : Shape) 
       ∙ map-set (home_shown shown) state.homes (cell_of me.0.view.shape s n) (maybe.some (Some answer))
       ∙ ap (λ (x : Shape). set (map (home_shown shown) state.homes) (cell_of x s n) (Full (shown answer))) seated.shape_is in
       let new : Working = working_after shape working (Answers s n query (shown answer)) 0 in
-      let made = works-on state holds (sits-as state seated sits) (Answers s n query (shown answer)) (holding, read, right') in (
-        stamped (worker shape key w new) (suc (steps_in holds.1)),
+      let made = works-on state holds seated sits (Answers s n query (shown answer)) (holding, read, right') in (
+        stamped (worker shape key w new) (suc (length holds.1)),
         table.gives,
         tt,
-        subst (λ (x : ℕ × ℕ × List Home). MadeWith state (suc (steps_in holds.1)) (set state.words x.0 x.1) x.2 new) (λ i. (sym at' i, sym is i, sym home i)) made,
+        subst (λ (x : ℕ × ℕ × List Home). MadeWith state (suc (length holds.1)) (set state.words x.0 x.1) x.2 new) (λ i. (sym at' i, sym is i, sym home i)) made,
         (after-is (length (views_of state.views)) new seated, refl),
       )
 
@@ -297,10 +305,10 @@ module _ {A : Type 0} (shown : A → Shown) (meaning : Meaning) (shape : Shape) 
       ∙ map-set (home_shown shown) state.homes (cell_of me.0.view.shape s n) (maybe.some None)
       ∙ ap (λ (x : Shape). set (map (home_shown shown) state.homes) (cell_of x s n) Empty) seated.shape_is in
       let new : Working = working_after shape working (GivesBack s n) 0 in
-      let made = works-on state holds (sits-as state seated sits) (GivesBack s n) holding in (
-        stamped (worker shape key w new) (suc (steps_in holds.1)),
+      let made = works-on state holds seated sits (GivesBack s n) holding in (
+        stamped (worker shape key w new) (suc (length holds.1)),
         table.gives,
         tt,
-        subst (λ (x : ℕ × ℕ × List Home). MadeWith state (suc (steps_in holds.1)) (set state.words x.0 x.1) x.2 new) (λ i. (sym at' i, sym is i, sym home i)) made,
+        subst (λ (x : ℕ × ℕ × List Home). MadeWith state (suc (length holds.1)) (set state.words x.0 x.1) x.2 new) (λ i. (sym at' i, sym is i, sym home i)) made,
         (after-is (length (views_of state.views)) new seated, refl),
       )

@@ -1,17 +1,18 @@
--- What each step of the ring keeps.
-use Rattle.std.specs.Prelude.{◌≡◌, ℕ, ◌+◌, ◌<◌, ◌≤◌, List, Option, Some, None, slice_index_or}
-use base.Stored.{gnil}
-use Rattle.ticket_core.specs.declared.query.QueryKind.TheVariants.{Address}
+-- What each move of the ring keeps, and what holds of a ring after any moves.
+use Rattle.std.specs.Prelude.{◌≡◌, ℕ, ◌+◌, ◌-◌, ◌<◌, ◌≤◌, Bool, false, List, [], ◌∷◌, ◌++◌, length, map, take, Option, Some, None, if◌then◌else◌}
+use Rattle.ticket_core.specs.declared.query.Query.{Query}
 use Rattle.ticket_core.specs.declared.shape.Shape.{Shape}
-use Rattle.ticket_core.specs.State.{Meaning, State, opening}
+use Rattle.ticket_core.specs.State.{Shown, Meaning, State, sender_at, place_of, opening}
 use Rattle.ticket_core.specs.Shape.{Fits}
 use Rattle.ticket_core.specs.Events.{Event, Step}
-use Rattle.ticket_core.specs.Runs.{Reaches}
-use Rattle.ticket_board.specs.Ring.Views.{Asking, Working, opener, asker, worker, next_asked, next_received, asking_at}
-use Rattle.ticket_board.specs.Ring.Shows.{Board, Sits, Shows}
-use Rattle.ticket_board.specs.Ring.Steps.{SenderStep, WorkerStep, MaySend, MayWork, sent, worked, event_sent, event_worked, word_worked}
-use Rattle.ticket_board.specs.Ring.Opening.{AreFree, opened, cut_off}
-use Rattle.ticket_board.specs.Ring.Moves.{Move, board_after, MayAll, events_of}
+use Rattle.ticket_core.specs.Runs.{Reaches, once_finished}
+use Rattle.ticket_board.specs.Ring.Views.{Asking, asking_at, next_asked, next_received}
+use Rattle.ticket_board.specs.Ring.Shows.{Board, is_same, Shows}
+use Rattle.ticket_board.specs.Ring.Steps.{Answers}
+use Rattle.ticket_board.specs.Ring.Opening.{AreFree, opened}
+use Rattle.ticket_board.specs.Ring.Moves.{Move, Works, MayMove, moved, event_of, board_after, MayBeMade, events_of}
+
+-- ---- one move
 
 -- the event could happen, and leads from the one state to the other; without one the state stays
 abbrev pub Leads : Meaning → Option Event → State → State → Type 0
@@ -20,57 +21,78 @@ Leads meaning (Some event) old new = Step meaning event old new
 
 -- the ring shows the same state, or the one after the event
 abbrev pub ShowsAfter : Meaning → Shape → List ℕ → Option Event → State → Board → Type 0
-ShowsAfter meaning shape key event old board = (new : State) × Leads meaning event old new × Shows meaning shape key board new
+ShowsAfter meaning shape key event old board =
+    (new : State) × Leads meaning event old new × Shows meaning shape key board new
 
--- a step that a sender may make
-abbrev pub SenderLaw : Meaning → SenderStep → Type 0
-SenderLaw meaning step =
-    (shape : Shape) (key : List ℕ) (board : Board) (state : State) (seat s : ℕ) (asking : Asking)
-    → Shows meaning shape key board state → Sits board seat (asker shape key s asking) → MaySend shape asking step
-    → ShowsAfter meaning shape key (event_sent s step) state (sent shape key seat s asking step board)
-
--- a step that a worker may make
-abbrev pub WorkerLaw : Meaning → WorkerStep → Type 0
-WorkerLaw meaning step =
-    (shape : Shape) (key : List ℕ) (board : Board) (state : State) (seat w : ℕ) (working : Working)
-    → Shows meaning shape key board state → Sits board seat (worker shape key w working) → MayWork meaning shape key working step
-    → ShowsAfter meaning shape key (event_worked w step (slice_index_or board.words (word_worked shape step) 0)) state
-    (worked shape key seat w working step board)
+-- a move that may be made
+abbrev pub MoveLaw : Meaning → Move → Type 0
+MoveLaw meaning move =
+    (shape : Shape) (key : List ℕ) (board : Board) (state : State)
+    → Shows meaning shape key board state → MayMove meaning shape key board move
+    → ShowsAfter meaning shape key (event_of shape board move) state (moved shape key board move)
 
 -- the opened ring shows the opening state
 abbrev pub OpeningLaw : Meaning → Type 0
 OpeningLaw meaning =
-    (shape : Shape) (key words : List ℕ) → Fits shape → AreFree shape words → Shows meaning shape key (opened shape key words) (opening shape key)
+    (shape : Shape) (key words : List ℕ) → Fits shape → AreFree shape words
+    → Shows meaning shape key (opened shape key words) (opening shape key)
 
--- a seat that is cut off leaves what the ring shows
-abbrev pub SeatLaw : Meaning → Type 0
-SeatLaw meaning =
-    (shape : Shape) (key : List ℕ) (board : Board) (state : State) (seat cut : ℕ)
-    → Shows meaning shape key board state → Sits board seat (opener shape key cut) → cut < shape.senders + shape.workers
-    → Shows meaning shape key (cut_off shape key seat cut board) state
+-- ---- all moves since a ring was opened
 
--- ---- all moves together
-
--- what is said of a ring that was opened with free words and is after some moves, each of which
--- could be made where it was
-abbrev pub OfEachRun : Meaning → (Shape → List ℕ → List ℕ → List Move → Type 0) → Type 0
-OfEachRun meaning Said =
-    (shape : Shape) (key words : List ℕ) (moves : List Move) → Fits shape → AreFree shape words → MayAll meaning shape key words moves
+-- what is said of these moves holds of any that may be made, on a ring of whatever shape and key
+abbrev pub OfAllMoves : Meaning → (Shape → List ℕ → List ℕ → List Move → Type 0) → Type 0
+OfAllMoves meaning Said =
+    (shape : Shape) (key words : List ℕ) (moves : List Move) → MayBeMade meaning shape key words moves
     → Said shape key words moves
 
--- it shows a state of the core, to which the events that the moves are lead
+-- the ring shows a state of the core, to which the events that the moves are lead
 abbrev pub ShowsReached : Meaning → Shape → List ℕ → List ℕ → List Move → Type 0
 ShowsReached meaning shape key words moves =
     (core : State) × Shows meaning shape key (board_after shape key words moves) core
     × Reaches meaning shape key (events_of shape key words moves) core
 
--- what a sender received is no longer than what it asked, and each answer is the meaning of the
--- query asked at its number
-abbrev pub IsRightAsking : Meaning → List ℕ → Asking → Type 0
-IsRightAsking meaning key asking =
-    (next_received asking ≤ next_asked asking)
-    × ((n : ℕ) → n < next_received asking → slice_index_or asking.received n gnil ≡ meaning key (slice_index_or asking.asked n (Address 0)))
+-- what a sender received is a beginning of the meanings of what it asked, in its order; and it
+-- keeps its limits
+pub record IsServed (meaning : Meaning) (shape : Shape) (key : List ℕ) (asked : List Query)
+    (received : List Shown) : Type 0 where
+  pub within : length received ≤ length asked
+  pub right : received ≡ map (meaning key) (take (length received) asked)
+  pub window : length asked - length received ≤ shape.window
+  pub most : length asked ≤ shape.most
 
-abbrev pub AllAreRight : Meaning → Shape → List ℕ → List ℕ → List Move → Type 0
-AllAreRight meaning shape key words moves =
-    (s : ℕ) → s < shape.senders → IsRightAsking meaning key (asking_at (board_after shape key words moves).views s)
+-- each sender is served so
+abbrev pub AreServed : Meaning → Shape → List ℕ → List ℕ → List Move → Type 0
+AreServed meaning shape key words moves =
+    let views = (board_after shape key words moves).views in
+    (s : ℕ) → s < shape.senders
+    → IsServed meaning shape key (asking_at views s).asked (asking_at views s).received
+
+-- how many of the moves answer a number
+abbrev pub answers : ℕ → ℕ → Move → Bool
+answers s n (Works w working (Answers sender number query answer)) = is_same s n (sender, number)
+answers s n _ = false
+
+abbrev pub times_answered : ℕ → ℕ → List Move → ℕ
+times_answered s n [] = 0
+times_answered s n (move ∷ moves) = (if answers s n move then 1 else 0) + times_answered s n moves
+
+-- each number that is answered or received was answered by just one of the moves, every other by
+-- none
+abbrev pub AnsweredOnce : Meaning → Shape → List ℕ → List ℕ → List Move → Type 0
+AnsweredOnce meaning shape key words moves =
+    (core : State) → Shows meaning shape key (board_after shape key words moves) core
+    → (s n : ℕ) → times_answered s n moves ≡ once_finished (place_of (sender_at core s) n)
+
+-- it received all answers, and later its lists are as they were
+pub record IsAtEnd (meaning : Meaning) (key : List ℕ) (now later : Asking) : Type 0 where
+  pub all : now.received ≡ map (meaning key) now.asked
+  pub asked : later.asked ≡ now.asked
+  pub received : later.received ≡ now.received
+
+-- so does a sender that received as much as it asked, and asks no more in later moves
+abbrev pub EndStays : Meaning → Shape → List ℕ → List ℕ → List Move → Type 0
+EndStays meaning shape key words moves =
+    (more : List Move) → MayBeMade meaning shape key words (more ++ moves) → (s : ℕ) → s < shape.senders
+    → let now = asking_at (board_after shape key words moves).views s in
+    let later = asking_at (board_after shape key words (more ++ moves)).views s in
+    next_received now ≡ next_asked now → next_asked later ≡ next_asked now → IsAtEnd meaning key now later

@@ -92,7 +92,7 @@ asker shape key s asking = record { shape = shape; key = key; role = Asks s aski
 abbrev pub worker : Shape → List ℕ → ℕ → Working → View
 worker shape key w working = record { shape = shape; key = key; role = Works w working }
 
--- what a seat knows, and how many steps all seats had made with its own last one; 0 where it made
+-- what a seat knows, and how many moves all seats had made with its own last step; 0 where it made
 -- none
 pub record Stamped : Type 0 where
   pub view : View
@@ -108,6 +108,12 @@ sender_seat s = suc s
 
 abbrev pub worker_seat : Shape → ℕ → ℕ
 worker_seat shape w = suc (shape.senders + w)
+
+-- the seat of this role
+abbrev pub seat_of : Shape → Role → ℕ
+seat_of shape (Opens cut) = 0
+seat_of shape (Asks s asking) = sender_seat s
+seat_of shape (Works w working) = worker_seat shape w
 
 -- a seat that isn't there
 abbrev pub nobody : View

@@ -1,17 +1,20 @@
-//! What each kind of step keeps, whichever seat makes it and whatever the other seats did before.
+//! What each move keeps, whichever seat makes it and whatever the other seats did before; and what
+//! holds of a ring after any moves.
 //!
-//! A step is one store, load or compare-exchange on one word. Where the ring shows a state of the
-//! core before a step that may be made, it shows afterwards the same state, or the state after the
-//! one event that the step is.
+//! A move is a seat that is cut off, or a step: one store, load or compare-exchange on one word.
+//! Where the ring shows a state of the core before a move that may be made, it shows afterwards the
+//! same state, or the state after the one event that the move is.
 
 ghost use Rattle.std.specs.Prelude.{ℕ};
 ghost use Rattle.ticket_core.specs.declared.query.Query.{Query};
 ghost use Rattle.ticket_core.specs.State.{Meaning, Shown};
-ghost use Rattle.ticket_board.specs.Ring.Steps.{SenderStep, WritesFirst, WritesSecond, Publishes, LooksNext};
-ghost use Rattle.ticket_board.specs.Ring.Steps.{BringsOut, Receives, WorkerStep, LooksAt, Takes, ReadsFirst};
-ghost use Rattle.ticket_board.specs.Ring.Steps.{ReadsSecond, Answers, GivesBack};
-ghost use Rattle.ticket_board.specs.Ring.Laws.{OpeningLaw, SeatLaw, SenderLaw, WorkerLaw};
-ghost use Rattle.ticket_board.specs.Ring.Laws.{OfEachRun, ShowsReached, AllAreRight};
+ghost use Rattle.ticket_board.specs.Ring.Views.{Asking, Working};
+ghost use Rattle.ticket_board.specs.Ring.Steps.{WritesFirst, WritesSecond, Publishes, LooksNext, BringsOut};
+ghost use Rattle.ticket_board.specs.Ring.Steps.{Receives, LooksAt, Takes, ReadsFirst, ReadsSecond, Answers};
+ghost use Rattle.ticket_board.specs.Ring.Steps.{GivesBack};
+ghost use Rattle.ticket_board.specs.Ring.Moves.{Move, Cuts, Sends, Works};
+ghost use Rattle.ticket_board.specs.Ring.Laws.{OpeningLaw, MoveLaw, OfAllMoves, ShowsReached, AreServed};
+ghost use Rattle.ticket_board.specs.Ring.Laws.{AnsweredOnce, EndStays};
 
 use ticket_core::law_of_runs;
 
@@ -19,90 +22,94 @@ use ticket_core::law_of_runs;
 /// a worker leaves the state that it shows.
 pub fn law_of_opening()
     ensures opening { (meaning : Meaning) → OpeningLaw meaning }
-    ensures seats { (meaning : Meaning) → SeatLaw meaning }
+    ensures seats { (meaning : Meaning) (cut : ℕ) → MoveLaw meaning (Cuts cut) }
 {}
 
 /// A sender stores the first word of a query in the cell of the number that it asks next: no event.
 pub fn law_of_k1()
-    ensures no_event { (meaning : Meaning) (word : ℕ) → SenderLaw meaning (WritesFirst word) }
+    ensures no_event { (meaning : Meaning) (s word : ℕ) (asking : Asking)
+        → MoveLaw meaning (Sends s asking (WritesFirst word)) }
 {}
 
 /// A sender stores that this number waits, of whose query both words are in the cell: it is asked.
 pub fn law_of_k2()
-    ensures asked { (meaning : Meaning) (query : Query) → SenderLaw meaning (Publishes query) }
+    ensures asked { (meaning : Meaning) (s : ℕ) (asking : Asking) (query : Query)
+        → MoveLaw meaning (Sends s asking (Publishes query)) }
 {}
 
 /// A sender or a worker loads a state word: no event.
 pub fn law_of_k3()
-    ensures sender { (meaning : Meaning) → SenderLaw meaning LooksNext }
-    ensures worker { (meaning : Meaning) (cell : ℕ) → WorkerLaw meaning (LooksAt cell) }
+    ensures sender { (meaning : Meaning) (s : ℕ) (asking : Asking) → MoveLaw meaning (Sends s asking LooksNext) }
+    ensures worker { (meaning : Meaning) (w cell : ℕ) (working : Working)
+        → MoveLaw meaning (Works w working (LooksAt cell)) }
 {}
 
 /// A worker tries to exchange a state word, once: where that succeeds the number is taken, and else
 /// it is no event.
 pub fn law_of_k4()
-    ensures taken { (meaning : Meaning) (s n : ℕ) → WorkerLaw meaning (Takes s n) }
+    ensures taken { (meaning : Meaning) (w s n : ℕ) (working : Working) → MoveLaw meaning (Works w working (Takes s n)) }
 {}
 
 /// A worker loads the first word of the query of the number in its hand: no event.
 pub fn law_of_k5()
-    ensures no_event { (meaning : Meaning) (s n : ℕ) → WorkerLaw meaning (ReadsFirst s n) }
+    ensures no_event { (meaning : Meaning) (w s n : ℕ) (working : Working)
+        → MoveLaw meaning (Works w working (ReadsFirst s n)) }
 {}
 
 /// A worker stores that the number in its hand is answered, of whose query it read both words, with
 /// its meaning in the slot: it is finished. Or it stores that the number waits again: it is given
 /// back.
 pub fn law_of_k6()
-    ensures answers { (meaning : Meaning) (s n : ℕ) (query : Query) (answer : Shown)
-        → WorkerLaw meaning (Answers s n query answer) }
-    ensures gives_back { (meaning : Meaning) (s n : ℕ) → WorkerLaw meaning (GivesBack s n) }
+    ensures answers { (meaning : Meaning) (w s n : ℕ) (working : Working) (query : Query) (answer : Shown)
+        → MoveLaw meaning (Works w working (Answers s n query answer)) }
+    ensures gives_back { (meaning : Meaning) (w s n : ℕ) (working : Working)
+        → MoveLaw meaning (Works w working (GivesBack s n)) }
 {}
 
 /// A sender stores that its next answer is on its way out of the slot: no event.
 pub fn law_of_k7()
-    ensures no_event { (meaning : Meaning) → SenderLaw meaning BringsOut }
+    ensures no_event { (meaning : Meaning) (s : ℕ) (asking : Asking) → MoveLaw meaning (Sends s asking BringsOut) }
 {}
 
 /// A sender stores that the cell is free for the number a window later: the answer is collected.
 pub fn law_of_k8()
-    ensures collected { (meaning : Meaning) (answer : Shown) → SenderLaw meaning (Receives answer) }
+    ensures collected { (meaning : Meaning) (s : ℕ) (asking : Asking) (answer : Shown)
+        → MoveLaw meaning (Sends s asking (Receives answer)) }
 {}
 
 /// A sender stores the second word of the query whose first word it wrote ahead: no event.
 pub fn law_of_k9()
-    ensures no_event { (meaning : Meaning) (query : Query) → SenderLaw meaning (WritesSecond query) }
+    ensures no_event { (meaning : Meaning) (s : ℕ) (asking : Asking) (query : Query)
+        → MoveLaw meaning (Sends s asking (WritesSecond query)) }
 {}
 
 /// A worker loads the second word of the query whose first word it read: no event.
 pub fn law_of_k10()
-    ensures no_event { (meaning : Meaning) (s n first : ℕ) → WorkerLaw meaning (ReadsSecond s n first) }
+    ensures no_event { (meaning : Meaning) (w s n first : ℕ) (working : Working)
+        → MoveLaw meaning (Works w working (ReadsSecond s n first)) }
 {}
 
-/// Any step, by any seat. With the core's law over all runs, what that says of each sender and of
-/// each number holds of the ring between any two steps.
+/// Any move, by any seat.
 pub fn law_of_steps()
-    ensures sender { (meaning : Meaning) (step : SenderStep) → SenderLaw meaning step }
-    ensures worker { (meaning : Meaning) (step : WorkerStep) → WorkerLaw meaning step }
-{
-    law_of_k1();
-    law_of_k2();
-    law_of_k3();
-    law_of_k4();
-    law_of_k5();
-    law_of_k6();
-    law_of_k7();
-    law_of_k8();
-    law_of_k9();
-    law_of_k10();
-}
+    ensures moves { (meaning : Meaning) (move : Move) → MoveLaw meaning move }
+{}
 
-/// Whatever moves made the ring since it was opened, each of which could be made where it was: it
-/// shows a state of the core, to which the events that they are lead from the opening one. So what
-/// the core's law over all runs says of that state holds of the ring, and of each sender's view of
-/// it.
+/// Whatever moves made a ring since it was opened, each of which could be made where it was:
+/// - `shows`: it shows a state of the core, to which the events that the moves are lead from the
+///   opening one;
+/// - `served`: what each sender received is a beginning of the meanings of what it asked, in its
+///   order, and it keeps its limits;
+/// - `once`: each number that is answered or received was answered by just one of the moves, every
+///   other by none;
+/// - `ended`: a sender that received as much as it asked received the meanings of all of it, and
+///   later moves leave both its lists, until it asks more.
+///
+/// By the rule of its table, some moves made a running ring what it is, at every moment.
 pub fn law_of_board()
-    ensures shows { (meaning : Meaning) → OfEachRun meaning (ShowsReached meaning) }
-    ensures right { (meaning : Meaning) → OfEachRun meaning (AllAreRight meaning) }
+    ensures shows { (meaning : Meaning) → OfAllMoves meaning (ShowsReached meaning) }
+    ensures served { (meaning : Meaning) → OfAllMoves meaning (AreServed meaning) }
+    ensures once { (meaning : Meaning) → OfAllMoves meaning (AnsweredOnce meaning) }
+    ensures ended { (meaning : Meaning) → OfAllMoves meaning (EndStays meaning) }
 {
     law_of_runs();
 }

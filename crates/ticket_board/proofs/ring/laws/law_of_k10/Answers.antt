@@ -1,9 +1,9 @@
-use Rattle.std.proofs.Common.{refl}
-use Rattle.ticket_board.proofs.RingWorkerSteps.{reads-second}
+use Rattle.ticket_board.specs.Ring.Steps.{ReadsSecond}
+use Rattle.ticket_board.specs.Ring.Moves.{Works}
+use Rattle.ticket_board.proofs.RingMoves.{any-move}
 use Rattle.ticket_board.proofs.ring.laws.law_of_k10.Goals as goal
 
 pub returns : goal.returns
 returns c = record {
-  no_event = λ meaning s n first shape key board state seat w working shows sits may.
-      (state, refl, reads-second meaning shape key board state shows seat w working sits s n first may.0 may.1);
+  no_event = λ meaning w s n first working. any-move meaning (Works w working (ReadsSecond s n first));
 }

@@ -1,12 +1,10 @@
-use Rattle.std.proofs.Common.{refl}
-use Rattle.ticket_board.proofs.RingSenderSteps.{looks-next}
-use Rattle.ticket_board.proofs.RingWorkerSteps.{looks-at}
+use Rattle.ticket_board.specs.Ring.Steps.{LooksNext, LooksAt}
+use Rattle.ticket_board.specs.Ring.Moves.{Sends, Works}
+use Rattle.ticket_board.proofs.RingMoves.{any-move}
 use Rattle.ticket_board.proofs.ring.laws.law_of_k3.Goals as goal
 
 pub returns : goal.returns
 returns c = record {
-  sender = λ meaning shape key board state seat s asking shows sits idle.
-      (state, refl, looks-next meaning shape key board state seat s asking shows sits);
-  worker = λ meaning cell shape key board state seat w working shows sits may.
-      (state, refl, looks-at meaning shape key board state shows seat w working sits cell may.0 may.1);
+  sender = λ meaning s asking. any-move meaning (Sends s asking LooksNext);
+  worker = λ meaning w cell working. any-move meaning (Works w working (LooksAt cell));
 }

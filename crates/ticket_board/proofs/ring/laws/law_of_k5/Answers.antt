@@ -1,9 +1,9 @@
-use Rattle.std.proofs.Common.{refl}
-use Rattle.ticket_board.proofs.RingWorkerSteps.{reads-first}
+use Rattle.ticket_board.specs.Ring.Steps.{ReadsFirst}
+use Rattle.ticket_board.specs.Ring.Moves.{Works}
+use Rattle.ticket_board.proofs.RingMoves.{any-move}
 use Rattle.ticket_board.proofs.ring.laws.law_of_k5.Goals as goal
 
 pub returns : goal.returns
 returns c = record {
-  no_event = λ meaning s n shape key board state seat w working shows sits holds.
-      (state, refl, reads-first meaning shape key board state shows seat w working sits s n holds);
+  no_event = λ meaning w s n working. any-move meaning (Works w working (ReadsFirst s n));
 }

@@ -1,0 +1,195 @@
+-- What holds of a ring after any moves: each number is answered once, senders are served, and the
+-- lists of one that has all its answers stay.
+use Rattle.std.proofs.Common.{◌≡◌, ◌≢◌, ℕ, zero, suc, ◌+◌, ◌-◌, ◌<◌, ◌≤◌, List, [], ◌∷◌, ◌++◌, length, map, take, get_or, set, Some, None, inl, inr, refl, sym, ◌∙◌, ap, subst, append-nil, append_assoc, arith, if◌then◌else◌}
+use Rattle.std.proofs.lemmas.Bool.{cases_eq}
+use Rattle.std.proofs.lemmas.List.{length-append, take_all}
+use base.Stored.{gnil}
+use Rattle.ticket_core.specs.declared.query.Query.{Query}
+use Rattle.ticket_core.specs.declared.query.QueryKind.TheVariants.{Address}
+use Rattle.ticket_core.specs.declared.shape.Shape.{Shape}
+use Rattle.ticket_core.specs.State.{Shown, Meaning, State, sender_at, outstanding}
+use Rattle.ticket_core.specs.Runs.{IsRight}
+use Rattle.ticket_board.specs.Ring.Layout.{state_at}
+use Rattle.ticket_board.specs.Ring.Homes.{Home, home_at}
+use Rattle.ticket_board.specs.Ring.Views.{Asking, Working, asker, worker, sender_seat, worker_seat, asking_at, next_asked, next_received}
+use Rattle.ticket_board.specs.Ring.Shows.{Board, Sits, is_same, times, times_done, Shows}
+use Rattle.ticket_board.specs.Ring.Steps.{SenderStep, WritesFirst, WritesSecond, Publishes, LooksNext, BringsOut, Receives, WorkerStep, LooksAt, Takes, ReadsFirst, ReadsSecond, Answers, GivesBack, asking_after, working_after, word_worked}
+use Rattle.ticket_board.specs.Ring.Laws.{IsServed, answers, times_answered, IsAtEnd}
+use Rattle.ticket_board.specs.Ring.Moves.{Move, Cuts, Sends, Works, MayMove, moved, board_after, MayBeMade}
+use Rattle.ticket_board.proofs.RingViews.{times-set, times-append}
+use Rattle.ticket_board.proofs.RingFrames.{asking-is, asking-here, asking-else, asking-same}
+use Rattle.ticket_board.proofs.RingOpening.{times-cut, asking-cut}
+use Rattle.ticket_board.proofs.RingMoves.{moves-show}
+
+-- ---- lists
+
+-- a list of answers that are right one by one
+right-list : (meaning : Meaning) (key : List ℕ) (asked : List Query) (received : List Shown) → length received ≤ length asked
+    → ((n : ℕ) → n < length received → get_or received n gnil ≡ meaning key (get_or asked n (Address 0)))
+    → received ≡ map (meaning key) (take (length received) asked)
+right-list meaning key asked [] within right = refl
+right-list meaning key [] (answer ∷ received) within right = absurd (omega arith)
+right-list meaning key (query ∷ asked) (answer ∷ received) within right =
+    (λ i. right 0 (omega arith) i ∷ right-list meaning key asked received (omega arith) (λ n h. right (suc n) (omega arith)) i)
+
+-- a list grew by nothing
+no-more : {A : Type 0} (old more new : List A) → new ≡ old ++ more → length new ≤ length old → new ≡ old
+no-more old [] new is short = is ∙ append-nil old
+no-more old (x ∷ xs) new is short = absurd (omega (arith, ap length is, length-append old (x ∷ xs)))
+
+-- ---- lists of a sender only grow
+
+pub record Grows (old new : Asking) : Type 0 where
+  pub asked : List Query
+  pub asked_is : new.asked ≡ old.asked ++ asked
+  pub received : List Shown
+  pub received_is : new.received ≡ old.received ++ received
+
+stays : (old new : Asking) → new ≡ old → Grows old new
+stays old new is = record {
+  asked = [];
+  asked_is = ap (λ (x : Asking). x.asked) is ∙ sym (append-nil old.asked);
+  received = [];
+  received_is = ap (λ (x : Asking). x.received) is ∙ sym (append-nil old.received);
+}
+
+grows-on : (old mid new : Asking) → Grows old mid → Grows mid new → Grows old new
+grows-on old mid new first second = record {
+  asked = first.asked ++ second.asked;
+  asked_is = second.asked_is ∙ ap (λ (x : List Query). x ++ second.asked) first.asked_is ∙ append_assoc old.asked first.asked second.asked;
+  received = first.received ++ second.received;
+  received_is = second.received_is ∙ ap (λ (x : List Shown). x ++ second.received) first.received_is
+      ∙ append_assoc old.received first.received second.received;
+}
+
+sent-grows : (asking : Asking) (step : SenderStep) (word : ℕ) (home : Home) → Grows asking (asking_after asking step word home)
+sent-grows asking (Publishes query) word home = record {
+  asked = query ∷ [];
+  asked_is = refl;
+  received = [];
+  received_is = sym (append-nil asking.received);
+}
+sent-grows asking (Receives answer) word home = record {
+  asked = [];
+  asked_is = sym (append-nil asking.asked);
+  received = answer ∷ [];
+  received_is = refl;
+}
+sent-grows asking (WritesFirst first) word home =
+    record { asked = []; asked_is = sym (append-nil asking.asked); received = []; received_is = sym (append-nil asking.received) }
+sent-grows asking (WritesSecond query) word home =
+    record { asked = []; asked_is = sym (append-nil asking.asked); received = []; received_is = sym (append-nil asking.received) }
+sent-grows asking LooksNext word home =
+    record { asked = []; asked_is = sym (append-nil asking.asked); received = []; received_is = sym (append-nil asking.received) }
+sent-grows asking BringsOut word home =
+    record { asked = []; asked_is = sym (append-nil asking.asked); received = []; received_is = sym (append-nil asking.received) }
+
+module _ (meaning : Meaning) (shape : Shape) (key : List ℕ) where
+  -- ---- one move
+
+  module _ (board : Board) (state : State) (shows : Shows meaning shape key board state) where
+    -- what the senders know
+    asking-grows : (move : Move) → MayMove meaning shape key board move → (t : ℕ) → t < shape.senders
+        → Grows (asking_at board.views t) (asking_at (moved shape key board move).views t)
+    asking-grows (Cuts cut) may t below =
+        stays (asking_at board.views t) (asking_at (moved shape key board (Cuts cut)).views t)
+        (asking-cut meaning shape key board state shows 0 cut may.0 may.1 t)
+    asking-grows (Works w working step) may t below =
+        stays (asking_at board.views t) (asking_at (moved shape key board (Works w working step)).views t)
+        (asking-same meaning shape key board state shows (worker_seat shape w) w working may.0 board.words board.homes
+        (working_after shape working step (get_or board.words (word_worked shape step) 0)) state t below)
+    asking-grows (Sends s asking step) may t below =
+        let new : Asking = asking_after asking step (state_at shape board.words s (next_received asking)) (home_at shape board.homes s (next_received asking)) in
+        elim (cases_eq t s) [
+          | inl e ↦ subst (λ (x : ℕ). Grows (asking_at board.views x) (asking_at (moved shape key board (Sends s asking step)).views x)) (sym e)
+              (subst (λ (x : Asking × Asking). Grows x.0 x.1)
+              (λ i. (
+                sym (asking-is meaning shape key board state shows (sender_seat s) s asking may.0) i,
+                sym (asking-here meaning shape key board state shows (sender_seat s) s asking may.0 board.words board.homes new state) i,
+              )) (sent-grows asking step (state_at shape board.words s (next_received asking)) (home_at shape board.homes s (next_received asking))))
+          | inr ne ↦ stays (asking_at board.views t) (asking_at (moved shape key board (Sends s asking step)).views t)
+              (asking-else meaning shape key board state shows (sender_seat s) s asking may.0 board.words board.homes new state t ne)
+        ]
+
+    -- a worker's step that answers nothing
+    same-times : (w : ℕ) (working new : Working) → Sits board (worker_seat shape w) (worker shape key w working) → new.done ≡ working.done → (s n : ℕ)
+        → times_done s n (set board.views (worker_seat shape w) (worker shape key w new)) ≡ 0 + times_done s n board.views
+    same-times w working new sits same s n =
+        let e : times s n new.done ≡ times s n working.done = ap (times s n) same in
+        let changed : times_done s n (set board.views (worker_seat shape w) (worker shape key w new)) + times s n working.done ≡ times_done s n board.views + times s n new.done =
+        times-set s n board.views (worker_seat shape w) (worker shape key w working) (worker shape key w new) sits in
+        omega arith
+
+    -- the numbers that are done
+    times-moved : (move : Move) → MayMove meaning shape key board move → (s n : ℕ)
+        → times_done s n (moved shape key board move).views ≡ (if answers s n move then 1 else 0) + times_done s n board.views
+    times-moved (Cuts cut) may s n =
+        let same : times_done s n (moved shape key board (Cuts cut)).views ≡ times_done s n board.views = times-cut meaning shape key board state shows 0 cut may.0 may.1 s n in
+        omega arith
+    times-moved (Sends t asking step) may s n =
+        let new : Asking = asking_after asking step (state_at shape board.words t (next_received asking)) (home_at shape board.homes t (next_received asking)) in
+        let changed : times_done s n (set board.views (sender_seat t) (asker shape key t new)) + 0 ≡ times_done s n board.views + 0 =
+        times-set s n board.views (sender_seat t) (asker shape key t asking) (asker shape key t new) may.0 in
+        omega arith
+    times-moved (Works w working (LooksAt cell)) may s n =
+        same-times w working (working_after shape working (LooksAt cell) (get_or board.words (word_worked shape (LooksAt cell)) 0)) may.0 refl s n
+    times-moved (Works w working (Takes t m)) may s n =
+        same-times w working (working_after shape working (Takes t m) (get_or board.words (word_worked shape (Takes t m)) 0)) may.0 refl s n
+    times-moved (Works w working (ReadsFirst t m)) may s n =
+        same-times w working (working_after shape working (ReadsFirst t m) (get_or board.words (word_worked shape (ReadsFirst t m)) 0)) may.0 refl s n
+    times-moved (Works w working (ReadsSecond t m first)) may s n =
+        same-times w working (working_after shape working (ReadsSecond t m first) (get_or board.words (word_worked shape (ReadsSecond t m first)) 0)) may.0 refl s n
+    times-moved (Works w working (GivesBack t m)) may s n =
+        same-times w working (working_after shape working (GivesBack t m) (get_or board.words (word_worked shape (GivesBack t m)) 0)) may.0 refl s n
+    times-moved (Works w working (Answers t m query answer)) may s n =
+        let new : Working = working_after shape working (Answers t m query answer) (get_or board.words (word_worked shape (Answers t m query answer)) 0) in
+        let more : times s n new.done ≡ times s n working.done + (if is_same s n (t, m) then 1 else 0) = times-append s n working.done (t, m) in
+        let changed : times_done s n (set board.views (worker_seat shape w) (worker shape key w new)) + times s n working.done ≡ times_done s n board.views + times s n new.done =
+        times-set s n board.views (worker_seat shape w) (worker shape key w working) (worker shape key w new) may.0 in
+        omega arith
+
+  -- ---- all moves
+
+  module _ (words : List ℕ) where
+    pub answered-done : (moves : List Move) → MayBeMade meaning shape key words moves → (s n : ℕ)
+        → times_answered s n moves ≡ times_done s n (board_after shape key words moves).views
+    answered-done [] may s n = refl
+    answered-done (move ∷ moves) may s n =
+        let before = moves-show meaning shape key words moves may.0 in
+        ap (λ (x : ℕ). (if answers s n move then 1 else 0) + x) (answered-done moves may.0 s n)
+        ∙ sym (times-moved (board_after shape key words moves) before.0 before.1 move may.1 s n)
+
+    pub grows-all : (more moves : List Move) → MayBeMade meaning shape key words (more ++ moves) → (s : ℕ) → s < shape.senders
+        → Grows (asking_at (board_after shape key words moves).views s) (asking_at (board_after shape key words (more ++ moves)).views s)
+    grows-all [] moves may s below =
+        let same : Asking = asking_at (board_after shape key words moves).views s in stays same same refl
+    grows-all (move ∷ more) moves may s below =
+        let before = moves-show meaning shape key words (more ++ moves) may.0 in
+        grows-on (asking_at (board_after shape key words moves).views s) (asking_at (board_after shape key words (more ++ moves)).views s)
+        (asking_at (board_after shape key words (move ∷ more ++ moves)).views s)
+        (grows-all more moves may.0 s below)
+        (asking-grows (board_after shape key words (more ++ moves)) before.0 before.1 move may.1 s below)
+
+  -- what holds of a sender of the core holds of its view
+  pub served : (board : Board) (core : State) → Shows meaning shape key board core → (s : ℕ) → s < shape.senders
+      → IsRight meaning key (sender_at core s) → (length (sender_at core s).asked ≤ shape.most) × (outstanding (sender_at core s) ≤ shape.window)
+      → IsServed meaning shape key (asking_at board.views s).asked (asking_at board.views s).received
+  served board core shows s below right limits =
+      let mine = shows.senders s below in
+      subst (λ (x : List Query × List Shown). IsServed meaning shape key x.0 x.1) (λ i. (mine.asked i, mine.received i))
+      (record {
+        within = right.0;
+        right = right-list meaning key (sender_at core s).asked (sender_at core s).received right.0 right.1;
+        window = limits.1;
+        most = limits.0;
+      })
+
+  -- a sender that has all answers
+  pub at-end : (now later : Asking) → Grows now later → IsServed meaning shape key now.asked now.received
+      → IsServed meaning shape key later.asked later.received → next_received now ≡ next_asked now → next_asked later ≡ next_asked now
+      → IsAtEnd meaning key now later
+  at-end now later grown served served' all same = record {
+    all = served.right ∙ ap (λ (n : ℕ). map (meaning key) (take n now.asked)) all ∙ ap (map (meaning key)) (take_all (next_asked now) now.asked (omega arith));
+    asked = no-more now.asked grown.asked later.asked grown.asked_is (omega (arith, same));
+    received = no-more now.received grown.received later.received grown.received_is (omega (arith, served'.within, same, all));
+  }
