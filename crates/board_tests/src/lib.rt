@@ -21,6 +21,8 @@ mod queries;
 #[cfg(test)]
 mod ring_ends;
 #[cfg(test)]
+mod ring_threads;
+#[cfg(test)]
 mod runs;
 #[cfg(test)]
 mod shapes;

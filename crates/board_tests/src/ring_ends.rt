@@ -1,9 +1,11 @@
 //! The ends of a ring, used one after the other.
 
+ghost use Rattle.std.specs.Prelude.{◌≡◌, IfOk};
 ghost use Rattle.ticket_board.specs.Ring.Ends.{IsAskerOf};
 ghost use Rattle.ticket_board.specs.Ring.Takers.{IsTakerOf, HasEmptyHand};
 
 use crate::queries::query_of;
+use crate::shapes::shape;
 use crate::solver::{Echo, KEY};
 use std::alloc::Global;
 use std::process::Abort;
@@ -12,55 +14,61 @@ use ticket_board::ring::{Asker, Ring, Taker};
 use ticket_board::{AskFault, BoardFault};
 use ticket_core::{Query, QueryKind, Shape, Solver};
 
-/// A ring with its only sender's end, and those of its two workers.
+/// A ring with the ends of its two senders and of its two workers.
 #[derive(Drop)]
-struct Ends<'a, S: Solver> {
-    ring: Ring<'a, S>,
-    asker: Asker<S>,
-    first: Taker<S>,
-    second: Taker<S>,
-    ghost asker_of: { IsAskerOf ring asker },
-    ghost first_of: { IsTakerOf ring first },
-    ghost second_of: { IsTakerOf ring second },
-    ghost first_empty: { HasEmptyHand first },
-    ghost second_empty: { HasEmptyHand second },
+pub struct Ends<'a, S: Solver> {
+    pub ring: Ring<'a, S>,
+    pub first_asker: Asker<S>,
+    pub second_asker: Asker<S>,
+    pub first_taker: Taker<S>,
+    pub second_taker: Taker<S>,
+    ghost first_asker_of: { IsAskerOf ring first_asker },
+    ghost second_asker_of: { IsAskerOf ring second_asker },
+    ghost first_taker_of: { IsTakerOf ring first_taker },
+    ghost second_taker_of: { IsTakerOf ring second_taker },
+    ghost first_empty: { HasEmptyHand first_taker },
+    ghost second_empty: { HasEmptyHand second_taker },
 }
 
-/// A window of two numbers, both of which may be asked.
-const TWO_CELLS: Shape = Shape {
-    senders: 1,
-    workers: 2,
-    window: 2,
-    most: 2,
-};
-
-fn open_ends<'a, S: Solver>(alloc: Global, key: &'a [u8]) -> Result<Ends<'a, S>, BoardFault> {
-    let (ring, mut askers, mut takers) = Ring::<S>::open(alloc, TWO_CELLS, key)?;
-    let Some(asker) = askers.pop() else {
+/// A ring of a shape of two senders and two workers.
+pub fn open_ends<'a, S: Solver>(
+    alloc: Global,
+    shape: Shape,
+    key: &'a [u8],
+) -> Result<Ends<'a, S>, BoardFault>
+    ensures { IfOk result (λ ends. ends.ring.key ≡ key.now) }
+{
+    let (ring, mut askers, mut takers) = Ring::<S>::open(alloc, shape, key)?;
+    let Some(second_asker) = askers.pop() else {
         return Err(BoardFault::BadShape);
     };
-    let Some(second) = takers.pop() else {
+    let Some(first_asker) = askers.pop() else {
         return Err(BoardFault::BadShape);
     };
-    let Some(first) = takers.pop() else {
+    let Some(second_taker) = takers.pop() else {
+        return Err(BoardFault::BadShape);
+    };
+    let Some(first_taker) = takers.pop() else {
         return Err(BoardFault::BadShape);
     };
     Ok(Ends {
         ring,
-        asker,
-        first,
-        second,
+        first_asker,
+        second_asker,
+        first_taker,
+        second_taker,
     })
 }
 
-/// Two workers take two numbers. One that is given back is taken again, with the same query.
+/// Two workers take two numbers of a window of two. One that is given back is taken again, with the same query.
 fn take_two<S: Solver>(rt: &impl Abort, alloc: Global) -> Result<(), BoardFault> {
     let Ends {
         ring,
-        mut asker,
-        mut first,
-        mut second,
-    } = open_ends::<S>(alloc, &KEY)?;
+        first_asker: mut asker,
+        first_taker: mut first,
+        second_taker: mut second,
+        ..
+    } = open_ends::<S>(alloc, shape(2, 2, 2, 2), &KEY)?;
     let address = Query::address(0x10);
     let span = query_of(rt, QueryKind::Span(0x10, 0x20));
     assert_eq!(rt; asker.ask(&ring, span), Ok(0));

@@ -1,16 +1,22 @@
 -- What moves make of a ring shows a state of the core, to which their events lead.
-use Rattle.std.proofs.Common.{◌≡◌, ℕ, suc, ◌<◌, List, [], ◌∷◌, length, Option, Some, None, refl, sym, ap, subst}
+use Rattle.std.proofs.Common.{◌≡◌, ℕ, suc, ◌+◌, ◌<◌, List, [], ◌∷◌, ◌++◌, length, set, Option, Some, None, refl, sym, ◌∙◌, ap, subst}
+use Rattle.std.proofs.lemmas.List.{length-set}
+use mathlib.Core.Option.{some}
+use lib.ListN.{get_elem?}
 use Rattle.ticket_core.specs.declared.shape.Shape.{Shape}
 use Rattle.ticket_core.specs.State.{Meaning, State, opening}
 use Rattle.ticket_core.specs.Events.{Event, after}
 use Rattle.ticket_core.specs.Runs.{Run, Reaches}
-use Rattle.ticket_board.specs.Ring.Views.{Role, sender_seat, worker_seat, seat_of}
-use Rattle.ticket_board.specs.Ring.Shows.{Board, Sits, Shows}
+use Rattle.ticket_board.specs.Ring.Views.{Role, Opens, Asks, View, opener, sender_seat, worker_seat, seat_of}
+use Rattle.ticket_board.specs.Ring.Views as Views
+use Rattle.ticket_board.specs.Ring.Shows.{Board, StandsAt, Sits, Shows}
 use Rattle.ticket_board.specs.Ring.Steps.{WritesFirst, WritesSecond, Publishes, LooksNext, BringsOut, Receives, LooksAt, Takes, ReadsFirst, ReadsSecond, Answers, GivesBack}
+use Rattle.ticket_board.specs.Ring.Opening.{next_seat}
 use Rattle.ticket_board.specs.Ring.Laws.{Leads, MoveLaw}
 use Rattle.ticket_board.specs.Ring.Moves.{Move, Cuts, Sends, Works, MayMove, moved, event_of, board_after, MayBeMade, then_event, events_of, stamps_moved, IsMade, Occurs}
 use Rattle.ticket_board.proofs.RingSenderSteps.{writes-first, writes-second, publishes, looks-next, brings-out, receives}
 use Rattle.ticket_board.proofs.RingWorkerSteps.{looks-at, takes, reads-first, reads-second, answers, gives-back}
+use Rattle.ticket_board.proofs.ViewLemmas.{set_here, still_there, last_there}
 use Rattle.ticket_board.proofs.RingOpening.{opens, cuts}
 
 -- one event more
@@ -89,3 +95,38 @@ module _ (meaning : Meaning) where
         → Sits board (seat_of shape role) (record { shape = shape; key = key; role = role }) → Occurs meaning (record { shape = shape; key = key; role = role })
     made-occurs board stamps role made sits =
         (made.0, made.1, made.2.may, subst (λ (x : Board). Sits x (seat_of shape role) (record { shape = shape; key = key; role = role })) made.2.is sits)
+
+  -- so does what a seat that is cut off knows, and what the opening one knows then
+  stands-seat : (shape : Shape) (seats seat : ℕ) (role : Role) → StandsAt shape seats seat role → seat_of shape role ≡ seat
+  stands-seat shape seats seat (Opens cut) stands = sym stands.0
+  stands-seat shape seats seat (Asks s asking) stands = sym stands.0
+  stands-seat shape seats seat (Views.Works w working) stands = sym stands.0
+
+  pub cut-occurs : (shape : Shape) (key : List ℕ) (cut : ℕ) → cut < shape.senders + shape.workers → Occurs meaning (opener shape key cut)
+      → Occurs meaning (opener shape key (suc cut)) × Occurs meaning (next_seat shape key cut)
+  cut-occurs shape key cut left (words, moves, may, sits) =
+      let board : Board = board_after shape key words moves in
+      let told : List View = set board.views 0 (opener shape key (suc cut)) in
+      let all : MayBeMade meaning shape key words (Cuts cut ∷ moves) = (may, (sits, left)) in
+      let before = moves-show shape key words moves may in
+      let now = moves-show shape key words (Cuts cut ∷ moves) all in
+      let many : length board.views ≡ suc cut = (before.1.seated 0 (opener shape key cut) sits).stands.1 in
+      let last : get_elem? (told ++ next_seat shape key cut ∷ []) (suc cut) ≡ some (next_seat shape key cut) =
+      subst (λ (x : ℕ). get_elem? (told ++ next_seat shape key cut ∷ []) x ≡ some (next_seat shape key cut))
+      (length-set board.views 0 (opener shape key (suc cut)) ∙ many) (last_there told (next_seat shape key cut)) in
+      let seated = now.1.seated (suc cut) (next_seat shape key cut) last in (
+        (
+          words,
+          Cuts cut ∷ moves,
+          all,
+          still_there told (next_seat shape key cut ∷ []) 0 (opener shape key (suc cut))
+              (set_here board.views 0 (opener shape key cut) (opener shape key (suc cut)) sits),
+        ),
+        (
+          words,
+          Cuts cut ∷ moves,
+          all,
+          subst (λ (x : ℕ). get_elem? (told ++ next_seat shape key cut ∷ []) x ≡ some (next_seat shape key cut))
+              (sym (stands-seat shape _ (suc cut) (next_seat shape key cut).role seated.stands)) last,
+        ),
+      )

@@ -15,13 +15,14 @@ use Rattle.ticket_board.specs.Ring.Homes.{Home, Out, Empty, Full, home_at, answe
 use Rattle.ticket_board.specs.Ring.Views.{FirstWord, Whole, first_known, Asking, Role, Opens, Asks, Works, View, Stamped, stamped, asker, sender_seat, asking_of, next_asked, next_received, HasRoom}
 use Rattle.ticket_board.specs.Ring.Shows.{Board, StandsAt, Seated, Sits, Shows}
 use Rattle.ticket_board.specs.Ring.Steps.{SenderStep, MaySend, words_sent, homes_sent, WritesFirst, WritesSecond, Publishes, LooksNext, BringsOut, Receives, asking_after, sent}
-use Rattle.ticket_board.specs.Ring.Moves.{Sends, IsMade}
+use Rattle.ticket_board.specs.Ring.Moves.{Sends, IsMade, Occurs}
 use Rattle.ticket_board.specs.Ring.Rule.{home_shown, board_shown, views_of, lasts_of, Holds, sender_of, IsSender, ahead_of, collecting_of, KnowsSent, KnowsAnswer}
 use Rattle.ticket_board.proofs.RingSenderSteps.{has-answer, right-answer}
-use Rattle.ticket_board.proofs.RingMoves.{made-shows, made-on}
+use Rattle.ticket_board.proofs.RingMoves.{made-shows, made-on, made-occurs}
+use Rattle.ticket_board.proofs.ViewLemmas.{set_here}
 use Rattle.ticket_board.proofs.RingHomes.{get-map, set-same, home-full}
 
-is-sender : (role : Role) → IsSender role → role ≡ Asks (sender_of role) (asking_of role)
+pub is-sender : (role : Role) → IsSender role → role ≡ Asks (sender_of role) (asking_of role)
 is-sender (Opens cut) h = absurd h
 is-sender (Asks s asking) h = refl
 is-sender (Works w working) h = absurd h
@@ -87,6 +88,16 @@ module _ {A : Type 0} (shown : A → Shown) (meaning : Meaning) (shape : Shape) 
       (made-on meaning shape key board (lasts_of state.views) holds (Sends s asking step)
       (subst (λ (x : ℕ). Sits board x (asker shape key s asking)) here (sits-as state seated sits), may)))
 
+  -- and what it knows then occurs
+  occurs : (state : table.State (Option A) Stamped) → Seated shape key (length (views_of state.views)) id me.0.view → get_elem? state.views id ≡ maybe.some me.0
+      → (last : ℕ) (words : List ℕ) (homes : List Home) (new : Asking) → MadeWith state last words homes new → Occurs meaning (asker shape key s new)
+  occurs state seated sits last words homes new made =
+      let known : Stamped = stamped (asker shape key s new) last in
+      let board : Board = record { words = words; homes = homes; views = views_of (set state.views id known) } in
+      made-occurs meaning shape key board (lasts_of (set state.views id known)) (Asks s new) made
+      (subst (λ (x : ℕ). Sits board x (asker shape key s new)) (seat-is (length (views_of state.views)) seated)
+      (get-map (λ (x : Stamped). x.view) (set state.views id known) id known (set_here state.views id me.0 known sits)))
+
   pub first-allowed : (place word : ℕ) → HasRoom me.0.view.shape asking → place ≡ first_place me.0.view.shape s (next_asked asking)
       → Allowed place (λ _. word) (λ _. KnowsSent (WritesFirst word) 0 Out me.1 me)
   first-allowed place word room at state holds deep sits fits =
@@ -131,32 +142,42 @@ module _ {A : Type 0} (shown : A → Shown) (meaning : Meaning) (shape : Shape) 
 
   pub publishes-allowed : (place word : ℕ) → asking.ahead ≡ Whole (ahead_of me.0.view.role) → place ≡ state_place me.0.view.shape s (next_asked asking)
       → word ≡ asked_word (next_asked asking)
-      → Allowed place (λ _. word) (λ _. KnowsSent (Publishes (ahead_of me.0.view.role)) 0 Out me.1 me)
+      → Allowed place (λ _. word) (λ _ new. KnowsSent (Publishes (ahead_of me.0.view.role)) 0 Out me.1 me new × Occurs meaning new.0.view)
   publishes-allowed place word written at is state holds deep sits fits =
       let seated : Seated shape key (length (views_of state.views)) id me.0.view = (now state holds).1.seated id me.0.view (stands-in state sits) in
       let at' : place ≡ state_place shape s (next_asked asking) = at ∙ ap (λ (x : Shape). state_place x s (next_asked asking)) seated.shape_is in
-      let made = sends state holds seated sits (Publishes (ahead_of me.0.view.role)) written in (
+      let made = sends state holds seated sits (Publishes (ahead_of me.0.view.role)) written in
+      let kept : MadeWith state (suc (length holds.1)) (set state.words place word) (map (home_shown shown) state.homes) (asking_after asking (Publishes (ahead_of me.0.view.role)) 0 Out) =
+      subst (λ (x : ℕ × ℕ). MadeWith state (suc (length holds.1)) (set state.words x.0 x.1) (map (home_shown shown) state.homes)
+      (asking_after asking (Publishes (ahead_of me.0.view.role)) 0 Out)) (λ i. (sym at' i, sym is i)) made in (
         stamped (asker shape key s (asking_after asking (Publishes (ahead_of me.0.view.role)) 0 Out)) (suc (length holds.1)),
         table.keeps,
         tt,
-        subst (λ (x : ℕ × ℕ). MadeWith state (suc (length holds.1)) (set state.words x.0 x.1) (map (home_shown shown) state.homes)
-            (asking_after asking (Publishes (ahead_of me.0.view.role)) 0 Out)) (λ i. (sym at' i, sym is i)) made,
-        (after-is (length (views_of state.views)) (asking_after asking (Publishes (ahead_of me.0.view.role)) 0 Out) seated, refl),
+        kept,
+        (
+          (after-is (length (views_of state.views)) (asking_after asking (Publishes (ahead_of me.0.view.role)) 0 Out) seated, refl),
+          occurs state seated sits (suc (length holds.1)) (set state.words place word) (map (home_shown shown) state.homes) (asking_after asking (Publishes (ahead_of me.0.view.role)) 0 Out) kept,
+        ),
       )
 
   pub looks-allowed : (place : ℕ) → asking.collecting ≡ None → place ≡ state_place me.0.view.shape s (next_received asking)
-      → Allowed place (λ word. word) (λ word. KnowsSent LooksNext word Out me.1 me)
+      → Allowed place (λ word. word) (λ word new. KnowsSent LooksNext word Out me.1 me new × Occurs meaning new.0.view)
   looks-allowed place idle at state holds deep sits fits =
       let seated : Seated shape key (length (views_of state.views)) id me.0.view = (now state holds).1.seated id me.0.view (stands-in state sits) in
       let at' : place ≡ state_place shape s (next_received asking) = at ∙ ap (λ (x : Shape). state_place x s (next_received asking)) seated.shape_is in
       let word : ℕ = get_or state.words place 0 in
-      let made = sends state holds seated sits LooksNext idle in (
+      let made = sends state holds seated sits LooksNext idle in
+      let kept : MadeWith state (suc (length holds.1)) (set state.words place word) (map (home_shown shown) state.homes) (asking_after asking LooksNext word Out) =
+      subst (λ (x : List ℕ × ℕ). MadeWith state (suc (length holds.1)) x.0 (map (home_shown shown) state.homes) (asking_after asking LooksNext (get_or state.words x.1 0) Out))
+      (λ i. (sym (set-same state.words place) i, sym at' i)) made in (
         stamped (asker shape key s (asking_after asking LooksNext word Out)) (suc (length holds.1)),
         table.keeps,
         tt,
-        subst (λ (x : List ℕ × ℕ). MadeWith state (suc (length holds.1)) x.0 (map (home_shown shown) state.homes) (asking_after asking LooksNext (get_or state.words x.1 0) Out))
-            (λ i. (sym (set-same state.words place) i, sym at' i)) made,
-        (after-is (length (views_of state.views)) (asking_after asking LooksNext word Out) seated, refl),
+        kept,
+        (
+          (after-is (length (views_of state.views)) (asking_after asking LooksNext word Out) seated, refl),
+          occurs state seated sits (suc (length holds.1)) (set state.words place word) (map (home_shown shown) state.homes) (asking_after asking LooksNext word Out) kept,
+        ),
       )
 
   pub brings-allowed : (place word : ℕ) → asking.found ≡ true → place ≡ state_place me.0.view.shape s (next_received asking)
@@ -197,7 +218,7 @@ module _ {A : Type 0} (shown : A → Shown) (meaning : Meaning) (shape : Shape) 
   pub receives-allowed : (place word : ℕ) → asking.collecting ≡ Some (collecting_of me.0.view.role)
       → me.1 ≡ (cell_of me.0.view.shape s (next_received asking), None) ∷ table.rest me.1
       → place ≡ state_place me.0.view.shape s (next_received asking) → word ≡ free_word (next_received asking + me.0.view.shape.window)
-      → Allowed place (λ _. word) (λ _. KnowsSent (Receives (collecting_of me.0.view.role)) 0 Out (table.rest me.1) me)
+      → Allowed place (λ _. word) (λ _ new. KnowsSent (Receives (collecting_of me.0.view.role)) 0 Out (table.rest me.1) me new × Occurs meaning new.0.view)
   receives-allowed place word out carries at is state holds deep sits fits =
       let seated : Seated shape key (length (views_of state.views)) id me.0.view = (now state holds).1.seated id me.0.view (stands-in state sits) in
       let at' : place ≡ state_place shape s (next_received asking) = at ∙ ap (λ (x : Shape). state_place x s (next_received asking)) seated.shape_is in
@@ -207,10 +228,15 @@ module _ {A : Type 0} (shown : A → Shown) (meaning : Meaning) (shape : Shape) 
       ∙ map-set (home_shown shown) state.homes (cell_of me.0.view.shape s (next_received asking)) (maybe.some None)
       ∙ ap (λ (x : Shape). set (map (home_shown shown) state.homes) (cell_of x s (next_received asking)) Empty) seated.shape_is in
       let new : Asking = asking_after asking (Receives (collecting_of me.0.view.role)) 0 Out in
-      let made = sends state holds seated sits (Receives (collecting_of me.0.view.role)) out in (
+      let made = sends state holds seated sits (Receives (collecting_of me.0.view.role)) out in
+      let kept : MadeWith state (suc (length holds.1)) (set state.words place word) (map (home_shown shown) (table.put_back state.homes me.1)) new =
+      subst (λ (x : ℕ × ℕ × List Home). MadeWith state (suc (length holds.1)) (set state.words x.0 x.1) x.2 new) (λ i. (sym at' i, sym is' i, sym home i)) made in (
         stamped (asker shape key s new) (suc (length holds.1)),
         table.gives,
         tt,
-        subst (λ (x : ℕ × ℕ × List Home). MadeWith state (suc (length holds.1)) (set state.words x.0 x.1) x.2 new) (λ i. (sym at' i, sym is' i, sym home i)) made,
-        (after-is (length (views_of state.views)) new seated, refl),
+        kept,
+        (
+          (after-is (length (views_of state.views)) new seated, refl),
+          occurs state seated sits (suc (length holds.1)) (set state.words place word) (map (home_shown shown) (table.put_back state.homes me.1)) new kept,
+        ),
       )

@@ -1,6 +1,6 @@
 -- What holds of a ring after any moves: each number is answered once, senders are served, and the
 -- lists of one that has all its answers stay.
-use Rattle.std.proofs.Common.{◌≡◌, ◌≢◌, ℕ, zero, suc, ◌+◌, ◌-◌, ◌<◌, ◌≤◌, List, [], ◌∷◌, ◌++◌, length, map, take, get_or, set, Some, None, inl, inr, refl, sym, ◌∙◌, ap, subst, append-nil, append_assoc, arith, if◌then◌else◌}
+use Rattle.std.proofs.Common.{◌≡◌, ℕ, suc, ◌+◌, ◌<◌, ◌≤◌, List, [], ◌∷◌, ◌++◌, length, map, take, get_or, set, inl, inr, refl, sym, ◌∙◌, ap, subst, append-nil, append_assoc, arith, if◌then◌else◌}
 use Rattle.std.proofs.lemmas.Bool.{cases_eq}
 use Rattle.std.proofs.lemmas.List.{length-append, take_all}
 use base.Stored.{gnil}
@@ -13,7 +13,7 @@ use Rattle.ticket_board.specs.Ring.Layout.{state_at}
 use Rattle.ticket_board.specs.Ring.Homes.{Home, home_at}
 use Rattle.ticket_board.specs.Ring.Views.{Asking, Working, asker, worker, sender_seat, worker_seat, asking_at, next_asked, next_received}
 use Rattle.ticket_board.specs.Ring.Shows.{Board, Sits, is_same, times, times_done, Shows}
-use Rattle.ticket_board.specs.Ring.Steps.{SenderStep, WritesFirst, WritesSecond, Publishes, LooksNext, BringsOut, Receives, WorkerStep, LooksAt, Takes, ReadsFirst, ReadsSecond, Answers, GivesBack, asking_after, working_after, word_worked}
+use Rattle.ticket_board.specs.Ring.Steps.{SenderStep, WritesFirst, WritesSecond, Publishes, LooksNext, BringsOut, Receives, LooksAt, Takes, ReadsFirst, ReadsSecond, Answers, GivesBack, asking_after, working_after, word_worked}
 use Rattle.ticket_board.specs.Ring.Laws.{IsServed, answers, times_answered, IsAtEnd}
 use Rattle.ticket_board.specs.Ring.Moves.{Move, Cuts, Sends, Works, MayMove, moved, board_after, MayBeMade}
 use Rattle.ticket_board.proofs.RingViews.{times-set, times-append}

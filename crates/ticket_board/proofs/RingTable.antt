@@ -51,11 +51,11 @@ module _ {A : Type 0} (shown : A → Shown) (meaning : Meaning) where
 
 -- the same of the seat that is the ring's
 pub desk-splits : {A : Type 0} (shown : A → Shown) (meaning : Meaning) (ring : RingState) (id : ℕ) (table_id : TableId) (me : table.Me (Option A) Stamped)
-    → IsDesk ring (cut_of me.0.view.role) table_id me → cut_of me.0.view.role < ring.shape.senders + ring.shape.workers
+    → IsDesk meaning ring (cut_of me.0.view.role) table_id me → cut_of me.0.view.role < ring.shape.senders + ring.shape.workers
     → table.Splits (Holds shown meaning ring.shape ring.key) id me.0 (left_after me.0) (cut_from me.0)
 desk-splits {A} shown meaning ring id table_id me desk left =
     subst (λ (x : Stamped). table.Splits (Holds shown meaning ring.shape ring.key) id x (left_after x) (cut_from x))
-    (sym (ap (λ x. x.0) desk.1)) (splits-allowed shown meaning ring.shape ring.key id (cut_of me.0.view.role) left)
+    (sym (ap (λ x. x.0) desk.knows)) (splits-allowed shown meaning ring.shape ring.key id (cut_of me.0.view.role) left)
 
 -- there is a word
 pub some-words : (shape : Shape) → Fits shape → 0 < words_in shape
@@ -128,11 +128,11 @@ module _ {A : Type 0} where
       ∙ ap (λ (view : View). (stamped view 0, [])) (worker-next ring.shape ring.key (ring.shape.senders + w) w refl)
 
   -- the seat from which it was cut off
-  pub desk-after : (ring : RingState) (cut more : ℕ) (table_id : TableId) (desk new : table.Me (Option A) Stamped) → desk ≡ (stamped (opener ring.shape ring.key cut) 0, [])
-      → IsDesk ring (cut_of desk.0.view.role + 1) table_id new → more ≡ cut + 1 → IsDesk ring more table_id new
-  desk-after ring cut more table_id desk new was is next =
+  pub desk-after : (meaning : Meaning) (ring : RingState) (cut more : ℕ) (table_id : TableId) (desk new : table.Me (Option A) Stamped) → desk ≡ (stamped (opener ring.shape ring.key cut) 0, [])
+      → IsDesk meaning ring (cut_of desk.0.view.role + 1) table_id new → more ≡ cut + 1 → IsDesk meaning ring more table_id new
+  desk-after meaning ring cut more table_id desk new was is next =
       let e : cut_of desk.0.view.role + 1 ≡ more = ap (λ (x : table.Me (Option A) Stamped). cut_of x.0.view.role + 1) was ∙ sym next in
-      subst (λ (n : ℕ). IsDesk ring n table_id new) e is
+      subst (λ (n : ℕ). IsDesk meaning ring n table_id new) e is
 
 -- one end more
 pub askers-then : (ring : RingState) (s : ℕ) (askers askers' : List AskerState) (new : AskerState) → askers ≡ askers_from ring 0 s → askers' ≡ askers ++ new ∷ []

@@ -23,6 +23,21 @@ module _ {V : Type 0} where
   at_end (x ∷ xs) a b zero e = inl e
   at_end (x ∷ xs) a b (suc j) e = ⊎_elim (λ t. inl t) (λ t. inr (ap suc t.0, t.1)) (at_end xs a b j e)
 
+  -- the view that changed, the views that were there, and the one that is added
+  pub set_here : (views : List V) (seat : ℕ) (old new : V) → get_elem? views seat ≡ some old → get_elem? (set views seat new) seat ≡ some new
+  set_here [] seat old new e = absurd (some-ne-none old (sym e))
+  set_here (x ∷ xs) zero old new e = refl
+  set_here (x ∷ xs) (suc seat) old new e = set_here xs seat old new e
+
+  pub still_there : (views more : List V) (seat : ℕ) (view : V) → get_elem? views seat ≡ some view → get_elem? (views ++ more) seat ≡ some view
+  still_there [] more seat view e = absurd (some-ne-none view (sym e))
+  still_there (x ∷ xs) more zero view e = e
+  still_there (x ∷ xs) more (suc seat) view e = still_there xs more seat view e
+
+  pub last_there : (views : List V) (view : V) → get_elem? (views ++ view ∷ []) (length views) ≡ some view
+  last_there [] view = refl
+  last_there (x ∷ xs) view = last_there xs view
+
   -- a view is added
   pub added : (F : ℕ → V → Type 0) (views : List V) (w : V) → F (length views) w → All F views → All F (views ++ w ∷ [])
   added F views w mine all j u e =

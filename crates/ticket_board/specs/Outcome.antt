@@ -45,7 +45,8 @@ done_after Idle done = done
 
 -- each cell of the board gave it nothing since
 abbrev pub MissedEvery : Shape → List ℕ → List ℕ → Type 0
-MissedEvery shape old new = (gained : List ℕ) × (new ≡ old ++ gained) × ((cell : ℕ) → cell < cells_in shape → Contains gained cell)
+MissedEvery shape old new =
+    (gained : List ℕ) × (new ≡ old ++ gained) × ((cell : ℕ) → cell < cells_in shape → Contains gained cell)
 
 -- where it answered nothing, no cell gave it a query
 abbrev pub IfIdle : Turn → Type 0 → Type 0

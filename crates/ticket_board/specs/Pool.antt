@@ -70,7 +70,8 @@ abbrev pub IsPromised : {S : Type 0} → Task → ℕ → Lot S → Type 0
 IsPromised task sender lot = (lot.task ≡ task) × (lot.sender ≡ sender)
 
 -- what a pool runs on: a new board with all its ends, and a task and a maker under the board's key
-pub record IsPool (board : RingState) (task : Task) (made_by : List ℕ) (clients : List ClientState) (workers : List WorkerState) : Type 0 where
+pub record IsPool (board : RingState) (task : Task) (made_by : List ℕ) (clients : List ClientState)
+    (workers : List WorkerState) : Type 0 where
   pub key : task.key.now ≡ board.key
   pub maker : made_by ≡ board.key
   pub some : 1 ≤ task.senders

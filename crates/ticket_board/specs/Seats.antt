@@ -1,11 +1,14 @@
 -- What a client and a worker of a board show.
-use Rattle.std.specs.Prelude.{◌≡◌, ℕ, ◌-◌, ◌≤◌, Bool, true, false, List, [], ◌∷◌, ◌++◌, length, map, take, Option, Some, None, nat_le, if◌then◌else◌}
+use Rattle.std.specs.Prelude.{◌≡◌, ℕ, ◌-◌, Bool, true, false, List, [], ◌∷◌, ◌++◌, length, map, Option, Some}
+use Rattle.std.specs.Prelude.{None, nat_le, if◌then◌else◌}
 use Rattle.atomic_table.specs.Seated.{TableId}
 use Rattle.ticket_core.specs.declared.query.Query.{Query}
 use Rattle.ticket_core.specs.declared.shape.Shape.{Shape}
 use Rattle.ticket_core.specs.State.{Shown, Meaning, Ticket}
 use Rattle.ticket_board.specs.declared.fault.AskFault.{AskFault}
 use Rattle.ticket_board.specs.declared.fault.AskFault.TheVariants.{Full, Closed, Exhausted}
+use Rattle.ticket_board.specs.Ring.Views.{Asking, asker}
+use Rattle.ticket_board.specs.Ring.Moves.{Occurs}
 use Rattle.ticket_board.specs.Ring.Ends.{RingState, AskerState}
 use Rattle.ticket_board.specs.Ring.Takers.{TakerState}
 use Rattle.ticket_board.specs.Ring.Opened.{new_askers, new_takers}
@@ -86,13 +89,11 @@ ask_refusal client =
 abbrev pub HasEnded : ClientState → Type 0
 HasEnded client = (client.closed ≡ true) × (length client.received ≡ length client.asked)
 
--- what a client received is a beginning of the meanings of what it asked, in its order; and it
--- keeps its limits
-pub record IsRightClient (meaning : Meaning) (client : ClientState) : Type 0 where
-  pub within : length client.received ≤ length client.asked
-  pub right : client.received ≡ map (meaning client.seat.key) (take (length client.received) client.asked)
-  pub window : outstanding client ≤ client.seat.shape.window
-  pub most : length client.asked ≤ client.seat.shape.most
+-- some moves make a ring on which it has these lists
+abbrev pub ClientOccurs : Meaning → ClientState → Type 0
+ClientOccurs meaning client =
+    (asking : Asking) × Occurs meaning (asker client.seat.shape client.seat.key client.seat.sender asking)
+    × (asking.asked ≡ client.asked) × (asking.received ≡ client.received)
 
 -- ---- workers
 

@@ -2,7 +2,8 @@
 
 ghost use Rattle.std.specs.Prelude.{◌≡◌, ◌<◌, ◌↔◌, true, false, None, Some, IfOk, OnOk, OnErr, MatchResult, length};
 ghost use Rattle.std.specs.Prelude.{nat_eq};
-ghost use Rattle.ticket_board.specs.Seats.{IsClientOf, IsRightClient, HasEnded, asks, closes, finds, receives};
+ghost use Rattle.ticket_board.specs.Ring.Laws.{IsServed};
+ghost use Rattle.ticket_board.specs.Seats.{IsClientOf, ClientOccurs, HasEnded, asks, closes, finds, receives};
 ghost use Rattle.ticket_board.specs.Seats.{ask_refusal};
 ghost use Rattle.ticket_board.specs.Outcome.{query_of, IsEnded, IfEnded, IfPending, OnAnswer};
 
@@ -91,10 +92,12 @@ impl<S: Solver> Client<S> {
         Next::Answer(number, answer)
     }
 
-    /// Whatever was called before: what the client received is a beginning of the meanings of what
-    /// it asked, in its order. It does nothing.
+    /// Whatever was called before, some moves make a board on which a sender's lists are those of
+    /// this client. So `law_of_board` holds of them: what the client received is a beginning of the
+    /// meanings of what it asked, in its order. It does nothing.
     pub fn law_of_client(&self)
-        ensures right { IsRightClient S.meaning self.now }
+        ensures occurs { ClientOccurs S.meaning self.now }
+        ensures right { IsServed S.meaning self.now.seat.shape self.now.seat.key self.now.asked self.now.received }
     {
         self.asker.law_of_asker();
     }

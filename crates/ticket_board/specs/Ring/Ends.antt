@@ -1,5 +1,6 @@
 -- What the ring shows its callers, and what a sender's end of it shows.
-use Rattle.std.specs.Prelude.{◌≡◌, ℕ, ◌+◌, ◌-◌, ◌<◌, ◌≤◌, Bool, false, List, [], ◌∷◌, ◌++◌, map, take, slice_index_or, Option, Some, None, nat_le, if◌then◌else◌}
+use Rattle.std.specs.Prelude.{◌≡◌, ℕ, ◌+◌, ◌-◌, ◌<◌, ◌≤◌, Bool, false, List, [], ◌∷◌, ◌++◌, slice_index_or, Option}
+use Rattle.std.specs.Prelude.{Some, None, nat_le, if◌then◌else◌}
 use Rattle.atomic_table.specs.Table as table
 use Rattle.atomic_table.specs.Seated.{TableId}
 use Rattle.ticket_core.specs.declared.query.Query.{Query}
@@ -10,7 +11,8 @@ use Rattle.ticket_core.specs.State.{Shown, Meaning}
 use Rattle.ticket_board.specs.declared.fault.AskFault.{AskFault}
 use Rattle.ticket_board.specs.declared.fault.AskFault.TheVariants.{Full, Exhausted}
 use Rattle.ticket_board.specs.Ring.Layout.{words_in}
-use Rattle.ticket_board.specs.Ring.Views.{Nothing, Asking, Stamped, asking_of, next_asked, next_received}
+use Rattle.ticket_board.specs.Ring.Views.{Nothing, Asking, Stamped, asker, asking_of, next_asked, next_received}
+use Rattle.ticket_board.specs.Ring.Moves.{Occurs}
 use Rattle.ticket_board.specs.Ring.Rule.{IsSender, sender_of}
 
 -- the ring: its shape and key, and which table it is
@@ -39,10 +41,17 @@ pub record IsAskerOf (ring : RingState) (asker : AskerState) : Type 0 where
 
 module _ {S : Type 0} where
   abbrev pub asker_shown : ℕ → TableId → table.Me S Stamped → AskerState
-  asker_shown sender table me = record { shape = me.0.view.shape; key = me.0.view.key; table = table; sender = sender; asking = asking_of me.0.view.role }
+  asker_shown sender table me = record {
+    shape = me.0.view.shape;
+    key = me.0.view.key;
+    table = table;
+    sender = sender;
+    asking = asking_of me.0.view.role;
+  }
 
   -- its fields are what its seat knows
-  pub record IsAsker (meaning : Meaning) (sender asked received : ℕ) (found : Bool) (shape : Shape) (me : table.Me S Stamped) : Type 0 where
+  pub record IsAsker (meaning : Meaning) (sender asked received : ℕ) (found : Bool) (shape : Shape)
+      (me : table.Me S Stamped) : Type 0 where
     pub asks : IsSender me.0.view.role
     pub sender_is : sender_of me.0.view.role ≡ sender
     pub shape_is : me.0.view.shape ≡ shape
@@ -53,18 +62,14 @@ module _ {S : Type 0} where
     pub received_is : received ≡ next_received (asking_of me.0.view.role)
     pub found_is : found ≡ (asking_of me.0.view.role).found
     pub nothing_out : (asking_of me.0.view.role).collecting ≡ None
-    pub right : (asking_of me.0.view.role).received ≡ map (meaning me.0.view.key) (take received (asking_of me.0.view.role).asked)
     pub ordered : received ≤ asked
     pub window : asked ≤ received + shape.window
     pub most : asked ≤ shape.most
+    pub occurs : Occurs meaning me.0.view
 
--- what a sender received is a beginning of the meanings of what it asked, in its order; and it
--- keeps its limits
-pub record IsRightAsker (meaning : Meaning) (asker : AskerState) : Type 0 where
-  pub within : next_received asker.asking ≤ next_asked asker.asking
-  pub right : asker.asking.received ≡ map (meaning asker.key) (take (next_received asker.asking) asker.asking.asked)
-  pub window : next_asked asker.asking ≤ next_received asker.asking + asker.shape.window
-  pub most : next_asked asker.asking ≤ asker.shape.most
+-- some moves make a ring on which it knows this
+abbrev pub AskerOccurs : Meaning → AskerState → Type 0
+AskerOccurs meaning it = Occurs meaning (asker it.shape it.key it.sender it.asking)
 
 -- the first condition that refuses a query: the sender asked all it may, then its window is full
 abbrev pub asking_refusal : Shape → Asking → Option AskFault
@@ -86,7 +91,11 @@ looks found asking = record asking {
 
 -- the next answer is received
 abbrev pub receives_one : Shown → Asking → Asking
-receives_one answer asking = record asking { received = asking.received ++ answer ∷ []; found = false; collecting = None }
+receives_one answer asking = record asking {
+  received = asking.received ++ answer ∷ [];
+  found = false;
+  collecting = None;
+}
 
 -- one query more is asked
 abbrev pub asks_one : Query → Asking → Asking

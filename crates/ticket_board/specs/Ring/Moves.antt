@@ -1,13 +1,16 @@
 -- The moves by which a ring is made, each by the seat that makes it: the seats that are cut off, and
 -- the steps of senders and workers. A list of moves has the newest first.
-use Rattle.std.specs.Prelude.{◌≡◌, ℕ, suc, ◌+◌, ◌<◌, List, [], ◌∷◌, ◌++◌, length, Option, Some, None, slice_index_or, slice_set}
+use Rattle.std.specs.Prelude.{◌≡◌, ℕ, suc, ◌+◌, ◌<◌, List, [], ◌∷◌, ◌++◌, length, Option, Some, None, slice_index_or}
+use Rattle.std.specs.Prelude.{slice_set}
 use Rattle.ticket_core.specs.declared.shape.Shape.{Shape}
 use Rattle.ticket_core.specs.Shape.{Fits}
 use Rattle.ticket_core.specs.State.{Meaning}
 use Rattle.ticket_core.specs.Events.{Event}
-use Rattle.ticket_board.specs.Ring.Views.{Asking, Working, View, opener, asker, worker, sender_seat, worker_seat, seat_of}
+use Rattle.ticket_board.specs.Ring.Views.{Asking, Working, View, opener, asker, worker, sender_seat, worker_seat}
+use Rattle.ticket_board.specs.Ring.Views.{seat_of}
 use Rattle.ticket_board.specs.Ring.Shows.{Board, Sits}
-use Rattle.ticket_board.specs.Ring.Steps.{SenderStep, WorkerStep, MaySend, MayWork, sent, worked, event_sent, event_worked, word_worked}
+use Rattle.ticket_board.specs.Ring.Steps.{SenderStep, WorkerStep, MaySend, MayWork, sent, worked, event_sent}
+use Rattle.ticket_board.specs.Ring.Steps.{event_worked, word_worked}
 use Rattle.ticket_board.specs.Ring.Opening.{AreFree, opened, cut_off}
 
 pub data Move : Type 0 where

@@ -4,6 +4,8 @@ use Rattle.atomic_table.specs.Table as table
 use Rattle.atomic_table.specs.Seated.{TableId}
 use Rattle.ticket_core.specs.declared.shape.Shape.{Shape}
 use Rattle.ticket_board.specs.Ring.Views.{Stamped, stamped, new_asking, new_working, opener}
+use Rattle.ticket_core.specs.State.{Meaning}
+use Rattle.ticket_board.specs.Ring.Moves.{Occurs}
 use Rattle.ticket_board.specs.Ring.Ends.{RingState, AskerState}
 use Rattle.ticket_board.specs.Ring.Takers.{TakerState}
 
@@ -36,6 +38,9 @@ abbrev pub new_takers : RingState → List TakerState
 new_takers ring = takers_from ring 0 ring.shape.workers
 
 -- the seat from which others are cut off: it is the ring's, so many were cut off from it, and no
--- slot is out with it
-abbrev pub IsDesk : {S : Type 0} → RingState → ℕ → TableId → table.Me S Stamped → Type 0
-IsDesk ring cut table me = (table ≡ ring.table) × (me ≡ (stamped (opener ring.shape ring.key cut) 0, []))
+-- slot is out with it; and some moves make a ring on which it knows that
+pub record IsDesk {S : Type 0} (meaning : Meaning) (ring : RingState) (cut : ℕ) (table_id : TableId)
+    (me : table.Me S Stamped) : Type 0 where
+  pub table_is : table_id ≡ ring.table
+  pub knows : me ≡ (stamped (opener ring.shape ring.key cut) 0, [])
+  pub occurs : Occurs meaning (opener ring.shape ring.key cut)

@@ -1,5 +1,6 @@
 -- The ring as it is opened, and the seats that are cut off one by one.
-use Rattle.std.specs.Prelude.{◌≡◌, ℕ, suc, ◌-◌, ◌%◌, ◌<◌, List, [], ◌∷◌, ◌++◌, length, replicate, slice_index_or, slice_set, nat_lt, if◌then◌else◌}
+use Rattle.std.specs.Prelude.{◌≡◌, ℕ, suc, ◌-◌, ◌%◌, ◌<◌, List, [], ◌∷◌, ◌++◌, length, replicate, slice_index_or}
+use Rattle.std.specs.Prelude.{slice_set, nat_lt, if◌then◌else◌}
 use Rattle.ticket_core.specs.declared.shape.Shape.{Shape}
 use Rattle.ticket_board.specs.Ring.Layout.{cells_in, words_in, state_field, word_of, free_word}
 use Rattle.ticket_board.specs.Ring.Homes.{Empty}
@@ -9,7 +10,8 @@ use Rattle.ticket_board.specs.Ring.Shows.{Board}
 -- each cell is free for the first number that uses it
 pub record AreFree (shape : Shape) (words : List ℕ) : Type 0 where
   pub size : length words ≡ words_in shape
-  pub free : (cell : ℕ) → cell < cells_in shape → slice_index_or words (word_of cell state_field) 0 ≡ free_word (cell % shape.window)
+  pub free : (cell : ℕ) → cell < cells_in shape
+      → slice_index_or words (word_of cell state_field) 0 ≡ free_word (cell % shape.window)
 
 -- all slots are empty, and one seat is there
 abbrev pub opened : Shape → List ℕ → List ℕ → Board

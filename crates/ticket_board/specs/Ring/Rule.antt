@@ -1,5 +1,6 @@
 -- The rule of the ring's table: its words, slots and views are what some moves made of them.
-use Rattle.std.specs.Prelude.{◌≡◌, ℕ, suc, ◌/◌, ◌%◌, ◌<◌, List, ◌∷◌, map, Option, Some, None, unwrap_or, slice_index_or, nat_eq, if◌then◌else◌}
+use Rattle.std.specs.Prelude.{◌≡◌, ℕ, suc, ◌/◌, ◌%◌, ◌<◌, List, ◌∷◌, map, Option, Some, None, unwrap_or, slice_index_or}
+use Rattle.std.specs.Prelude.{nat_eq, if◌then◌else◌}
 use base.Stored.{gnil}
 use mathlib.Core.Option as maybe
 use Rattle.atomic_table.specs.Table as table
@@ -10,9 +11,12 @@ use Rattle.ticket_core.specs.Query.{AreWords, of_words}
 use Rattle.ticket_core.specs.State.{Shown, Meaning, Ticket}
 use Rattle.ticket_board.specs.Ring.Layout.{cell_of, asked_word}
 use Rattle.ticket_board.specs.Ring.Homes.{Home, Out, Empty, Full}
-use Rattle.ticket_board.specs.Ring.Views.{Role, Opens, Asks, Works, View, Stamped, stamped, opener, asker, worker, first_known, query_known, asking_of, working_of, next_asked, next_received}
+use Rattle.ticket_board.specs.Ring.Views.{Asking, Working, Role, Opens, Asks, Works, View, Stamped, stamped, opener}
+use Rattle.ticket_board.specs.Ring.Views.{asker, worker, first_known, query_known, asking_of, working_of, next_asked}
+use Rattle.ticket_board.specs.Ring.Views.{next_received}
 use Rattle.ticket_board.specs.Ring.Shows.{Board}
-use Rattle.ticket_board.specs.Ring.Steps.{SenderStep, BringsOut, WorkerStep, LooksAt, Takes, ReadsFirst, ReadsSecond, Answers, GivesBack, asking_after, working_after}
+use Rattle.ticket_board.specs.Ring.Steps.{SenderStep, BringsOut, WorkerStep, LooksAt, Takes, ReadsFirst, ReadsSecond}
+use Rattle.ticket_board.specs.Ring.Steps.{Answers, GivesBack, asking_after, working_after}
 use Rattle.ticket_board.specs.Ring.Opening.{next_seat}
 use Rattle.ticket_board.specs.Ring.Moves.{IsMade}
 
@@ -29,7 +33,11 @@ abbrev pub lasts_of : List Stamped → List ℕ
 lasts_of known = map (λ (x : Stamped). x.last) known
 
 abbrev pub board_shown : {A : Type 0} → (A → Shown) → table.State (Option A) Stamped → Board
-board_shown shown state = record { words = state.words; homes = map (home_shown shown) state.homes; views = views_of state.views }
+board_shown shown state = record {
+  words = state.words;
+  homes = map (home_shown shown) state.homes;
+  views = views_of state.views;
+}
 
 abbrev pub Holds : {A : Type 0} → (A → Shown) → Meaning → Shape → List ℕ → table.State (Option A) Stamped → Type 0
 Holds shown meaning shape key state = IsMade meaning shape key (board_shown shown state) (lasts_of state.views)
@@ -91,67 +99,84 @@ first_read_of role = first_known (working_of role).read
 abbrev pub IsOfCell : Shape → ℕ → ℕ → Type 0
 IsOfCell shape cell word = word / 8 % shape.window ≡ cell % shape.window
 
+-- a seat: what it knows, and the slots that are out with it
+abbrev pub Mine : Type 0 → Type 0
+Mine A = table.Me (Option A) Stamped
+
 module _ {A : Type 0} where
   -- the slot that it took last is this cell's, with this in it
-  abbrev pub CarriesFirst : ℕ → Option A → table.Me (Option A) Stamped → Type 0
+  abbrev pub CarriesFirst : ℕ → Option A → Mine A → Type 0
   CarriesFirst cell value me = me.1 ≡ (cell, value) ∷ table.rest me.1
 
   -- that slot with something else in it
-  abbrev pub carries : ℕ → Option A → table.Me (Option A) Stamped → table.Me (Option A) Stamped
+  abbrev pub carries : ℕ → Option A → Mine A → Mine A
   carries cell value me = (me.0, (cell, value) ∷ table.rest me.1)
 
   -- it is that of the number in a worker's hand, and has the meaning of the query that was asked
-  abbrev pub CarriesMeaning : (A → Shown) → Meaning → table.Me (Option A) Stamped → Type 0
+  abbrev pub CarriesMeaning : (A → Shown) → Meaning → Mine A → Type 0
   CarriesMeaning shown meaning me =
-      (answer : A) × CarriesFirst (cell_of me.0.view.shape (hand_of me.0.view.role).0 (hand_of me.0.view.role).1) (Some answer) me
+      (answer : A)
+      × CarriesFirst (cell_of me.0.view.shape (hand_of me.0.view.role).0 (hand_of me.0.view.role).1) (Some answer) me
       × (shown answer ≡ meaning me.0.view.key (read_of me.0.view.role))
+
+  -- what it knows as a sender and as a worker
+  abbrev pub asking_in : Mine A → Asking
+  asking_in me = asking_of me.0.view.role
+
+  abbrev pub working_in : Mine A → Working
+  working_in me = working_of me.0.view.role
 
   -- a sender's seat after a step, where it found this state word and this in the slot; and the
   -- slots that are out with it then
-  abbrev pub KnowsSent : SenderStep → ℕ → Home → List (ℕ × Option A) → table.Me (Option A) Stamped → table.Me (Option A) Stamped → Type 0
+  abbrev pub KnowsSent : SenderStep → ℕ → Home → List (ℕ × Option A) → Mine A → Mine A → Type 0
   KnowsSent step word home slots old new =
-      (new.0.view ≡ asker old.0.view.shape old.0.view.key (sender_of old.0.view.role) (asking_after (asking_of old.0.view.role) step word home))
+      (new.0.view ≡ asker old.0.view.shape old.0.view.key (sender_of old.0.view.role)
+      (asking_after (asking_in old) step word home))
       × (new.1 ≡ slots)
 
   -- an answer came out: it is that of the number that the sender receives next, which it asked
-  abbrev pub KnowsAnswer : (A → Shown) → Meaning → A → table.Me (Option A) Stamped → table.Me (Option A) Stamped → Type 0
+  abbrev pub KnowsAnswer : (A → Shown) → Meaning → A → Mine A → Mine A → Type 0
   KnowsAnswer shown meaning answer old new =
-      (next_received (asking_of old.0.view.role) < next_asked (asking_of old.0.view.role))
-      × (shown answer ≡ meaning old.0.view.key (slice_index_or (asking_of old.0.view.role).asked (next_received (asking_of old.0.view.role)) (Address 0)))
+      (next_received (asking_in old) < next_asked (asking_in old))
+      × (shown answer
+      ≡ meaning old.0.view.key (slice_index_or (asking_in old).asked (next_received (asking_in old)) (Address 0)))
       × KnowsSent BringsOut 0 (Full (shown answer))
-      ((cell_of old.0.view.shape (sender_of old.0.view.role) (next_received (asking_of old.0.view.role)), Some answer) ∷ old.1) old new
+      ((cell_of old.0.view.shape (sender_of old.0.view.role) (next_received (asking_in old)), Some answer) ∷ old.1)
+      old new
 
   -- a worker's seat after a step, where it found this word; and the slots that are out with it then
-  abbrev pub KnowsWorked : WorkerStep → ℕ → List (ℕ × Option A) → table.Me (Option A) Stamped → table.Me (Option A) Stamped → Type 0
+  abbrev pub KnowsWorked : WorkerStep → ℕ → List (ℕ × Option A) → Mine A → Mine A → Type 0
   KnowsWorked step word slots old new =
-      (new.0.view ≡ worker old.0.view.shape old.0.view.key (worker_of old.0.view.role) (working_after old.0.view.shape (working_of old.0.view.role) step word))
+      (new.0.view ≡ worker old.0.view.shape old.0.view.key (worker_of old.0.view.role)
+      (working_after old.0.view.shape (working_in old) step word))
       × (new.1 ≡ slots)
 
   -- it looked at a cell
-  abbrev pub KnowsLooked : ℕ → ℕ → table.Me (Option A) Stamped → table.Me (Option A) Stamped → Type 0
+  abbrev pub KnowsLooked : ℕ → ℕ → Mine A → Mine A → Type 0
   KnowsLooked cell word old new = KnowsWorked (LooksAt cell) word old.1 old new × IsOfCell old.0.view.shape cell word
 
   -- it tried to take a number, and where it found it waiting, it has that number's slot
-  abbrev pub KnowsTried : Ticket → ℕ → table.Me (Option A) Stamped → table.Me (Option A) Stamped → Type 0
+  abbrev pub KnowsTried : Ticket → ℕ → Mine A → Mine A → Type 0
   KnowsTried ticket word old new =
       KnowsWorked (Takes ticket.0 ticket.1) word
-      (if nat_eq word (asked_word ticket.1) then (cell_of old.0.view.shape ticket.0 ticket.1, None) ∷ old.1 else old.1) old new
+      (if nat_eq word (asked_word ticket.1) then (cell_of old.0.view.shape ticket.0 ticket.1, None) ∷ old.1 else old.1)
+      old new
 
   -- it read the first word of the query of the number in its hand
-  abbrev pub KnowsFirst : Ticket → ℕ → table.Me (Option A) Stamped → table.Me (Option A) Stamped → Type 0
+  abbrev pub KnowsFirst : Ticket → ℕ → Mine A → Mine A → Type 0
   KnowsFirst ticket word old new = KnowsWorked (ReadsFirst ticket.0 ticket.1) word old.1 old new
 
   -- it read the second too, and they are the words of a query
-  abbrev pub KnowsSecond : Ticket → ℕ → ℕ → table.Me (Option A) Stamped → table.Me (Option A) Stamped → Type 0
+  abbrev pub KnowsSecond : Ticket → ℕ → ℕ → Mine A → Mine A → Type 0
   KnowsSecond ticket first word old new =
       KnowsWorked (ReadsSecond ticket.0 ticket.1 first) word old.1 old new × AreWords first word
 
   -- it answered the number in its hand; what it knows then is the same for all queries and answers
-  abbrev pub KnowsAnswered : Ticket → List (ℕ × Option A) → table.Me (Option A) Stamped → table.Me (Option A) Stamped → Type 0
+  abbrev pub KnowsAnswered : Ticket → List (ℕ × Option A) → Mine A → Mine A → Type 0
   KnowsAnswered ticket slots old new = KnowsWorked (Answers ticket.0 ticket.1 (Address 0) gnil) 0 slots old new
 
   -- it gave the number in its hand back
-  abbrev pub KnowsGivenBack : Ticket → List (ℕ × Option A) → table.Me (Option A) Stamped → table.Me (Option A) Stamped → Type 0
+  abbrev pub KnowsGivenBack : Ticket → List (ℕ × Option A) → Mine A → Mine A → Type 0
   KnowsGivenBack ticket slots old new = KnowsWorked (GivesBack ticket.0 ticket.1) 0 slots old new
 
 -- ---- how a seat is cut off

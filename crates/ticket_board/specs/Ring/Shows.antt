@@ -1,17 +1,22 @@
 -- Which state of the core the ring shows.
-use Rattle.std.specs.Prelude.{◌≡◌, ◌≢◌, ℕ, suc, ◌+◌, ◌<◌, ◌≤◌, ◌⊎◌, Bool, true, false, ◌&&◌, List, [], ◌∷◌, length, Option, Some, nat_eq, if◌then◌else◌}
+use Rattle.std.specs.Prelude.{◌≡◌, ◌≢◌, ℕ, suc, ◌+◌, ◌<◌, ◌≤◌, ◌⊎◌, Bool, true, false, ◌&&◌, List, [], ◌∷◌, length}
+use Rattle.std.specs.Prelude.{Option, Some, nat_eq, if◌then◌else◌}
 use mathlib.Core.Option.{some}
 use lib.ListN.{get_elem?}
 use Rattle.ticket_core.specs.declared.query.Query.{Query}
 use Rattle.ticket_core.specs.declared.shape.Shape.{Shape}
 use Rattle.ticket_core.specs.Query.{IsQuery, first_word, second_word}
-use Rattle.ticket_core.specs.State.{Shown, Meaning, Place, Unasked, Waiting, Held, Answered, Collected, Sender, Ticket, State, sender_at, hand_at, place_of, query_of}
+use Rattle.ticket_core.specs.State.{Shown, Meaning, Place, Unasked, Waiting, Held, Answered, Collected, Sender, Ticket}
+use Rattle.ticket_core.specs.State.{State, sender_at, hand_at, place_of, query_of}
 use Rattle.ticket_core.specs.Shape.{Fits}
 use Rattle.ticket_core.specs.Sound.{IsSound}
 use Rattle.ticket_core.specs.Runs.{once_finished}
-use Rattle.ticket_board.specs.Ring.Layout.{cells_in, words_in, state_at, first_at, second_at, free_word, asked_word, taken_word, answered_word, collecting_word}
+use Rattle.ticket_board.specs.Ring.Layout.{cells_in, words_in, state_at, first_at, second_at, free_word, asked_word}
+use Rattle.ticket_board.specs.Ring.Layout.{taken_word, answered_word, collecting_word}
 use Rattle.ticket_board.specs.Ring.Homes.{Home, Out, Empty, Full, home_at}
-use Rattle.ticket_board.specs.Ring.Views.{Known, Nothing, FirstWord, Whole, Asking, Working, Role, Opens, Asks, Works, View, next_asked, next_received, HasRoom, sender_seat, worker_seat, asking_at, working_at, working_of}
+use Rattle.ticket_board.specs.Ring.Views.{Known, Nothing, FirstWord, Whole, Asking, Working, Role, Opens, Asks, Works}
+use Rattle.ticket_board.specs.Ring.Views.{View, next_asked, next_received, HasRoom, sender_seat, worker_seat, asking_at}
+use Rattle.ticket_board.specs.Ring.Views.{working_at, working_of}
 
 -- what the ring is made of: its words, its slots, and what each seat knows
 pub record Board : Type 0 where
@@ -55,7 +60,8 @@ IsKnown (Whole known) query = known ≡ query
 
 -- ---- a sender, with the words and the slot of each of its numbers
 
-pub record SenderShows (shape : Shape) (state first second : ℕ → ℕ) (home : ℕ → Home) (asking : Asking) (sender : Sender) : Type 0 where
+pub record SenderShows (shape : Shape) (state first second : ℕ → ℕ) (home : ℕ → Home) (asking : Asking)
+    (sender : Sender) : Type 0 where
   pub asked : sender.asked ≡ asking.asked
   pub received : sender.received ≡ asking.received
   -- closing is in the client alone
@@ -64,13 +70,15 @@ pub record SenderShows (shape : Shape) (state first second : ℕ → ℕ) (home 
   pub cells : (n : ℕ) → next_received asking ≤ n → n < next_received asking + shape.window
       → CellShows n (next_received asking) asking.collecting (place_of sender n) (state n) (home n)
   -- and hold both words of each query that was asked
-  pub words : (n : ℕ) → next_received asking ≤ n → n < next_asked asking → HasWords (query_of sender n) (first n) (second n)
+  pub words : (n : ℕ) → next_received asking ≤ n → n < next_asked asking
+      → HasWords (query_of sender n) (first n) (second n)
   -- the cell of the next number holds what is written ahead, which is written only where one more
   -- may be asked
   pub ahead : IsAhead asking.ahead (first (next_asked asking)) (second (next_asked asking))
   pub room : asking.ahead ≢ Nothing → HasRoom shape asking
   pub found : asking.found ≡ true → state (next_received asking) ≡ answered_word (next_received asking)
-  pub collecting : (answer : Shown) → asking.collecting ≡ Some answer → state (next_received asking) ≡ collecting_word (next_received asking)
+  pub collecting : (answer : Shown) → asking.collecting ≡ Some answer
+      → state (next_received asking) ≡ collecting_word (next_received asking)
 
 -- ---- a worker
 
@@ -125,7 +133,8 @@ pub record Shows (meaning : Meaning) (shape : Shape) (key : List ℕ) (board : B
   pub homes : length board.homes ≡ cells_in shape
   pub seated : (seat : ℕ) (view : View) → Sits board seat view → Seated shape key (length board.views) seat view
   pub senders : (s : ℕ) → s < shape.senders
-      → SenderShows shape (state_at shape board.words s) (first_at shape board.words s) (second_at shape board.words s) (home_at shape board.homes s) (asking_at board.views s) (sender_at state s)
+      → SenderShows shape (state_at shape board.words s) (first_at shape board.words s) (second_at shape board.words s)
+      (home_at shape board.homes s) (asking_at board.views s) (sender_at state s)
   pub workers : (w : ℕ) → WorkerShows shape state w (working_at shape board.views w)
   -- each number that is answered or received was answered once, and every other never
   pub done : (s n : ℕ) → times_done s n board.views ≡ once_finished (place_of (sender_at state s) n)

@@ -1,14 +1,18 @@
 -- The steps of the ring, each on one word by one seat: when a step may be made, what it changes,
 -- and which event it is.
-use Rattle.std.specs.Prelude.{◌≡◌, ℕ, ◌+◌, ◌/◌, ◌%◌, ◌<◌, Bool, true, false, List, [], ◌∷◌, ◌++◌, slice_index_or, slice_set, Option, Some, None, nat_eq, if◌then◌else◌}
+use Rattle.std.specs.Prelude.{◌≡◌, ℕ, ◌+◌, ◌/◌, ◌%◌, ◌<◌, Bool, true, false, List, [], ◌∷◌, ◌++◌, slice_index_or}
+use Rattle.std.specs.Prelude.{slice_set, Option, Some, None, nat_eq, if◌then◌else◌}
 use Rattle.ticket_core.specs.declared.query.Query.{Query}
 use Rattle.ticket_core.specs.declared.shape.Shape.{Shape}
 use Rattle.ticket_core.specs.Query.{IsQuery, first_word, second_word, of_words}
 use Rattle.ticket_core.specs.State.{Shown, Meaning}
 use Rattle.ticket_core.specs.Events.{Event, Ask, Take, Finish, GiveBack, Collect}
-use Rattle.ticket_board.specs.Ring.Layout.{cells_in, cell_of, state_field, word_of, state_place, first_place, second_place, state_at, free_word, asked_word, taken_word, answered_word, collecting_word}
+use Rattle.ticket_board.specs.Ring.Layout.{cells_in, cell_of, state_field, word_of, state_place, first_place}
+use Rattle.ticket_board.specs.Ring.Layout.{second_place, state_at, free_word, asked_word, taken_word, answered_word}
+use Rattle.ticket_board.specs.Ring.Layout.{collecting_word}
 use Rattle.ticket_board.specs.Ring.Homes.{Home, Out, Empty, Full, home_at, answer_at_home}
-use Rattle.ticket_board.specs.Ring.Views.{Nothing, FirstWord, Whole, Asking, Working, next_asked, next_received, HasRoom, asker, worker}
+use Rattle.ticket_board.specs.Ring.Views.{Nothing, FirstWord, Whole, Asking, Working, next_asked, next_received}
+use Rattle.ticket_board.specs.Ring.Views.{HasRoom, asker, worker}
 use Rattle.ticket_board.specs.Ring.Shows.{Board}
 
 -- ---- a sender's steps
@@ -39,10 +43,13 @@ MaySend shape asking (Receives answer) = asking.collecting ≡ Some answer
 -- the words after it
 abbrev pub words_sent : Shape → ℕ → Asking → SenderStep → List ℕ → List ℕ
 words_sent shape s asking (WritesFirst word) words = slice_set words (first_place shape s (next_asked asking)) word
-words_sent shape s asking (WritesSecond query) words = slice_set words (second_place shape s (next_asked asking)) (second_word query)
-words_sent shape s asking (Publishes query) words = slice_set words (state_place shape s (next_asked asking)) (asked_word (next_asked asking))
+words_sent shape s asking (WritesSecond query) words =
+    slice_set words (second_place shape s (next_asked asking)) (second_word query)
+words_sent shape s asking (Publishes query) words =
+    slice_set words (state_place shape s (next_asked asking)) (asked_word (next_asked asking))
 words_sent shape s asking LooksNext words = words
-words_sent shape s asking BringsOut words = slice_set words (state_place shape s (next_received asking)) (collecting_word (next_received asking))
+words_sent shape s asking BringsOut words =
+    slice_set words (state_place shape s (next_received asking)) (collecting_word (next_received asking))
 words_sent shape s asking (Receives answer) words =
     slice_set words (state_place shape s (next_received asking)) (free_word (next_received asking + shape.window))
 
@@ -67,7 +74,10 @@ asking_after asking LooksNext word home = record asking {
   missed = if is_answered_word asking word then asking.missed else asking.missed ++ next_received asking ∷ [];
 }
 asking_after asking BringsOut word home = record asking { found = false; collecting = Some (answer_at_home home) }
-asking_after asking (Receives answer) word home = record asking { received = asking.received ++ answer ∷ []; collecting = None }
+asking_after asking (Receives answer) word home = record asking {
+  received = asking.received ++ answer ∷ [];
+  collecting = None;
+}
 
 -- the ring after it
 abbrev pub sent : Shape → List ℕ → ℕ → ℕ → Asking → SenderStep → Board → Board
@@ -75,7 +85,8 @@ sent shape key seat s asking step board = record {
   words = words_sent shape s asking step board.words;
   homes = homes_sent shape s asking step board.homes;
   views = slice_set board.views seat (asker shape key s
-      (asking_after asking step (state_at shape board.words s (next_received asking)) (home_at shape board.homes s (next_received asking))));
+      (asking_after asking step (state_at shape board.words s (next_received asking))
+      (home_at shape board.homes s (next_received asking))));
 }
 
 -- the event of the core that it is, if it is one
@@ -106,7 +117,8 @@ abbrev pub MayWork : Meaning → Shape → List ℕ → Working → WorkerStep �
 MayWork meaning shape key working (LooksAt cell) = (working.hand ≡ None) × (cell < cells_in shape)
 MayWork meaning shape key working (Takes s n) = (working.hand ≡ None) × (working.seen ≡ Some (s, n))
 MayWork meaning shape key working (ReadsFirst s n) = working.hand ≡ Some (s, n)
-MayWork meaning shape key working (ReadsSecond s n first) = (working.hand ≡ Some (s, n)) × (working.read ≡ FirstWord first)
+MayWork meaning shape key working (ReadsSecond s n first) =
+    (working.hand ≡ Some (s, n)) × (working.read ≡ FirstWord first)
 MayWork meaning shape key working (Answers s n query answer) =
     (working.hand ≡ Some (s, n)) × (working.read ≡ Whole query) × (answer ≡ meaning key query)
 MayWork meaning shape key working (GivesBack s n) = working.hand ≡ Some (s, n)
@@ -130,7 +142,8 @@ words_worked shape _ word words = words
 
 -- the slots after it
 abbrev pub homes_worked : Shape → WorkerStep → ℕ → List Home → List Home
-homes_worked shape (Takes s n) word homes = if nat_eq word (asked_word n) then slice_set homes (cell_of shape s n) Out else homes
+homes_worked shape (Takes s n) word homes =
+    if nat_eq word (asked_word n) then slice_set homes (cell_of shape s n) Out else homes
 homes_worked shape (Answers s n query answer) word homes = slice_set homes (cell_of shape s n) (Full answer)
 homes_worked shape (GivesBack s n) word homes = slice_set homes (cell_of shape s n) Empty
 homes_worked shape _ word homes = homes
@@ -153,7 +166,11 @@ working_after shape working (Takes s n) word = record working {
 }
 working_after shape working (ReadsFirst s n) word = record working { read = FirstWord word }
 working_after shape working (ReadsSecond s n first) word = record working { read = Whole (of_words first word) }
-working_after shape working (Answers s n query answer) word = record working { hand = None; read = Nothing; done = working.done ++ (s, n) ∷ [] }
+working_after shape working (Answers s n query answer) word = record working {
+  hand = None;
+  read = Nothing;
+  done = working.done ++ (s, n) ∷ [];
+}
 working_after shape working (GivesBack s n) word = record working { hand = None; read = Nothing }
 
 -- the ring after it

@@ -48,7 +48,8 @@ HoldsRead found working = (working.hand ≡ Some (found.0, found.1)) × (working
 -- this answer is the meaning of the query that it read
 abbrev pub IsMeaning : {A : Type 0} → (A → Shown) → Meaning → A → TakerState → Type 0
 IsMeaning shown meaning answer taker =
-    (query : Query) × (taker.working.read ≡ Whole query) × (shown answer ≡ meaning taker.key query) × IsSome taker.working.hand
+    (query : Query) × (taker.working.read ≡ Whole query) × (shown answer ≡ meaning taker.key query)
+    × IsSome taker.working.hand
 
 -- the number in its hand is answered, or given back
 abbrev pub answers_one : Ticket → Working → Working

@@ -2,11 +2,13 @@
 
 ghost use Rattle.std.specs.Prelude.{◌≡◌, ◌<◌, true, None, Some, IfOk, OnOk, OnErr, MatchResult, nat_eq};
 ghost use Rattle.ticket_board.specs.Ring.Views.{next_asked, next_received};
-ghost use Rattle.ticket_board.specs.Ring.Ends.{IsAskerOf, IsRightAsker, asking_refusal, asked_at, asks_one, looks};
+ghost use Rattle.ticket_board.specs.Ring.Laws.{IsServed};
+ghost use Rattle.ticket_board.specs.Ring.Ends.{IsAskerOf, AskerOccurs, asking_refusal, asked_at, asks_one, looks};
 ghost use Rattle.ticket_board.specs.Ring.Ends.{receives_one};
 
 use crate::fault::AskFault;
 use crate::ring::board::Ring;
+use crate::ring::laws::law_of_board;
 use crate::ring::layout::{CELL_WORDS, FIRST, SECOND, STATE, cell_at};
 use crate::ring::rule::Place;
 use crate::ring::slots::take_out;
@@ -115,11 +117,14 @@ impl<S: Solver> Asker<S> {
         self.received == self.asked
     }
 
-    /// Whatever was called before: what was received is a beginning of the meanings of what was
-    /// asked, in its order. It does nothing.
+    /// Whatever was called before, some moves make a ring on which a sender knows what this one
+    /// knows. So `law_of_board` holds of it: what was received is a beginning of the meanings of
+    /// what was asked, in its order. It does nothing.
     pub fn law_of_asker(&self)
-        ensures right { IsRightAsker S.meaning self.now }
+        ensures occurs { AskerOccurs S.meaning self.now }
+        ensures right { IsServed S.meaning self.now.shape self.now.key self.now.asking.asked self.now.asking.received }
     {
         let _ = &self.received;
+        law_of_board();
     }
 }

@@ -47,7 +47,8 @@ pub fn law_of_k3()
 /// A worker tries to exchange a state word, once: where that succeeds the number is taken, and else
 /// it is no event.
 pub fn law_of_k4()
-    ensures taken { (meaning : Meaning) (w s n : ℕ) (working : Working) → MoveLaw meaning (Works w working (Takes s n)) }
+    ensures taken { (meaning : Meaning) (w s n : ℕ) (working : Working)
+        → MoveLaw meaning (Works w working (Takes s n)) }
 {}
 
 /// A worker loads the first word of the query of the number in its hand: no event.

@@ -5,6 +5,7 @@ ghost use Rattle.ticket_core.specs.Shape.{Fits};
 ghost use Rattle.ticket_board.specs.Faults.{RefusesShape};
 ghost use Rattle.ticket_board.specs.Ring.Views.{stamped};
 ghost use Rattle.ticket_board.specs.Ring.Opening.{AreFree, next_seat};
+ghost use Rattle.ticket_board.specs.Ring.Moves.{Occurs};
 ghost use Rattle.ticket_board.specs.Ring.Rule.{cut_of};
 ghost use Rattle.ticket_board.specs.Ring.Opened.{IsDesk, IsRingOf, new_askers, new_takers};
 
@@ -44,7 +45,7 @@ fn lay<'a, S: Solver>(
 ) -> Result<(Ring<'a, S>, Place<S>), AllocError>
     requires { Fits shape }
     ensures ring { IfOk result (λ made. IsRingOf shape key.now made.0) }
-    ensures desk { IfOk result (λ made. IsDesk made.0 0 made.1.table_id made.1.me) }
+    ensures desk { IfOk result (λ made. IsDesk S.meaning made.0 0 made.1.table_id made.1.me) }
 {
     let words = free_words(alloc, &shape)?;
     let terms = Terms { shape, key };
@@ -59,11 +60,13 @@ fn lay<'a, S: Solver>(
 
 /// The seat of the next sender or worker.
 fn cut_off<'a, S: Solver>(ring: &Ring<'a, S>, desk: &mut Place<S>) -> Place<S>
-    requires desk { IsDesk ring.now (cut_of desk.old.me.0.view.role) desk.old.table_id desk.old.me }
+    requires desk { IsDesk S.meaning ring.now (cut_of desk.old.me.0.view.role) desk.old.table_id desk.old.me }
     requires left { cut_of desk.old.me.0.view.role < ring.now.shape.senders + ring.now.shape.workers }
-    ensures desk { IsDesk ring.now (cut_of desk.old.me.0.view.role + 1) desk.new.table_id desk.new.me }
+    ensures desk { IsDesk S.meaning ring.now (cut_of desk.old.me.0.view.role + 1) desk.new.table_id desk.new.me }
     ensures table { result.table_id ≡ ring.now.table }
-    ensures seat { result.me ≡ (stamped (next_seat ring.now.shape ring.now.key (cut_of desk.old.me.0.view.role)) 0, []) }
+    ensures seat { result.me
+        ≡ (stamped (next_seat ring.now.shape ring.now.key (cut_of desk.old.me.0.view.role)) 0, []) }
+    ensures occurs { Occurs S.meaning result.me.0.view }
 {
     ring.table.shared.split_seat::<CutOff>(desk)
 }
@@ -77,8 +80,8 @@ fn open_askers<'a, S: Solver>(
 ) -> Result<Vec<Asker<S>>, AllocError>
     requires shape { ring.now.shape ≡ shape }
     requires fits { Fits shape }
-    requires desk { IsDesk ring.now 0 desk.old.table_id desk.old.me }
-    ensures desk { OnOk result (IsDesk ring.now shape.senders desk.new.table_id desk.new.me) }
+    requires desk { IsDesk S.meaning ring.now 0 desk.old.table_id desk.old.me }
+    ensures desk { OnOk result (IsDesk S.meaning ring.now shape.senders desk.new.table_id desk.new.me) }
     ensures askers { IfOk result (λ askers. askers.items ≡ new_askers ring.now) }
 {
     let mut askers = Vec::with_capacity(alloc, shape.senders)?;
@@ -105,7 +108,7 @@ fn open_takers<'a, S: Solver>(
 ) -> Result<Vec<Taker<S>>, AllocError>
     requires shape { ring.now.shape ≡ shape }
     requires fits { Fits shape }
-    requires desk { IsDesk ring.now shape.senders desk.old.table_id desk.old.me }
+    requires desk { IsDesk S.meaning ring.now shape.senders desk.old.table_id desk.old.me }
     ensures takers { IfOk result (λ takers. takers.items ≡ new_takers ring.now) }
 {
     let mut takers = Vec::with_capacity(alloc, shape.workers)?;

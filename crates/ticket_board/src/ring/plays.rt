@@ -5,6 +5,7 @@ ghost use Rattle.atomic_table.specs.Table.{rest};
 ghost use Rattle.ticket_board.specs.Ring.Layout.{cell_words};
 ghost use Rattle.ticket_board.specs.Ring.Homes.{Out};
 ghost use Rattle.ticket_board.specs.Ring.Steps.{WritesFirst, WritesSecond, Publishes, LooksNext, Receives};
+ghost use Rattle.ticket_board.specs.Ring.Moves.{Occurs};
 ghost use Rattle.ticket_board.specs.Ring.Rule.{ahead_of, ahead_with, collecting_of, seen_of, hand_of, first_read_of};
 ghost use Rattle.ticket_board.specs.Ring.Rule.{left_after, cut_from};
 ghost use Rattle.ticket_board.specs.Ring.Rule.{KnowsSent, KnowsAnswer, KnowsLooked, KnowsTried, KnowsFirst};
@@ -40,17 +41,22 @@ impl<T> Play<Option<T>, Knowledge> for WriteSecond {
 }
 
 /// A number is asked.
-pub struct Publish;
+pub struct Publish<S> {
+    solved_by: PhantomData<S>,
+}
 
-impl<T> Play<Option<T>, Knowledge> for Publish {
-    ghost then = { λ step old word new. KnowsSent (Publishes (ahead_of old.0.view.role)) 0 Out old.1 old new };
+impl<S: Solver> Play<Option<S::Answer>, Knowledge> for Publish<S> {
+    ghost then = { λ step old word new. KnowsSent
+        (Publishes (ahead_of old.0.view.role)) 0 Out old.1 old new × Occurs S.meaning new.0.view };
 }
 
 /// A sender looks for its next answer.
-pub struct LookNext;
+pub struct LookNext<S> {
+    solved_by: PhantomData<S>,
+}
 
-impl<T> Play<Option<T>, Knowledge> for LookNext {
-    ghost then = { λ step old word new. KnowsSent LooksNext word Out old.1 old new };
+impl<S: Solver> Play<Option<S::Answer>, Knowledge> for LookNext<S> {
+    ghost then = { λ step old word new. KnowsSent LooksNext word Out old.1 old new × Occurs S.meaning new.0.view };
 }
 
 /// The next answer is on its way out of its slot.
@@ -63,10 +69,13 @@ impl<S: Solver> Play<Option<S::Answer>, Knowledge> for BringOut<S> {
 }
 
 /// The next answer is received.
-pub struct Receive;
+pub struct Receive<S> {
+    solved_by: PhantomData<S>,
+}
 
-impl<T> Play<Option<T>, Knowledge> for Receive {
-    ghost then = { λ step old word new. KnowsSent (Receives (collecting_of old.0.view.role)) 0 Out (rest old.1) old new };
+impl<S: Solver> Play<Option<S::Answer>, Knowledge> for Receive<S> {
+    ghost then = { λ step old word new. KnowsSent
+        (Receives (collecting_of old.0.view.role)) 0 Out (rest old.1) old new × Occurs S.meaning new.0.view };
 }
 
 /// A worker looks at a cell.
@@ -94,7 +103,8 @@ impl<T> Play<Option<T>, Knowledge> for ReadFirst {
 pub struct ReadSecond;
 
 impl<T> Play<Option<T>, Knowledge> for ReadSecond {
-    ghost then = { λ step old word new. KnowsSecond (hand_of old.0.view.role) (first_read_of old.0.view.role) word old new };
+    ghost then = { λ step old word new. KnowsSecond
+        (hand_of old.0.view.role) (first_read_of old.0.view.role) word old new };
 }
 
 /// A worker answers the number in its hand.

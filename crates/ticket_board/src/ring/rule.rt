@@ -1,4 +1,4 @@
-//! The table of the ring, and its rule: its words, slots and seats are what some moves made of them.
+//! The table of the ring, and its rule: some moves made its words, slots and seats what they are.
 
 use atomic_table::{Seat, Shared, TableRule};
 use std::marker::{Model, PhantomData};

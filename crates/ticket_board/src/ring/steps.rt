@@ -11,6 +11,7 @@ ghost use Rattle.ticket_board.specs.Ring.Homes.{Out};
 ghost use Rattle.ticket_board.specs.Ring.Views.{FirstWord, Whole, asking_of, working_of, next_asked, next_received};
 ghost use Rattle.ticket_board.specs.Ring.Views.{HasRoom};
 ghost use Rattle.ticket_board.specs.Ring.Steps.{WritesFirst, WritesSecond, Publishes, LooksNext, Receives};
+ghost use Rattle.ticket_board.specs.Ring.Moves.{Occurs};
 ghost use Rattle.ticket_board.specs.Ring.Rule.{IsSender, IsWorker, sender_of, ahead_of, collecting_of, seen_of};
 ghost use Rattle.ticket_board.specs.Ring.Rule.{hand_of, read_of, first_read_of};
 ghost use Rattle.ticket_board.specs.Ring.Rule.{KnowsSent, KnowsAnswer, KnowsLooked, KnowsTried, KnowsFirst};
@@ -75,9 +76,11 @@ pub fn publish<'a, S: Solver>(shelf: &Shelf<'a, S>, seat: &mut Place<S>, word: u
         (next_asked (asking_of seat.old.me.0.view.role)) }
     requires asked { asked ≡ asked_word (next_asked (asking_of seat.old.me.0.view.role)) }
     ensures same { (seat.new.table_id ≡ seat.old.table_id) × (seat.new.id ≡ seat.old.id) }
-    ensures told { KnowsSent (Publishes (ahead_of seat.old.me.0.view.role)) 0 Out seat.old.me.1 seat.old.me seat.new.me }
+    ensures told { KnowsSent (Publishes (ahead_of seat.old.me.0.view.role)) 0 Out seat.old.me.1
+        seat.old.me seat.new.me }
+    ensures occurs { Occurs S.meaning seat.new.me.0.view }
 {
-    shelf.store::<Publish>(seat, word, asked);
+    shelf.store::<Publish<S>>(seat, word, asked);
 }
 
 /// Loads the state of the number that a sender receives next.
@@ -90,8 +93,9 @@ pub fn look_next<'a, S: Solver>(shelf: &Shelf<'a, S>, seat: &mut Place<S>, word:
         (next_received (asking_of seat.old.me.0.view.role)) }
     ensures same { (seat.new.table_id ≡ seat.old.table_id) × (seat.new.id ≡ seat.old.id) }
     ensures told { KnowsSent LooksNext result Out seat.old.me.1 seat.old.me seat.new.me }
+    ensures occurs { Occurs S.meaning seat.new.me.0.view }
 {
-    shelf.load::<LookNext>(seat, word)
+    shelf.load::<LookNext<S>>(seat, word)
 }
 
 /// Stores that the answer of this number is on its way out, and takes the slot in which it lies.
@@ -120,12 +124,14 @@ pub fn receive<'a, S: Solver>(shelf: &Shelf<'a, S>, seat: &mut Place<S>, word: u
         (next_received (asking_of seat.old.me.0.view.role))) None seat.old.me }
     requires place { word ≡ state_place seat.old.me.0.view.shape (sender_of seat.old.me.0.view.role)
         (next_received (asking_of seat.old.me.0.view.role)) }
-    requires free { free ≡ free_word (next_received (asking_of seat.old.me.0.view.role) + seat.old.me.0.view.shape.window) }
+    requires free { free ≡ free_word
+        (next_received (asking_of seat.old.me.0.view.role) + seat.old.me.0.view.shape.window) }
     ensures same { (seat.new.table_id ≡ seat.old.table_id) × (seat.new.id ≡ seat.old.id) }
     ensures told { KnowsSent (Receives (collecting_of seat.old.me.0.view.role)) 0 Out
         (rest seat.old.me.1) seat.old.me seat.new.me }
+    ensures occurs { Occurs S.meaning seat.new.me.0.view }
 {
-    shelf.store::<Receive>(seat, word, free);
+    shelf.store::<Receive<S>>(seat, word, free);
 }
 
 /// Loads the state word of a cell, for a worker whose hand is empty.

@@ -11,10 +11,10 @@ returns c =
     let law = c.law_of_runs.ensures in
     let all-served : (meaning : _) → OfAllMoves meaning (AreServed meaning) =
     λ meaning shape key words moves may s below.
-        let run = moves-show meaning shape key words moves may in
-        let events = events_of shape key words moves in
-        served meaning shape key (board_after shape key words moves) run.0 run.1 s below (law.right meaning shape key events run.0 run.2 s)
-        (law.limits meaning shape key events run.0 run.2 s) in
+    let run = moves-show meaning shape key words moves may in
+    let events = events_of shape key words moves in
+    served meaning shape key (board_after shape key words moves) run.0 run.1 s below (law.right meaning shape key events run.0 run.2 s)
+    (law.limits meaning shape key events run.0 run.2 s) in
     record {
       shows = λ meaning shape key words moves may. moves-show meaning shape key words moves may;
       served = all-served;

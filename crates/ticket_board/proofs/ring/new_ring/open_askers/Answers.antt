@@ -10,9 +10,9 @@ loop-sender-preserved g c =
     let ring = c.args.ring.now in
     let seat = c.cut_off-seat in
     let below : c.loop-sender.sender < ring.shape.senders = subst (λ (x : Shape). c.loop-sender.sender < x.senders) (sym c.requires.shape) c.loop-sender-test.true in
-    let me = asker-cut ring c.loop-sender.sender c.loop-sender.desk.me seat.result.me below i.desk.1 seat.ensures.seat in
+    let me = asker-cut ring c.loop-sender.sender c.loop-sender.desk.me seat.result.me below i.desk.knows seat.ensures.seat in
     record {
-      desk = desk-after ring c.loop-sender.sender (c.loop-sender.sender + 1) seat.new.desk.table_id c.loop-sender.desk.me seat.new.desk.me i.desk.1 seat.ensures.desk refl;
+      desk = desk-after g.S.Solver.meaning ring c.loop-sender.sender (c.loop-sender.sender + 1) seat.new.desk.table_id c.loop-sender.desk.me seat.new.desk.me i.desk.knows seat.ensures.desk refl;
       len = omega (arith, i.len, c.push_reserved.ensures.len);
       room = omega (arith, i.room, c.push_reserved.ensures.capacity);
       made = askers-then ring c.loop-sender.sender c.loop-sender.askers.items c.push_reserved.new.self.items _ i.made c.push_reserved.ensures.items
