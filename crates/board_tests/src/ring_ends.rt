@@ -60,7 +60,8 @@ pub fn open_ends<'a, S: Solver>(
     })
 }
 
-/// Two workers take two numbers of a window of two. One that is given back is taken again, with the same query.
+/// Two workers take two numbers, of a window of two. One that is given back is taken again, with
+/// the same query.
 fn take_two<S: Solver>(rt: &impl Abort, alloc: Global) -> Result<(), BoardFault> {
     let Ends {
         ring,

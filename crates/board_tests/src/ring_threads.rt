@@ -36,6 +36,38 @@ struct Asking<'r, 'a, S: Solver> {
     ghost asker_of: { IsAskerOf ring.now asker },
 }
 
+/// Asks the query at this index, where there is one and the window has room, and returns how many
+/// were asked then.
+fn ask_next<'a, S: Solver>(
+    ring: &Ring<'a, S>,
+    asker: &mut Asker<S>,
+    queries: &[Query],
+    asked: usize,
+) -> usize
+    requires ring { IsAskerOf ring.now asker.old }
+    ensures ring { IsAskerOf ring.now asker.new }
+{
+    if asked >= queries.len() {
+        return asked;
+    }
+    let Ok(_) = asker.ask(ring, queries[asked]) else {
+        return asked;
+    };
+    asked + 1
+}
+
+/// Collects the next number, where it is answered.
+fn collect_next<'a, S: Solver>(ring: &Ring<'a, S>, asker: &mut Asker<S>) -> Option<(u64, S::Answer)>
+    requires ring { IsAskerOf ring.now asker.old }
+    ensures ring { IsAskerOf ring.now asker.new }
+{
+    if !asker.ready(ring) {
+        thread::yield_now();
+        return None;
+    }
+    Some(asker.collect(ring))
+}
+
 /// Asks the queries, as far as the window allows, and collects their answers, until it has all of
 /// them. The error says that an allocation was refused, or that another thread stopped.
 fn ask_all<S: Solver, R: Wait>(
@@ -52,20 +84,17 @@ fn ask_all<S: Solver, R: Wait>(
     let mut collected = Vec::new(alloc);
     let mut asked = 0usize;
     for _ in rt.forever() {
-        if asked < queries.len() && asker.ask(ring, queries[asked]).is_ok() {
-            asked += 1;
-        }
-        if asker.ready(ring) {
-            collected.push(asker.collect(ring))?;
-        } else {
-            thread::yield_now();
-        }
         if collected.len() == queries.len() {
             return Ok(collected);
         }
         if stop.load(Ordering::SeqCst) {
             return Err(AllocError);
         }
+        asked = ask_next(ring, &mut asker, queries, asked);
+        let Some(found) = collect_next(ring, &mut asker) else {
+            continue;
+        };
+        collected.push(found)?;
     }
     unreachable!()
 }
@@ -79,12 +108,11 @@ struct Taking<'r, 'a, S: Solver> {
     stop: &'r AtomicBool,
     ghost taker_of: { IsTakerOf ring.now taker },
     ghost empty: { HasEmptyHand taker },
-    ghost same_key: { S.key solver ≡ ring.now.key },
 }
 
 /// Takes a number, solves its query and answers it; or gives it back, where the solver is out of
 /// memory.
-fn answer_one<'a, S: Solver, L: Ledger>(
+fn answer_counted<'a, S: Solver, L: Ledger>(
     ring: &Ring<'a, S>,
     taker: &mut Taker<S>,
     solver: &mut S,
@@ -117,8 +145,26 @@ fn answer_one<'a, S: Solver, L: Ledger>(
     }
 }
 
+/// The same with a counter of its own.
+fn answer_one<'a, S: Solver>(
+    ring: &Ring<'a, S>,
+    taker: &mut Taker<S>,
+    solver: &mut S,
+) -> Result<(), NoMemory>
+    requires ring { IsTakerOf ring.now taker.old }
+    requires empty { HasEmptyHand taker.old }
+    requires key { S.key solver.old ≡ ring.now.key }
+    ensures ring { IsTakerOf ring.now taker.new }
+    ensures empty { HasEmptyHand taker.new }
+    ensures key { S.key solver.new ≡ ring.now.key }
+{
+    answer_counted::<S, Brand>(ring, taker, solver, Blank::new(1))
+}
+
 /// Answers what waits, until the threads are to stop. Where its solver is out of memory, they are.
-fn take_all<S: Solver + Drop, R: Wait>(rt: &R, taking: Taking<'_, '_, S>) -> Result<(), NoMemory> {
+fn take_all<S: Solver + Drop, R: Wait>(rt: &R, taking: Taking<'_, '_, S>) -> Result<(), NoMemory>
+    requires key { S.key taking.solver ≡ taking.ring.now.key }
+{
     let Taking {
         ring,
         mut taker,
@@ -129,7 +175,7 @@ fn take_all<S: Solver + Drop, R: Wait>(rt: &R, taking: Taking<'_, '_, S>) -> Res
         if stop.load(Ordering::SeqCst) {
             return Ok(());
         }
-        let Ok(()) = answer_one::<S, Brand>(ring, &mut taker, &mut solver, Blank::new(1)) else {
+        let Ok(()) = answer_one(ring, &mut taker, &mut solver) else {
             stop.store(true, Ordering::SeqCst);
             return Err(AllocError);
         };
@@ -167,10 +213,13 @@ fn start_taking<'s, 'a: 's, E: 's, S: Solver + Drop + Send + Sync, R: Wait + Syn
     scope: &Scope<'s, E>,
     rt: &'s R,
     taking: Taking<'s, 'a, S>,
-) -> Result<JoinHandle<Result<(), NoMemory>>, NoMemory> {
+) -> Result<JoinHandle<Result<(), NoMemory>>, NoMemory>
+    requires key { S.key taking.solver ≡ taking.ring.now.key }
+{
     let thread = scope.spawn(
         move || -> Result<(), NoMemory>
             requires sync { IsSync R.row }
+            requires key { S.key taking.solver ≡ taking.ring.now.key }
         { take_all(rt, taking) },
     )?;
     Ok(thread)
@@ -190,7 +239,10 @@ fn run_in<'s, 'a: 's, E: 's, S: Solver + Drop + Send + Sync, R: Threads + Wait +
     rt: &'s R,
     alloc: Global,
     four: Four<'s, 'a, S>,
-) -> Result<(Collected<S>, Collected<S>), NoMemory> {
+) -> Result<(Collected<S>, Collected<S>), NoMemory>
+    requires first { S.key four.first_taking.solver ≡ four.first_taking.ring.now.key }
+    requires second { S.key four.second_taking.solver ≡ four.second_taking.ring.now.key }
+{
     let Four {
         first_asking,
         second_asking,
@@ -217,12 +269,17 @@ fn run<S: Solver + Drop + Send + Sync, R: Threads + Wait + Sync>(
     rt: &R,
     alloc: Global,
     four: Four<'_, '_, S>,
-) -> Result<(Collected<S>, Collected<S>), NoMemory> {
+) -> Result<(Collected<S>, Collected<S>), NoMemory>
+    requires first { S.key four.first_taking.solver ≡ four.first_taking.ring.now.key }
+    requires second { S.key four.second_taking.solver ≡ four.second_taking.ring.now.key }
+{
     thread::scope(
         thread::scope_env(),
         rt,
         move |scope| -> Result<(Collected<S>, Collected<S>), NoMemory>
             requires sync { IsSync R.row }
+            requires first { S.key four.first_taking.solver ≡ four.first_taking.ring.now.key }
+            requires second { S.key four.second_taking.solver ≡ four.second_taking.ring.now.key }
         { run_in(scope, rt, alloc, four) },
     )
 }

@@ -13,6 +13,7 @@ pub mod RingMissed
 pub mod RingAsker
 pub mod RingMoves
 pub mod RingRuns
+pub mod RingMisses
 pub mod RingTable
 pub mod RingRule
 pub mod RingWorkerRule

@@ -7,6 +7,7 @@ pub mod Steps
 pub mod Laws
 pub mod Opening
 pub mod Moves
+pub mod Misses
 pub mod Codes
 pub mod Rule
 pub mod Ends

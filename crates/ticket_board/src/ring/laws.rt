@@ -13,6 +13,7 @@ ghost use Rattle.ticket_board.specs.Ring.Steps.{WritesFirst, WritesSecond, Publi
 ghost use Rattle.ticket_board.specs.Ring.Steps.{Receives, LooksAt, Takes, ReadsFirst, ReadsSecond, Answers};
 ghost use Rattle.ticket_board.specs.Ring.Steps.{GivesBack};
 ghost use Rattle.ticket_board.specs.Ring.Moves.{Move, Cuts, Sends, Works};
+ghost use Rattle.ticket_board.specs.Ring.Misses.{MayMiss};
 ghost use Rattle.ticket_board.specs.Ring.Laws.{OpeningLaw, MoveLaw, OfAllMoves, ShowsReached, AreServed};
 ghost use Rattle.ticket_board.specs.Ring.Laws.{AnsweredOnce, EndStays};
 
@@ -93,6 +94,12 @@ pub fn law_of_k10()
 /// Any move, by any seat.
 pub fn law_of_steps()
     ensures moves { (meaning : Meaning) (move : Move) → MoveLaw meaning move }
+{}
+
+/// A sender whose look is noted as a miss whatever it found breaks the rule of the table: on some
+/// ring, no moves make what it would leave.
+pub fn law_of_looks()
+    ensures refused { (meaning : Meaning) → ¬ MayMiss meaning }
 {}
 
 /// Whatever moves made a ring since it was opened, each of which could be made where it was:
