@@ -165,7 +165,8 @@ fn answer(settings: &Settings, found: Found<'_>, request: &Request) -> Answer {
             let begin = settings.section.as_ref().map_or(Some(0), |name| program.section_address(name));
             begin.map(|begin| begin.wrapping_add(address.wrapping_sub(settings.adjust)))
         }
-        Target::Symbol { name, offset } => program.find_symbol(name, *offset, sources),
+        Target::Symbol { name, offset } if request.kind == Kind::Code => program.find_symbol(name, *offset, sources),
+        Target::Symbol { .. } => None,
     };
     match (request.kind, address) {
         (Kind::Code, Some(address)) => Answer::Frames(program.find_frames(address, sources)),

@@ -1,5 +1,6 @@
 //! Names of functions as people read them.
 
+use std::ffi::CString;
 use std::fmt::{self, Write};
 
 use cpp_demangle::{DemangleOptions, Symbol};
@@ -9,6 +10,8 @@ use crate::guard::guarded;
 
 /// A readable name isn't longer than this; a name of which it would be stays as it is.
 const LONGEST: usize = 64 << 10;
+/// A mangled name that is longer than this stays as it is too.
+const LONGEST_MANGLED: usize = 16 << 10;
 
 /// How much of a name is shown.
 #[derive(Debug, Clone, Copy, PartialEq, Eq)]
@@ -57,12 +60,10 @@ pub fn is_mangled(name: &[u8]) -> bool {
 
 /// The name that stands behind a mangled one; none where it is of no scheme, or would be too long.
 pub fn demangled(name: &[u8], length: Length) -> Option<Vec<u8>> {
-    if !is_mangled(name) {
+    if !is_mangled(name) || name.len() > LONGEST_MANGLED {
         return None;
     }
-    let readable = guarded(|| rust(name).or_else(|| cpp(name, length)))??;
-    let readable = readable.into_bytes();
-    Some(if length == Length::Short { without_scopes(&readable).to_vec() } else { readable })
+    guarded(|| rust(name).map(String::into_bytes).or_else(|| cpp(name, length)))?
 }
 
 /// A name of either of Rust's schemes.
@@ -83,14 +84,19 @@ fn has_rust_hash(name: &[u8]) -> bool {
     hash.is_some_and(|hash| hash.starts_with(b"17h") && hash[3..].iter().all(u8::is_ascii_hexdigit))
 }
 
-fn cpp(name: &[u8], length: Length) -> Option<String> {
+/// A name of C++. The crate writes it into a bounded text first: where that succeeds, the name is one of those of which the
+/// C++ library can write the whole text, which the crate gets wrong for empty packs and templates of constructors.
+fn cpp(name: &[u8], length: Length) -> Option<Vec<u8>> {
     let options = match length {
         Length::Whole => DemangleOptions::new(),
         Length::Short => DemangleOptions::new().no_params().no_return_type(),
     };
     let mut bounded = Bounded::default();
     Symbol::new(name).ok()?.structured_demangle(&mut bounded, &options).ok()?;
-    Some(bounded.0)
+    match length {
+        Length::Whole => a2l::demangle_cxx(&CString::new(name).ok()?),
+        Length::Short => Some(without_scopes(bounded.0.as_bytes()).to_vec()),
+    }
 }
 
 /// A text that refuses to be longer than `LONGEST`: a short mangled name can stand for an endless one.
@@ -140,6 +146,8 @@ mod tests {
             ("_ZN4core3fmt5write17h0123456789abcdefE", "core::fmt::write"),
             ("_RNvC7mycrate4main", "mycrate::main"),
             ("_ZN3foo3barE", "foo::bar"),
+            ("_ZN1AIiJEE1fEv", "A<int>::f()"),
+            ("_ZN1BC1IcEEmc", "B::B<char>(unsigned long, char)"),
         ] {
             assert_eq!(readable(name, Length::Whole).as_deref(), Some(whole));
         }

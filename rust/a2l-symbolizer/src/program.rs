@@ -232,9 +232,8 @@ impl Program {
             Kind::Functions => &mut self.functions,
             Kind::Variables => &mut self.variables,
         };
-        let files: Vec<_> =
-            [Some(&self.file), self.debug.as_ref()].into_iter().flatten().map(|file| &file.file).collect();
-        place.get_or_insert_with(|| Symbols::read(&files, kind))
+        let debug = self.debug.as_ref().map(|debug| &debug.file);
+        place.get_or_insert_with(|| Symbols::read(&self.file.file, debug, kind))
     }
 
     /// The first address of a section.

@@ -84,14 +84,12 @@ fn kind(line: &[u8]) -> (Kind, &[u8]) {
     found.unwrap_or((Kind::Code, line))
 }
 
-/// The name of the module and what is asked for in it. Names that LLVM can't spell are taken too: one in quotes ends at the
-/// first quote that a number follows, so that it may have quotes itself; and where no number follows a word without
-/// quotes, but the last word is a number, the name is all before it, so that it may have blanks.
+/// The name of the module and what is asked for in it.
 fn name_and_target(spelling: Spelling, text: &[u8]) -> Option<(&[u8], Target)> {
     let (name, rest) = first_word(text)?;
     let mut found = first_target(spelling, rest).map(|target| (name, target));
     if !matches!(found, Some((_, Target::Address(_)))) {
-        found = longer_name(spelling, text).map(|(name, address)| (name, Target::Address(address))).or(found);
+        found = quoted_name(spelling, text).map(|(name, address)| (name, Target::Address(address))).or(found);
     }
     found.filter(|(name, _)| !name.is_empty())
 }
@@ -107,14 +105,13 @@ fn first_word(text: &[u8]) -> Option<(&[u8], &[u8])> {
     }
 }
 
-fn longer_name(spelling: Spelling, text: &[u8]) -> Option<(&[u8], u64)> {
-    let text = text.trim_ascii();
-    let (name, last) = text.split_at(text.iter().rposition(|&byte| byte == b' ')?);
-    let address = number(spelling, &last[1..])?;
-    let name = name.trim_ascii_end();
-    match name.first()? {
-        quote @ (b'"' | b'\'') => Some((name[1..].strip_suffix(&[*quote])?, address)),
-        _ => Some((name, address)),
+/// A name in quotes that has such quotes itself, which LLVM can't spell: it ends at the last one, and a number follows.
+fn quoted_name(spelling: Spelling, text: &[u8]) -> Option<(&[u8], u64)> {
+    let quote = text.first().filter(|first| matches!(first, b'"' | b'\''))?;
+    let end = text.iter().rposition(|byte| byte == quote).filter(|&end| end > 0)?;
+    match first_target(spelling, &text[end + 1..])? {
+        Target::Address(address) => Some((&text[1..end], address)),
+        Target::Symbol { .. } => None,
     }
 }
 
@@ -171,8 +168,6 @@ mod tests {
             (r#"CODE FILE: "a" 0x10"#, Kind::Code, "a"),
             (r#"CODE "a:x86_64" 0x10"#, Kind::Code, "a"),
             ("a:b 0x10", Kind::Code, "a:b"),
-            ("code a 0x10", Kind::Code, "code a"),
-            ("CODE a b 0x10", Kind::Code, "a b"),
             (r#"CODE "a"b" 0x10"#, Kind::Code, r#"a"b"#),
         ] {
             assert_eq!(asked(line), Some((kind, path.to_owned(), 16)), "{line}");
@@ -192,6 +187,8 @@ mod tests {
         let request = parse(LLVM, None, b"BUILDID:0aff 0x10").expect("a request");
         assert_eq!(request.module, Module::BuildId(vec![0x0a, 0xff]));
         assert_eq!(parse(LLVM, None, b"BUILDID:zz 0x10"), None);
+        let request = parse(LLVM, None, b"a main 0x10").expect("a request");
+        assert_eq!(request.target, Target::Symbol { name: b"main".to_vec(), offset: 0 });
         let request = parse(LLVM, None, b"a main+0x10").expect("a request");
         assert_eq!(request.target, Target::Symbol { name: b"main".to_vec(), offset: 16 });
     }

@@ -18,9 +18,13 @@ pub enum Kind {
     Variables,
 }
 
-/// The symbols of one kind of a file, in order of address.
+/// The symbols of one kind of a program.
 #[derive(Debug)]
-pub struct Symbols {
+pub struct Symbols(Vec<Table>);
+
+/// The symbols of one table, in order of address.
+#[derive(Debug)]
+struct Table {
     entries: Vec<Entry>,
     names: Option<Part>,
 }
@@ -58,17 +62,30 @@ struct Rank {
 }
 
 impl Symbols {
-    /// The symbols of the first of these files that has some in .symtab, else in .dynsym.
-    pub fn read(files: &[&Arc<File>], kind: Kind) -> Symbols {
-        let tables = [SHT_SYMTAB, SHT_DYNSYM];
-        let mut found = tables.into_iter().flat_map(|table| files.iter().map(move |file| of_file(file, table, kind)));
-        found
-            .find_map(|symbols| symbols.ok().filter(|symbols| !symbols.entries.is_empty()))
-            .unwrap_or(Symbols { entries: Vec::new(), names: None })
+    /// Those of .symtab of a file. Where that has none, those of .dynsym and after these those of .symtab of its debug file,
+    /// which may have no symbols that are in .dynsym.
+    pub fn read(file: &Arc<File>, debug: Option<&Arc<File>>, kind: Kind) -> Symbols {
+        let table = |file, table| of_file(file, table, kind).ok().filter(|table| !table.entries.is_empty());
+        if let Some(own) = table(file, SHT_SYMTAB) {
+            return Symbols(vec![own]);
+        }
+        let dynamic = table(file, SHT_DYNSYM);
+        Symbols(dynamic.into_iter().chain(debug.and_then(|debug| table(debug, SHT_SYMTAB))).collect())
     }
 
     /// The symbol that has an address: of those that hold it, the one that begins last.
     pub fn find(&self, address: u64) -> Option<Symbol<'_>> {
+        self.0.iter().find_map(|table| table.find(address))
+    }
+
+    /// The first symbol, by address, that has a name.
+    pub fn named(&self, name: &[u8]) -> Option<Symbol<'_>> {
+        self.0.iter().find_map(|table| table.named(name))
+    }
+}
+
+impl Table {
+    fn find(&self, address: u64) -> Option<Symbol<'_>> {
         let after = self.entries.partition_point(|entry| entry.start <= address);
         let entry = self.entries[..after]
             .iter()
@@ -78,14 +95,13 @@ impl Symbols {
         self.symbol(entry)
     }
 
-    /// The first symbol, by address, that has a name.
-    pub fn named(&self, name: &[u8]) -> Option<Symbol<'_>> {
-        let entry = self.entries.iter().find(|entry| self.text(entry.name) == Some(name))?;
+    fn named(&self, name: &[u8]) -> Option<Symbol<'_>> {
+        let entry = self.entries.iter().find(|entry| self.text(entry.name).map(without_version) == Some(name))?;
         self.symbol(entry)
     }
 
     fn symbol(&self, entry: &Entry) -> Option<Symbol<'_>> {
-        let (name, file) = (self.text(entry.name)?, self.text(entry.file));
+        let (name, file) = (without_version(self.text(entry.name)?), self.text(entry.file));
         let size = if entry.rank.sized { entry.end - entry.start } else { 0 };
         Some(Symbol { name, file, start: entry.start, size })
     }
@@ -97,15 +113,23 @@ impl Symbols {
     }
 }
 
-fn of_file(file: &Arc<File>, table: u32, kind: Kind) -> Result<Symbols, Error> {
-    match FileKind::parse(&***file)? {
-        FileKind::Elf32 => of_elf::<FileHeader32<Endianness>>(file, table, kind),
-        FileKind::Elf64 => of_elf::<FileHeader64<Endianness>>(file, table, kind),
-        _ => Ok(Symbols { entries: Vec::new(), names: None }),
+/// A name without the version that linkers append to those of a shared library (name@VERSION, name@@VERSION).
+fn without_version(name: &[u8]) -> &[u8] {
+    match name.iter().position(|&byte| byte == b'@') {
+        Some(end) if end > 0 => &name[..end],
+        _ => name,
     }
 }
 
-fn of_elf<Elf: FileHeader<Endian = Endianness>>(file: &Arc<File>, table: u32, kind: Kind) -> Result<Symbols, Error> {
+fn of_file(file: &Arc<File>, table: u32, kind: Kind) -> Result<Table, Error> {
+    match FileKind::parse(&***file)? {
+        FileKind::Elf32 => of_elf::<FileHeader32<Endianness>>(file, table, kind),
+        FileKind::Elf64 => of_elf::<FileHeader64<Endianness>>(file, table, kind),
+        _ => Ok(Table { entries: Vec::new(), names: None }),
+    }
+}
+
+fn of_elf<Elf: FileHeader<Endian = Endianness>>(file: &Arc<File>, table: u32, kind: Kind) -> Result<Table, Error> {
     let data: &[u8] = file;
     let header = Elf::parse(data)?;
     let endian = header.endian()?;
@@ -120,7 +144,7 @@ fn of_elf<Elf: FileHeader<Endian = Endianness>>(file: &Arc<File>, table: u32, ki
     let names = names.and_then(|(offset, size)| {
         Part::new(file, usize::try_from(offset).ok()?..usize::try_from(offset.checked_add(size)?).ok()?)
     });
-    Ok(Symbols { entries, names })
+    Ok(Table { entries, names })
 }
 
 /// Where the symbols of one kind stand.
@@ -214,7 +238,7 @@ mod tests {
         end_unsized(&mut entries);
         set_reach(&mut entries);
         let names = b"\0a\0b\0c\0d\0".to_vec();
-        Symbols { entries, names: Some(Part::whole(File::from(names))) }
+        Symbols(vec![Table { entries, names: Some(Part::whole(File::from(names))) }])
     }
 
     fn name_at(symbols: &Symbols, address: u64) -> Option<&str> {
@@ -226,6 +250,13 @@ mod tests {
         let found = symbols(vec![entry(16, 8, 99, 2, 1), entry(16, 8, 99, 0, 3), entry(16, 8, 99, 1, 5)]);
         assert_eq!(name_at(&found, 16), Some("a"));
         assert_eq!((name_at(&found, 15), name_at(&found, 24)), (None, None));
+    }
+
+    #[test]
+    fn versions_are_no_part_of_a_name() {
+        for (name, wanted) in [("qsort@@GLIBC_2.2.5", "qsort"), ("a@b", "a"), ("main", "main"), ("@x", "@x")] {
+            assert_eq!(without_version(name.as_bytes()), wanted.as_bytes());
+        }
     }
 
     #[test]

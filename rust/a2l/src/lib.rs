@@ -10,11 +10,15 @@
 //! ```
 
 mod cut_off;
+#[cfg(feature = "cxx-names")]
+mod cxx_name;
 mod ffi;
 mod file;
 mod program;
 
 pub use cut_off::end_where_cut_off;
+#[cfg(feature = "cxx-names")]
+pub use cxx_name::demangle_cxx;
 pub use file::{File, Part};
 pub use program::{Program, UnitFrames};
 
