@@ -1,4 +1,5 @@
-//! Links liba2l: that of the folder `A2L_LIB_DIR`, else the one that `make library` has built in this repository.
+//! Links liba2l: that of the folder `A2L_LIB_DIR`, else the one that `make library` has built in
+//! this repository.
 
 use std::env;
 use std::path::PathBuf;

@@ -1,4 +1,5 @@
-//! The command line: the options of llvm-symbolizer and of both addr2lines, and those that are our own.
+//! The command line: the options of llvm-symbolizer and of both addr2lines, and those that are our
+//! own.
 
 use std::ffi::{OsStr, OsString};
 use std::os::unix::ffi::OsStrExt;
@@ -41,7 +42,8 @@ impl CacheSize {
     pub const USUAL: CacheSize = CacheSize { files: 16, bytes: 4 << 30 };
 }
 
-const OPTIONAL: &str = "[optional]";
+/// How a value is shown that may be left out.
+const OPTIONAL: &str = "WHICH";
 
 #[derive(Debug, Parser)]
 #[command(
@@ -59,7 +61,8 @@ pub struct Arguments {
     #[arg(long, value_name = "HEX", value_parser = build_id, conflicts_with = "object")]
     pub build_id: Option<BuildId>,
     /// Shows functions: by no name, the short one, or the whole one
-    #[arg(short = 'f', long, value_name = OPTIONAL, num_args = 0..=1, require_equals = true, default_missing_value = "linkage")]
+    #[arg(short = 'f', long, value_name = OPTIONAL, num_args = 0..=1, require_equals = true,
+          default_missing_value = "linkage")]
     pub functions: Option<Functions>,
     /// Shows inlined functions too
     #[arg(short = 'i', long = "inlines", aliases = ["inlining", "inline"], value_name = OPTIONAL,
@@ -119,7 +122,8 @@ pub struct Arguments {
     /// Reports on standard error who answers for each file, and why one can't be read
     #[arg(long)]
     pub verbose: bool,
-    /// Asks 1,000 addresses of the file through both protocols, and compares with the library's answers
+    /// Asks 1,000 addresses of the file through both protocols, and compares with the library's
+    /// answers
     #[arg(long)]
     pub self_check: bool,
     /// Stands for this tool, whatever the program's name

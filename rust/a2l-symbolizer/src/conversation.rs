@@ -56,7 +56,8 @@ impl Conversation {
         self.failed
     }
 
-    /// Opens the file of the command line, where it has one. The text of an error says what is missing.
+    /// Opens the file of the command line, where it has one. The text of an error says what is
+    /// missing.
     pub fn open_module(&mut self) -> Result<(), String> {
         let Some(module) = &self.settings.module else {
             return Ok(());

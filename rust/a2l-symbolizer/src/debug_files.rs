@@ -1,5 +1,5 @@
-//! Where the debug information of a program is, if the program itself has none: a file named by the build id, by the
-//! link in the program, or by debuginfod.
+//! Where the debug information of a program is, if the program itself has none: a file named by the
+//! build id, by the link in the program, or by debuginfod.
 
 use std::ffi::{OsStr, OsString};
 use std::os::unix::ffi::{OsStrExt, OsStringExt};
@@ -26,7 +26,8 @@ pub struct DebugFiles {
 const USUAL_FOLDER: &str = "/usr/lib/debug";
 
 impl DebugFiles {
-    /// Looks in these folders and then in the usual one, and asks debuginfod where its servers are set.
+    /// Looks in these folders and then in the usual one, and asks debuginfod where its servers are
+    /// set.
     pub fn new(folders: &[PathBuf], may_ask: bool, opener: Opener) -> DebugFiles {
         let folders = folders.iter().cloned().chain([PathBuf::from(USUAL_FOLDER)]).collect();
         let servers = std::env::var_os("DEBUGINFOD_URLS").is_some_and(|urls| !urls.is_empty());

@@ -43,7 +43,8 @@ impl Fallback {
         })?
     }
 
-    /// The functions at an address, innermost first; none where it isn't covered, or can't be answered.
+    /// The functions at an address, innermost first; none where it isn't covered, or can't be
+    /// answered.
     pub fn find_frames(&self, address: u64) -> Vec<Frame> {
         guarded(|| self.frames(address)).flatten().unwrap_or_default()
     }
@@ -68,7 +69,8 @@ impl Fallback {
         }
     }
 
-    /// The functions at an address of a split unit, innermost first, of which the place is known; none where it is none.
+    /// The functions at an address of a split unit, innermost first, of which the place is known;
+    /// none where it is none.
     pub fn find_split_frames(&self, address: u64, place: &Frame) -> Option<Vec<Frame>> {
         guarded(|| self.split_frames(address, place))?
     }
@@ -84,8 +86,8 @@ impl Fallback {
         variables.as_ref()?.at(address).cloned()
     }
 
-    /// The folder in which the compiler ran that made the code at an address: an attribute of the unit, else the first
-    /// folder of its line table.
+    /// The folder in which the compiler ran that made the code at an address: an attribute of the
+    /// unit, else the first folder of its line table.
     pub fn folder(&self, address: u64) -> Option<Vec<u8>> {
         let unit = self.context.find_dwarf_unit(address)?;
         if let Some(folder) = &unit.comp_dir {

@@ -1,5 +1,5 @@
-//! Replies in GNU's style: a line for each name and each place. `??` with `??:0` is a whole reply alone, by which clients
-//! find its end, and never a part of another one.
+//! Replies in GNU's style: a line for each name and each place. `??` with `??:0` is a whole reply
+//! alone, by which clients find its end, and never a part of another one.
 
 use crate::arguments::Functions;
 use crate::llvm;

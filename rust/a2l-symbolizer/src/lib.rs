@@ -1,5 +1,6 @@
-//! A symbolizer that other tools start and talk with, line by line: in LLVM's protocol, in GNU's, or in JSON. Answers of
-//! DWARF 5 come from the proved library; the conversation around them is tested.
+//! A symbolizer that other tools start and talk with, line by line: in LLVM's protocol, in GNU's,
+//! or in JSON. Answers of DWARF 5 come from the proved library; the conversation around them is
+//! tested.
 #![forbid(unsafe_code)]
 
 pub mod arguments;

@@ -22,7 +22,8 @@ pub enum Length {
     Short,
 }
 
-/// Readable names of functions. Those that were asked for last are kept, since the same functions are inlined everywhere.
+/// Readable names of functions. Those that were asked for last are kept, since the same functions
+/// are inlined everywhere.
 pub struct Names {
     length: Length,
     kept: LruCache<Vec<u8>, Option<Vec<u8>>>,
@@ -84,8 +85,9 @@ fn has_rust_hash(name: &[u8]) -> bool {
     hash.is_some_and(|hash| hash.starts_with(b"17h") && hash[3..].iter().all(u8::is_ascii_hexdigit))
 }
 
-/// A name of C++. The crate writes it into a bounded text first: where that succeeds, the name is one of those of which the
-/// C++ library can write the whole text, which the crate gets wrong for empty packs and templates of constructors.
+/// A name of C++. The crate writes it into a bounded text first: where that succeeds, the name is
+/// one of those of which the C++ library can write the whole text, which the crate gets wrong for
+/// empty packs and templates of constructors.
 fn cpp(name: &[u8], length: Length) -> Option<Vec<u8>> {
     let options = match length {
         Length::Whole => DemangleOptions::new(),
@@ -99,7 +101,8 @@ fn cpp(name: &[u8], length: Length) -> Option<Vec<u8>> {
     }
 }
 
-/// A text that refuses to be longer than `LONGEST`: a short mangled name can stand for an endless one.
+/// A text that refuses to be longer than `LONGEST`: a short mangled name can stand for an endless
+/// one.
 #[derive(Default)]
 struct Bounded(String);
 

@@ -21,8 +21,8 @@ pub fn number(spelling: Spelling, word: &[u8]) -> Option<u64> {
     }
 }
 
-/// The number at the front of a line, as the function `strtoul` of C reads it with base 16; none where there is no digit.
-/// A number that doesn't fit is the greatest one.
+/// The number at the front of a line, as the function `strtoul` of C reads it with base 16; none
+/// where there is no digit. A number that doesn't fit is the greatest one.
 pub fn gnu_number(line: &[u8]) -> Option<u64> {
     let line = line.trim_ascii_start();
     let (negative, line) = match line {

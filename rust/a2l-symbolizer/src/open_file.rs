@@ -34,7 +34,8 @@ pub struct OpenFile {
 }
 
 impl OpenFile {
-    /// Another file has come to its path, or its bytes were changed. A path that leads nowhere now changes nothing.
+    /// Another file has come to its path, or its bytes were changed. A path that leads nowhere now
+    /// changes nothing.
     pub fn has_changed(&self) -> bool {
         std::fs::metadata(&self.path).is_ok_and(|about| Stamp::of(&about) != self.stamp)
     }

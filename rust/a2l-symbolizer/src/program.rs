@@ -134,7 +134,8 @@ impl Program {
         frames
     }
 
-    /// Names functions whose names dwz has put into a file of its own, which the library doesn't read.
+    /// Names functions whose names dwz has put into a file of its own, which the library doesn't
+    /// read.
     fn name_by_supplement(&mut self, address: u64, frames: &mut [Frame], sources: &Sources) {
         if !has_supplement(&self.with_debug_info().file) {
             return;
@@ -176,7 +177,8 @@ impl Program {
         self.fallback(sources).map_or_else(Vec::new, |fallback| fallback.find_frames(address))
     }
 
-    /// The functions at an address of which the library knows the place alone, as it does where a unit is split.
+    /// The functions at an address of which the library knows the place alone, as it does where a
+    /// unit is split.
     fn split_frames(&mut self, address: u64, frames: &[Frame], sources: &Sources) -> Option<Vec<Frame>> {
         let [place @ Frame { name: None, .. }] = frames else {
             return None;
@@ -209,8 +211,9 @@ impl Program {
         self.fallback.as_ref()?.as_deref()
     }
 
-    /// The outermost function has the name of its symbol where it has none, or a plain one and the symbol's is mangled:
-    /// compilers give functions of unnamed namespaces, local classes and lambdas no linkage name.
+    /// The outermost function has the name of its symbol where it has none, or a plain one and the
+    /// symbol's is mangled: compilers give functions of unnamed namespaces, local classes and
+    /// lambdas no linkage name.
     fn name_outermost(&mut self, address: u64, frames: &mut Vec<Frame>) {
         let outermost = frames.last().and_then(|frame| frame.name.as_deref());
         if outermost.is_some_and(is_mangled) {
@@ -261,7 +264,8 @@ impl Program {
         Some(variable)
     }
 
-    /// The address of what has a name in the symbol table, and so many bytes after it where it is that long.
+    /// The address of what has a name in the symbol table, and so many bytes after it where it is
+    /// that long.
     pub fn find_symbol(&mut self, name: &[u8], offset: u64, sources: &Sources) -> Option<u64> {
         if !sources.symbols {
             return None;

@@ -21,7 +21,8 @@ impl Programs {
         Programs { sources, opener, size, open: LruCache::unbounded() }
     }
 
-    /// A file that is open and still what it was; else it is opened. The text of an error says why it can't be.
+    /// A file that is open and still what it was; else it is opened. The text of an error says why
+    /// it can't be.
     pub fn get(&mut self, module: &Module) -> Result<Found<'_>, String> {
         let is_new = self.open.get(module).is_none_or(Program::has_changed);
         if is_new {

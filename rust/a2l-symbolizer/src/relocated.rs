@@ -5,7 +5,8 @@ use object::{Object, ObjectSection, ObjectSymbol, Relocation, RelocationKind, Re
 
 use crate::sections::{decompressed, Error};
 
-/// A section of a relocatable file, in which each address is that of its symbol; empty where the file doesn't have it.
+/// A section of a relocatable file, in which each address is that of its symbol; empty where the
+/// file doesn't have it.
 pub fn relocated(object: &object::File<'_>, name: &str) -> Result<Part, Error> {
     let Some(section) = object.section_by_name(name) else {
         return Ok(Part::whole(File::from(Vec::new())));

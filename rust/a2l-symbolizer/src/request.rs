@@ -45,8 +45,9 @@ pub struct Request {
     pub target: Target,
 }
 
-/// The request of a line without its end; none where it has no number that fits into 64 bits, or no module. `given` is the
-/// module that the command line has, if it has one: then a line has no module.
+/// The request of a line without its end; none where it has no number that fits into 64 bits, or no
+/// module. `given` is the module that the command line has, if it has one: then a line has no
+/// module.
 pub fn parse(protocol: Protocol, given: Option<&Module>, line: &[u8]) -> Option<Request> {
     match protocol {
         Protocol::Gnu => {
@@ -105,7 +106,8 @@ fn first_word(text: &[u8]) -> Option<(&[u8], &[u8])> {
     }
 }
 
-/// A name in quotes that has such quotes itself, which LLVM can't spell: it ends at the last one, and a number follows.
+/// A name in quotes that has such quotes itself, which LLVM can't spell: it ends at the last one,
+/// and a number follows.
 fn quoted_name(spelling: Spelling, text: &[u8]) -> Option<(&[u8], u64)> {
     let quote = text.first().filter(|first| matches!(first, b'"' | b'\''))?;
     let end = text.iter().rposition(|byte| byte == quote).filter(|&end| end > 0)?;

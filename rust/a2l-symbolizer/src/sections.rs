@@ -1,4 +1,5 @@
-//! Sections of debug information: found, decompressed, and put together to a file that the library reads.
+//! Sections of debug information: found, decompressed, and put together to a file that the library
+//! reads.
 
 use std::borrow::Cow;
 use std::fmt;
@@ -48,8 +49,8 @@ impl From<object::Error> for Error {
     }
 }
 
-/// A file has entries of debug information, whatever their form. A file whose sections can't be found counts as such, so
-/// that the library says why.
+/// A file has entries of debug information, whatever their form. A file whose sections can't be
+/// found counts as such, so that the library says why.
 pub fn has_debug_info(file: &File) -> bool {
     object::File::parse(&**file).map_or(true, |object| object.section_by_name(".debug_info").is_some())
 }
@@ -83,7 +84,8 @@ pub fn part(file: &Arc<File>, object: &object::File<'_>, name: &str) -> Result<P
     Ok(Part::whole(File::from(decompressed(&section)?.into_owned())))
 }
 
-/// A file of the debug information of another one, whose sections are not compressed, of at most so many bytes.
+/// A file of the debug information of another one, whose sections are not compressed, of at most so
+/// many bytes.
 pub fn image(file: &File, most: u64) -> Result<File, Error> {
     let object = ElfFile64::<LittleEndian>::parse(&**file)?;
     let mut image = Image::new();
@@ -104,7 +106,8 @@ fn name_of_debug_information(name: &[u8]) -> Option<Vec<u8>> {
     Some([b".debug_", rest].concat())
 }
 
-/// A file that is put together: a header, bytes of sections, their names, and the table of sections.
+/// A file that is put together: a header, bytes of sections, their names, and the table of
+/// sections.
 struct Image {
     bytes: Vec<u8>,
     names: Vec<u8>,

@@ -1,4 +1,5 @@
-//! Asks about many addresses of a file through both protocols, and compares what is written with the library's answers.
+//! Asks about many addresses of a file through both protocols, and compares what is written with
+//! the library's answers.
 
 use std::collections::BTreeMap;
 use std::path::Path;

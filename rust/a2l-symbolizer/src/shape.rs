@@ -12,7 +12,8 @@ pub enum Frames {
     All,
     /// The innermost one, as GNU's addr2line shows it.
     Innermost,
-    /// The function that was compiled, at the place of the innermost one, as llvm-symbolizer shows it.
+    /// The function that was compiled, at the place of the innermost one, as llvm-symbolizer shows
+    /// it.
     Compiled,
 }
 

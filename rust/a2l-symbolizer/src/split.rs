@@ -1,5 +1,5 @@
-//! Functions of split units: their entries are in a file of their own (.dwo) or in a package beside the program (.dwp),
-//! while the ranges and the line table of the unit are in the program.
+//! Functions of split units: their entries are in a file of their own (.dwo) or in a package beside
+//! the program (.dwp), while the ranges and the line table of the unit are in the program.
 
 use std::cell::RefCell;
 use std::collections::HashMap;
@@ -42,8 +42,9 @@ impl SplitUnits {
         SplitUnits { program: program.to_owned(), opener, read: RefCell::default() }
     }
 
-    /// The functions at an address, innermost first, by the unit that stands for a split one in the program, and the place
-    /// of the address there; none where the unit isn't split or its file isn't found.
+    /// The functions at an address, innermost first, by the unit that stands for a split one in the
+    /// program, and the place of the address there; none where the unit isn't split or its file
+    /// isn't found.
     pub fn find_frames(
         &self,
         main: &Dwarf<Reader>,
@@ -108,7 +109,8 @@ impl SplitUnits {
     }
 }
 
-/// The name of the file that has the entries of a unit: an attribute of DWARF 5, or the one that GNU had before.
+/// The name of the file that has the entries of a unit: an attribute of DWARF 5, or the one that
+/// GNU had before.
 fn name_of_file(main: &Dwarf<Reader>, skeleton: &Unit<Reader>) -> Option<Vec<u8>> {
     let mut entries = skeleton.entries();
     let (_, root) = entries.next_dfs().ok()??;
@@ -147,7 +149,8 @@ impl SplitUnit {
         Ok(false)
     }
 
-    /// The linkage name of a function, else its name, its own or that of the entry to which so many references lead.
+    /// The linkage name of a function, else its name, its own or that of the entry to which so many
+    /// references lead.
     fn name(&self, entry: &DebuggingInformationEntry<'_, '_, Reader>, steps: u8) -> gimli::Result<Option<Vec<u8>>> {
         for name in [gimli::DW_AT_linkage_name, gimli::DW_AT_MIPS_linkage_name, gimli::DW_AT_name] {
             if let Some(value) = entry.attr_value(name)? {

@@ -43,7 +43,8 @@ pub struct Symbol<'s> {
 #[derive(Debug)]
 struct Entry {
     start: u64,
-    /// The address after the last one; until all are known, the end of the section where the symbol has no size.
+    /// The address after the last one; until all are known, the end of the section where the symbol
+    /// has no size.
     end: u64,
     /// The greatest end of this entry and those before it.
     reach: u64,
@@ -62,8 +63,8 @@ struct Rank {
 }
 
 impl Symbols {
-    /// Those of .symtab of a file. Where that has none, those of .dynsym and after these those of .symtab of its debug file,
-    /// which may have no symbols that are in .dynsym.
+    /// Those of .symtab of a file. Where that has none, those of .dynsym and after these those of
+    /// .symtab of its debug file, which may have no symbols that are in .dynsym.
     pub fn read(file: &Arc<File>, debug: Option<&Arc<File>>, kind: Kind) -> Symbols {
         let table = |file, table| of_file(file, table, kind).ok().filter(|table| !table.entries.is_empty());
         if let Some(own) = table(file, SHT_SYMTAB) {
@@ -113,7 +114,8 @@ impl Table {
     }
 }
 
-/// A name without the version that linkers append to those of a shared library (name@VERSION, name@@VERSION).
+/// A name without the version that linkers append to those of a shared library (name@VERSION,
+/// name@@VERSION).
 fn without_version(name: &[u8]) -> &[u8] {
     match name.iter().position(|&byte| byte == b'@') {
         Some(end) if end > 0 => &name[..end],
@@ -156,7 +158,8 @@ struct OfKind<'s, 'data, Elf: FileHeader> {
 }
 
 impl<Elf: FileHeader<Endian = Endianness>> OfKind<'_, '_, Elf> {
-    /// The entries of all symbols. The symbols that are local to a source file stand after its name.
+    /// The entries of all symbols. The symbols that are local to a source file stand after its
+    /// name.
     fn entries(&self) -> Vec<Entry> {
         let (mut entries, mut file) = (Vec::new(), 0);
         for (index, symbol) in self.symbols.iter().enumerate() {
@@ -194,8 +197,8 @@ impl<Elf: FileHeader<Endian = Endianness>> OfKind<'_, '_, Elf> {
         Some(Entry { start, end, reach: end, name: symbol.st_name(self.endian), file: 0, rank })
     }
 
-    /// A symbol without a type is a label of assembly, if it stands among instructions and marks no kind of bytes there
-    /// ($x, $d).
+    /// A symbol without a type is a label of assembly, if it stands among instructions and marks no
+    /// kind of bytes there ($x, $d).
     fn may_be_function(&self, symbol: &Elf::Sym, section: &Elf::SectionHeader) -> bool {
         let flags: u64 = section.sh_flags(self.endian).into();
         let named = symbol.name(self.endian, self.symbols.strings());

@@ -7,7 +7,8 @@ use object::{Object, ObjectSection};
 /// What there is in a file beside what the library reads whole.
 #[derive(Debug, Clone, Copy, Default, PartialEq, Eq)]
 pub struct UnitKinds {
-    /// Units with code that the library skips, as it does those of DWARF 2 to 4, or a header that can't be read.
+    /// Units with code that the library skips, as it does those of DWARF 2 to 4, or a header that
+    /// can't be read.
     pub unread: bool,
     /// Units whose entries are in another file.
     pub split: bool,

@@ -1,4 +1,5 @@
-//! Whole conversations with the program, about the sample `samples/inlined.elf`, whose frames were worked out by hand.
+//! Whole conversations with the program, about the sample `samples/inlined.elf`, whose frames were
+//! worked out by hand.
 
 use std::io::{BufRead, BufReader, Read, Write};
 use std::path::PathBuf;

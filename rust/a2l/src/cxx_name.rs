@@ -1,20 +1,25 @@
-//! Names of C++ as people read them, by the demangler of the C++ library, whose code c++filt and GNU's tools have too.
+//! Names of C++ as people read them, by the demangler of the C++ library, whose code c++filt and
+//! GNU's tools have too.
 
 use std::ffi::{c_char, c_int, CStr};
 use std::ptr::null_mut;
 
 #[link(name = "stdc++", kind = "static", modifiers = "-bundle")]
 unsafe extern "C" {
-    /// The function that the ABI of C++ names for this: <https://itanium-cxx-abi.github.io/cxx-abi/abi.html#demangler>.
+    /// The function that the ABI of C++ has for this:
+    /// <https://itanium-cxx-abi.github.io/cxx-abi/abi.html#demangler>.
     fn __cxa_demangle(name: *const c_char, text: *mut c_char, length: *mut usize, status: *mut c_int) -> *mut c_char;
 }
 
-/// The name that stands behind a mangled one; none where it is of no scheme of C++, or memory ran out.
+/// The name that stands behind a mangled one; none where it is of no scheme of C++, or memory ran
+/// out.
 ///
-/// A short name can stand for one that is longer than all memory: whoever reads names of strangers bounds them first.
+/// A short name can stand for one that is longer than all memory: whoever reads names of strangers
+/// bounds them first.
 pub fn demangle_cxx(name: &CStr) -> Option<Vec<u8>> {
     let mut status = 0;
-    // SAFETY: the name ends with a zero byte. Where no buffer is given, the function allocates one for the text.
+    // SAFETY: the name ends with a zero byte. Where no buffer is given, the function allocates one
+    // for the text.
     let text = unsafe { __cxa_demangle(name.as_ptr(), null_mut(), null_mut(), &mut status) };
     if text.is_null() {
         return None;

@@ -36,15 +36,16 @@ fn open(path: &Path) -> io::Result<(std::fs::File, Metadata)> {
 impl File {
     /// Maps a regular file, and returns what the system knew of it then.
     ///
-    /// A process that reads bytes which another one has cut off the file gets the signal SIGBUS; see
-    /// [`end_where_cut_off`](crate::end_where_cut_off). The file isn't to be written while it is mapped.
+    /// A process that reads bytes which another one has cut off the file gets the signal SIGBUS;
+    /// see [`end_where_cut_off`](crate::end_where_cut_off). The file isn't to be written while
+    /// it is mapped.
     pub fn map(path: &Path) -> io::Result<(File, Metadata)> {
         let (file, about) = open(path)?;
         if about.len() == 0 {
             return Ok((File::from(Vec::new()), about));
         }
-        // SAFETY: the mapping is private and is only read. That nobody else writes the file is asked of the caller, as
-        // of all who map files.
+        // SAFETY: the mapping is private and is only read. That nobody else writes the file is asked
+        // of the caller, as of all who map files.
         let mapped = unsafe { Mmap::map(&file) }?;
         Ok((File(Bytes::Mapped(mapped)), about))
     }
@@ -75,7 +76,8 @@ impl Deref for File {
     }
 }
 
-/// A part of a file, which keeps the file. Readers of DWARF that own their bytes take it, as gimli's `EndianReader` does.
+/// A part of a file, which keeps the file. Readers of DWARF that own their bytes take it, as
+/// gimli's `EndianReader` does.
 #[derive(Debug, Clone)]
 pub struct Part {
     file: Arc<File>,
@@ -104,7 +106,8 @@ impl Deref for Part {
     }
 }
 
-// SAFETY: the bytes of a `File` stay at their address, whoever moves it, and a part keeps the file by an `Arc`.
+// SAFETY: the bytes of a `File` stay at their address, whoever moves it, and a part keeps the file
+// by an `Arc`.
 unsafe impl StableDeref for Part {}
 // SAFETY: a clone is a part of the same file.
 unsafe impl CloneStableDeref for Part {}

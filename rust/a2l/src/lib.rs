@@ -1,5 +1,5 @@
-//! Safe Rust over liba2l, with the types and names that users of the addr2line crate know: a [`Context`] over the bytes of
-//! a file, whose frames and locations are asked for by address.
+//! Safe Rust over liba2l, with the types and names that users of the addr2line crate know: a
+//! [`Context`] over the bytes of a file, whose frames and locations are asked for by address.
 //!
 //! ```no_run
 //! let file = std::fs::read("program").unwrap();
@@ -35,7 +35,8 @@ pub const COMPRESSED: u32 = 6;
 /// Why a file or an address isn't answered.
 #[derive(Debug, Clone, PartialEq, Eq)]
 pub enum Error {
-    /// The file is refused: the reason's number and name, and the section or the offset of the unit of which it speaks.
+    /// The file is refused: the reason's number and name, and the section or the offset of the unit
+    /// of which it speaks.
     Refused { number: u32, name: String, section: Option<String>, offset: u64 },
     /// A unit can't be read: its offset in .debug_info and the number of the fault, from 1 to 4.
     Fault { unit: u64, number: u32 },
@@ -101,7 +102,8 @@ pub struct Context<'a> {
     file: PhantomData<&'a [u8]>,
 }
 
-// SAFETY: the header allows a handle to be used by any thread, in one call at a time, and `&mut self` sees to that.
+// SAFETY: the header allows a handle to be used by any thread, in one call at a time, and `&mut
+// self` sees to that.
 unsafe impl Send for Context<'_> {}
 
 fn closed<'a>() -> Context<'a> {
@@ -209,7 +211,8 @@ impl<'a> Context<'a> {
         Ok(self.frames(0)?.next().map(|frame| frame.location))
     }
 
-    /// Asks where many addresses come from, in one question. `frames` gives what was found, a frame without a name each.
+    /// Asks where many addresses come from, in one question. `frames` gives what was found, a frame
+    /// without a name each.
     pub fn find_all_locations(&mut self, addresses: &[u64]) -> Result<(), Error> {
         // SAFETY: the handle is open.
         match unsafe { ffi::a2l_find_locations(&mut self.handle, addresses.as_ptr(), addresses.len()) } {

@@ -14,8 +14,8 @@ pub struct Program {
 impl Program {
     /// Opens a file that is in memory; the context keeps so many units.
     pub fn open(file: Arc<File>, capacity: usize) -> Result<Program, Error> {
-        // SAFETY: the bytes of a `File` stay at their address, and the program keeps it for as long as the context. No
-        // method gives out what would outlive the program.
+        // SAFETY: the bytes of a `File` stay at their address, and the program keeps it for as long
+        // as the context. No method gives out what would outlive the program.
         let bytes: &'static [u8] = unsafe { std::slice::from_raw_parts(file.as_ptr(), file.len()) };
         Ok(Program { context: Context::with_capacity(bytes, capacity)?, file })
     }
@@ -25,7 +25,8 @@ impl Program {
         &self.file
     }
 
-    /// The functions at an address, innermost first, and the offset of their unit; none where no unit covers it.
+    /// The functions at an address, innermost first, and the offset of their unit; none where no
+    /// unit covers it.
     pub fn find_frames(&mut self, address: u64) -> Result<Option<UnitFrames<'_>>, Error> {
         let frames: Vec<Frame<'_>> = self.context.find_frames(address)?.collect();
         let Some(unit) = self.context.unit_of(0)? else {
@@ -34,8 +35,8 @@ impl Program {
         Ok(Some(UnitFrames { unit, frames }))
     }
 
-    /// The unit of each of these addresses, by its offset in .debug_info; none where no unit covers the address, and
-    /// none where the unit can't be read.
+    /// The unit of each of these addresses, by its offset in .debug_info; none where no unit covers
+    /// the address, and none where the unit can't be read.
     pub fn find_units(&mut self, addresses: &[u64]) -> Result<Vec<Option<u64>>, Error> {
         self.context.find_all_locations(addresses)?;
         Ok((0..addresses.len()).map(|place| self.context.unit_of(place).ok().flatten()).collect())
