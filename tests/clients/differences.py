@@ -1,0 +1,64 @@
+"""Why lines with what two symbolizers say may differ, and how each reason is seen.
+
+Names of one address are looked up in the symbol tables of the files that stand below the name that
+the variable SYMBOLS has, one a line.
+"""
+
+import functools
+import os
+import re
+import subprocess
+
+SAID = {
+    'style': 'the demanglers of GNU and LLVM write `> >` and `>>`, `<, int>` and `<int>`, `{lambda(int)#1}` and `\'lambda\'(int)`',
+    'symbols': 'both names are symbols of one address, of which llvm-symbolizer takes the last one for the outermost function',
+    'more': 'llvm-symbolizer has no name there, and a2l-symbolizer that of a symbol',
+    'variable': 'llvm-symbolizer has the place of a variable from its debug information, which a2l doesn\'t read',
+    'told': 'llvm-symbolizer writes of a file that it can\'t open into the report',
+}
+VARIABLE = re.compile(r"( defined in '[^':]*)[:\d]*'")
+FRAME = re.compile(r'^( *#\d+ +0x[0-9a-f]+) ')
+
+
+def of_one_style(text):
+    """Names as LLVM's demangler writes them: closing brackets, empty packs, pointers to members, lambdas."""
+    def as_llvm(found):
+        number = int(found[2])
+        return f"'lambda{'' if number == 1 else number - 2}'{found[1] or ''}"
+    text = re.sub(r'\{lambda(\([^{}]*\))?#(\d+)\}', as_llvm, text)
+    for written, instead in (('<, ', '<'), (', , ', ', '), (', >', '>'), ('::* (', '::*(')):
+        text = text.replace(written, instead)
+    return re.sub(r'>(?: +(?=>))', '>', text)
+
+
+@functools.cache
+def symbols():
+    """The addresses of each name, with the file."""
+    found = {}
+    for path in os.environ.get('SYMBOLS', '').split('\n'):
+        if not os.path.exists(path):
+            continue
+        shown = subprocess.run(['readelf', '-sW', path], check=False, capture_output=True, text=True, errors='replace').stdout
+        for address, name in re.findall(r'^ *\d+: (\w+) +\w+ +FUNC +\w+ +\w+ +\w+ ([^\s@]+)', shown, re.MULTILINE):
+            found.setdefault(name, set()).add((path, address))
+    return found
+
+
+def are_of_one_address(name, other):
+    return bool(symbols().get(name, set()) & symbols().get(other, set()))
+
+
+def reason(theirs, ours):
+    """Why two lines differ; else none."""
+    theirs, ours = of_one_style(theirs), of_one_style(ours)
+    if theirs == ours:
+        return 'style'
+    words, others = theirs.split(), ours.split()
+    unlike = [(word, other) for word, other in zip(words, others) if word != other]
+    if len(words) == len(others) and all(are_of_one_address(word, other) for word, other in unlike):
+        return 'symbols'
+    if FRAME.match(theirs) and len(words) == 3 and words[2].startswith('(') and others[:2] == words[:2] and others[2] in symbols():
+        return 'more'
+    if VARIABLE.sub(r"\1'", theirs) == VARIABLE.sub(r"\1'", ours):
+        return 'variable'
+    return None

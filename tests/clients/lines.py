@@ -1,0 +1,33 @@
+"""lines.py OURS THEIRS..: compares what a client wrote with a2l-symbolizer and with others.
+
+Each line of ours has to be the one at its place in one of theirs that has as many lines, or to differ
+from it for a reason of differences.py. It says how many lines there are.
+"""
+
+import collections
+import pathlib
+import sys
+
+import differences
+
+
+def main(ours, *theirs):
+    ours, *theirs = ([line for line in pathlib.Path(path).read_text(errors='backslashreplace').splitlines()]
+                     for path in (ours, *theirs))
+    of_one_length = [lines for lines in theirs if len(lines) == len(ours)]
+    if not of_one_length:
+        sys.exit(f'{len(ours)} lines, where the others have {", ".join(str(len(lines)) for lines in theirs)}')
+    counts, unlike = collections.Counter(), 0
+    for line, *peers in zip(ours, *of_one_length):
+        why = 'same' if line in peers else next(filter(None, (differences.reason(peer, line) for peer in peers)), None)
+        counts[why] += 1
+        if why is None:
+            unlike += 1
+            print('\n'.join(['ours   ' + line] + ['theirs ' + peer for peer in peers]))
+    told = [f'{counts[why]} {why}' for why in differences.SAID if counts[why]]
+    print(f'{counts["same"]} of {len(ours)} lines are the same' + ''.join(f', {why}' for why in told))
+    sys.exit(1 if unlike else 0)
+
+
+if __name__ == '__main__':
+    main(*sys.argv[1:])
