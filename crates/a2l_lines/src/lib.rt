@@ -3,6 +3,7 @@
 #![tactic(auto)]
 
 mod blocks;
+mod crew;
 mod fault;
 mod file;
 mod input;
@@ -22,6 +23,7 @@ mod text;
 mod turns;
 mod words;
 
+pub use crew::Crew;
 pub use fault::RunFault;
 pub use file::{LoadFault, read_file};
 pub use input::Input;

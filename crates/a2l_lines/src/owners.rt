@@ -1,14 +1,12 @@
 //! Which worker each query is meant for, so that each unit is read by one worker. No promise rests
 //! on it.
 
+use crate::crew::Crew;
 use crate::survey::{Load, survey_of};
 use crate::turns::WAVE;
 use dw_symbols::Image;
 use std::alloc::{AllocError, Global};
 use ticket_core::Query;
-
-/// How many bytes of a unit are read in the time of one answer.
-const ANSWER: u64 = 512;
 
 /// No worker.
 const NOBODY: u8 = u8::MAX;
@@ -51,9 +49,7 @@ impl Hands {
         self.units = self.units.wrapping_add(1);
         let worker = least(&self.work);
         if let Some(work) = self.work.get_mut(worker) {
-            *work = work
-                .wrapping_add(load.size)
-                .wrapping_add(load.count.wrapping_mul(ANSWER));
+            *work = work.wrapping_add(load.size).wrapping_add(load.answering());
         }
         (worker % 64) as u8
     }
@@ -78,15 +74,17 @@ impl Hands {
 }
 
 /// For each query, in the order in which they are asked, the number of its worker. Each unit has
-/// one worker; in a wave, each next unit gets the worker that has least to do.
+/// one worker; in a wave, each next unit gets the worker that has least to do, of those that share
+/// the units.
 pub fn owners_of(
     alloc: Global,
     image: &Image<'_>,
     queries: &[Query],
-    workers: usize,
+    crew: Crew,
 ) -> Result<Vec<u8>, AllocError> {
     let survey = survey_of(alloc, image, queries)?;
-    let mut hands = Hands::new(alloc, survey.loads.len(), workers)?;
+    let sharers = crew.sharers(&survey.loads);
+    let mut hands = Hands::new(alloc, survey.loads.len(), sharers)?;
     let mut owners = Vec::new(alloc);
     for unit in &survey.units {
         owners.push(hands.owner(&survey.loads, *unit))?;

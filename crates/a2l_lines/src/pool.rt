@@ -4,6 +4,7 @@ ghost use Rattle.std.specs.Prelude.{length, IfOk, IfErr, OnOk};
 ghost use Rattle.ticket_board.specs.Pool.{PoolFits, RefusesPool};
 ghost use Rattle.a2l_lines.specs.Pool.{AreAnswersOf};
 
+use crate::crew::Crew;
 use crate::order::{in_order, in_place, order_of};
 use crate::owners::owners_of;
 use dw_symbols::{Answer, Context, Image, law_of_shown};
@@ -58,7 +59,7 @@ pub fn run_pool<'a, R: Threads + Wait + Sync, G: Gate + Sync>(
     if !pool_fits(&shape, queries.len()) {
         return Err(PoolFault::BadShape);
     }
-    let owners = owners_of(alloc, image, queries, shape.workers)?;
+    let owners = owners_of(alloc, image, queries, Crew::new(rt, shape.workers))?;
     let queries = Queries {
         asked: queries,
         owners: &owners,
@@ -84,7 +85,7 @@ pub fn answers_of<'a, R: Threads + Wait + Sync, G: Gate + Sync>(
     requires fits { PoolFits shape (length queries.now) }
     ensures answers { IfOk result (λ answers. AreAnswersOf image.now queries.now answers.items) }
 {
-    let order = order_of(alloc, image, queries, shape.workers)?;
+    let order = order_of(alloc, image, queries, Crew::new(rt, shape.workers))?;
     let asked = in_order(alloc, queries, &order)?;
     let found = match run_pool(rt, alloc, image, shape, &asked, gate) {
         Ok(found) => found,

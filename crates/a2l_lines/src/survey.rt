@@ -4,6 +4,9 @@ use dw_symbols::{Image, UnitPlace};
 use std::alloc::{AllocError, Global};
 use ticket_core::{Query, QueryKind};
 
+/// How many bytes of a unit are read in the time of one answer.
+const ANSWER: u64 = 512;
+
 /// What is asked of a unit.
 #[derive(Clone, Copy, Debug)]
 pub struct Load {
@@ -11,6 +14,13 @@ pub struct Load {
     pub size: u64,
     /// How many queries are asked of it.
     pub count: u64,
+}
+
+impl Load {
+    /// In the time of its answers, so many bytes of a unit are read.
+    pub fn answering(&self) -> u64 {
+        self.count.wrapping_mul(ANSWER)
+    }
 }
 
 /// The units of some queries.

@@ -1,5 +1,6 @@
 //! When each query is asked, so that workers share the units. No promise rests on it.
 
+use crate::crew::Crew;
 use crate::survey::{Load, Survey, survey_of};
 use dw_symbols::Image;
 use std::alloc::{AllocError, Global};
@@ -10,8 +11,8 @@ pub const WAVE: usize = 16;
 
 /// How many units are asked at a time. One worker reads one after the other: where two waves meet,
 /// it would drop units that are asked again.
-fn wave_of(workers: usize) -> usize {
-    if workers > 1 {
+fn wave_of(sharers: usize) -> usize {
+    if sharers > 1 {
         return WAVE;
     }
     1
@@ -72,14 +73,15 @@ impl Turns {
         alloc: Global,
         image: &Image<'_>,
         queries: &[Query],
-        workers: usize,
+        crew: Crew,
     ) -> Result<Self, AllocError> {
         let survey = survey_of(alloc, image, queries)?;
         let ranks = ranks_of(alloc, &survey.loads)?;
         let seen = vec![in alloc; 0u64; survey.loads.len()]?;
+        let wave = wave_of(crew.sharers(&survey.loads));
         Ok(Turns {
             survey,
-            wave: wave_of(workers),
+            wave,
             ranks,
             seen,
         })

@@ -5,14 +5,15 @@ ghost use Rattle.std.specs.Prelude.{◌≡◌, IfOk, IfErr, OnOk, length};
 ghost use Rattle.ticket_board.specs.Pool.{AreAnswers, PoolFits, RefusesPool};
 
 mod answer_order;
+mod bell;
+mod bells;
 mod fault;
-mod idle;
 mod limits;
 mod maker;
 mod owners;
+mod patience;
 mod sender_task;
 mod senders;
-mod stop;
 mod task;
 mod threads;
 mod worker_task;
@@ -21,15 +22,17 @@ mod workers;
 use crate::gate::Gate;
 use crate::new_board::open;
 use answer_order::gather;
+use bells::Bells;
 pub use fault::PoolFault;
 pub use limits::pool_fits;
 pub use maker::Maker;
-use owners::Owned;
+use owners::Owners;
 pub use owners::Queries;
 use std::alloc::Global;
+use std::num::NonZeroUsize;
 use std::sync::Wait;
+use std::thread;
 use std::thread::Threads;
-use stop::Stop;
 use task::Task;
 use threads::{Pool, run};
 use ticket_core::{Shape, Solver};
@@ -39,11 +42,12 @@ use ticket_core::{Shape, Solver};
 /// `i % senders`. Each worker's solver is made on its thread. When the call returns, all threads
 /// have ended.
 ///
-/// A worker answers the queries that are meant for it, and others only where none of its own has
-/// waited for tens of milliseconds. The answers are the same for all owners.
+/// A worker answers the queries that are meant for it, and others only where a sender has waited for
+/// tens of milliseconds. The answers are the same for all owners. A thread that finds nothing to do
+/// parks, and is woken by the one that makes work for it.
 ///
 /// The error is `BadShape` exactly where the shape is past its limits, or some sender would have
-/// more than `most` queries; else `Memory` where an allocation or a thread was refused, which stops
+/// more than `most` queries; else `Memory` where an allocation or a thread was refused, which ends
 /// the pool.
 pub fn run_pool<
     S: Solver + Drop + Send + Sync,
@@ -66,19 +70,21 @@ pub fn run_pool<
     if !pool_fits(&shape, queries.asked.len()) {
         return Err(PoolFault::BadShape);
     }
-    let stop = Stop::new();
     let key = maker.key();
     let (board, clients, workers) = open::<S>(alloc, shape, key)?;
+    let processors = thread::available_parallelism(rt).map_or(1, NonZeroUsize::get);
+    let bells = Bells::new(alloc, &shape, processors)?;
+    let owners = Owners {
+        owners: queries.owners,
+        senders: shape.senders,
+        workers: shape.workers,
+    };
     let task = Task {
         key,
         queries: queries.asked,
         senders: shape.senders,
-    };
-    let owned = Owned {
-        owners: queries.owners,
-        senders: shape.senders,
-        cells: shape.senders * shape.window,
-        worker: 0,
+        window: shape.window,
+        owners,
     };
     let pool = Pool {
         board: &board,
@@ -87,8 +93,7 @@ pub fn run_pool<
         maker,
         gate,
         task,
-        owned,
-        stop: &stop,
+        bells: &bells,
     };
     let lanes = run(rt, alloc, pool)?;
     let answers = gather::<S>(alloc, &task, lanes)?;

@@ -8,17 +8,38 @@ use ticket_core::{Query, Solver};
 pub struct Queries<'q> {
     /// The queries.
     pub asked: &'q [Query],
-    /// For each query the number of its worker. A query without one is meant for each worker.
+    /// For each query the number of its worker. A query without one is meant for each worker, and
+    /// so is one whose worker isn't there.
     pub owners: &'q [u8],
 }
 
-/// What is meant for one worker, among the queries that are dealt to the senders in turn.
+/// Which worker answers each query, where the queries are dealt to the senders in turn.
 #[derive(Clone, Copy, Debug)]
-pub struct Owned<'q> {
+pub struct Owners<'q> {
     /// For each query the number of its worker.
     pub owners: &'q [u8],
     /// How many senders there are.
     pub senders: usize,
+    /// How many workers there are.
+    pub workers: usize,
+}
+
+impl Owners<'_> {
+    /// The worker for which a number of a sender is meant; `None` where it is meant for each.
+    pub fn of(&self, sender: usize, number: u64) -> Option<usize> {
+        let place = (number as usize)
+            .wrapping_mul(self.senders)
+            .wrapping_add(sender);
+        let owner = usize::from(*self.owners.get(place)?);
+        (owner < self.workers).then_some(owner)
+    }
+}
+
+/// What is meant for one worker.
+#[derive(Clone, Copy, Debug)]
+pub struct Owned<'q> {
+    /// Which worker answers each query.
+    pub owners: Owners<'q>,
     /// How many cells the board has.
     pub cells: usize,
     /// The number of the worker.
@@ -28,11 +49,8 @@ pub struct Owned<'q> {
 impl Owned<'_> {
     /// Whether a number of a sender is meant for the worker.
     fn has(&self, sender: usize, number: u64) -> bool {
-        let place = (number as usize)
-            .wrapping_mul(self.senders)
-            .wrapping_add(sender);
-        match self.owners.get(place) {
-            Some(owner) => usize::from(*owner) == self.worker,
+        match self.owners.of(sender, number) {
+            Some(owner) => owner == self.worker,
             None => true,
         }
     }

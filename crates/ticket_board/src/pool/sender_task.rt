@@ -4,8 +4,9 @@ ghost use Rattle.std.specs.Prelude.{◌≡◌, ◌≤◌, ◌<◌, ◌++◌, tru
 ghost use Rattle.ticket_board.specs.Seats.{IsClientOf, HasEnded};
 ghost use Rattle.ticket_board.specs.Pool.{every, IsEnd, IsLane, IsNewSender};
 
-use super::idle::Idle;
-use super::stop::Stop;
+use super::bell::Bell;
+use super::bells::Bells;
+use super::patience::Patience;
 use super::task::{Lane, Task};
 use crate::board::Board;
 use crate::client::Client;
@@ -15,8 +16,14 @@ use std::collections::VecDeque;
 use std::sync::Wait;
 use ticket_core::{NoMemory, Query, Solver};
 
-/// How often in a row a sender gives way to others, before it sleeps.
-const AWAKE: u32 = 64;
+/// How often a sender looks again before it parks: for some five microseconds.
+const LOOKS: u32 = 300;
+
+/// The phase of a number that waits, as a state word has it.
+const WAITS: u64 = 1;
+
+/// The phase of a number that is answered.
+const ANSWERED: u64 = 3;
 
 /// Asks every `step`-th query from the index `next` on, as far as the board takes them, and closes
 /// the client after the last. Returns the index of the next query.
@@ -89,11 +96,81 @@ pub struct Sending<'p, 'a, S: Solver> {
     pub client: Client<S>,
     pub task: Task<'p>,
     pub sender: usize,
-    pub stop: &'p Stop,
+    pub bells: &'p Bells,
+}
+
+/// Where a sender is: its board, what it asks of it, and the bells of its pool.
+#[derive(Drop)]
+struct Desk<'p, 'a, S: Solver> {
+    board: &'p Board<'a, S>,
+    task: Task<'p>,
+    sender: usize,
+    bells: &'p Bells,
+}
+
+impl<S: Solver> Desk<'_, '_, S> {
+    /// Whether a number that is outstanding is in this phase.
+    fn is_in(&self, phase: u64, number: u64) -> bool {
+        let place = (number as usize).checked_rem(self.task.window).unwrap_or(0);
+        let cell = self
+            .sender
+            .wrapping_mul(self.task.window)
+            .wrapping_add(place);
+        match self.board.state_word(cell) {
+            Some(word) => word % 8 == phase,
+            None => false,
+        }
+    }
+
+    /// Wakes the workers for which these numbers are meant, as far as they wait.
+    fn wake_workers(&self, from: u64, to: u64) {
+        for number in from..to {
+            if self.is_in(WAITS, number) {
+                let worker = self.task.owners.of(self.sender, number);
+                self.bells.wake_worker(worker);
+            }
+        }
+    }
+
+    /// For which number a sender parks that received and asked so many: so that half of its window
+    /// is received at a time, or for the next where that number is answered already.
+    fn awaited(&self, received: u64, asked: u64) -> u64 {
+        let half = self.task.window.div_ceil(2) as u64;
+        let last = received.saturating_add(half).min(asked).saturating_sub(1);
+        if self.is_in(ANSWERED, last) {
+            return received;
+        }
+        last
+    }
+
+    /// Parks the sender with its bell until this number is answered, unless it is, or the pool
+    /// ends. Where nobody wakes it for long, a worker is called for help.
+    fn rest<R: Wait>(&self, rt: &R, bell: &Bell, number: u64) {
+        self.bells.announce(bell, number);
+        if self.bells.has_ended() || self.is_in(ANSWERED, number) {
+            self.bells.end_parking(bell);
+            return;
+        }
+        if self.bells.park(rt, bell) {
+            self.bells.call_help();
+        }
+    }
+
+    /// Looks again soon, or parks, as the next answer of a sender that received and asked so many
+    /// isn't there yet.
+    fn wait<R: Wait>(&self, rt: &R, patience: &mut Patience, received: u64, asked: u64) {
+        if self.bells.have_processors() && patience.looks_again() {
+            return;
+        }
+        patience.give_up();
+        if let Some(bell) = self.bells.of_sender(self.sender) {
+            self.rest(rt, bell, self.awaited(received, asked));
+        }
+    }
 }
 
 /// Asks all queries of the sender, and returns the answers in their order. The error says that the
-/// pool was stopped before all came, or that an allocation was refused.
+/// pool was ended before all came, or that an allocation was refused.
 fn ask_all<S: Solver, R: Wait>(
     rt: &R,
     alloc: Global,
@@ -110,20 +187,30 @@ fn ask_all<S: Solver, R: Wait>(
         mut client,
         task,
         sender,
-        stop,
+        bells,
     } = sending;
+    let desk = Desk {
+        board,
+        task,
+        sender,
+        bells,
+    };
     let mut lane = VecDeque::new(alloc);
     let mut next = sender;
-    let mut idle = Idle::new(AWAKE);
+    let mut told = 0u64;
+    let mut patience = Patience::new(LOOKS);
     for _ in rt.forever() {
         next = ask_on(board, &mut client, task.queries, next, task.senders);
         match receive(board, &mut client, &mut lane)? {
-            Came::Answer => idle.end(),
+            Came::Answer => patience.succeed(),
             Came::Nothing => {
-                if stop.is_set() {
+                if bells.has_ended() {
                     return Err(AllocError);
                 }
-                idle.wait(rt);
+                let asked = next.checked_div(task.senders).unwrap_or(0) as u64;
+                desk.wake_workers(told, asked);
+                told = asked;
+                desk.wait(rt, &mut patience, lane.len() as u64, asked);
             }
             Came::End => {
                 client.law_of_client();
@@ -135,7 +222,7 @@ fn ask_all<S: Solver, R: Wait>(
 }
 
 /// What a sender's thread does: it asks its queries and returns the answers in their order. Where
-/// it is out of memory, it stops the pool. The error says so, or that the pool was stopped before.
+/// it is out of memory, it ends the pool. The error says so, or that the pool was ended before.
 pub fn send<S: Solver, R: Wait>(
     rt: &R,
     alloc: Global,
@@ -147,10 +234,10 @@ pub fn send<S: Solver, R: Wait>(
     ensures lane { IfOk result (λ lane. IsLane S.shown S.meaning sending.entry.task.key.now sending.entry.task.senders
         sending.entry.task.queries.now sending.entry.sender lane.items) }
 {
-    let stop = sending.stop;
+    let bells = sending.bells;
     let lane = ask_all(rt, alloc, sending);
     if lane.is_err() {
-        stop.set();
+        bells.end();
     }
     lane
 }

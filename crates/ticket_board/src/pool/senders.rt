@@ -5,8 +5,8 @@ ghost use Rattle.std.specs.VecDeque.{deque_len, deque_capacity};
 ghost use Rattle.std.specs.Thread.{IsSync};
 ghost use Rattle.ticket_board.specs.Pool.{EachFrom, IsLane, AreLanes, IsNewSender, IsPromised};
 
+use super::bells::Bells;
 use super::sender_task::{Sending, send};
-use super::stop::Stop;
 use super::task::{Lane, Lot, Task};
 use crate::board::Board;
 use crate::client::Client;
@@ -55,7 +55,7 @@ fn start_sender<'s, 'a: 's, E: 's, S: Solver + Drop + Send + Sync, R: Wait + Syn
 }
 
 /// Starts the threads of the senders, in order, into `threads`, which has room for them. The error
-/// says that one was refused: then the pool stops, and the later ones aren't started.
+/// says that one was refused: then the pool ends, and the later ones aren't started.
 pub fn start_senders<'s, 'a: 's, E: 's, S: Solver + Drop + Send + Sync, R: Wait + Sync>(
     scope: &Scope<'s, E>,
     rt: &'s R,
@@ -63,7 +63,7 @@ pub fn start_senders<'s, 'a: 's, E: 's, S: Solver + Drop + Send + Sync, R: Wait 
     board: &'s Board<'a, S>,
     clients: Vec<Client<S>>,
     task: Task<'s>,
-    stop: &'s Stop,
+    bells: &'s Bells,
     threads: &mut Vec<SenderThread<'s, S>>,
 ) -> Result<(), NoMemory>
     requires key { task.key.now ≡ board.now.key }
@@ -81,10 +81,10 @@ pub fn start_senders<'s, 'a: 's, E: 's, S: Solver + Drop + Send + Sync, R: Wait 
             client,
             task,
             sender,
-            stop,
+            bells,
         };
         let Ok(thread) = start_sender(scope, rt, alloc, sending) else {
-            stop.set();
+            bells.end();
             return Err(AllocError);
         };
         threads.push_reserved(thread);
@@ -93,7 +93,7 @@ pub fn start_senders<'s, 'a: 's, E: 's, S: Solver + Drop + Send + Sync, R: Wait 
 }
 
 /// Joins the threads of the senders, and returns their lanes, for which there is room. The error
-/// says that one of them was refused memory, or stopped.
+/// says that one of them was refused memory, or ended before.
 pub fn join_senders<S: Solver, R: Threads>(
     rt: &R,
     threads: Vec<SenderThread<'_, S>>,

@@ -2,6 +2,7 @@
 
 ghost use Rattle.std.specs.Prelude.{IfOk};
 
+use super::owners::Owners;
 use std::collections::VecDeque;
 use std::marker::PhantomData;
 use std::thread::Promise;
@@ -13,6 +14,10 @@ pub struct Task<'q> {
     pub key: &'q [u8],
     pub queries: &'q [Query],
     pub senders: usize,
+    /// How many queries each sender has outstanding at most.
+    pub window: usize,
+    /// For which worker each query is meant.
+    pub owners: Owners<'q>,
 }
 
 /// The answers that one sender received, in the order of its queries.

@@ -5,10 +5,9 @@ ghost use Rattle.std.specs.VecDeque.{deque_len};
 ghost use Rattle.std.specs.Thread.{IsSync};
 ghost use Rattle.ticket_board.specs.Pool.{AreLanes, IsPool};
 
+use super::bells::Bells;
 use super::maker::Maker;
-use super::owners::Owned;
 use super::senders::{join_senders, start_senders};
-use super::stop::Stop;
 use super::task::{Lane, Task};
 use super::workers::{join_workers, start_workers};
 use crate::board::Board;
@@ -31,11 +30,10 @@ pub struct Pool<'p, 'a, S: Solver, M, G> {
     pub maker: &'p M,
     pub gate: &'p G,
     pub task: Task<'p>,
-    pub owned: Owned<'p>,
-    pub stop: &'p Stop,
+    pub bells: &'p Bells,
 }
 
-/// Starts the workers and then the senders, joins the senders, stops the pool and joins the
+/// Starts the workers and then the senders, joins the senders, ends the pool and joins the
 /// workers. Where one thread was refused, or refused memory, all others are joined too.
 fn run_in<
     's,
@@ -63,8 +61,7 @@ fn run_in<
         maker,
         gate,
         task,
-        owned,
-        stop,
+        bells,
     } = pool;
     let mut senders = Vec::with_capacity(alloc, clients.len())?;
     let mut serving = Vec::with_capacity(alloc, workers.len())?;
@@ -77,13 +74,22 @@ fn run_in<
         workers,
         maker,
         gate,
-        owned,
-        stop,
+        task,
+        bells,
         &mut serving,
     );
-    let senders_started = start_senders(scope, rt, alloc, board, clients, task, stop, &mut senders);
+    let senders_started = start_senders(
+        scope,
+        rt,
+        alloc,
+        board,
+        clients,
+        task,
+        bells,
+        &mut senders,
+    );
     let lanes = join_senders::<S, R>(rt, senders, &task, lanes);
-    stop.set();
+    bells.end();
     let workers_ended = join_workers(rt, serving);
     workers_started?;
     senders_started?;

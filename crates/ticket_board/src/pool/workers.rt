@@ -5,9 +5,10 @@ ghost use Rattle.std.specs.List.{AllByRecursion};
 ghost use Rattle.std.specs.Thread.{IsSync};
 ghost use Rattle.ticket_board.specs.Seats.{IsWorkerOf};
 
+use super::bells::Bells;
 use super::maker::Maker;
 use super::owners::Owned;
-use super::stop::Stop;
+use super::task::Task;
 use super::worker_task::{Serving, serve};
 use crate::board::Board;
 use crate::gate::Gate;
@@ -48,8 +49,7 @@ fn start_worker<
     Ok(thread)
 }
 
-/// Starts the threads of the workers into `threads`, which has room for them; `owned` is what is
-/// meant for the first. The error says that one was refused: then the pool stops, and the later
+/// Starts the threads of the workers into `threads`, which has room for them; The error says that one was refused: then the pool ends, and the later
 /// ones aren't started.
 pub fn start_workers<
     's,
@@ -67,8 +67,8 @@ pub fn start_workers<
     workers: Vec<Worker<S>>,
     maker: &'s M,
     gate: &'s G,
-    owned: Owned<'s>,
-    stop: &'s Stop,
+    task: Task<'s>,
+    bells: &'s Bells,
     threads: &mut Vec<WorkerThread>,
 ) -> Result<(), NoMemory>
     requires key { M.key maker.now ≡ board.now.key }
@@ -78,8 +78,9 @@ pub fn start_workers<
 {
     for worker in workers {
         let owned = Owned {
+            owners: task.owners,
+            cells: task.senders.wrapping_mul(task.window),
             worker: threads.len(),
-            ..owned
         };
         let serving = Serving {
             board,
@@ -87,10 +88,10 @@ pub fn start_workers<
             maker,
             gate,
             owned,
-            stop,
+            bells,
         };
         let Ok(thread) = start_worker(scope, rt, alloc, serving) else {
-            stop.set();
+            bells.end();
             return Err(AllocError);
         };
         threads.push_reserved(thread);
