@@ -10,6 +10,7 @@ pub mod fallback;
 pub mod gnu;
 pub mod guard;
 pub mod identity;
+pub mod image;
 pub mod json;
 pub mod llvm;
 pub mod names;

@@ -7,10 +7,11 @@ use object::{Object, ObjectSection};
 
 use crate::debug_files::DebugFiles;
 use crate::fallback::Fallback;
+use crate::image::image;
 use crate::names::is_mangled;
 use crate::open_file::OpenFile;
 use crate::reply::{Frame, Variable};
-use crate::sections::{has_debug_info, has_supplement, image};
+use crate::sections::{has_debug_info, has_supplement};
 use crate::symbols::{Kind, Symbols};
 use crate::units::UnitKinds;
 

@@ -44,8 +44,8 @@ impl File {
         if about.len() == 0 {
             return Ok((File::from(Vec::new()), about));
         }
-        // SAFETY: the mapping is private and is only read. That nobody else writes the file is asked
-        // of the caller, as of all who map files.
+        // SAFETY: the mapping is only read. That nobody else writes the file is asked of the caller,
+        // as of all who map files.
         let mapped = unsafe { Mmap::map(&file) }?;
         Ok((File(Bytes::Mapped(mapped)), about))
     }

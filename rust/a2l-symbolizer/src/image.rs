@@ -1,0 +1,165 @@
+//! A file of the debug information of another one, decompressed, as the library reads it.
+
+use a2l::File;
+use flate2::{Decompress, FlushDecompress, Status};
+use object::elf::{FileHeader64, SectionHeader64, SHT_PROGBITS, SHT_STRTAB};
+use object::endian::{LittleEndian, U16, U32, U64};
+use object::pod::bytes_of;
+use object::read::elf::ElfFile64;
+use object::{CompressedData, CompressionFormat, Object, ObjectSection};
+
+use crate::sections::{compressed, Error};
+
+/// The sections that the library reads, without what is before each name.
+const READ: [&[u8]; 8] = [b"info", b"abbrev", b"line", b"line_str", b"str", b"str_offsets", b"addr", b"rnglists"];
+
+/// An image of the sections of a file that the library reads, of at most so many bytes.
+pub fn image(file: &File, most: u64) -> Result<File, Error> {
+    let object = ElfFile64::<LittleEndian>::parse(&**file)?;
+    let mut found = Vec::new();
+    for section in object.sections() {
+        let name = section.name_bytes()?;
+        let rest = name.strip_prefix(b".debug_").or_else(|| name.strip_prefix(b".zdebug_"));
+        if let Some(rest) = rest.filter(|rest| READ.contains(rest)) {
+            found.push(([&b".debug_"[..], rest].concat(), compressed(&section)?));
+        }
+    }
+    let size = found.iter().try_fold(0_u64, |size, (_, data)| size.checked_add(data.uncompressed_size));
+    let size = size.filter(|&size| size <= most).and_then(|size| usize::try_from(size).ok()).ok_or(Error::TooMany)?;
+    let mut image = Image::new(size)?;
+    for (name, data) in &found {
+        image.add(name, data)?;
+    }
+    Ok(image.finish(object.raw_header()))
+}
+
+/// A file that is put together: a header, bytes of sections, their names, and the table of
+/// sections.
+struct Image {
+    bytes: Vec<u8>,
+    names: Vec<u8>,
+    sections: Vec<SectionHeader64<LittleEndian>>,
+}
+
+impl Image {
+    /// So much there is left for all but the bytes of sections.
+    const FRAME: usize = 4096;
+
+    /// An image of sections of so many bytes, which none of them moves.
+    fn new(size: usize) -> Result<Image, Error> {
+        let mut bytes = Vec::new();
+        bytes.try_reserve_exact(size.saturating_add(Image::FRAME)).map_err(|_| Error::TooMany)?;
+        bytes.resize(std::mem::size_of::<FileHeader64<LittleEndian>>(), 0);
+        Ok(Image { bytes, names: vec![0], sections: vec![header(0, 0, 0, 0)] })
+    }
+
+    fn add(&mut self, name: &[u8], data: &CompressedData<'_>) -> Result<(), Error> {
+        let begin = self.bytes.len();
+        match data.format {
+            CompressionFormat::None => self.bytes.extend_from_slice(data.data),
+            CompressionFormat::Zlib => {
+                let mut stream = Decompress::new(true);
+                let ended = stream.decompress_vec(data.data, &mut self.bytes, FlushDecompress::Finish);
+                if !matches!(ended, Ok(Status::StreamEnd)) {
+                    return Err(Error::Damaged);
+                }
+            }
+            _ => return Err(Error::Damaged),
+        }
+        let size = self.bytes.len() - begin;
+        if size as u64 != data.uncompressed_size {
+            return Err(Error::Damaged);
+        }
+        self.sections.push(header(self.names.len(), SHT_PROGBITS, begin, size));
+        self.names.extend_from_slice(name);
+        self.names.push(0);
+        Ok(())
+    }
+
+    /// The file, with a header like that of the other one.
+    fn finish(mut self, like: &FileHeader64<LittleEndian>) -> File {
+        let name = self.names.len();
+        self.names.extend_from_slice(b".shstrtab\0");
+        self.sections.push(header(name, SHT_STRTAB, self.bytes.len(), self.names.len()));
+        self.bytes.extend_from_slice(&self.names);
+        self.bytes.resize(self.bytes.len().next_multiple_of(8), 0);
+        let mut first = *like;
+        first.e_phoff = U64::new(LittleEndian, 0);
+        first.e_phnum = U16::new(LittleEndian, 0);
+        first.e_shoff = U64::new(LittleEndian, self.bytes.len() as u64);
+        first.e_shnum = U16::new(LittleEndian, self.sections.len() as u16);
+        first.e_shstrndx = U16::new(LittleEndian, self.sections.len() as u16 - 1);
+        for section in &self.sections {
+            self.bytes.extend_from_slice(bytes_of(section));
+        }
+        let first = bytes_of(&first);
+        self.bytes[..first.len()].copy_from_slice(first);
+        File::from(self.bytes)
+    }
+}
+
+fn header(name: usize, kind: u32, offset: usize, size: usize) -> SectionHeader64<LittleEndian> {
+    let (word, long) = (|number| U32::new(LittleEndian, number), |number| U64::new(LittleEndian, number));
+    SectionHeader64 {
+        sh_name: word(name as u32),
+        sh_type: word(kind),
+        sh_flags: long(0),
+        sh_addr: long(0),
+        sh_offset: long(offset as u64),
+        sh_size: long(size as u64),
+        sh_link: word(0),
+        sh_info: word(0),
+        sh_addralign: long(1),
+        sh_entsize: long(0),
+    }
+}
+
+#[cfg(test)]
+mod tests {
+    use super::*;
+    use std::sync::Arc;
+
+    use object::elf::{CompressionHeader64, ELFCOMPRESS_ZLIB, SHF_COMPRESSED};
+
+    fn sample() -> File {
+        let path = concat!(env!("CARGO_MANIFEST_DIR"), "/../../samples/inlined.elf");
+        File::from(std::fs::read(path).expect("the sample"))
+    }
+
+    #[test]
+    fn an_image_has_the_same_answers() {
+        let image = image(&sample(), 1 << 20).expect("an image");
+        let mut program = a2l::Program::open(Arc::new(image), 1).expect("a file that is accepted");
+        let frames = program.find_frames(0x401004).expect("no fault").expect("frames").frames;
+        let names: Vec<_> = frames.iter().map(|frame| frame.function_name()).collect();
+        assert_eq!(names, [Some("leaf"), Some("mid"), Some("main")]);
+    }
+
+    #[test]
+    fn an_image_is_bounded() {
+        assert!(matches!(image(&sample(), 100), Err(Error::TooMany)));
+    }
+
+    /// A file whose one section claims so many bytes, of 16 that are no zlib.
+    fn claiming(size: u64) -> File {
+        let claim = CompressionHeader64 {
+            ch_type: U32::new(LittleEndian, ELFCOMPRESS_ZLIB),
+            ch_reserved: U32::new(LittleEndian, 0),
+            ch_size: U64::new(LittleEndian, size),
+            ch_addralign: U64::new(LittleEndian, 1),
+        };
+        let bytes = [bytes_of(&claim), &[0; 16][..]].concat();
+        let mut image = Image::new(bytes.len()).expect("memory");
+        image.add(b".debug_info", &CompressedData::none(&bytes)).expect("bytes that aren't compressed");
+        image.sections[1].sh_flags = U64::new(LittleEndian, SHF_COMPRESSED.into());
+        let sample = sample();
+        let object = ElfFile64::<LittleEndian>::parse(&*sample).expect("the sample");
+        image.finish(object.raw_header())
+    }
+
+    #[test]
+    fn claims_are_bounded() {
+        assert!(matches!(image(&claiming(1 << 40), u64::MAX), Err(Error::TooLong)));
+        assert!(matches!(image(&claiming(1 << 10), u64::MAX), Err(Error::Damaged)));
+    }
+}
