@@ -11,7 +11,7 @@ use object::{Object, ObjectKind};
 
 use crate::debug_files::DebugFiles;
 use crate::guard::guarded;
-use crate::relocated::relocated;
+use crate::relocated::{relocated, Placement};
 use crate::reply::Frame;
 use crate::sections::{part, Error};
 use crate::split::SplitUnits;
@@ -23,6 +23,8 @@ pub type Reader = EndianReader<RunTimeEndian, Part>;
 /// A file that the addr2line crate has opened.
 pub struct Fallback {
     context: Context<Reader>,
+    /// Where the sections of a relocatable file were put.
+    placement: Option<Placement>,
     split: SplitUnits,
     /// Made when it is first needed.
     variables: OnceCell<Option<Variables>>,
@@ -39,7 +41,9 @@ impl Fallback {
                 dwarf.load_sup(|id| section(&other, &object, id)).ok()?;
             }
             let split = SplitUnits::new(path, debug_files.opener());
-            Some(Fallback { context: Context::from_dwarf(dwarf).ok()?, split, variables: OnceCell::new() })
+            let placement = (object.kind() == ObjectKind::Relocatable).then(|| Placement::of(&object));
+            let context = Context::from_dwarf(dwarf).ok()?;
+            Some(Fallback { context, placement, split, variables: OnceCell::new() })
         })?
     }
 
@@ -50,7 +54,7 @@ impl Fallback {
     }
 
     fn frames(&self, address: u64) -> Option<Vec<Frame>> {
-        let mut found = self.context.find_frames(address).ok()?;
+        let mut found = self.context.find_frames(self.placed(address)?).ok()?;
         let mut frames = Vec::new();
         while let Some(frame) = found.next().ok()? {
             let name = frame.function.as_ref().map(|function| function.name.bytes().to_vec());
@@ -75,8 +79,16 @@ impl Fallback {
         guarded(|| self.split_frames(address, place))?
     }
 
+    /// The address as the context has it.
+    fn placed(&self, address: u64) -> Option<u64> {
+        match &self.placement {
+            Some(placement) => placement.address(address),
+            None => Some(address),
+        }
+    }
+
     fn split_frames(&self, address: u64, place: &Frame) -> Option<Vec<Frame>> {
-        let unit = self.context.find_dwarf_unit(address)?;
+        let unit = self.context.find_dwarf_unit(self.placed(address)?)?;
         self.split.find_frames(self.context.dwarf(), unit, address, place.clone())
     }
 
@@ -89,7 +101,7 @@ impl Fallback {
     /// The folder in which the compiler ran that made the code at an address: an attribute of the
     /// unit, else the first folder of its line table.
     pub fn folder(&self, address: u64) -> Option<Vec<u8>> {
-        let unit = self.context.find_dwarf_unit(address)?;
+        let unit = self.context.find_dwarf_unit(self.placed(address)?)?;
         if let Some(folder) = &unit.comp_dir {
             return Some(folder.bytes().to_vec());
         }

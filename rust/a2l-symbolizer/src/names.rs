@@ -78,11 +78,13 @@ fn rust(name: &[u8]) -> Option<String> {
     Some(bounded.0)
 }
 
-/// A name of Rust's first scheme is one of C++ that ends in a hash: 17h, 16 digits and E.
+/// A name of Rust's first scheme is one of C++ that ends in a hash: 17h, 16 digits and E, after which
+/// the compiler may have marked a copy (.llvm.123).
 fn has_rust_hash(name: &[u8]) -> bool {
-    let end = name.iter().position(|&byte| byte == b'.').unwrap_or(name.len());
-    let hash = name[..end].strip_suffix(b"E").and_then(|rest| rest.get(rest.len().checked_sub(19)?..));
-    hash.is_some_and(|hash| hash.starts_with(b"17h") && hash[3..].iter().all(u8::is_ascii_hexdigit))
+    let is_hash =
+        |part: &[u8]| part.starts_with(b"17h") && part[3..19].iter().all(u8::is_ascii_hexdigit) && part[19] == b'E';
+    let mut parts = name.windows(20).enumerate();
+    parts.any(|(at, part)| is_hash(part) && matches!(name.get(at + 20), None | Some(b'.')))
 }
 
 /// A name of C++. The crate writes it into a bounded text first: where that succeeds, the name is
@@ -147,6 +149,11 @@ mod tests {
             ("_ZN3lib4peekEPKii", "lib::peek(int const*, int)"),
             ("_ZN3lib3sumIiEET_PKS1_i", "int lib::sum<int>(int const*, int)"),
             ("_ZN4core3fmt5write17h0123456789abcdefE", "core::fmt::write"),
+            (
+                "_ZN43_$LT$words..Big$u20$as$u20$words..Shape$GT$4size17h80d88d1f55a7463bE",
+                "<words::Big as words::Shape>::size",
+            ),
+            ("_ZN4core3fmt5write17h0123456789abcdefE.llvm.12", "core::fmt::write"),
             ("_RNvC7mycrate4main", "mycrate::main"),
             ("_ZN3foo3barE", "foo::bar"),
             ("_ZN1AIiJEE1fEv", "A<int>::f()"),
