@@ -11,9 +11,9 @@ const MOST_SKIPS: u32 = 63;
 #[derive(Debug, Drop)]
 pub struct Patience {
     /// How often it looks again at most.
-    most: u32,
+    most: usize,
     /// How often it has looked again.
-    looks: u32,
+    looks: usize,
     /// How many times in a row it parks at once after it looked in vain.
     skips: u32,
     /// How many of these are left.
@@ -22,7 +22,7 @@ pub struct Patience {
 
 impl Patience {
     /// It looks again so many times at most.
-    pub fn new(most: u32) -> Self {
+    pub fn new(most: usize) -> Self {
         Patience {
             most,
             looks: 0,

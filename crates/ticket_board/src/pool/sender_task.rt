@@ -17,7 +17,7 @@ use std::sync::Wait;
 use ticket_core::{NoMemory, Query, Solver};
 
 /// How often a sender looks again before it parks: for some five microseconds.
-const LOOKS: u32 = 300;
+const LOOKS: usize = 300;
 
 /// The phase of a number that waits, as a state word has it.
 const WAITS: u64 = 1;

@@ -16,8 +16,8 @@ use std::alloc::Global;
 use std::sync::Wait;
 use ticket_core::{NoMemory, Solver};
 
-/// How often a worker looks again before it parks: for some five microseconds.
-const LOOKS: u32 = 100;
+/// At how many cells a worker looks again before it parks: for some five microseconds.
+const CELLS: usize = 1600;
 
 /// Where a worker is: its board, its gate, what is meant for it, and the bells of its pool.
 #[derive(Drop)]
@@ -50,8 +50,8 @@ impl<S: Solver, G> Desk<'_, '_, S, G> {
     }
 }
 
-/// Takes a number that waits, from the cell on at which the worker begins, and answers it. The error
-/// says that the solver is out of memory.
+/// Takes a number that waits, from the cell on at which the worker begins, and answers it. The
+/// error says that the solver is out of memory.
 fn take<S: Solver, G: Gate>(
     desk: &Desk<'_, '_, S, G>,
     worker: &mut Worker<S>,
@@ -116,7 +116,8 @@ fn work<S: Solver, R: Wait, G: Gate>(
     requires key { S.key solver.old ≡ desk.now.board.now.key }
     ensures refused { OnOk result (S.refused solver.new ≡ S.refused solver.old) }
 {
-    let mut patience = Patience::new(LOOKS);
+    let looks = CELLS.checked_div(desk.owned.cells).unwrap_or(0);
+    let mut patience = Patience::new(looks);
     let mut from = 0usize;
     for _ in rt.forever() {
         if desk.bells.has_ended() {

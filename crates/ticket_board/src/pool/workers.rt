@@ -49,8 +49,8 @@ fn start_worker<
     Ok(thread)
 }
 
-/// Starts the threads of the workers into `threads`, which has room for them; The error says that one was refused: then the pool ends, and the later
-/// ones aren't started.
+/// Starts the threads of the workers into `threads`, which has room for them. The error says that
+/// one was refused: then the pool ends, and the later ones aren't started.
 pub fn start_workers<
     's,
     'a: 's,
