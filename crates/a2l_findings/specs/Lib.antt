@@ -1,1 +1,4 @@
 pub mod Census
+pub mod Page
+pub mod Report
+pub mod Told

@@ -1,111 +1,222 @@
-//! Notes as values of a document.
+//! Reports as documents of JSON.
 
-use crate::note::{Fact, Named, Note};
+use crate::note::{Allocated, Fact, Note, digits_of};
+use crate::reasons::Reason;
+use crate::told::Told;
+use dw_symbols::{Answer, Frame, Location, Piece};
 use serde_json::{Map, Value, put};
-use std::alloc::{AllocError, Global};
+use std::alloc::Global;
 use std::mem;
 
-/// Bytes in hexadecimal digits.
-fn digits_of(alloc: Global, bytes: &[u8]) -> Result<String, AllocError> {
-    let mut digits = String::new(alloc);
-    for byte in bytes {
-        let two = format!(in alloc; "{byte:02x}")?;
-        digits.push_str(&two)?;
-    }
-    Ok(digits)
-}
-
-/// An offset or an address, in hexadecimal digits after 0x.
-pub fn place_value(alloc: Global, place: u64) -> Result<Value, AllocError> {
-    let text = format!(in alloc; "0x{place:x}")?;
-    Ok(Value::String(text))
-}
-
-/// A text of the file; what of it isn't UTF-8 is replaced.
-pub fn text_value(alloc: Global, text: &[u8]) -> Result<Value, AllocError> {
-    Ok(Value::String(String::from_utf8_lossy(alloc, text)?))
-}
-
-/// A fact: a number, or a text.
-fn fact_value(alloc: Global, fact: &Fact<'_>) -> Result<Value, AllocError> {
-    match fact {
-        Fact::Count(count) => Ok(Value::from(*count)),
-        Fact::Place(place) => place_value(alloc, *place),
-        Fact::Text(text) => text_value(alloc, text),
-        Fact::Bytes(bytes) => Ok(Value::String(digits_of(alloc, bytes)?)),
-        Fact::Word(word) => Value::try_from_str(alloc, word),
-        Fact::Words(words) => Value::try_from_str(alloc, words),
-    }
-}
-
-/// Adds facts: those of the note itself by their names, and those of something as an object of
-/// their own.
-fn put_facts(
+/// An object of a document, to which members are added by their names.
+#[derive(Drop)]
+struct Object {
     alloc: Global,
-    map: &mut Map<String, Value>,
-    facts: &[Named<'_>],
-) -> Result<(), AllocError> {
-    let mut group = "";
-    let mut members = Map::new(alloc);
-    for named in facts {
-        if named.group != group {
-            let whole = mem::replace(&mut members, Map::new(alloc));
-            put_group(alloc, map, group, whole)?;
-            group = named.group;
-        }
-        put(
-            &mut members,
-            alloc,
-            named.name,
-            fact_value(alloc, &named.fact)?,
-        )?;
-    }
-    put_group(alloc, map, group, members)
-}
-
-/// Adds the facts of something; those of the note itself go among its own members.
-fn put_group(
-    alloc: Global,
-    map: &mut Map<String, Value>,
-    group: &str,
     members: Map<String, Value>,
-) -> Result<(), AllocError> {
-    if !group.is_empty() {
-        return put(map, alloc, group, Value::Object(members));
+}
+
+impl Object {
+    /// An object without members.
+    fn new(alloc: Global) -> Self {
+        Object {
+            alloc,
+            members: Map::new(alloc),
+        }
     }
-    for (name, value) in members {
-        map.insert(name, value)?;
+
+    /// Adds a member.
+    fn put(&mut self, name: &str, value: Value) -> Allocated<()> {
+        put(&mut self.members, self.alloc, name, value)
     }
-    Ok(())
+
+    /// Adds a fact, where there is one.
+    fn tell(&mut self, name: &str, fact: Fact<'_>) -> Allocated<()> {
+        let alloc = self.alloc;
+        let value = match fact {
+            Fact::Nothing | Fact::Fault(_) | Fact::Reason(_) => return Ok(()),
+            Fact::Count(count) | Fact::Unsaid(count) => Value::from(count),
+            Fact::Place(place) => Value::String(format!(in alloc; "0x{place:x}")?),
+            Fact::Text(text) => Value::String(String::from_utf8_lossy(alloc, text)?),
+            Fact::Bytes(bytes) => Value::String(digits_of(alloc, bytes)?),
+            Fact::Words(words) => Value::try_from_str(alloc, words)?,
+        };
+        self.put(name, value)
+    }
+
+    /// Adds the members of something, which has an object of its own if it has a name.
+    fn put_group(&mut self, name: &str, group: Object) -> Allocated<()> {
+        if !name.is_empty() {
+            return self.put(name, Value::Object(group.members));
+        }
+        for (name, value) in group.members {
+            self.members.insert(name, value)?;
+        }
+        Ok(())
+    }
+
+    /// Adds the facts of a note.
+    fn put_facts(&mut self, note: &Note<'_>) -> Allocated<()> {
+        let mut name = "";
+        let mut group = Object::new(self.alloc);
+        for part in note.parts.as_slice() {
+            if part.name.is_empty() {
+                continue;
+            }
+            if part.group != name {
+                let whole = mem::replace(&mut group, Object::new(self.alloc));
+                self.put_group(name, whole)?;
+                name = part.group;
+            }
+            group.tell(part.name, part.fact)?;
+            if let Fact::Reason(reason) = part.fact {
+                group.put(part.name, reason_value(self.alloc, reason)?)?;
+            }
+        }
+        self.put_group(name, group)
+    }
+
+    /// Adds a location: what of it is known.
+    fn put_location(&mut self, location: &Location) -> Allocated<()> {
+        if let Some(path) = &location.path {
+            self.tell("path", Fact::Text(path))?;
+        }
+        self.tell("line", Fact::count(location.line))?;
+        self.tell("column", Fact::count(location.column))
+    }
+
+    /// Adds an answer.
+    fn put_answer(&mut self, answer: &Answer<'_>) -> Allocated<()> {
+        match answer {
+            Answer::NotCovered => Ok(()),
+            Answer::Fault { unit, code } => {
+                self.tell("unit", Fact::Place(*unit))?;
+                self.tell("fault", Fact::Count(u64::from(code.number())))
+            }
+            Answer::Found { unit, frames } => {
+                self.tell("unit", Fact::Place(*unit))?;
+                let frames = frames_value(self.alloc, frames)?;
+                self.put("frames", frames)
+            }
+            Answer::Pieces(pieces) => {
+                let pieces = pieces_value(self.alloc, pieces)?;
+                self.put("pieces", pieces)
+            }
+        }
+    }
+
+    /// The document of it with its status, and the end of the line.
+    fn finish(mut self, status: &str) -> Allocated<Vec<u8>> {
+        let alloc = self.alloc;
+        self.tell("status", Fact::Words(status))?;
+        let written = Value::Object(self.members).to_string(alloc)?;
+        let mut text = Vec::from_slice(alloc, written.as_bytes())?;
+        text.push(b'\n')?;
+        Ok(text)
+    }
+}
+
+/// Why something can't be read.
+fn reason_value(alloc: Global, reason: Reason) -> Allocated<Value> {
+    let place = format!(in alloc; "{}", reason.spot)?;
+    let field = format!(in alloc; "{}", reason.field)?;
+    let found = format!(in alloc; "{}", reason.found)?;
+    let wanted = format!(in alloc; "{}", reason.wanted)?;
+    let mut object = Object::new(alloc);
+    object.tell("place", Fact::Words(&place))?;
+    object.tell("field", Fact::Words(&field))?;
+    object.tell("found", Fact::Words(&found))?;
+    object.tell("wanted", Fact::Words(&wanted))?;
+    Ok(Value::Object(object.members))
 }
 
 /// A note: its kind, its facts, its sentence and what to do.
-pub fn note_value(alloc: Global, note: &Note<'_>) -> Result<Value, AllocError> {
-    let mut map = Map::new(alloc);
-    put(
-        &mut map,
-        alloc,
-        "kind",
-        Value::try_from_str(alloc, note.kind)?,
-    )?;
-    put(&mut map, alloc, "text", text_value(alloc, &note.sentence)?)?;
+fn note_value(alloc: Global, note: &Note<'_>) -> Allocated<Value> {
+    let mut sentence = Vec::new(alloc);
+    note.push_sentence(&mut sentence)?;
+    let mut object = Object::new(alloc);
+    object.tell("kind", Fact::Words(note.kind))?;
+    object.tell("text", Fact::Text(&sentence))?;
     if let Some(remedy) = note.remedy {
-        put(
-            &mut map,
-            alloc,
-            "remedy",
-            Value::try_from_str(alloc, remedy)?,
-        )?;
+        object.tell("remedy", Fact::Words(remedy))?;
     }
-    put_facts(alloc, &mut map, &note.facts)?;
-    Ok(Value::Object(map))
+    object.put_facts(note)?;
+    Ok(Value::Object(object.members))
 }
 
 /// Notes, in order.
-pub fn notes_value(alloc: Global, notes: &[Note<'_>]) -> Result<Value, AllocError> {
+fn notes_value(alloc: Global, notes: &[Note<'_>]) -> Allocated<Value> {
     let mut list = Vec::new(alloc);
     for note in notes {
         list.push(note_value(alloc, note)?)?;
     }
     Ok(Value::Array(list))
+}
+
+/// Frames, innermost first.
+fn frames_value(alloc: Global, frames: &[Frame<'_>]) -> Allocated<Value> {
+    let mut list = Vec::new(alloc);
+    for frame in frames {
+        let mut object = Object::new(alloc);
+        object.tell("function", Fact::text(frame.name))?;
+        object.put_location(&frame.location)?;
+        list.push(Value::Object(object.members))?;
+    }
+    Ok(Value::Array(list))
+}
+
+/// The pieces of a span.
+fn pieces_value(alloc: Global, pieces: &[Piece]) -> Allocated<Value> {
+    let mut list = Vec::new(alloc);
+    for piece in pieces {
+        let mut object = Object::new(alloc);
+        object.tell("begin", Fact::Place(piece.begin))?;
+        object.tell("end", Fact::Place(piece.end))?;
+        object.put_location(&piece.location)?;
+        list.push(Value::Object(object.members))?;
+    }
+    Ok(Value::Array(list))
+}
+
+/// The report on a text.
+fn told_value(alloc: Global, word: &str, told: &Told<'_>) -> Allocated<Value> {
+    let mut object = Object::new(alloc);
+    object.tell("asked", Fact::Words(word))?;
+    object.put("way", notes_value(alloc, &told.way.steps)?)?;
+    if let Some(answer) = &told.answer {
+        object.put_answer(answer)?;
+    }
+    object.tell("lines", Fact::Text(&told.lines))?;
+    Ok(Value::Object(object.members))
+}
+
+/// The document of a refused file.
+pub(crate) fn of_refusal(alloc: Global, note: &Note<'_>) -> Allocated<Vec<u8>> {
+    let mut object = Object::new(alloc);
+    object.put("refusal", note_value(alloc, note)?)?;
+    object.finish("refused")
+}
+
+/// The document of a file.
+pub(crate) fn of_file(alloc: Global, units: &Note<'_>, notes: &[Note<'_>]) -> Allocated<Vec<u8>> {
+    let mut object = Object::new(alloc);
+    object.put("units", note_value(alloc, units)?)?;
+    object.put("findings", notes_value(alloc, notes)?)?;
+    let is_clean = notes.is_empty();
+    object.finish(if is_clean { "clean" } else { "findings" })
+}
+
+/// The document of some texts, with the report on each.
+pub(crate) fn of_words(
+    alloc: Global,
+    words: &[&str],
+    tolds: &[Told<'_>],
+    is_clean: bool,
+) -> Allocated<Vec<u8>> {
+    let mut list = Vec::new(alloc);
+    for (word, told) in words.iter().zip(tolds) {
+        list.push(told_value(alloc, word, told)?)?;
+    }
+    let mut object = Object::new(alloc);
+    object.put("asked", Value::Array(list))?;
+    object.finish(if is_clean { "clean" } else { "findings" })
 }

@@ -1,117 +1,198 @@
 //! The findings of a file: what of it answers no address, or another one's.
 
-ghost use Rattle.std.specs.Prelude.{◌≡◌, None, OnOk, IfOk, IfErr};
+ghost use Rattle.std.specs.Prelude.{◌≡◌, ◌<◌, length, None, OnOk, IfOk, IfErr};
 ghost use Rattle.dw_model.specs.Refusal.{refusal};
-ghost use Rattle.dw_model.specs.Section.{sections};
 ghost use Rattle.dw_model.specs.Unit as cut;
 ghost use Rattle.dw_elf.specs.OpenFault.{RefusesUnlessMemory};
 ghost use Rattle.a2l_findings.specs.Census.{IsCensus, listed};
 
 use crate::census::{Census, census_of};
-use crate::faults::FaultyUnits;
-use crate::group::Group;
-use crate::overlap::{Overlap, unit_overlap};
-use crate::overlaps::{Code, hidden_in};
-use crate::pairing::{Pairing, pairing_in};
-use crate::progress::Progress;
-use crate::skipped::{SkippedUnits, skipped_units};
-use crate::survey::{Gathered, Scene};
-use a2l_reasons::{SectionHeader, section_headers};
-use dw_elf::{Elf, OpenFault};
-use dw_symbols::Image;
-use dw_units::{Sections, Units};
-use std::alloc::{AllocError, Global};
-use std::sync::Arc;
+use crate::note::{Allocated, Note};
+use crate::notes::notes_of;
+use crate::overlaps::{Overlap, Owned, both, overlap_of, subprograms_of};
+use crate::reasons::{unit_header, uses_supplementary};
+use crate::scene::{Scene, ranges_in, read_lines, read_tree};
+use dw_elf::OpenFault;
+use dw_symbols::{Image, UnitFault};
+use dw_units::{Kind, OpenUnit};
+use std::alloc::Global;
+
+/// Why units are reported.
+#[derive(Clone, Copy, Debug, PartialEq, Eq)]
+pub(crate) enum Matter {
+    /// They are skipped. The type is a DW_UT code, where there is one that can be read.
+    Skipped { version: u16, unit_type: Option<u8> },
+    /// They answer and have code, but no ranges.
+    WithoutRanges,
+    /// Their functions are in other files.
+    Skeleton,
+    /// They name a supplementary file.
+    Supplementary,
+    /// They can't be read.
+    Faulty(UnitFault),
+}
+
+/// Units that are reported for the same: how many, and the index of the first.
+#[derive(Clone, Copy, Debug)]
+pub(crate) struct Group {
+    pub(crate) matter: Matter,
+    pub(crate) count: usize,
+    pub(crate) first: usize,
+}
+
+/// What was found in the units so far.
+#[derive(Drop)]
+pub(crate) struct Survey {
+    /// The ranges of the units that answer.
+    pub(crate) ranges: Vec<Owned>,
+    pub(crate) groups: Vec<Group>,
+    pub(crate) functions_over: Option<Overlap>,
+    /// The table of abbreviations that was looked at last, and what was found in it.
+    last_table: Option<(u64, bool)>,
+}
+
+/// Counts a unit among those of a matter, where one came before.
+fn is_counted(groups: &mut Vec<Group>, matter: Matter) -> bool {
+    for group in groups.iter_mut() {
+        if group.matter == matter {
+            group.count = group.count.saturating_add(1);
+            return true;
+        }
+    }
+    false
+}
+
+impl Survey {
+    /// Nothing was found yet.
+    pub(crate) fn new(alloc: Global) -> Self {
+        Survey {
+            ranges: Vec::new(alloc),
+            groups: Vec::new(alloc),
+            functions_over: None,
+            last_table: None,
+        }
+    }
+
+    /// Counts the unit at an index among those of a matter.
+    fn count(&mut self, matter: Matter, first: usize) -> Allocated<()> {
+        if is_counted(&mut self.groups, matter) {
+            return Ok(());
+        }
+        self.groups.push(Group {
+            matter,
+            count: 1,
+            first,
+        })?;
+        Ok(())
+    }
+
+    /// The table at an offset leads to a supplementary file. Units that share one are side by side.
+    fn leads_elsewhere(&mut self, scene: &Scene<'_>, offset: u64) -> bool {
+        if let Some((last, leads)) = self.last_table {
+            if last == offset {
+                return leads;
+            }
+        }
+        let leads = uses_supplementary(scene.sections.abbrevs, offset);
+        self.last_table = Some((offset, leads));
+        leads
+    }
+
+    /// Looks at the header of a unit, and at what it says of other files.
+    fn look_at_header(&mut self, scene: &Scene<'_>, here: OpenUnit<'_, '_>) -> Allocated<()> {
+        let unit = here.unit();
+        if unit.kind.is_skipped() {
+            let version = unit.version;
+            let unit_type = match unit_header(scene.sections.info, unit.offset) {
+                Ok(header) => header.unit_type,
+                Err(_) => None,
+            };
+            return self.count(Matter::Skipped { version, unit_type }, here.index());
+        }
+        if let Kind::Skeleton = unit.kind {
+            self.count(Matter::Skeleton, here.index())?;
+        }
+        if self.leads_elsewhere(scene, unit.debug_abbrev_offset) {
+            self.count(Matter::Supplementary, here.index())?;
+        }
+        Ok(())
+    }
+
+    /// Looks at the functions and the lines of the unit at an index.
+    fn look_inside(&mut self, scene: &Scene<'_>, index: usize) -> Allocated<()>
+        requires { index < length (cut.units scene.now.units.value.info) }
+    {
+        let here = scene.units.at(index);
+        let ranges = ranges_in(scene.alloc, here)?;
+        for range in ranges.as_slice() {
+            self.ranges.push((*range, here.unit().offset as usize))?;
+        }
+        let (tree, tree_fault) = read_tree(scene, index)?;
+        let (lines, line_fault) = read_lines(scene, here)?;
+        if let Some(fault) = tree_fault.or(line_fault) {
+            self.count(Matter::Faulty(fault), here.index())?;
+        }
+        let functions = subprograms_of(scene.alloc, here)?;
+        let has_rows = match lines {
+            Some(lines) => lines.kept() > 0,
+            None => false,
+        };
+        if ranges.is_empty() && (has_rows || !functions.is_empty()) {
+            self.count(Matter::WithoutRanges, here.index())?;
+        }
+        if tree.is_some() {
+            let found = overlap_of(scene, &functions)?;
+            self.functions_over = both(self.functions_over, found);
+        }
+        Ok(())
+    }
+
+    /// Looks at the unit at an index.
+    pub(crate) fn look_at(&mut self, scene: &Scene<'_>, index: usize) -> Allocated<()>
+        requires { index < length (cut.units scene.now.units.value.info) }
+    {
+        let here = scene.units.at(index);
+        self.look_at_header(scene, here)?;
+        if here.unit().kind.answers() {
+            return self.look_inside(scene, index);
+        }
+        Ok(())
+    }
+}
+
+/// What is called while the units are looked at.
+pub trait Progress {
+    /// `done` of `all` units have been looked at.
+    fn reach(&mut self, done: usize, all: usize);
+}
 
 /// What of a file can puzzle a user.
 #[derive(Debug, Drop)]
 pub struct Findings<'a> {
     /// How many units it has.
     pub census: Census,
-    /// The files that belong to it.
-    pub pairing: Pairing<'a>,
-    /// The units that are skipped, by version and type.
-    pub skipped: Vec<SkippedUnits<'a>>,
-    /// Units that answer and have code, but no ranges.
-    pub without_ranges: Option<Group<'a>>,
-    /// No unit that answers has ranges.
-    pub none_has_ranges: bool,
-    /// Skeleton units, and the name of the first one's .dwo file.
-    pub skeletons: Option<Group<'a>>,
-    pub dwo_name: Option<&'a [u8]>,
-    /// Units that name a supplementary file.
-    pub supplementary: Option<Group<'a>>,
-    /// Units that can't be read, by their fault.
-    pub faulty: Vec<FaultyUnits<'a>>,
-    /// Addresses that a unit answers whose ranges begin where no code is, instead of another one.
-    pub units_over: Option<Overlap<'a>>,
-    /// Addresses that a function answers whose ranges begin where no code is, instead of another
-    /// one of its unit.
-    pub functions_over: Option<Overlap<'a>>,
+    /// A note for each finding; none where nothing was found.
+    pub notes: Vec<Note<'a>>,
 }
 
 /// Looks at all units.
-fn gather<'a, P: Progress>(
-    scene: Scene<'_, 'a>,
-    units: &Arc<Units<'a>>,
-    progress: &mut P,
-) -> Result<Gathered<'a>, AllocError> {
-    let mut gathered = Gathered::new(scene.alloc);
-    for i in 0..units.len() {
-        progress.reach(i, units.len());
-        gathered.look_at(scene, units, i)?;
+fn look_at_all<P: Progress>(scene: &Scene<'_>, progress: &mut P) -> Allocated<Survey> {
+    let mut survey = Survey::new(scene.alloc);
+    for i in 0..scene.units.len() {
+        progress.reach(i, scene.units.len());
+        survey.look_at(scene, i)?;
     }
-    Ok(gathered)
+    Ok(survey)
 }
 
-/// The findings in the units of a file.
-fn findings_in<'a, P: Progress>(
-    alloc: Global,
-    file: &'a [u8],
-    headers: &[SectionHeader<'a>],
-    sections: &Sections<'a>,
-    units: &Arc<Units<'a>>,
-    progress: &mut P,
-) -> Result<Findings<'a>, AllocError>
-    ensures { IfOk result (λ findings. IsCensus (cut.units units.now.value.info) findings.census) }
+/// The findings in an open file.
+fn findings_in<'a, P: Progress>(scene: &Scene<'a>, progress: &mut P) -> Allocated<Findings<'a>>
+    ensures { IfOk result (λ findings. IsCensus (cut.units scene.now.units.value.info) findings.census) }
 {
-    let code = Code::new(headers);
-    let scene = Scene {
-        alloc,
-        sections: *sections,
-        code,
-    };
-    let gathered = gather(scene, units, progress)?;
-    let hidden = hidden_in(alloc, code, &gathered.ranges)?;
-    let census = census_of(units);
-    Ok(Findings {
-        census,
-        pairing: pairing_in(file, headers),
-        skipped: skipped_units(alloc, units, sections)?,
-        none_has_ranges: census.answering() > 0 && gathered.ranges.is_empty(),
-        without_ranges: gathered.without_ranges,
-        skeletons: gathered.skeletons,
-        dwo_name: gathered.dwo_name,
-        supplementary: gathered.supplementary,
-        faulty: gathered.faulty,
-        units_over: hidden.and_then(|hidden| unit_overlap(units, hidden)),
-        functions_over: gathered.functions_over,
-    })
-}
-
-/// The sections and the units of a file that was opened already, so that only memory can be
-/// refused.
-pub fn units_of<'a>(alloc: Global, file: &'a [u8]) -> Result<(Sections<'a>, Units<'a>), AllocError>
-    ensures { IfOk result (λ read. read.1 ≡ sections file.now) }
-{
-    let Ok(elf) = Elf::open(file) else {
-        return Err(AllocError);
-    };
-    let sections = Sections::of(&elf);
-    match Units::read(alloc, &elf) {
-        Ok(units) => Ok((sections, units)),
-        Err(_) => Err(AllocError),
-    }
+    let survey = look_at_all(scene, progress)?;
+    let census = census_of(&scene.units);
+    let notes = notes_of(scene, &census, &survey)?;
+    Ok(Findings { census, notes })
 }
 
 /// The findings of a file. It is refused exactly as a file whose addresses are asked for.
@@ -126,9 +207,7 @@ pub fn findings_of<'a, P: Progress>(
 {
     let image = Image::open(alloc, file)?;
     drop(image);
-    let (sections, units) = units_of(alloc, file)?;
-    let units = Arc::new(alloc, units)?;
-    let headers = section_headers(alloc, file)?;
-    let findings = findings_in(alloc, file, &headers, &sections, &units, progress)?;
+    let scene = Scene::new(alloc, file)?;
+    let findings = findings_in(&scene, progress)?;
     Ok(findings)
 }

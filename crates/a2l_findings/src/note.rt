@@ -1,152 +1,190 @@
-//! What is reported of a file or an address: a sentence, the facts in it by their names, and what
-//! to do about it.
+//! What is reported: a list of facts, of which the page's sentence and the document are made.
 
-use a2l_reasons::Reason;
+use crate::reasons::Reason;
+use dw_elf::OpenFault;
+use dw_index::Range;
 use std::alloc::{AllocError, Global};
 
+/// What out of memory alone can refuse.
+pub type Allocated<T> = Result<T, AllocError>;
+
+/// Words of this program's own.
+pub type Words = &'static str;
+
 /// A fact, as a reader of a document wants it.
-#[derive(Debug, Drop)]
+#[derive(Clone, Copy, Debug)]
 pub enum Fact<'a> {
+    /// There is none.
+    Nothing,
     /// How many.
     Count(u64),
+    /// How many, which the sentence hasn't.
+    Unsaid(u64),
     /// An offset of a section, or an address.
     Place(u64),
     /// A text of the file, by its bytes.
     Text(&'a [u8]),
     /// Bytes of the file that are no text.
     Bytes(&'a [u8]),
-    /// A word of this program's own.
-    Word(&'static str),
-    /// Words that were made.
-    Words(String),
+    /// Words that are no text of the file.
+    Words(&'a str),
+    /// Why a file is refused.
+    Fault(OpenFault),
+    /// Why something can't be read.
+    Reason(Reason),
 }
 
 /// A fact under its name.
-#[derive(Debug, Drop)]
-pub struct Named<'a> {
+#[derive(Clone, Copy, Debug)]
+pub struct Part<'a> {
+    /// The words of the sentence before it.
+    pub words: Words,
     /// What it is a fact of; empty for the note itself.
-    pub group: &'static str,
-    pub name: &'static str,
+    pub group: Words,
+    /// Empty where the sentence alone has it.
+    pub name: Words,
     pub fact: Fact<'a>,
 }
 
-/// A sentence with its facts. The same is written as text and into a document.
+/// Facts with their words, and what to do about them.
 #[derive(Debug, Drop)]
 pub struct Note<'a> {
     alloc: Global,
     /// What kind of thing it reports.
-    pub kind: &'static str,
-    /// The sentence, without an end of the line. Names and paths are in it byte for byte.
-    pub sentence: Vec<u8>,
-    pub facts: Vec<Named<'a>>,
+    pub kind: Words,
+    pub parts: Vec<Part<'a>>,
     /// What to do about it.
-    pub remedy: Option<&'static str>,
-    group: &'static str,
+    pub remedy: Option<Words>,
+    group: Words,
+}
+
+impl<'a> Fact<'a> {
+    /// A text of the file, where there is one.
+    pub fn text(text: Option<&'a [u8]>) -> Self {
+        match text {
+            Some(text) => Fact::Text(text),
+            None => Fact::Nothing,
+        }
+    }
+
+    /// A number, where there is one.
+    pub fn count(count: Option<u64>) -> Self {
+        match count {
+            Some(count) => Fact::Count(count),
+            None => Fact::Nothing,
+        }
+    }
+
+    /// Adds the fact to a sentence. Names and paths are in it byte for byte.
+    fn push(self, alloc: Global, text: &mut Vec<u8>) -> Allocated<()> {
+        let words = match self {
+            Fact::Nothing | Fact::Unsaid(_) => return Ok(()),
+            Fact::Words(words) => return text.extend_from_slice(words.as_bytes()),
+            Fact::Count(number) => format!(in alloc; "{number}")?,
+            Fact::Place(place) => format!(in alloc; "0x{place:x}")?,
+            Fact::Bytes(bytes) => digits_of(alloc, bytes)?,
+            Fact::Fault(fault) => format!(in alloc; "{fault}")?,
+            Fact::Reason(reason) => format!(in alloc; "{reason}")?,
+            Fact::Text(bytes) => {
+                text.push(b'"')?;
+                text.extend_from_slice(bytes)?;
+                return text.extend_from_slice(b"\"");
+            }
+        };
+        text.extend_from_slice(words.as_bytes())
+    }
+}
+
+/// Bytes in hexadecimal digits, two for each.
+pub(crate) fn digits_of(alloc: Global, bytes: &[u8]) -> Allocated<String> {
+    let mut digits = String::new(alloc);
+    for byte in bytes {
+        let two = format!(in alloc; "{byte:02x}")?;
+        digits.push_str(&two)?;
+    }
+    Ok(digits)
 }
 
 impl<'a> Note<'a> {
     /// A note that reports nothing yet.
-    pub fn new(alloc: Global, kind: &'static str) -> Self {
+    pub fn new(alloc: Global, kind: Words) -> Self {
         Note {
             alloc,
             kind,
-            sentence: Vec::new(alloc),
-            facts: Vec::new(alloc),
+            parts: Vec::new(alloc),
             remedy: None,
             group: "",
         }
     }
 
+    /// A note of these words alone.
+    pub fn of(alloc: Global, kind: Words, words: Words) -> Allocated<Self> {
+        let mut note = Note::new(alloc, kind);
+        note.say(words)?;
+        Ok(note)
+    }
+
     /// The next facts are of something: of a unit, or of a function.
-    pub fn begin_group(&mut self, group: &'static str) {
+    pub fn begin_group(&mut self, group: Words) {
         self.group = group;
     }
 
-    /// Words of the sentence.
-    pub fn say(&mut self, words: &str) -> Result<(), AllocError> {
-        self.sentence.extend_from_slice(words.as_bytes())
+    /// Adds a fact and the words before it.
+    fn push(&mut self, words: Words, name: Words, fact: Fact<'a>) -> Allocated<()> {
+        let group = self.group;
+        self.parts.push(Part {
+            words,
+            group,
+            name,
+            fact,
+        })?;
+        Ok(())
     }
 
-    /// Bytes of the sentence.
-    pub fn say_bytes(&mut self, bytes: &[u8]) -> Result<(), AllocError> {
-        self.sentence.extend_from_slice(bytes)
+    /// Adds words alone.
+    pub fn say(&mut self, words: Words) -> Allocated<()> {
+        self.push(words, "", Fact::Nothing)
     }
 
-    /// A number in the sentence.
-    pub fn say_count(&mut self, number: u64) -> Result<(), AllocError> {
-        let words = format!(in self.alloc; "{number}")?;
-        self.say(&words)
+    /// Adds a fact and the words before it, where there is one.
+    pub fn tell(&mut self, words: Words, name: Words, fact: Fact<'a>) -> Allocated<()> {
+        match fact {
+            Fact::Nothing => Ok(()),
+            fact => self.push(words, name, fact),
+        }
     }
 
-    /// An offset or an address in the sentence.
-    pub fn say_place(&mut self, place: u64) -> Result<(), AllocError> {
-        let words = format!(in self.alloc; "0x{place:x}")?;
-        self.say(&words)
+    /// Adds a number.
+    pub fn count(&mut self, words: Words, name: Words, number: u64) -> Allocated<()> {
+        self.push(words, name, Fact::Count(number))
     }
 
-    /// Bytes that are no text in the sentence, by two digits each.
-    pub fn say_digits(&mut self, bytes: &[u8]) -> Result<(), AllocError> {
-        for byte in bytes {
-            let words = format!(in self.alloc; "{byte:02x}")?;
-            self.say(&words)?;
+    /// Adds an offset or an address.
+    pub fn place(&mut self, words: Words, name: Words, place: u64) -> Allocated<()> {
+        self.push(words, name, Fact::Place(place))
+    }
+
+    /// Adds the addresses from one on and below an end.
+    pub fn span(&mut self, words: Words, range: Range) -> Allocated<()> {
+        self.place(words, "begin", range.begin)?;
+        self.place("-", "end", range.end)
+    }
+
+    /// Adds why something can't be read, where that is known.
+    pub fn reason(&mut self, words: Words, reason: Option<Reason>) -> Allocated<()> {
+        self.group = "";
+        match reason {
+            Some(reason) => self.push(words, "reason", Fact::Reason(reason)),
+            None => Ok(()),
+        }
+    }
+
+    /// Adds the sentence to a text, without an end of the line.
+    pub fn push_sentence(&self, text: &mut Vec<u8>) -> Allocated<()> {
+        for part in self.parts.as_slice() {
+            text.extend_from_slice(part.words.as_bytes())?;
+            part.fact.push(self.alloc, text)?;
         }
         Ok(())
-    }
-
-    /// A text of the file in the sentence.
-    pub fn say_text(&mut self, text: &[u8]) -> Result<(), AllocError> {
-        self.say("\"")?;
-        self.say_bytes(text)?;
-        self.say("\"")
-    }
-
-    /// A fact that the sentence needn't have.
-    pub fn fact(&mut self, name: &'static str, fact: Fact<'a>) -> Result<(), AllocError> {
-        let group = self.group;
-        self.facts.push(Named { group, name, fact })?;
-        Ok(())
-    }
-
-    /// How many, in the sentence and as a fact.
-    pub fn count(&mut self, name: &'static str, number: u64) -> Result<(), AllocError> {
-        self.say_count(number)?;
-        self.fact(name, Fact::Count(number))
-    }
-
-    /// An offset or an address, in the sentence and as a fact.
-    pub fn place(&mut self, name: &'static str, place: u64) -> Result<(), AllocError> {
-        self.say_place(place)?;
-        self.fact(name, Fact::Place(place))
-    }
-
-    /// A text of the file, in the sentence and as a fact.
-    pub fn text(&mut self, name: &'static str, text: &'a [u8]) -> Result<(), AllocError> {
-        self.say_text(text)?;
-        self.fact(name, Fact::Text(text))
-    }
-
-    /// Addresses from one on and below an end, in the sentence and as facts.
-    pub fn span(&mut self, begin: u64, end: u64) -> Result<(), AllocError> {
-        self.place("begin", begin)?;
-        self.say("-")?;
-        self.place("end", end)
-    }
-
-    /// Words as a fact.
-    fn words(&mut self, name: &'static str, words: &str) -> Result<(), AllocError> {
-        let words = String::from_str(self.alloc, words)?;
-        self.fact(name, Fact::Words(words))
-    }
-
-    /// Why something can't be read, in the sentence and as facts.
-    pub fn reason(&mut self, reason: &Reason) -> Result<(), AllocError> {
-        let sentence = reason.sentence(self.alloc)?;
-        let spot = reason.spot.text(self.alloc)?;
-        self.say(&sentence)?;
-        self.begin_group("reason");
-        self.words("place", &spot)?;
-        self.words("field", &reason.field)?;
-        self.words("found", &reason.found)?;
-        self.words("wanted", &reason.wanted)
     }
 }

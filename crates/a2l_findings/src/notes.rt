@@ -1,265 +1,232 @@
 //! The findings in sentences.
 
 use crate::census::Census;
-use crate::faults::FaultyUnits;
-use crate::findings::Findings;
-use crate::group::Group;
-use crate::note::{Fact, Note};
-use crate::overlap::{Claim, Overlap};
-use crate::pairing::Pairing;
-use crate::remedies::{
-    BAD_LINES, BAD_TREE, BUILD_ID, DEBUGLINK, HIDDEN, NEW_VERSION, NO_INFO, NO_RANGES, OLD_VERSION,
-    SKELETON, SPLIT_UNITS, SUPPLEMENTARY, TYPE_UNITS,
-};
-use crate::skipped::SkippedUnits;
-use a2l_reasons::{DW_UT_SPLIT_COMPILE, DW_UT_SPLIT_TYPE, DW_UT_TYPE};
+use crate::findings::{Group, Matter, Survey};
+use crate::note::{Allocated, Fact, Note, Words};
+use crate::overlaps::{Overlap, overlap_of, tell_owner};
+use crate::pairing::{build_id_in, supplementary, text_in};
+use crate::reasons::{DW_UT_SPLIT_COMPILE, DW_UT_SPLIT_TYPE, DW_UT_TYPE, fault_reason};
+use crate::scene::{DW_AT_dwo_name, DW_AT_producer, Scene, root_text, tell_skipped, tell_unit};
 use dw_symbols::UnitFault;
-use std::alloc::{AllocError, Global};
+use std::alloc::Global;
 
 /// A number of units.
-fn tell_units(note: &mut Note<'_>, count: usize) -> Result<(), AllocError> {
-    note.count("count", count as u64)?;
+fn tell_units(note: &mut Note<'_>, count: usize) -> Allocated<()> {
+    note.count("", "count", count as u64)?;
     note.say(if count == 1 { " unit" } else { " units" })
 }
 
 /// How many units there are, and what is done with them.
-pub fn census_note<'a>(alloc: Global, census: &Census) -> Result<Note<'a>, AllocError> {
+pub(crate) fn census_note<'a>(alloc: Global, census: &Census) -> Allocated<Note<'a>> {
     let mut note = Note::new(alloc, "units");
     tell_units(&mut note, census.all())?;
-    note.say(": ")?;
-    note.count("answering", census.answering() as u64)?;
-    note.say(" answer addresses, ")?;
-    note.count("partial", census.partial as u64)?;
-    note.say(" partial, ")?;
-    note.count("skipped", census.skipped as u64)?;
+    note.count(": ", "answering", census.answering() as u64)?;
+    note.count(" answer addresses, ", "partial", census.partial as u64)?;
+    note.count(" partial, ", "skipped", census.skipped as u64)?;
     note.say(" skipped")?;
-    note.fact("compile", Fact::Count(census.compile as u64))?;
-    note.fact("skeleton", Fact::Count(census.skeleton as u64))?;
+    note.tell("", "compile", Fact::Unsaid(census.compile as u64))?;
+    note.tell("", "skeleton", Fact::Unsaid(census.skeleton as u64))?;
     Ok(note)
 }
 
 /// What a unit of version 5 is, by its type.
-fn type_name(unit_type: Option<u8>) -> Option<&'static str> {
-    match unit_type? {
-        DW_UT_TYPE => Some("type units"),
-        DW_UT_SPLIT_COMPILE => Some("split units"),
-        DW_UT_SPLIT_TYPE => Some("split type units"),
-        _ => None,
-    }
-}
-
-/// What to do about units of a version and a type.
-fn skipped_remedy(version: u16, unit_type: Option<u8>) -> &'static str {
-    if version < 5 {
-        return OLD_VERSION;
-    }
+fn type_fact<'a>(unit_type: Option<u8>) -> Fact<'a> {
     match unit_type {
-        Some(DW_UT_TYPE) => TYPE_UNITS,
-        Some(DW_UT_SPLIT_COMPILE | DW_UT_SPLIT_TYPE) => SPLIT_UNITS,
-        _ => NEW_VERSION,
+        Some(DW_UT_TYPE) => Fact::Words("type units"),
+        Some(DW_UT_SPLIT_COMPILE) => Fact::Words("split units"),
+        Some(DW_UT_SPLIT_TYPE) => Fact::Words("split type units"),
+        _ => Fact::Nothing,
     }
 }
 
-/// Units that are skipped.
-fn skipped_note<'a>(alloc: Global, group: &SkippedUnits<'a>) -> Result<Note<'a>, AllocError> {
-    let mut note = Note::new(alloc, "skipped");
+/// What to do about units without ranges.
+const NO_RANGES: &str =
+    "make the unit's first entry tell DW_AT_ranges, or DW_AT_low_pc with DW_AT_high_pc, as gcc and clang do \
+     with -g; of assembler sources the assembler does";
+
+/// What to do about skipped units of a version and a type.
+fn skipped_remedy(version: u16, unit_type: Option<u8>) -> Words {
+    match unit_type {
+        _ if version < 5 => {
+            "compile with -gdwarf-5 (rustc: -C dwarf-version=5), libraries and assembler sources too"
+        }
+        Some(DW_UT_TYPE) => {
+            "nothing, where no function is in them; else compile without -fdebug-types-section"
+        }
+        Some(DW_UT_SPLIT_COMPILE | DW_UT_SPLIT_TYPE) => {
+            "ask the program, and not its .dwo or .dwp file"
+        }
+        _ => "compile with -gdwarf-5, or ask another tool",
+    }
+}
+
+/// The kind of the note on units, and what to do about them.
+fn kind_of(matter: Matter) -> (Words, Words) {
+    match matter {
+        Matter::Skipped { version, unit_type } => ("skipped", skipped_remedy(version, unit_type)),
+        Matter::WithoutRanges => ("without_ranges", NO_RANGES),
+        Matter::Skeleton => (
+            "skeletons",
+            "compile without -gsplit-dwarf, since functions stand in the .dwo file, which isn't read; lines are \
+             known",
+        ),
+        Matter::Supplementary => (
+            "supplementary",
+            "ask the program as it was before `dwz -m`, since the supplementary file isn't read: names in it are \
+             `??`",
+        ),
+        Matter::Faulty(UnitFault::Line) => (
+            "faulty",
+            "compile the unit again, by an assembler that writes line tables of version 5 (GNU Binutils 2.35 or \
+             later, or clang's own); `readelf --debug-dump=rawline` shows the table",
+        ),
+        Matter::Faulty(_) => (
+            "faulty",
+            "compile the unit again, with another compiler if need be; `readelf --debug-dump=info` shows its \
+             entries",
+        ),
+    }
+}
+
+/// Adds for what units are reported.
+fn tell_matter<'a>(note: &mut Note<'a>, matter: Matter, scene: &Scene<'a>) -> Allocated<()> {
+    match matter {
+        Matter::Skipped { version, unit_type } => {
+            note.count(" of version ", "version", u64::from(version))?;
+            note.tell(", which are ", "type", type_fact(unit_type))?;
+            note.say(", skipped, so that their addresses are `??:0`")
+        }
+        Matter::WithoutRanges => {
+            note.say(" with code, but without ranges, so that their addresses are `??:0`")
+        }
+        Matter::Skeleton => note.say(" without functions, since these stand in .dwo files"),
+        Matter::Supplementary => {
+            note.say(" with values that lead to a supplementary file")?;
+            note.tell(", ", "file", Fact::text(supplementary(&scene.headers)))
+        }
+        Matter::Faulty(fault) => { note.count(" with fault ", "fault", u64::from(fault.number())) }
+    }
+}
+
+/// Units that are reported for the same.
+fn group_note<'a>(scene: &Scene<'a>, group: &Group) -> Allocated<Note<'a>> {
+    let (kind, remedy) = kind_of(group.matter);
+    let mut note = Note::new(scene.alloc, kind);
+    note.remedy = Some(remedy);
     tell_units(&mut note, group.count)?;
-    note.say(" of version ")?;
-    note.count("version", u64::from(group.version))?;
-    if let Some(name) = type_name(group.unit_type) {
-        note.say(", which are ")?;
-        note.say(name)?;
-        note.fact("type", Fact::Word(name))?;
+    tell_matter(&mut note, group.matter, scene)?;
+    if group.first >= scene.units.len() {
+        return Ok(note);
     }
-    note.say(", skipped, so that their addresses are `??:0`; the first: ")?;
+    let here = scene.units.at(group.first);
+    note.say("; the first: ")?;
     note.begin_group("first");
-    group.first.tell_whole(&mut note)?;
-    note.remedy = Some(skipped_remedy(group.version, group.unit_type));
+    if let Matter::Skipped { .. } = group.matter {
+        tell_skipped(&mut note, scene, here)?;
+        return Ok(note);
+    }
+    tell_unit(&mut note, here)?;
+    match group.matter {
+        Matter::Supplementary => {}
+        Matter::Skeleton => {
+            note.tell(", its file: ", "dwo_name", root_text(here, DW_AT_dwo_name))?;
+        }
+        _ => note.tell(", made by ", "producer", root_text(here, DW_AT_producer))?,
+    }
+    if let Matter::Faulty(fault) = group.matter {
+        note.reason("; ", fault_reason(scene, here, fault)?)?;
+    }
     Ok(note)
-}
-
-/// A build id in hexadecimal digits.
-fn tell_build_id<'a>(note: &mut Note<'a>, build_id: &'a [u8]) -> Result<(), AllocError> {
-    note.say(", the build id is ")?;
-    note.say_digits(build_id)?;
-    note.fact("build_id", Fact::Bytes(build_id))
 }
 
 /// A file without units.
-fn no_info_note<'a>(alloc: Global, pairing: &Pairing<'a>) -> Result<Note<'a>, AllocError> {
-    let mut note = Note::new(alloc, "no_debug_info");
-    note.say("there is no .debug_info")?;
-    note.remedy = Some(NO_INFO);
-    if let Some(build_id) = pairing.build_id {
-        tell_build_id(&mut note, build_id)?;
-        note.remedy = Some(BUILD_ID);
+fn no_info_note<'a>(scene: &Scene<'a>) -> Allocated<Note<'a>> {
+    let mut note = Note::of(scene.alloc, "no_debug_info", "there is no .debug_info")?;
+    note.remedy = Some("compile and link with -g, and don't strip the program");
+    if let Some(build_id) = build_id_in(scene.headers.contents(".note.gnu.build-id")) {
+        note.tell(", the build id is ", "build_id", Fact::Bytes(build_id))?;
+        note.remedy = Some(
+            "ask the file of that build id, below /usr/lib/debug/.build-id or from a debuginfod server, or \
+             compile with -g",
+        );
     }
-    if let Some(name) = pairing.debuglink {
-        note.say(", .gnu_debuglink names ")?;
-        note.text("debuglink", name)?;
-        note.remedy = Some(DEBUGLINK);
+    if let Some(name) = text_in(scene.headers.contents(".gnu_debuglink")) {
+        note.tell(", .gnu_debuglink names ", "debuglink", Fact::Text(name))?;
+        note.remedy = Some(
+            "ask that file; it mostly lies beside the program, in .debug beside it, or below /usr/lib/debug",
+        );
     }
     Ok(note)
-}
-
-/// Units without ranges.
-fn without_ranges_note<'a>(alloc: Global, group: &Group<'a>) -> Result<Note<'a>, AllocError> {
-    let mut note = Note::new(alloc, "without_ranges");
-    tell_units(&mut note, group.count)?;
-    note.say(" with code, but without ranges, so that their addresses are `??:0`; the first: ")?;
-    note.begin_group("first");
-    group.first.tell_whole(&mut note)?;
-    note.remedy = Some(NO_RANGES);
-    Ok(note)
-}
-
-/// No unit has ranges.
-fn no_ranges_note<'a>(alloc: Global) -> Result<Note<'a>, AllocError> {
-    let mut note = Note::new(alloc, "no_ranges");
-    note.say("no unit that answers has ranges, so that each address is `??:0`")?;
-    note.remedy = Some(NO_RANGES);
-    Ok(note)
-}
-
-/// Skeleton units.
-fn skeleton_note<'a>(
-    alloc: Global,
-    group: &Group<'a>,
-    dwo_name: Option<&'a [u8]>,
-) -> Result<Note<'a>, AllocError> {
-    let mut note = Note::new(alloc, "skeletons");
-    tell_units(&mut note, group.count)?;
-    note.say(" without functions, since these stand in .dwo files; the first: ")?;
-    note.begin_group("first");
-    group.first.tell(&mut note)?;
-    if let Some(name) = dwo_name {
-        note.say(", its file: ")?;
-        note.text("dwo_name", name)?;
-    }
-    note.remedy = Some(SKELETON);
-    Ok(note)
-}
-
-/// Units that name a supplementary file.
-fn supplementary_note<'a>(
-    alloc: Global,
-    group: &Group<'a>,
-    pairing: &Pairing<'a>,
-) -> Result<Note<'a>, AllocError> {
-    let mut note = Note::new(alloc, "supplementary");
-    tell_units(&mut note, group.count)?;
-    note.say(" with values that lead to a supplementary file")?;
-    if let Some(name) = pairing.supplementary {
-        note.say(", ")?;
-        note.text("file", name)?;
-    }
-    note.say("; the first: ")?;
-    note.begin_group("first");
-    group.first.tell(&mut note)?;
-    note.remedy = Some(SUPPLEMENTARY);
-    Ok(note)
-}
-
-/// Units with a fault.
-fn faulty_note<'a>(alloc: Global, group: &FaultyUnits<'a>) -> Result<Note<'a>, AllocError> {
-    let mut note = Note::new(alloc, "faulty");
-    tell_units(&mut note, group.count)?;
-    note.say(" with fault ")?;
-    note.count("fault", u64::from(group.fault.number()))?;
-    note.say("; the first: ")?;
-    note.begin_group("first");
-    group.first.tell_whole(&mut note)?;
-    if let Some(reason) = &group.reason {
-        note.say("; ")?;
-        note.reason(reason)?;
-    }
-    note.remedy = Some(match group.fault {
-        UnitFault::Line => BAD_LINES,
-        UnitFault::Entry | UnitFault::Depth | UnitFault::Ranges => BAD_TREE,
-    });
-    Ok(note)
-}
-
-/// Who claims an address.
-fn tell_claim<'a>(note: &mut Note<'a>, claim: &Claim<'a>) -> Result<(), AllocError> {
-    if let Some((offset, name)) = claim.function {
-        note.say("function ")?;
-        note.place("function", offset)?;
-        if let Some(name) = name {
-            note.say(" ")?;
-            note.text("function_name", name)?;
-        }
-        note.say(" of ")?;
-    }
-    claim.unit.tell(note)
 }
 
 /// Addresses that are answered by code that isn't there.
-fn overlap_note<'a>(
-    alloc: Global,
-    kind: &'static str,
-    overlap: &Overlap<'a>,
-) -> Result<Note<'a>, AllocError> {
-    let mut note = Note::new(alloc, kind);
-    note.count("addresses", overlap.addresses)?;
-    note.say(" addresses in ")?;
-    note.count("spans", overlap.spans)?;
-    note.say(if overlap.spans == 1 {
+fn overlap_note<'a>(scene: &Scene<'a>, kind: Words, overlap: Overlap) -> Allocated<Note<'a>> {
+    let mut note = Note::new(scene.alloc, kind);
+    note.remedy = Some(
+        "link without --gc-sections, or with -no-pie so that no code lies near address 0, or by ld.lld with -z \
+     dead-reloc-in-nonalloc=.debug_*=0xffffffffffffffff, which marks dropped code",
+    );
+    note.count("", "addresses", overlap.addresses)?;
+    note.count(" addresses in ", "spans", overlap.spans)?;
+    let words = if overlap.spans == 1 {
         " span"
     } else {
         " spans"
-    })?;
+    };
+    note.say(words)?;
     note.say(" answered by ranges that begin where no code is, over those of code; the first: ")?;
-    note.span(overlap.first.begin, overlap.first.end)?;
+    note.span("", overlap.first)?;
     note.say(" by ")?;
     note.begin_group("told");
-    tell_claim(&mut note, &overlap.told)?;
+    tell_owner(&mut note, scene, overlap.told as u64)?;
     note.say(", and not by ")?;
     note.begin_group("hidden");
-    tell_claim(&mut note, &overlap.hidden)?;
-    note.remedy = Some(HIDDEN);
+    tell_owner(&mut note, scene, overlap.hidden as u64)?;
     Ok(note)
 }
 
-/// Adds the notes on the units that answer.
-fn push_answering<'a>(
-    alloc: Global,
+/// Adds the notes on units of a kind, and returns whether there are any.
+fn push_groups<'a>(
+    scene: &Scene<'a>,
     notes: &mut Vec<Note<'a>>,
-    findings: &Findings<'a>,
-) -> Result<(), AllocError> {
-    if let Some(group) = &findings.without_ranges {
-        notes.push(without_ranges_note(alloc, group)?)?;
+    survey: &Survey,
+    kind: &str,
+) -> Allocated<bool> {
+    let before = notes.len();
+    for group in survey.groups.as_slice() {
+        if kind_of(group.matter).0 == kind {
+            notes.push(group_note(scene, group)?)?;
+        }
     }
-    if findings.none_has_ranges && findings.without_ranges.is_none() {
-        notes.push(no_ranges_note(alloc)?)?;
-    }
-    if let Some(group) = &findings.skeletons {
-        notes.push(skeleton_note(alloc, group, findings.dwo_name)?)?;
-    }
-    if let Some(group) = &findings.supplementary {
-        notes.push(supplementary_note(alloc, group, &findings.pairing)?)?;
-    }
-    for group in findings.faulty.as_slice() {
-        notes.push(faulty_note(alloc, group)?)?;
-    }
-    Ok(())
+    Ok(notes.len() > before)
 }
 
 /// The notes on a file, one for each finding; none where nothing was found.
-pub fn notes_of<'a>(alloc: Global, findings: &Findings<'a>) -> Result<Vec<Note<'a>>, AllocError> {
-    let mut notes = Vec::new(alloc);
-    if findings.census.all() == 0 {
-        notes.push(no_info_note(alloc, &findings.pairing)?)?;
+pub(crate) fn notes_of<'a>(
+    scene: &Scene<'a>,
+    census: &Census,
+    survey: &Survey,
+) -> Allocated<Vec<Note<'a>>> {
+    let mut notes = Vec::new(scene.alloc);
+    if census.all() == 0 {
+        notes.push(no_info_note(scene)?)?;
     }
-    for group in findings.skipped.as_slice() {
-        notes.push(skipped_note(alloc, group)?)?;
+    let _ = push_groups(scene, &mut notes, survey, "skipped")?;
+    let is_any = push_groups(scene, &mut notes, survey, "without_ranges")?;
+    if !is_any && census.answering() > 0 && survey.ranges.is_empty() {
+        let words = "no unit that answers has ranges, so that each address is `??:0`";
+        let mut note = Note::of(scene.alloc, "no_ranges", words)?;
+        note.remedy = Some(NO_RANGES);
+        notes.push(note)?;
     }
-    push_answering(alloc, &mut notes, findings)?;
-    if let Some(overlap) = &findings.units_over {
-        notes.push(overlap_note(alloc, "units_over_units", overlap)?)?;
+    for kind in ["skeletons", "supplementary", "faulty"] {
+        let _ = push_groups(scene, &mut notes, survey, kind)?;
     }
-    if let Some(overlap) = &findings.functions_over {
-        notes.push(overlap_note(alloc, "functions_over_functions", overlap)?)?;
+    if let Some(overlap) = overlap_of(scene, &survey.ranges)? {
+        notes.push(overlap_note(scene, "units_over_units", overlap)?)?;
+    }
+    if let Some(overlap) = survey.functions_over {
+        notes.push(overlap_note(scene, "functions_over_functions", overlap)?)?;
     }
     Ok(notes)
 }

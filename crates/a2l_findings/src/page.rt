@@ -1,25 +1,65 @@
-//! Notes as lines of text.
+//! Reports in lines of text.
 
-use crate::note::Note;
-use std::alloc::AllocError;
+ghost use Rattle.std.specs.Prelude.{◌≡◌, ◌++◌, OnOk};
+ghost use Rattle.a2l_findings.specs.Page.{EndsWith};
+
+use crate::note::{Allocated, Note};
+use crate::told::Told;
+use std::alloc::Global;
 
 /// Adds a note: its sentence after a mark, and below it what to do.
-pub fn push_note(text: &mut Vec<u8>, note: &Note<'_>) -> Result<(), AllocError> {
+fn push_note(text: &mut Vec<u8>, note: &Note<'_>) -> Allocated<()> {
     text.extend_from_slice(b"- ")?;
-    text.extend_from_slice(&note.sentence)?;
-    text.extend_from_slice(b"\n")?;
+    note.push_sentence(text)?;
     if let Some(remedy) = note.remedy {
-        text.extend_from_slice(b"  do: ")?;
+        text.extend_from_slice(b"\n  do: ")?;
         text.extend_from_slice(remedy.as_bytes())?;
-        text.extend_from_slice(b"\n")?;
     }
-    Ok(())
+    text.extend_from_slice(b"\n")
 }
 
 /// Adds notes, each below the one before.
-pub fn push_notes(text: &mut Vec<u8>, notes: &[Note<'_>]) -> Result<(), AllocError> {
+fn push_notes(text: &mut Vec<u8>, notes: &[Note<'_>]) -> Allocated<()> {
     for note in notes {
         push_note(text, note)?;
     }
     Ok(())
+}
+
+/// The page of a refused file.
+pub(crate) fn of_refusal(alloc: Global, note: &Note<'_>) -> Allocated<Vec<u8>> {
+    let mut text = Vec::new(alloc);
+    push_note(&mut text, note)?;
+    Ok(text)
+}
+
+/// The page of a file: how many units it has, and its findings; one line where there are none.
+pub(crate) fn of_file(alloc: Global, units: &Note<'_>, notes: &[Note<'_>]) -> Allocated<Vec<u8>> {
+    let mut text = Vec::new(alloc);
+    if notes.is_empty() {
+        text.extend_from_slice(b"no findings in ")?;
+    }
+    units.push_sentence(&mut text)?;
+    text.push(b'\n')?;
+    push_notes(&mut text, notes)?;
+    Ok(text)
+}
+
+/// Adds the report on a text: the text, the steps, and the lines that `a2l -f -i` writes.
+fn push_told(text: &mut Vec<u8>, word: &str, told: &Told<'_>) -> Allocated<()>
+    ensures { OnOk result (EndsWith text.new.items told.now.lines.items) }
+{
+    text.extend_from_slice(word.as_bytes())?;
+    text.extend_from_slice(b":\n")?;
+    push_notes(text, &told.way.steps)?;
+    text.extend_from_slice(&told.lines)
+}
+
+/// The page of some texts, with the report on each.
+pub(crate) fn of_words(alloc: Global, words: &[&str], tolds: &[Told<'_>]) -> Allocated<Vec<u8>> {
+    let mut text = Vec::new(alloc);
+    for (word, told) in words.iter().zip(tolds) {
+        push_told(&mut text, word, told)?;
+    }
+    Ok(text)
 }

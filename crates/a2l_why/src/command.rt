@@ -43,14 +43,6 @@ fn command<'a>(alloc: Global) -> Result<Command<'a>, AllocError> {
         )
 }
 
-/// The words that are no option and no flag.
-fn words_of<'a>(alloc: Global, matches: &ArgMatches<'a>) -> Result<Vec<&'a str>, AllocError> {
-    let Some(words) = matches.get_strs("words") else {
-        return Ok(Vec::new(alloc));
-    };
-    Vec::from_slice(alloc, words)
-}
-
 /// What a command line asks for, whose words are without the program's own name. The error is
 /// `CommandLine`, or `Memory`.
 pub fn parse<'a, S: AsStr>(alloc: Global, words: &'a [S]) -> Result<Job<'a>, Fault> {
@@ -63,6 +55,9 @@ pub fn parse<'a, S: AsStr>(alloc: Global, words: &'a [S]) -> Result<Job<'a>, Fau
         Some(text) => text == "true",
         None => false,
     };
-    let words = words_of(alloc, &matches)?;
+    let words = match matches.get_strs("words") {
+        Some(words) => Vec::from_slice(alloc, words)?,
+        None => Vec::new(alloc),
+    };
     Ok(Job { file, json, words })
 }

@@ -3,7 +3,7 @@
 use crate::command::USAGE;
 use a2l_lines::LoadFault;
 use clap::error::ErrorKind;
-use std::alloc::{AllocError, AllocFailed};
+use std::alloc::AllocError;
 
 /// Why a run ends early.
 #[derive(Clone, Copy, Debug)]
@@ -19,12 +19,6 @@ pub enum Fault {
 
 impl From<AllocError> for Fault {
     fn from(_error: AllocError) -> Self {
-        Fault::Memory
-    }
-}
-
-impl<T: Drop> From<AllocFailed<T>> for Fault {
-    fn from(_error: AllocFailed<T>) -> Self {
         Fault::Memory
     }
 }

@@ -1,0 +1,207 @@
+//! An open file: what is read of its units, and what is told of each.
+
+ghost use Rattle.std.specs.Prelude.{◌≡◌, ◌<◌, length, IfOk};
+ghost use Rattle.dw_model.specs.Section.{sections};
+ghost use Rattle.dw_model.specs.Unit as cut;
+
+use crate::note::{Allocated, Fact, Note};
+use crate::reasons::{Stop, UnitHeader, push_attributes, unit_header};
+use crate::section_headers::SectionHeaders;
+use dw_elf::Elf;
+use dw_forms::{Bases, Value};
+use dw_frames::{Tree, TreeFault};
+use dw_line::{LineFault, Lines};
+use dw_model::dwarf::{ADDRESS_SIZE, DW_AT_name, DW_AT_stmt_list, DW_AT_str_offsets_base};
+use dw_ranges::{Range, RangeFault, ranges_of};
+use dw_symbols::UnitFault;
+use dw_units::{Attribute, Entry, OpenUnit, Sections, Units};
+use std::alloc::{AllocError, Global};
+use std::sync::Arc;
+
+/// What is read of an open file. Each unit that a call is given is one of the same file.
+#[derive(Drop)]
+pub(crate) struct Scene<'a> {
+    pub(crate) alloc: Global,
+    pub(crate) units: Arc<Units<'a>>,
+    pub(crate) sections: Sections<'a>,
+    /// All section headers, in order.
+    pub(crate) headers: SectionHeaders<'a>,
+}
+
+impl<'a> Scene<'a> {
+    /// The scene of a file that was opened already, so that only memory can be refused.
+    pub(crate) fn new(alloc: Global, file: &'a [u8]) -> Allocated<Self>
+        ensures { IfOk result (λ scene. scene.units.value ≡ sections file.now) }
+    {
+        let Ok(elf) = Elf::open(file) else {
+            return Err(AllocError);
+        };
+        let Ok(units) = Units::read(alloc, &elf) else {
+            return Err(AllocError);
+        };
+        Ok(Scene {
+            alloc,
+            units: Arc::new(alloc, units)?,
+            sections: Sections::of(&elf),
+            headers: SectionHeaders::read(alloc, file)?,
+        })
+    }
+}
+
+/// The ranges of an entry of a unit; none where they can't be read.
+pub(crate) fn ranges_at(
+    alloc: Global,
+    here: OpenUnit<'_, '_>,
+    at: &Entry<'_>,
+) -> Allocated<Vec<Range>> {
+    match ranges_of(alloc, at, here.unit(), here.units().tables()) {
+        Ok(ranges) => Ok(ranges),
+        Err(RangeFault::Bad) => Ok(Vec::new(alloc)),
+        Err(RangeFault::Memory) => Err(AllocError),
+    }
+}
+
+/// The ranges of a unit's first entry; none where the unit answers no address.
+pub(crate) fn ranges_in(alloc: Global, here: OpenUnit<'_, '_>) -> Allocated<Vec<Range>> {
+    match &here.unit().root {
+        Some(root) if here.unit().kind.answers() => ranges_at(alloc, here, root),
+        _ => Ok(Vec::new(alloc)),
+    }
+}
+
+/// The first of some ranges that holds an address.
+pub(crate) fn holding(ranges: &[Range], address: u64) -> Option<Range> {
+    let mut ranges = ranges.iter().copied();
+    ranges.find(|range| range.begin <= address && address < range.end)
+}
+
+/// Where the line table of a unit begins in .debug_line, where it names one.
+pub(crate) fn table_offset(here: OpenUnit<'_, '_>) -> Option<u64> {
+    let root = here.unit().root.as_ref()?;
+    match root.attr(DW_AT_stmt_list)? {
+        Value::SectionOffset(offset) => Some(*offset),
+        _ => None,
+    }
+}
+
+/// The line table of a unit, where it names one that can be read; and its fault.
+pub(crate) fn read_lines<'a>(
+    scene: &Scene<'a>,
+    here: OpenUnit<'_, 'a>,
+) -> Allocated<(Option<Lines<'a>>, Option<UnitFault>)> {
+    let Some(offset) = table_offset(here) else {
+        return Ok((None, None));
+    };
+    let tables = here.units().tables();
+    let bases = &here.unit().bases;
+    match Lines::read(
+        scene.alloc,
+        scene.sections.line,
+        tables,
+        bases,
+        None,
+        offset,
+    ) {
+        Ok(lines) => Ok((Some(lines), None)),
+        Err(LineFault::Bad) => Ok((None, Some(UnitFault::Line))),
+        Err(LineFault::Memory) => Err(AllocError),
+    }
+}
+
+/// The functions of the unit at an index that answers, where they can be read; and their fault.
+pub(crate) fn read_tree<'a>(
+    scene: &Scene<'a>,
+    index: usize,
+) -> Allocated<(Option<Tree<'a>>, Option<UnitFault>)>
+    requires { index < length (cut.units scene.now.units.value.info) }
+{
+    if scene.units.unit(index).kind.is_skipped() {
+        return Ok((None, None));
+    }
+    let fault = match Tree::read(scene.alloc, &scene.units, index) {
+        Ok(tree) => return Ok((Some(tree), None)),
+        Err(TreeFault::Entry) => UnitFault::Entry,
+        Err(TreeFault::Depth) => UnitFault::Depth,
+        Err(TreeFault::Ranges) => UnitFault::Ranges,
+        Err(TreeFault::Memory) => return Err(AllocError),
+    };
+    Ok((None, Some(fault)))
+}
+
+/// What made the unit (DWARF 5, section 7.5.4, table 7.5).
+pub(crate) const DW_AT_producer: u64 = 0x25;
+
+/// The file with the split unit (DWARF 5, section 7.5.4, table 7.5).
+pub(crate) const DW_AT_dwo_name: u64 = 0x76;
+
+/// The text of an attribute of the first entry of a unit, where it isn't skipped.
+pub(crate) fn root_text<'a>(here: OpenUnit<'_, 'a>, name: u64) -> Fact<'a> {
+    let Some(root) = &here.unit().root else {
+        return Fact::Nothing;
+    };
+    match root.attrs.first(name) {
+        Some(value) => Fact::text(here.text(&value)),
+        None => Fact::Nothing,
+    }
+}
+
+/// Adds a unit: where it is, and its name.
+pub(crate) fn tell_unit<'a>(note: &mut Note<'a>, here: OpenUnit<'_, 'a>) -> Allocated<()> {
+    note.place("unit ", "unit", here.unit().offset)?;
+    note.tell(" ", "name", root_text(here, DW_AT_name))
+}
+
+/// The value of the first attribute of a name.
+fn first_of<'a>(attributes: &[Attribute<'a>], name: u64) -> Option<Value<'a>> {
+    let mut attributes = attributes.iter().copied();
+    Some(attributes.find(|attribute| attribute.name == name)?.value)
+}
+
+/// The text of the first attribute of a name, among those of a unit's first entry.
+fn text_in<'a>(
+    scene: &Scene<'a>,
+    header: &UnitHeader,
+    attributes: &[Attribute<'a>],
+    name: u64,
+) -> Fact<'a> {
+    let bases = Bases {
+        str_offsets: match first_of(attributes, DW_AT_str_offsets_base) {
+            Some(Value::SectionOffset(offset)) => Some(offset),
+            _ => None,
+        },
+        addr: None,
+        rnglists: None,
+        width: header.width,
+    };
+    match first_of(attributes, name) {
+        Some(value) => Fact::text(scene.sections.tables.text(&value, &bases)),
+        None => Fact::Nothing,
+    }
+}
+
+/// Adds a skipped unit: where it is, its name and what made it, where these can be read.
+pub(crate) fn tell_skipped<'a>(
+    note: &mut Note<'a>,
+    scene: &Scene<'a>,
+    here: OpenUnit<'_, 'a>,
+) -> Allocated<()> {
+    tell_unit(note, here)?;
+    let Ok(header) = unit_header(scene.sections.info, here.unit().offset) else {
+        return Ok(());
+    };
+    let mut attributes = Vec::new(scene.alloc);
+    if header.address_size == ADDRESS_SIZE {
+        let at = header.first_entry;
+        let read = push_attributes(scene.alloc, &scene.sections, &header, at, &mut attributes);
+        if let Err(Stop::Memory) = read {
+            return Err(AllocError);
+        }
+    }
+    note.tell(
+        " ",
+        "name",
+        text_in(scene, &header, &attributes, DW_AT_name),
+    )?;
+    let producer = text_in(scene, &header, &attributes, DW_AT_producer);
+    note.tell(", made by ", "producer", producer)
+}

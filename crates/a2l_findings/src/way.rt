@@ -1,0 +1,141 @@
+//! The way of an address to its answer, step by step: the unit, the functions, the row and the file
+//! that give it, and who claims the address too.
+
+ghost use Rattle.std.specs.Prelude.{◌≡◌, IfOk, option_and_then, slice_get};
+ghost use Rattle.dw_model.specs.Section.{sections};
+ghost use Rattle.dw_model.specs.Unit as cut;
+ghost use Rattle.dw_model.specs.Answer as model;
+
+mod functions;
+mod rows;
+mod uncovered;
+
+use crate::note::{Allocated, Note};
+use crate::reasons::fault_reason;
+use crate::scene::{Scene, holding, ranges_in, read_lines, read_tree, table_offset, tell_unit};
+use dw_symbols::{Image, UnitFault};
+use dw_units::OpenUnit;
+use uncovered::uncovered_note;
+
+/// The way of an address.
+#[derive(Debug, Drop)]
+pub struct Way<'a> {
+    /// The index of the unit that answers it; `None` where none does.
+    pub place: Option<usize>,
+    /// The steps in that unit, or why no unit answers.
+    pub steps: Vec<Note<'a>>,
+}
+
+/// An address in a unit of an open file.
+#[derive(Clone, Copy)]
+struct Visit<'b, 'a> {
+    scene: &'b Scene<'a>,
+    here: OpenUnit<'b, 'a>,
+    address: u64,
+}
+
+impl<'b, 'a> Visit<'b, 'a> {
+    /// The unit that answers the address, and the range by which it does.
+    fn unit_note(self) -> Allocated<Note<'a>> {
+        let mut note = Note::new(self.scene.alloc, "unit");
+        tell_unit(&mut note, self.here)?;
+        note.count(
+            " of version ",
+            "version",
+            u64::from(self.here.unit().version),
+        )?;
+        if let Some(range) = holding(&ranges_in(self.scene.alloc, self.here)?, self.address) {
+            note.span(": its range ", range)?;
+            note.say(" holds it")?;
+        }
+        Ok(note)
+    }
+
+    /// Adds the unit, which doesn't answer the address, where its ranges hold it.
+    fn push_other(self, steps: &mut Vec<Note<'a>>) -> Allocated<()> {
+        let Some(range) = holding(&ranges_in(self.scene.alloc, self.here)?, self.address) else {
+            return Ok(());
+        };
+        let mut note = Note::new(self.scene.alloc, "other_unit");
+        tell_unit(&mut note, self.here)?;
+        note.span(" claims it too, by its range ", range)?;
+        note.say(", but stands later in the file")?;
+        steps.push(note)?;
+        Ok(())
+    }
+
+    /// A fault of the unit.
+    fn fault_note(self, fault: UnitFault) -> Allocated<Note<'a>> {
+        let mut note = Note::new(self.scene.alloc, "fault");
+        note.say("the unit can't be read, by fault ")?;
+        note.count("", "fault", u64::from(fault.number()))?;
+        note.reason(": ", fault_reason(self.scene, self.here, fault)?)?;
+        Ok(note)
+    }
+
+    /// Adds the steps in the line table.
+    fn push_lines(self, steps: &mut Vec<Note<'a>>) -> Allocated<()> {
+        let Some(offset) = table_offset(self.here) else {
+            let words = "the unit has no DW_AT_stmt_list, so no path and no line is known";
+            steps.push(Note::of(self.scene.alloc, "no_table", words)?)?;
+            return Ok(());
+        };
+        let (lines, fault) = read_lines(self.scene, self.here)?;
+        if let Some(fault) = fault {
+            steps.push(self.fault_note(fault)?)?;
+        }
+        match lines {
+            Some(lines) => self.push_row(steps, offset, &lines),
+            None => Ok(()),
+        }
+    }
+}
+
+/// The steps of an address through the unit at an index.
+fn steps_through<'a>(scene: &Scene<'a>, index: usize, address: u64) -> Allocated<Vec<Note<'a>>> {
+    let mut steps = Vec::new(scene.alloc);
+    if index >= scene.units.len() {
+        return Ok(steps);
+    }
+    let here = scene.units.at(index);
+    let visit = Visit {
+        scene,
+        here,
+        address,
+    };
+    steps.push(visit.unit_note()?)?;
+    for other in 0..scene.units.len() {
+        if other == index {
+            continue;
+        }
+        let here = scene.units.at(other);
+        Visit { here, ..visit }.push_other(&mut steps)?;
+    }
+    let (tree, fault) = read_tree(scene, index)?;
+    if let Some(fault) = fault {
+        steps.push(visit.fault_note(fault)?)?;
+        return Ok(steps);
+    }
+    if let Some(tree) = &tree {
+        visit.push_chain(&mut steps, tree)?;
+    }
+    visit.push_lines(&mut steps)?;
+    Ok(steps)
+}
+
+/// The way of an address, which has no unit exactly where no unit answers the address.
+pub(crate) fn way_of<'a>(scene: &Scene<'a>, image: &Image<'a>, address: u64) -> Allocated<Way<'a>>
+    ensures { IfOk result (λ way. option_and_then (slice_get (cut.units (sections image.now).info)) way.place
+        ≡ model.unit_of (sections image.now) address) }
+{
+    let Some(found) = image.unit_place(address) else {
+        let mut steps = Vec::new(scene.alloc);
+        steps.push(uncovered_note(scene, address)?)?;
+        let place = None;
+        return Ok(Way { place, steps });
+    };
+    let unit = found.place;
+    let steps = steps_through(scene, unit, address)?;
+    let place = Some(unit);
+    Ok(Way { place, steps })
+}

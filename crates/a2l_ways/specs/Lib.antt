@@ -1,4 +1,0 @@
-pub mod Page
-pub mod Report
-pub mod Told
-pub mod Way
