@@ -66,3 +66,38 @@ fn frame(shape: &Shape, frame: &Frame, is_caller: bool, out: &mut Vec<u8>) {
         }
     }
 }
+
+#[cfg(test)]
+mod tests {
+    use super::*;
+    use crate::shape::Frames;
+
+    fn written(tool: Tool, pretty: bool, frames: Vec<Frame>) -> String {
+        let functions = Functions::Linkage;
+        let (frames_shown, addresses, demangles, basenames) = (Frames::All, false, false, false);
+        let shape = Shape { functions, frames: frames_shown, addresses, pretty, demangles, basenames };
+        let reply = Reply { line: b"10", request: None, failure: None, answer: Answer::Frames(frames) };
+        let mut out = Vec::new();
+        write(tool, &shape, &reply, &mut out);
+        String::from_utf8(out).expect("UTF-8")
+    }
+
+    fn frame(name: Option<&str>, path: Option<&str>, line: u64) -> Frame {
+        Frame { name: name.map(Into::into), path: path.map(Into::into), line, ..Frame::default() }
+    }
+
+    #[test]
+    fn the_sentinel_is_no_part_of_a_reply() {
+        let frames = vec![frame(Some("f"), None, 0), frame(None, Some("a.c"), 0), frame(None, None, 7)];
+        for tool in [Tool::Binutils, Tool::Llvm] {
+            assert_eq!(written(tool, false, frames.clone()), "f\n??:?\n??\na.c:?\n??\n??:?\n");
+            assert_eq!(written(tool, false, Vec::new()), "??\n??:0\n");
+        }
+    }
+
+    #[test]
+    fn unknown_addresses_on_one_line() {
+        assert_eq!(written(Tool::Binutils, true, Vec::new()), "?? ??:0\n");
+        assert_eq!(written(Tool::Llvm, true, Vec::new()), "?? at ??:0\n");
+    }
+}

@@ -140,6 +140,19 @@ mod tests {
         assert!(matches!(image(&sample(), 100), Err(Error::TooMany)));
     }
 
+    #[test]
+    fn claims_are_what_comes_out() {
+        let mut packed = Vec::with_capacity(100);
+        let mut stream = flate2::Compress::new(flate2::Compression::fast(), true);
+        stream.compress_vec(&[7; 50], &mut packed, flate2::FlushCompress::Finish).expect("zlib");
+        for size in 49..52 {
+            let data = CompressedData { format: CompressionFormat::Zlib, data: &packed, uncompressed_size: size };
+            let mut image = Image::new(100).expect("memory");
+            let added = image.add(b".debug_str", &data);
+            assert_eq!(added.is_ok(), size == 50, "{size}: {added:?}");
+        }
+    }
+
     /// A file whose one section claims so many bytes, of 16 that are no zlib.
     fn claiming(size: u64) -> File {
         let claim = CompressionHeader64 {

@@ -59,7 +59,25 @@ struct Entry {
 struct Rank {
     typed: bool,
     sized: bool,
-    binding: u8,
+    binding: Binding,
+}
+
+/// Who sees a symbol, from the fewest on.
+#[derive(Debug, Clone, Copy, PartialEq, Eq, PartialOrd, Ord)]
+enum Binding {
+    Local,
+    Weak,
+    Global,
+}
+
+impl Binding {
+    fn of(number: u8) -> Binding {
+        match number {
+            STB_GLOBAL => Binding::Global,
+            STB_WEAK => Binding::Weak,
+            _ => Binding::Local,
+        }
+    }
 }
 
 impl Symbols {
@@ -188,12 +206,7 @@ impl<Elf: FileHeader<Endian = Endianness>> OfKind<'_, '_, Elf> {
         let size: u64 = symbol.st_size(self.endian).into();
         let section_end = section.sh_addr(self.endian).into().saturating_add(section.sh_size(self.endian).into());
         let end = if size > 0 { start.saturating_add(size) } else { section_end };
-        let binding = match symbol.st_bind() {
-            STB_GLOBAL => 2,
-            STB_WEAK => 1,
-            _ => 0,
-        };
-        let rank = Rank { typed, sized: size > 0, binding };
+        let rank = Rank { typed, sized: size > 0, binding: Binding::of(symbol.st_bind()) };
         Some(Entry { start, end, reach: end, name: symbol.st_name(self.endian), file: 0, rank })
     }
 
@@ -231,7 +244,12 @@ fn set_reach(entries: &mut [Entry]) {
 mod tests {
     use super::*;
 
-    fn entry(start: u64, size: u64, end: u64, binding: u8, name: u32) -> Entry {
+    fn entry(start: u64, size: u64, end: u64, name: u32) -> Entry {
+        bound(STB_GLOBAL, start, size, end, name)
+    }
+
+    fn bound(binding: u8, start: u64, size: u64, end: u64, name: u32) -> Entry {
+        let binding = Binding::of(binding);
         let end = if size > 0 { start + size } else { end };
         Entry { start, end, reach: end, name, file: 0, rank: Rank { typed: true, sized: size > 0, binding } }
     }
@@ -250,7 +268,11 @@ mod tests {
 
     #[test]
     fn the_global_one_is_taken() {
-        let found = symbols(vec![entry(16, 8, 99, 2, 1), entry(16, 8, 99, 0, 3), entry(16, 8, 99, 1, 5)]);
+        let found = symbols(vec![
+            bound(STB_GLOBAL, 16, 8, 99, 1),
+            bound(STB_LOCAL, 16, 8, 99, 3),
+            bound(STB_WEAK, 16, 8, 99, 5),
+        ]);
         assert_eq!(name_at(&found, 16), Some("a"));
         assert_eq!((name_at(&found, 15), name_at(&found, 24)), (None, None));
     }
@@ -264,15 +286,14 @@ mod tests {
 
     #[test]
     fn what_has_no_size_ends_with_the_next_one_or_its_section() {
-        let found = symbols(vec![entry(16, 0, 99, 2, 1), entry(32, 0, 99, 2, 3)]);
+        let found = symbols(vec![entry(16, 0, 99, 1), entry(32, 0, 99, 3)]);
         assert_eq!((name_at(&found, 31), name_at(&found, 32)), (Some("a"), Some("b")));
         assert_eq!((name_at(&found, 98), name_at(&found, 99)), (Some("b"), None));
     }
 
     #[test]
     fn the_one_around_is_found() {
-        let found =
-            symbols(vec![entry(0, 100, 0, 2, 1), entry(10, 5, 0, 2, 3), entry(20, 5, 0, 2, 5), entry(200, 8, 0, 2, 7)]);
+        let found = symbols(vec![entry(0, 100, 0, 1), entry(10, 5, 0, 3), entry(20, 5, 0, 5), entry(200, 8, 0, 7)]);
         let names = [5, 12, 17, 22, 99, 100, 201].map(|address| name_at(&found, address));
         assert_eq!(names, [Some("a"), Some("b"), Some("a"), Some("c"), Some("a"), None, Some("d")]);
     }

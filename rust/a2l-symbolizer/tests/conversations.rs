@@ -115,6 +115,8 @@ fn shapes_of_llvm() {
         "0x401004: leaf at /w/a.c:4:0\n (inlined by) mid at /w/a.c:30:0\n (inlined by) main at /w/z.c:20:7\n\n";
     assert_eq!(told(&["-p", "-a"], line), pretty);
     assert_eq!(told(&["-e", SAMPLE, "--adjust-vma=0x10"], "0x401014\n"), LEAF);
+    let sentinel = told(&["-e", SAMPLE, "--adjust-vma=0xffffffffffbfeffb"], "0xffffffffffffffff\n0xfffffffffffffffe\n");
+    assert_eq!(sentinel, [UNKNOWN, "mid\n/w/a.c:3:0\nmain\n/w/z.c:20:7\n\n"].concat());
     assert_eq!(told(&["--output-style=GNU"], line), "leaf\n/w/a.c:4\nmid\n/w/a.c:30\nmain\n/w/z.c:20\n");
     assert_eq!(told(&["-e", SAMPLE], "0x401004"), LEAF, "a line without an end");
     assert_eq!(told(&["-e", SAMPLE, "0x401004", "0x1"], ""), [LEAF, UNKNOWN].concat());
