@@ -218,11 +218,14 @@ fn few_files_stay_open() {
     for path in &paths {
         std::fs::copy(SAMPLE, path).expect("a copy");
     }
-    for size in ["2", "1,1", "16,4G"] {
+    for (size, most) in [("2", 2), ("1,1", 1), ("16,4G", 5), ("16,1K", 1)] {
         let mut talk = Talk::new(&["--cache-size", size]);
         for path in paths.iter().cycle().take(12) {
             assert_eq!(talk.ask(&format!("CODE \"{path}\" 0x401004")), LEAF);
         }
+        let maps = std::fs::read_to_string(format!("/proc/{}/maps", talk.child.id())).expect("its maps");
+        let open = paths.iter().filter(|path| maps.contains(*path)).count();
+        assert_eq!(open, most, "{size}");
         assert_eq!(talk.end(), Some(0));
     }
 }
