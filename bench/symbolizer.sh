@@ -1,9 +1,10 @@
 #!/usr/bin/env bash
-# How long a2l-symbolizer takes in a conversation, and how much memory, beside llvm-symbolizer and GNU addr2line, all in
-# one run: from its start to the first answer, 2,000 random addresses one by one, and the memory that is its own after
-# them. The words are programs, or how many units of templates are to be built into one (36 and 60 without, about 60
-# and 100 MB). Each is run nine times, in turn, and the medians count; and so is a report of AddressSanitizer, of a program that
-# clang 19 builds. It prints ratios, and tests nothing but that as many addresses have a line. Run it after `make symbolizer`.
+# How long a2l-symbolizer takes in a conversation, and how much memory, beside llvm-symbolizer and GNU
+# addr2line, all in one run: from its start to the first answer, 2,000 random addresses one by one, the
+# processor time of all, and the memory that is its own in the end. The words are programs, or how many
+# units of templates are to be built into one (36 and 60 without, about 60 and 100 MB). Each is run nine
+# times, in turn, and once where it takes more than 10 seconds; the medians count. Then the median of 21
+# reports of AddressSanitizer with either, of a program by clang 19. It prints ratios, and tests nothing.
 . "$(dirname "$0")/../tests/programs.sh"
 need_symbolizer
 [ $# -gt 0 ] || set -- 36 60
@@ -12,6 +13,7 @@ export PYTHONPATH=$clients
 
 cat > conversing.py << 'END_PY'
 """conversing.py PROGRAM NAME=COMMAND..: what each tool takes; a tool that speaks GNU's style has a name with addr2line."""
+import os
 import random
 import re
 import shlex
@@ -35,8 +37,13 @@ def own_memory(pid):
     with open(f'/proc/{pid}/smaps_rollup', encoding='ascii') as file:
         return int(re.search(r'Anonymous: +(\d+)', file.read())[1])
 
+def processor_time(pid):
+    """Seconds of processors, with those of the system."""
+    with open(f'/proc/{pid}/stat', encoding='ascii') as file:
+        return sum(map(int, file.read().rsplit(')', 1)[1].split()[11:13])) / os.sysconf('SC_CLK_TCK')
+
 def converse(command, program, addresses, is_gnu):
-    """Seconds to the first answer, seconds for all others, kilobytes at the end, and how many have a line."""
+    """Seconds to the first answer, for all others, and of processors; kilobytes; how many have a line."""
     words = shlex.split(command) + (['-e', program] if is_gnu else [])
     request = b'%#x' if is_gnu else b'CODE "%s" %%#x' % program.encode()
     begun = time.perf_counter()
@@ -45,23 +52,23 @@ def converse(command, program, addresses, is_gnu):
         first = time.perf_counter()
         replies = [talk.ask(request % address) for address in addresses[1:]]
         end = time.perf_counter()
-        memory = own_memory(talk.tool.pid)
+        memory, spent = own_memory(talk.tool.pid), processor_time(talk.tool.pid)
     lines = sum(bool(re.search(rb':[1-9]\d*(:\d+)?( \(disc.*)?\n', reply)) for reply in replies)
-    return first - begun, end - first, memory, lines
+    return first - begun, end - first, spent, memory, lines
 
 program, tools = sys.argv[1], dict(word.split('=', 1) for word in sys.argv[2:])
 addresses = of_code(program)
 runs = {name: [] for name in tools}
 for _ in range(TIMES):
     for name, command in tools.items():
-        if len(runs[name]) < 3 or not runs[name] or runs[name][0][1] < 20:
+        if not runs[name] or runs[name][0][1] < 10:
             runs[name].append(converse(command, program, addresses, 'addr2line' in name))
 medians = {name: [statistics.median(column) for column in zip(*runs[name])] for name in tools}
 ours = medians['a2l-symbolizer']
-for name, (first, others, memory, lines) in medians.items():
-    ratios = ' '.join(f'{mine / theirs:.2f}' for mine, theirs in zip(ours, (first, others, memory)))
-    print(f'{name:16} first {first * 1000:6.1f} ms, {COUNT} others {others:6.3f} s, {memory / 1000:6.1f} MB, {int(lines)} lines; '
-          f'a2l-symbolizer takes {ratios} of these')
+for name, (first, others, spent, memory, lines) in medians.items():
+    ratios = ' '.join(f'{mine / theirs:.2f}' for mine, theirs in zip(ours, (first, others, spent, memory)))
+    print(f'{name:18} first {first * 1000:6.1f} ms, {COUNT} others {others:6.3f} s, {spent:5.2f} s of processors, '
+          f'{memory / 1000:6.1f} MB, {int(lines)} lines; a2l-symbolizer takes {ratios} of these')
 END_PY
 
 # What a tool is called in the table, and its command.

@@ -4,7 +4,7 @@
 # that ends (tests/symbolizer); and lines drawn from the grammar and from noise, as many as the word
 # says (100,000 without), in lockstep, of which each reply is framed as its kind demands and, where
 # llvm-symbolizer 19 is here, each of 10,000 is its reply to the byte (tests/clients/noise.py). The
-# second word is the seed of the lines.
+# second word is the seed of the lines. Then what `make install` puts in place, and its removal.
 . "$(dirname "$0")/programs.sh"
 need_symbolizer
 count=${1:-100000} seed=${2:-$RANDOM$RANDOM}
@@ -13,7 +13,7 @@ python3 -m unittest discover -s "$here/tests/symbolizer" > tests.log 2>&1 || { c
 sed -n 's/^.*skipped .\(.*\)./skipped, \1/p' tests.log
 
 write_sources
-gcc -g -gdwarf-5 -O2 calls.c other.c -o calls
+gcc -g -gdwarf-5 -O1 calls.c other.c -o calls
 tool=("$symbolizer" --as=llvm-symbolizer --demangle --inlines)
 echo "seed $seed"
 python3 "$here/tests/clients/noise.py" "$count" "$seed" "$work/calls" "${tool[@]}" > noise.log || {
@@ -26,4 +26,21 @@ if has "the same lines beside llvm-symbolizer" llvm-symbolizer-19; then
         llvm-symbolizer-19 --demangle --inlines > peer.log || { cat peer.log; exit 1; }
     tail -n 1 peer.log
 fi
+
+# What is installed speaks as its names say, and its removal leaves nothing.
+make -s -C "$here" install-symbolizer DESTDIR="$work/root" PREFIX=/opt/a2l SYMBOLIZER="$symbolizer" > make.log 2>&1 || {
+    cat make.log
+    exit 1
+}
+installed=$work/root/opt/a2l
+for name in bin/llvm-symbolizer-a2l lib/a2l/tools/llvm-symbolizer; do
+    found=$("$installed/$name" -e "$A2L_SAMPLE" 0x401004 | tr '\n' ' ')
+    [ "$found" = "leaf /w/a.c:4:0 mid /w/a.c:30:0 main /w/z.c:20:7  " ] || { echo "$name: $found"; exit 1; }
+done
+found=$("$installed/lib/a2l/tools/addr2line" -fi -e "$A2L_SAMPLE" 401004 | tr '\n' ' ')
+[ "$found" = "leaf /w/a.c:4 mid /w/a.c:30 main /w/z.c:20 " ] || { echo "addr2line: $found"; exit 1; }
+make -s -C "$here" uninstall DESTDIR="$work/root" PREFIX=/opt/a2l > make.log 2>&1 || { cat make.log; exit 1; }
+left=$(find "$work/root" ! -type d)
+[ -z "$left" ] || { echo "left behind: $left"; exit 1; }
+
 echo "$(grep -oE 'Ran [0-9]+ tests' tests.log) and $count lines in lockstep"

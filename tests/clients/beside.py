@@ -22,6 +22,9 @@ SAID = {
     'outermost': 'llvm-symbolizer names the outermost function by a symbol that covers the address',
     'column': 'a row has a column and no line',
     'sizeless': 'llvm-symbolizer takes a symbol without a size for all behind it, in other sections too',
+    'call': 'the addr2line crate knows no file of a call whose number is 0, as in DWARF 5 by clang',
+    'dropped': 'the linker dropped the code and left its ranges: each tool takes another one',
+    'several': 'several symbols without a size are at one address',
     'version': 'llvm-symbolizer writes the version of a symbol behind its name',
     'more': 'a2l-symbolizer gives a line, llvm-symbolizer none',
     'otherwise': 'both give a line, or neither, but not the same frames',
@@ -44,9 +47,9 @@ class Program:
         self.data = draw.sample(objects, min(len(objects), count // 4))
         asked = set(draw.sample(starts, min(len(starts), count // 4)))
         sections = re.findall(r'\] \S* +PROGBITS +(\w+) \w+ (\w+) \w+ +\w*X', shown('readelf', '-SW', path))
-        code = [(int(begin, 16), int(size, 16)) for begin, size in sections if int(size, 16)]
-        total = sum(size for _, size in code)
-        for begin, size in code:
+        self.sections = [(int(begin, 16), int(size, 16)) for begin, size in sections if int(size, 16)]
+        total = sum(size for _, size in self.sections)
+        for begin, size in self.sections:
             asked.update(begin + draw.randrange(size) for _ in range(1 + count * size // total))
         asked.update([0, 1, 2 ** 63, 2 ** 64 - 1] + [draw.randrange(2 ** 24) for _ in range(20)])
         self.code = sorted(asked)
@@ -54,6 +57,12 @@ class Program:
     def requests(self):
         yield from ((b'CODE', address) for address in self.code)
         yield from ((b'DATA', address) for address in self.data)
+
+    def is_code(self, address):
+        return any(begin <= address < begin + size for begin, size in self.sections)
+
+    def are_at(self, address, *names):
+        return {name for begin, _, _, name in self.symbols if begin == address}.issuperset(names)
 
     def is_covering(self, name, address):
         return any(begin <= address < begin + size for begin, size, _, other in self.symbols if other == name)
@@ -77,22 +86,38 @@ def without_columns(found):
     return [(name, re.sub(r':0:\d+$', ':0:0', place)) for name, place in found]
 
 
-def reason(program, address, theirs, ours):
-    """Why the replies differ; else none."""
-    name = theirs.split(b'\n')[0].decode(errors='replace')
-    if ours in UNKNOWN:
-        return 'sizeless' if program.is_sizeless(name) else None
-    if has_line(ours) and not has_line(theirs):
-        return 'more'
+def reason_of_data(program, address, theirs, ours):
+    """Why replies to DATA differ; else none."""
+    name, other = (reply.split(b'\n')[0].decode(errors='replace') for reply in (theirs, ours))
+    if ours in UNKNOWN and program.is_sizeless(name):
+        return 'sizeless'
     if re.sub(rb'@+[\w.]+\n', b'\n', theirs, count=1) == ours:
         return 'version'
+    return 'several' if program.are_at(address, name, other) else None
+
+
+def reason(program, address, theirs, ours):
+    """Why replies to CODE differ; else none."""
+    if not program.is_code(address) and ours not in UNKNOWN:
+        return 'dropped'
+    if ours in UNKNOWN:
+        return 'sizeless' if program.is_sizeless(frames(theirs)[0][0]) else None
+    if has_line(ours) and not has_line(theirs):
+        return 'more'
     theirs, ours = without_columns(frames(theirs)), without_columns(frames(ours))
     if theirs == ours:
         return 'column'
     (name, place), (other, other_place) = theirs[-1], ours[-1]
     if theirs[:-1] == ours[:-1] and place == other_place and program.is_covering(name, address):
         return 'outermost'
-    return None
+    return 'call' if is_without_calls(theirs, ours) else None
+
+
+def is_without_calls(theirs, ours):
+    """Whether the frames are the same, but for callers' places that are unknown here."""
+    pairs = list(zip(theirs, ours))
+    return len(theirs) == len(ours) and pairs[0][0] == pairs[0][1] and \
+        all(name == other and other_place in (place, '??:0:0') for (name, place), (other, other_place) in pairs)
 
 
 class Tally:
@@ -108,7 +133,11 @@ class Tally:
             return
         is_lost = kind == b'CODE' and has_line(theirs) and not has_line(ours)
         self.lost += is_lost
-        why = None if is_lost else reason(program, address, theirs, ours) or ('otherwise' if lines_alone else None)
+        why = (reason if kind == b'CODE' else reason_of_data)(program, address, theirs, ours)
+        if is_lost and why not in ('dropped', 'call'):
+            why = None
+        elif lines_alone:
+            why = why or 'otherwise'
         if why:
             self.why[why] += 1
         else:

@@ -25,6 +25,8 @@ KINDS = {
 }
 WANTED = {b'DATA ': ('data', 'unknown data'), b'FRAME ': ('unknown frame',)}
 
+BEHIND = re.compile(rb'_end\n(?:\?\?:0:0|\d+ 0\n\?\?:\?)\n\n')
+
 COMMANDS = [b'CODE ', b'DATA ', b'FRAME ', b'', b'CODE  ', b'code ', b'CODE\t', b'DATA', b' ', b'CODE CODE ',
             b'FRAME FRAME ']
 PREFIXES = [b'', b'', b'', b'FILE:', b'FILE: ', b'FILE:FILE:', b'BUILDID:', b'BUILDID:zz ', b'BUILDID:FILE:']
@@ -70,7 +72,9 @@ def damaged(draw, line):
 def lines(draw, count, paths, begin, size):
     for _ in range(count):
         kind = draw.random()
-        if kind < 0.5:
+        if kind < 0.3:
+            yield draw.choice([b'CODE "%s" %#x', b'%s %d', b'DATA "%s" %#x']) % (paths[0], begin + draw.randrange(size))
+        elif kind < 0.5:
             yield request(draw, paths, begin, size)
         elif kind < 0.8:
             yield damaged(draw, request(draw, paths, begin, size))
@@ -114,7 +118,7 @@ def is_as_good(line, ours, theirs):
         return True
     unknown = [shape for kind, shape in KINDS.items() if kind.startswith('unknown')]
     is_unknown = any(shape.fullmatch(ours) for shape in unknown)
-    return is_unknown and (theirs == b'_end\n??:0:0\n\n' or any(shape.fullmatch(theirs) for shape in unknown))
+    return is_unknown and any(shape.fullmatch(theirs) for shape in unknown + [BEHIND])
 
 
 def text_of(program):

@@ -41,17 +41,21 @@ build_pprof() {
     GO111MODULE=off GOPATH=/usr/share/gocode GOCACHE=$work/go go build -o pprof github.com/google/pprof
 }
 
+# Without the columns of samples, by which lines are sorted; and without stubs of .plt, which peers
+# take for `_init`, and a2l-symbolizer for nothing.
+of_lines='-symbolize=force -lines -top sorts sorts.prof | sed -E "s/^( *[0-9.]+(ms|s|%)?){5} +//" |
+    grep -vxE "_init|\[sorts\]" | sort'
+
 pprof_of_google() {
     profile_sorts && build_pprof || return 0
-    same 'sorts\.cc:[0-9]+' ./pprof -symbolize=force -lines -top sorts sorts.prof &&
+    same 'sorts\.cc:[0-9]+' bash -c "./pprof $of_lines" &&
         same 'sorts\.cc' ./pprof -symbolize=force -list 'work::.*fold' sorts sorts.prof
 }
 
 # It takes addr2line where it is shown no llvm-symbolizer.
 pprof_by_addr2line() {
     profile_sorts && build_pprof || return 0
-    same 'sorts\.cc:[0-9]+' bash -c './pprof -tools "addr2line:$(dirname "$(command -v addr2line)")" \
-        -symbolize=force -lines -top sorts sorts.prof'
+    same 'sorts\.cc:[0-9]+' bash -c './pprof -tools "addr2line:$(dirname "$(command -v addr2line)")" '"$of_lines"
 }
 
 # The one of gperftools takes its tools from its own folder, unless it is given all of them. Frames of

@@ -63,11 +63,8 @@ def main(*words):
         failures += not stack or compare(path.name, without(patterns, text), without(patterns, other), counts)
         counts['reports'] += 1
         frames += stack
-    for why, said in differences.SAID.items():
-        if counts[why]:
-            print(f'{counts[why]:5} {why}: {said}')
-    print(f'{counts["reports"]} reports with {frames} frames, {counts["equal"]} of them equal, '
-          f'{failures} unlike without a reason')
+    told = ''.join(f', {counts[why]} {why}' for why in differences.SAID if counts[why])
+    print(f'{counts["reports"]} reports with {frames} frames: {counts["equal"]} the same{told}, {failures} unlike')
     sys.exit(1 if failures else 0)
 
 
