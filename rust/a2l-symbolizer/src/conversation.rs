@@ -56,15 +56,21 @@ impl Conversation {
         self.failed
     }
 
-    /// Opens the file of the command line, where it has one. The text of an error says what is
-    /// missing.
+    /// Opens the file of the command line, where it has one. The text of an error says why it can't be.
     pub fn open_module(&mut self) -> Result<(), String> {
         let Some(module) = &self.settings.module else {
             return Ok(());
         };
-        let found = self.programs.get(module).map_err(|why| format!("'{}': {why}", module_name(module)))?;
-        match &self.settings.section {
-            Some(name) if found.program.section_address(name).is_none() => Err(format!("cannot find section {name}")),
+        self.programs.get(module).map(drop).map_err(|why| format!("'{}': {why}", module_name(module)))
+    }
+
+    /// Looks for the section of the command line, where it has one and the file can be opened.
+    pub fn find_section(&mut self) -> Result<(), String> {
+        let (Some(module), Some(name)) = (&self.settings.module, &self.settings.section) else {
+            return Ok(());
+        };
+        match self.programs.get(module) {
+            Ok(found) if found.program.section_address(name).is_none() => Err(format!("cannot find section {name}")),
             _ => Ok(()),
         }
     }
@@ -130,7 +136,7 @@ impl Conversation {
                 return Err(why);
             }
         };
-        let who = (found.is_new && self.settings.verbose).then(|| answerer(&found));
+        let who = self.settings.verbose.then(|| answerer(&found));
         let answer = answer(&self.settings, found, request);
         if let Some(who) = who {
             self.report(&request.module, &who);

@@ -46,6 +46,9 @@ fn start(identity: Identity, arguments: &Arguments) -> ExitCode {
         };
     }
     let mut conversation = conversation(identity, arguments);
+    if let Err(why) = conversation.find_section() {
+        return fail(identity, &why);
+    }
     if arguments.requests.is_empty() {
         let ended = conversation.run(io::stdin().lock(), io::stdout().lock());
         return match finish(identity, ended) {

@@ -21,28 +21,15 @@ pub fn number(spelling: Spelling, word: &[u8]) -> Option<u64> {
     }
 }
 
-/// The number at the front of a line, as the function `strtoul` of C reads it with base 16; none
-/// where there is no digit. A number that doesn't fit is the greatest one.
+/// The number at the front of a line, in hexadecimal digits, as GNU's addr2line reads it; none where
+/// there is no digit. A number that doesn't fit is the greatest one.
 pub fn gnu_number(line: &[u8]) -> Option<u64> {
-    let line = line.trim_ascii_start();
-    let (negative, line) = match line {
-        [b'-', rest @ ..] => (true, rest),
-        [b'+', rest @ ..] => (false, rest),
-        rest => (false, rest),
+    let digits = match line.trim_ascii_start() {
+        [b'0', b'x' | b'X', digits @ ..] => digits,
+        digits => digits,
     };
-    let line = match line {
-        [b'0', b'x' | b'X', rest @ ..] => rest,
-        rest => rest,
-    };
-    let end = line.iter().position(|byte| !byte.is_ascii_hexdigit()).unwrap_or(line.len());
-    if end == 0 {
-        return None;
-    }
-    Some(match digits_of(&line[..end], 16) {
-        Some(number) if negative => number.wrapping_neg(),
-        Some(number) => number,
-        None => u64::MAX,
-    })
+    let end = digits.iter().position(|byte| !byte.is_ascii_hexdigit()).unwrap_or(digits.len());
+    (end > 0).then(|| digits_of(&digits[..end], 16).unwrap_or(u64::MAX))
 }
 
 /// The bytes of a text of hexadecimal digits.
@@ -99,7 +86,7 @@ mod tests {
             ("0000000000001129", Some(0x1129)),
             ("0x1129 trailing", Some(0x1129)),
             ("  12zz", Some(0x12)),
-            ("-1", Some(u64::MAX)),
+            ("-1", None),
             ("ffffffffffffffff", Some(u64::MAX)),
             ("fffffffffffffffff", Some(u64::MAX)),
             (",", None),

@@ -24,15 +24,14 @@ impl Programs {
     /// A file that is open and still what it was; else it is opened. The text of an error says why
     /// it can't be.
     pub fn get(&mut self, module: &Module) -> Result<Found<'_>, String> {
-        let is_new = self.open.get(module).is_none_or(Program::has_changed);
-        if is_new {
+        if self.open.get(module).is_none_or(Program::has_changed) {
             self.open.pop(module);
             let program = Program::open(self.open_file(module)?, &self.sources);
             self.make_room(program.bytes());
             self.open.put(module.clone(), program);
         }
         let program = self.open.get_mut(module).expect("it was opened just now");
-        Ok(Found { program, sources: &self.sources, is_new })
+        Ok(Found { program, sources: &self.sources })
     }
 
     fn open_file(&self, module: &Module) -> Result<OpenFile, String> {
@@ -62,8 +61,6 @@ impl Programs {
 pub struct Found<'p> {
     pub program: &'p mut Program,
     pub sources: &'p Sources,
-    /// It was opened just now.
-    pub is_new: bool,
 }
 
 /// Why a file can't be opened, without the number that the system has for it.

@@ -183,7 +183,7 @@ fn what_is_refused() {
             &["-e", "/etc/passwd", "0x10"],
             "llvm-symbolizer: error: '/etc/passwd': The file was not recognized as a valid object file\n",
         ),
-        (&["-e", SAMPLE, "-j", ".none", "0x10"], "llvm-symbolizer: error: cannot find section .none\n"),
+        (&["-e", SAMPLE, "-j", ".none"], "llvm-symbolizer: error: cannot find section .none\n"),
     ] {
         let output = run(TOOL, words, "");
         assert_eq!(String::from_utf8_lossy(&output.stderr), wanted);
@@ -246,6 +246,8 @@ fn who_answers_is_told_once() {
     let output = run(TOOL, &["--verbose", "--no-mmap"], &line.repeat(3));
     assert_eq!(String::from_utf8_lossy(&output.stdout), LEAF.repeat(3));
     let wanted = format!("llvm-symbolizer: '{SAMPLE}': answered by liba2l, of {SAMPLE}\n");
+    assert_eq!(String::from_utf8_lossy(&output.stderr), wanted);
+    let output = run(TOOL, &["--verbose", "-e", SAMPLE, "0x401004", "0x1"], "");
     assert_eq!(String::from_utf8_lossy(&output.stderr), wanted);
 }
 
