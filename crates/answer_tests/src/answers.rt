@@ -11,7 +11,6 @@ use crate::spans::{WantedPiece, expect_pieces, span_at};
 use dw_symbols::{Answer, Context, Image, UnitFault};
 use std::alloc::{AllocError, Global};
 use std::process::Abort;
-use std::slice::from_ref;
 use std::test::Fail;
 
 /// What is asked of a context.
@@ -83,7 +82,7 @@ fn expect_of_context<A: Abort>(
 }
 
 /// One context over an image answers each row.
-pub fn expect_of_image<A: Abort>(
+fn expect_of_image<A: Abort>(
     rt: &A,
     alloc: Global,
     image: &Image<'_>,
@@ -102,19 +101,6 @@ pub fn expect_answers<A: Abort>(
 ) -> Result<(), Fail> {
     let image = image_of(alloc, file)?;
     Ok(expect_of_image(rt, alloc, &image, rows)?)
-}
-
-/// Each row is answered by a context of its own, over an image of its own.
-pub fn expect_each_alone<A: Abort>(
-    rt: &A,
-    alloc: Global,
-    file: &[u8],
-    rows: &[Row<'_>],
-) -> Result<(), Fail> {
-    for row in rows {
-        expect_answers(rt, alloc, file, from_ref(row))?;
-    }
-    Ok(())
 }
 
 /// Asks once more where memory was refused.

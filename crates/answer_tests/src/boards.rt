@@ -1,12 +1,12 @@
-//! A board of one cell over the sample, whose worker answers by a context: what its calls return,
-//! and that a query whose answer was refused memory is answered by a later turn.
+//! A board of one cell over the sample, whose worker answers by a context: a query whose answer was
+//! refused memory is answered by a later turn.
 
 ghost use Rattle.std.specs.Prelude.{◌≡◌};
 ghost use Rattle.std.specs.List.{AllByRecursion};
 ghost use Rattle.ticket_board.specs.Seats.{IsClientOf, IsWorkerOf};
 
 use crate::answers::{Wanted, expect_answer};
-use crate::contexts::{IN_MAIN, INLINED, context_at_last, context_of, image_of, open_at_last};
+use crate::contexts::{INLINED, context_at_last, open_at_last};
 use crate::expect::expect;
 use crate::texts::Open;
 use dw_symbols::{Answer, Context, Image};
@@ -23,28 +23,6 @@ const ONE_CELL: Shape = Shape {
     window: 1,
     most: 10,
 };
-
-/// A number is asked, its query fills the window, and its answer isn't there yet.
-fn expect_asked<'a, S: Solver>(
-    rt: &impl Abort,
-    board: &Board<'a, S>,
-    client: &mut Client<S>,
-    a: u64,
-    number: u64,
-)
-    requires { IsClientOf board.now client.old }
-    ensures { IsClientOf board.now client.new }
-{
-    expect(
-        rt,
-        number,
-        &client.ask(board, Query::address(a)),
-        &Ok(number),
-    );
-    let refused = client.ask(board, Query::address(0x40_1004));
-    expect(rt, number, &refused, &Err(AskFault::Full));
-    assert!(rt; matches!(client.next(board), Next::Pending));
-}
 
 /// A number was answered, and this is its answer.
 fn expect_answered<'a, 'c, S: Solver<Answer = Answer<'c>>>(
@@ -94,29 +72,6 @@ fn expect_turn<'a, S: Solver>(
     expect(rt, "turn", &turn, &Ok(wanted));
 }
 
-/// The answers to 0x401000 and 0x401004; what each other call of the board returns on the way is
-/// asserted.
-fn expect_both<'a, 'c, S: Solver<Answer = Answer<'c>>>(
-    rt: &impl Abort,
-    board: &Board<'a, S>,
-    client: &mut Client<S>,
-    worker: &mut Worker<S>,
-    solver: &mut S,
-)
-    requires client { IsClientOf board.now client.old }
-    requires worker { IsWorkerOf board.now worker.old }
-    requires key { S.key solver.old ≡ board.now.key }
-    ensures key { S.key solver.new ≡ board.now.key }
-{
-    expect_asked(rt, board, client, 0x40_1000, 0);
-    expect_turn(rt, board, worker, solver, Turn::Answered(0, 0));
-    expect_answered(rt, board, client, 0, &Wanted::Frames(0, IN_MAIN));
-    expect_asked(rt, board, client, 0x40_1004, 1);
-    expect_turn(rt, board, worker, solver, Turn::Answered(0, 1));
-    expect_answered(rt, board, client, 1, &Wanted::Frames(0, INLINED));
-    expect_end(rt, board, client);
-}
-
 /// Answers number 0, which is asked. A turn that is refused memory gives it back, and the next one
 /// answers it.
 fn answer_at_last<'a, S: Solver>(
@@ -161,15 +116,13 @@ fn expect_one<'a, 'c, S: Solver<Answer = Answer<'c>>>(
     expect_end(rt, board, client);
 }
 
-/// What the only client and the only worker do: where allocations are refused, for one address, and
-/// else for two.
+/// What the only client and the only worker do.
 fn expect_cell<'a, 'c, S: Solver<Answer = Answer<'c>>>(
     rt: &impl Abort,
     board: &Board<'a, S>,
     clients: &mut Vec<Client<S>>,
     workers: &mut Vec<Worker<S>>,
     solver: &mut S,
-    refused: bool,
 )
     requires clients { AllByRecursion (IsClientOf board.now) clients.old.items }
     requires workers { AllByRecursion (IsWorkerOf board.now) workers.old.items }
@@ -184,11 +137,7 @@ fn expect_cell<'a, 'c, S: Solver<Answer = Answer<'c>>>(
         assert!(rt; false, "no worker");
         return;
     };
-    if refused {
-        expect_one(rt, board, &mut client, &mut worker, solver);
-    } else {
-        expect_both(rt, board, &mut client, &mut worker, solver);
-    }
+    expect_one(rt, board, &mut client, &mut worker, solver);
 }
 
 /// Whether a board is opened, whose client and worker do this then.
@@ -197,7 +146,6 @@ fn is_opened<'c, S: Solver<Answer = Answer<'c>>>(
     alloc: Global,
     key: &[u8],
     solver: &mut S,
-    refused: bool,
 ) -> bool
     requires { S.key solver.old ≡ key.now }
     ensures { S.key solver.new ≡ key.now }
@@ -205,44 +153,18 @@ fn is_opened<'c, S: Solver<Answer = Answer<'c>>>(
     let Ok((board, mut clients, mut workers)) = open(alloc, ONE_CELL, key) else {
         return false;
     };
-    expect_cell(rt, &board, &mut clients, &mut workers, solver, refused);
+    expect_cell(rt, &board, &mut clients, &mut workers, solver);
     true
 }
 
-/// A board is opened, where allocations are refused by the second call at the latest.
-fn expect_opened(rt: &impl Abort, alloc: Global, context: &mut Context<'_, '_>, refused: bool) {
-    let key = context.bytes();
-    if is_opened(rt, alloc, key, context, refused) {
-        return;
-    }
-    assert!(rt;
-        refused && is_opened(rt, alloc, key, context, refused),
-        "no board"
-    );
-}
-
-/// A board is opened, by a context over an image.
+/// A board is opened by a context over an image, by the second call at the latest.
 fn expect_board(rt: &impl Abort, alloc: Global, image: &Image<'_>) -> Result<(), AllocError> {
-    let mut context = context_of(alloc, image)?;
-    expect_opened(rt, alloc, &mut context, false);
-    Ok(())
-}
-
-#[test]
-fn one_cell(rt: HostRuntime) -> Result<(), Fail> {
-    let file = sample(rt.alloc())?;
-    let image = image_of(rt.alloc(), &file)?;
-    Ok(expect_board(&rt, rt.alloc(), &image)?)
-}
-
-/// A board is opened at last, by a context over an image.
-fn expect_board_at_last(
-    rt: &impl Abort,
-    alloc: Global,
-    image: &Image<'_>,
-) -> Result<(), AllocError> {
     let mut context = context_at_last(alloc, image)?;
-    expect_opened(rt, alloc, &mut context, true);
+    let key = context.bytes();
+    if is_opened(rt, alloc, key, &mut context) {
+        return Ok(());
+    }
+    assert!(rt; is_opened(rt, alloc, key, &mut context), "no board");
     Ok(())
 }
 
@@ -254,5 +176,5 @@ fn each_allocation_refused(rt: HostRuntime) -> Result<(), Fail> {
         return Ok(());
     };
     let image = open_at_last(rt.alloc(), &file)?;
-    Ok(expect_board_at_last(&rt, rt.alloc(), &image)?)
+    Ok(expect_board(&rt, rt.alloc(), &image)?)
 }

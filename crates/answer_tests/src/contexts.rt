@@ -1,22 +1,15 @@
-//! Frames of addresses, worked out by hand, and what no clause says: that calls succeed, and that
-//! contexts go to threads.
+//! Answers of files, worked out by hand, files that are refused, and units that can't be read.
 
-use crate::answers::{
-    Question, Row, Wanted, expect_answer, expect_answers, expect_at_last, expect_each_alone,
-    expect_of_image,
-};
+use crate::answers::{Question, Row, Wanted, expect_answers, expect_at_last};
 use crate::expect::expect;
-use crate::spans::PIECES;
-use dw_elf::OpenFault;
+use dw_elf::{Name, OpenFault};
 use dw_symbols::{Answer, Context, Frame, Image, UnitFault};
 use std::alloc::{AllocError, Global};
 use std::num::NonZeroUsize;
 use std::process::Abort;
+use std::slice::from_ref;
 use std::test::Fail;
-use std::thread;
-use std::thread::Threads;
 use test_inputs::files::{ABBREVS, INFO, file_of, poked, sample, with_lines};
-use ticket_core::{NoMemory, Query, Solver};
 
 /// The name of a frame, and its path, line and column.
 pub type WantedFrame<'a> = (Option<&'a [u8]>, Option<&'a [u8]>, Option<u64>, Option<u64>);
@@ -96,103 +89,42 @@ static UNITS: [Row<'static>; 6] = [
     (Question::Location(0x50_0004), Wanted::NotCovered),
 ];
 
-/// Asks by the bound alone.
-fn solved<S: Solver>(solver: &mut S, query: Query) -> Result<S::Answer, NoMemory> {
-    solver.solve(query)
+#[test]
+fn units_of_the_sample(rt: HostRuntime) -> Result<(), Fail> {
+    let file = sample(rt.alloc())?;
+    expect_answers(&rt, rt.alloc(), &file, &UNITS)
 }
 
-/// A query is answered by the bound alone.
-fn expect_solved<A: Abort>(
-    rt: &A,
-    context: &mut Context<'_, '_>,
-    query: Query,
-    wanted: &Wanted<'_>,
-) -> Result<(), NoMemory> {
-    expect_answer(rt, &solved(context, query)?, wanted);
-    Ok(())
-}
+/// A byte of the sample and another one in its place, and why the file is refused then.
+static REFUSED_FILES: [(usize, u8, OpenFault); 9] = [
+    (0, 0, OpenFault::NotElf),
+    (4, 1, OpenFault::NotElf64Little),
+    (16, 1, OpenFault::Relocatable),
+    (58, 63, OpenFault::SectionTable),
+    // the size of .debug_line, and its flags
+    (289, 4, OpenFault::SectionRange(Name::DebugLine)),
+    (265, 8, OpenFault::Compressed(Name::DebugLine)),
+    // the first unit's length, its size of addresses, and the code of its first entry
+    (384, 0x58, OpenFault::UnitHeader(0x5c)),
+    (391, 4, OpenFault::AddressSize(0)),
+    (396, 9, OpenFault::Root(0)),
+];
 
-/// A context has the file as its key, and answers addresses and a span.
-fn expect_solver<A: Abort>(rt: &A, context: &mut Context<'_, '_>, file: &[u8]) -> Result<(), Fail> {
-    assert!(rt; context.key() == file);
-    let Some(span) = Query::range(0x40_1002, 0x40_1006) else {
-        return Err(Fail::from("a span"));
-    };
-    let rows = &[
-        (Query::address(0x40_1004), Wanted::Frames(0, INLINED)),
-        (Query::address(0x50_0001), Wanted::Frames(0x6e, UNKNOWN)),
-        (span, Wanted::Pieces(PIECES)),
-    ];
-    for (query, wanted) in rows {
-        expect_solved(rt, context, *query, wanted)?;
-    }
-    Ok(())
-}
-
-/// A context is a solver.
-fn as_solver<A: Abort>(rt: &A, alloc: Global, image: &Image<'_>, file: &[u8]) -> Result<(), Fail> {
-    let mut context = context_of(alloc, image)?;
-    expect_solver(rt, &mut context, file)
-}
-
-/// What may go to threads and be shared by them.
-fn crosses<T: Send + Sync>(_value: &T) {}
-
-/// Two contexts go to threads.
-fn on_threads<R: Abort + Threads>(
-    rt: &R,
-    mut first: Context<'_, '_>,
-    mut second: Context<'_, '_>,
-) -> Result<(), AllocError> {
-    let (one, other) = thread::join(
-        rt,
-        move || frames_at(&mut first, 0x40_1004),
-        move || frames_at(&mut second, 0x50_0001),
-    );
-    expect_frames(rt, &one?, 0, INLINED);
-    expect_frames(rt, &other?, 0x6e, UNKNOWN);
-    Ok(())
-}
-
-/// Two contexts over one image cross to threads.
-fn of_two_threads<R: Abort + Threads>(
-    rt: &R,
-    alloc: Global,
-    image: &Image<'_>,
-) -> Result<(), AllocError> {
-    crosses(image);
-    let first = context_of(alloc, image)?;
-    crosses(&first);
-    let second = context_of(alloc, image)?;
-    on_threads(rt, first, second)
-}
-
-/// Contexts over the image of a file: one answers rows, one is a solver, and two go to threads.
-fn expect_contexts<R: Abort + Threads>(
-    rt: &R,
-    alloc: Global,
-    image: &Image<'_>,
-    file: &[u8],
-) -> Result<(), Fail> {
-    expect_of_image(rt, alloc, image, &UNITS)?;
-    as_solver(rt, alloc, image, file)?;
-    Ok(of_two_threads(rt, alloc, image)?)
+/// Why a file can't be opened where a byte is changed.
+fn refusal_of(alloc: Global, file: &[u8], at: usize, byte: u8) -> Result<Option<OpenFault>, Fail> {
+    let changed = poked(alloc, file, at, byte)?;
+    Ok(image_of(alloc, &changed).err())
 }
 
 #[test]
-fn contexts_over_one_image(rt: HostRuntime) -> Result<(), Fail> {
+fn refused_files(rt: HostRuntime) -> Result<(), Fail> {
     let file = sample(rt.alloc())?;
-    let image = image_of(rt.alloc(), &file)?;
-    expect_contexts(&rt, rt.alloc(), &image, &file)
+    for (at, byte, fault) in &REFUSED_FILES {
+        let found = refusal_of(rt.alloc(), &file, *at, *byte)?;
+        expect(&rt, at, &found, &Some(*fault));
+    }
+    Ok(())
 }
-
-/// Why a unit can't be read, one after the other.
-pub static FAULTS: [UnitFault; 4] = [
-    UnitFault::Entry,
-    UnitFault::Depth,
-    UnitFault::Ranges,
-    UnitFault::Line,
-];
 
 /// Where the first unit of the sample has the first entry below its own, where the code of `main`
 /// is, and where the form of its DW_AT_low_pc is among the declarations.
@@ -216,74 +148,81 @@ fn deep(alloc: Global) -> Result<Vec<u8>, AllocError> {
     Ok(info)
 }
 
-/// Units after one of version 4 that takes 0x1af bytes.
-fn behind(alloc: Global, units: &[u8]) -> Result<Vec<u8>, AllocError> {
-    let mut info = Vec::from_slice(alloc, &[0xab, 1, 0, 0, 4, 0])?;
-    for _ in 6..0x1af {
-        info.push(0)?;
-    }
-    info.extend_from_slice(units)?;
-    Ok(info)
-}
-
-/// The units of `unreadable`, before they are behind another.
-fn broken(alloc: Global, fault: UnitFault) -> Result<Vec<u8>, Fail> {
+/// A file whose unit at 0 can't be read, for this reason.
+fn unreadable(alloc: Global, fault: UnitFault) -> Result<Vec<u8>, Fail> {
     match fault {
         // no declaration has this code
-        UnitFault::Entry => poked(alloc, INFO, MAIN, 0x63),
-        UnitFault::Depth => Ok(deep(alloc)?),
-        UnitFault::Ranges | UnitFault::Line => Ok(Vec::from_slice(alloc, INFO)?),
+        UnitFault::Entry => {
+            let info = poked(alloc, INFO, MAIN, 0x63)?;
+            Ok(with_lines(alloc, &info, ABBREVS)?)
+        }
+        UnitFault::Depth => {
+            let info = deep(alloc)?;
+            Ok(with_lines(alloc, &info, ABBREVS)?)
+        }
+        // DW_FORM_addrx leads into .debug_addr, which isn't there
+        UnitFault::Ranges => {
+            let abbrevs = poked(alloc, ABBREVS, LOW_PC_FORM, 0x1b)?;
+            Ok(with_lines(alloc, INFO, &abbrevs)?)
+        }
+        UnitFault::Line => Ok(file_of(alloc, INFO, ABBREVS)?),
     }
 }
 
-/// A file with lines whose DW_FORM_addrx leads into .debug_addr, which isn't there.
-fn without_addresses(alloc: Global, info: &[u8]) -> Result<Vec<u8>, Fail> {
-    let abbrevs = poked(alloc, ABBREVS, LOW_PC_FORM, 0x1b)?;
-    Ok(with_lines(alloc, info, &abbrevs)?)
-}
-
-/// The file of `unreadable` with these units.
-fn file_with(alloc: Global, units: &[u8], fault: UnitFault) -> Result<Vec<u8>, Fail> {
-    let info = behind(alloc, units)?;
-    match fault {
-        UnitFault::Ranges => without_addresses(alloc, &info),
-        UnitFault::Line => Ok(file_of(alloc, &info, ABBREVS)?),
-        UnitFault::Entry | UnitFault::Depth => Ok(with_lines(alloc, &info, ABBREVS)?),
-    }
-}
-
-/// A file whose unit over 0x401000 is at 0x1af and can't be read, for this reason.
-pub fn unreadable(alloc: Global, fault: UnitFault) -> Result<Vec<u8>, Fail> {
-    let units = broken(alloc, fault)?;
-    file_with(alloc, &units, fault)
-}
-
-#[test]
-fn faults_of_units(rt: HostRuntime) -> Result<(), Fail> {
-    for fault in &FAULTS {
-        let file = unreadable(rt.alloc(), *fault)?;
-        let row = (Question::Frames(0x40_1000), Wanted::Fault(0x1af, *fault));
-        expect_answers(&rt, rt.alloc(), &file, &[row])?;
-    }
-    Ok(())
-}
-
-/// A location and a span need the lines alone.
-static FAULTS_OF_LINES: [Row<'static>; 2] = [
+/// Why a unit can't be read, what is asked of it then, and the same fault as an answer. A location
+/// and a span need the lines alone.
+static FAULTS: [(UnitFault, Row<'static>); 6] = [
     (
-        Question::Location(0x40_1000),
-        Wanted::Fault(0x1af, UnitFault::Line),
+        UnitFault::Entry,
+        (
+            Question::Frames(0x40_1000),
+            Wanted::Fault(0, UnitFault::Entry),
+        ),
     ),
     (
-        Question::Span(0x40_0000, 0x40_1001),
-        Wanted::Fault(0x1af, UnitFault::Line),
+        UnitFault::Depth,
+        (
+            Question::Frames(0x40_1000),
+            Wanted::Fault(0, UnitFault::Depth),
+        ),
+    ),
+    (
+        UnitFault::Ranges,
+        (
+            Question::Frames(0x40_1000),
+            Wanted::Fault(0, UnitFault::Ranges),
+        ),
+    ),
+    (
+        UnitFault::Line,
+        (
+            Question::Frames(0x40_1000),
+            Wanted::Fault(0, UnitFault::Line),
+        ),
+    ),
+    (
+        UnitFault::Line,
+        (
+            Question::Location(0x40_1000),
+            Wanted::Fault(0, UnitFault::Line),
+        ),
+    ),
+    (
+        UnitFault::Line,
+        (
+            Question::Span(0x40_0000, 0x40_1001),
+            Wanted::Fault(0, UnitFault::Line),
+        ),
     ),
 ];
 
 #[test]
-fn faults_of_lines(rt: HostRuntime) -> Result<(), Fail> {
-    let file = unreadable(rt.alloc(), UnitFault::Line)?;
-    expect_each_alone(&rt, rt.alloc(), &file, &FAULTS_OF_LINES)
+fn faults_of_units(rt: HostRuntime) -> Result<(), Fail> {
+    for (fault, row) in &FAULTS {
+        let file = unreadable(rt.alloc(), *fault)?;
+        expect_answers(&rt, rt.alloc(), &file, from_ref(row))?;
+    }
+    Ok(())
 }
 
 /// A file, opened once more where memory was refused.

@@ -16,11 +16,7 @@ mod boards;
 #[cfg(test)]
 mod contexts;
 #[cfg(test)]
-mod damaged;
-#[cfg(test)]
 mod expect;
-#[cfg(test)]
-mod formats;
 #[cfg(test)]
 mod library;
 #[cfg(test)]

@@ -3,8 +3,7 @@
 use crate::answers::{Wanted, expect_answer};
 use crate::contexts::{IN_MAIN, INLINED, image_of};
 use crate::expect::expect;
-use crate::spans::PIECES;
-use crate::texts::{Asked, Open, PLAIN, status_of};
+use crate::texts::{Asked, PLAIN, status_of};
 use a2l_lines::{Status, run_pool};
 use dw_symbols::{Answer, Image};
 use std::alloc::Global;
@@ -128,32 +127,6 @@ fn two_workers_at_once<R: Threads + Wait + Sync + Abort>(
     Ok(())
 }
 
-/// A span between addresses, of which one is in it and one isn't covered.
-fn pool_with_a_span<R: Threads + Wait + Sync + Abort>(
-    rt: &R,
-    alloc: Global,
-    image: &Image<'_>,
-) -> Result<(), Fail> {
-    let Some(span) = Query::range(0x40_1002, 0x40_1006) else {
-        return Err(Fail::from("a span"));
-    };
-    let asking = Asking {
-        shape: Shape {
-            senders: 2,
-            workers: 3,
-            window: 1,
-            most: 2,
-        },
-        queries: &[Query::address(0x401004), span, Query::address(0)],
-        wanted: &[
-            Wanted::Frames(0, INLINED),
-            Wanted::Pieces(PIECES),
-            Wanted::NotCovered,
-        ],
-    };
-    Ok(expect_pool(rt, alloc, image, &asking, &Open)?)
-}
-
 /// Shapes past the limits, for three queries.
 static PAST: [Shape; 4] = [
     Shape {
@@ -194,7 +167,7 @@ fn expect_bad_shape<R: Threads + Wait + Sync + Abort>(
     assert!(rt; matches!(fault, Some(PoolFault::BadShape)));
 }
 
-/// Pools over an image: two that answer, and shapes of which there is none.
+/// Pools over an image: one that answers, and shapes of which there is none.
 fn expect_pools<R: Threads + Wait + Sync + Abort>(
     rt: &R,
     alloc: Global,
@@ -203,8 +176,7 @@ fn expect_pools<R: Threads + Wait + Sync + Abort>(
     for shape in &PAST {
         expect_bad_shape(rt, alloc, image, *shape);
     }
-    two_workers_at_once(rt, alloc, image)?;
-    pool_with_a_span(rt, alloc, image)
+    Ok(two_workers_at_once(rt, alloc, image)?)
 }
 
 #[test]

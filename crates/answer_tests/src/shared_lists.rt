@@ -47,30 +47,8 @@ fn file_of(alloc: Global, roots: &[&[u8]], lists: &[u8]) -> Result<Vec<u8>, Allo
     file_with(alloc, &info, lists)
 }
 
-/// The units 0 and 1 have the list at 0 and no address, 2 and 4 the same list and the address
-/// 0x100, 3 the list at 4.
-const ROOTS: &[&[u8]] = &[
-    &[1, 0, 0, 0, 0],
-    &[1, 0, 0, 0, 0],
-    &[2, 0, 0, 0, 0, 0, 1, 0, 0, 0, 0, 0, 0],
-    &[1, 4, 0, 0, 0],
-    &[2, 0, 0, 0, 0, 0, 1, 0, 0, 0, 0, 0, 0],
-];
-
 /// An address, and the index of the unit that answers.
 type Place = (u64, Option<usize>);
-
-static PLACES: [Place; 9] = [
-    (0x0f, None),
-    (0x10, Some(0)),
-    (0x1f, Some(0)),
-    (0x20, Some(3)),
-    (0x2f, Some(3)),
-    (0x30, None),
-    (0x110, Some(2)),
-    (0x11f, Some(2)),
-    (0x120, None),
-];
 
 /// The index of the unit that answers an address. No clause says what it is, so that its callers
 /// are proved soon.
@@ -93,14 +71,6 @@ fn expect_places<A: Abort>(rt: &A, image: &Image<'_>, places: &[Place]) {
     for (a, wanted) in places {
         expect(rt, a, &place_of(image, *a), wanted);
     }
-}
-
-#[test]
-fn units_of_one_list(rt: HostRuntime) -> Result<(), Fail> {
-    let file = file_of(rt.alloc(), ROOTS, LISTS)?;
-    let image = image_of(rt.alloc(), &file)?;
-    expect_places(&rt, &image, &PLACES);
-    Ok(())
 }
 
 /// Lists at 0: 0x10 to 0x20 and 0x30 to 0x40 from the base of the unit on; at 7 one that has no

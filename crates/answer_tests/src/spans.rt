@@ -1,8 +1,7 @@
 //! Spans of addresses, worked out by hand.
 
-use crate::answers::{Question, Row, Wanted, expect_answers, expect_at_last, expect_each_alone};
+use crate::answers::{Question, Row, Wanted, expect_answers, expect_at_last};
 use crate::expect::expect;
-use crate::formats::{ONE_ROW, X, Y, overlapping};
 use dw_symbols::{Answer, Context, Piece};
 use std::alloc::{AllocError, Global};
 use std::process::Abort;
@@ -16,7 +15,7 @@ pub type WantedPiece<'a> = (u64, u64, &'a [u8], u64);
 const PATH: &[u8] = b"/w/a.c";
 
 /// The pieces of 0x401002 to 0x401006 in the sample.
-pub const PIECES: &[WantedPiece<'_>] = &[
+const PIECES: &[WantedPiece<'_>] = &[
     (0x40_1002, 0x40_1004, PATH, 3),
     (0x40_1004, 0x40_1006, PATH, 4),
 ];
@@ -73,39 +72,7 @@ static SPANS: [Row<'static>; 7] = [
 #[test]
 fn spans_of_the_sample(rt: HostRuntime) -> Result<(), Fail> {
     let file = sample(rt.alloc())?;
-    expect_each_alone(&rt, rt.alloc(), &file, &SPANS)
-}
-
-/// Two rows of one line, one after the other: 0x2000 line 3, 0x2002 line 3, end 0x2010.
-const TWO_OF_ONE_LINE: &[u8] = &[
-    0, 9, 2, 0, 0x20, 0, 0, 0, 0, 0, 0, 0x14, 0x20, 2, 0x0f, 0, 1, 1,
-];
-
-/// The piece of line 3.
-const ONE_PIECE: &[WantedPiece<'_>] = &[(0x2000, 0x2010, PATH, 3)];
-
-/// Two units, the line program, and the pieces of 0x1000 to 0x3000.
-type OverUnits = (
-    &'static [u8],
-    &'static [u8],
-    &'static [u8],
-    &'static [WantedPiece<'static>],
-);
-
-static OVER_UNITS: [OverUnits; 3] = [
-    (Y, X, ONE_ROW, ONE_PIECE),
-    (X, Y, ONE_ROW, &[]),
-    (Y, &[], TWO_OF_ONE_LINE, ONE_PIECE),
-];
-
-#[test]
-fn spans_over_units(rt: HostRuntime) -> Result<(), Fail> {
-    for (first, second, program, wanted) in &OVER_UNITS {
-        let file = overlapping(rt.alloc(), first, second, program)?;
-        let row = (Question::Span(0x1000, 0x3000), Wanted::Pieces(wanted));
-        expect_answers(&rt, rt.alloc(), &file, &[row])?;
-    }
-    Ok(())
+    expect_answers(&rt, rt.alloc(), &file, &SPANS)
 }
 
 /// What is asked where an allocation is refused.

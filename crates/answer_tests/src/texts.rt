@@ -2,10 +2,9 @@
 
 ghost use Rattle.std.specs.Prelude.{◌≡◌, None, IfOk};
 
-use crate::contexts::{FAULTS, image_of, unreadable};
-use crate::expect::expect;
+use crate::contexts::image_of;
 use a2l_lines::{Failed, Options, RunFault, Sink, Source, Status, list_units, symbolize};
-use dw_elf::{Elf, Name, OpenFault};
+use dw_elf::{Elf, OpenFault};
 use dw_symbols::Image;
 use dw_units::Units;
 use std::alloc::{AllocError, Global};
@@ -13,7 +12,7 @@ use std::process::Abort;
 use std::sync::Wait;
 use std::test::Fail;
 use std::thread::Threads;
-use test_inputs::files::{ABBREVS, HEADER, INFO, elf, line_table, sample};
+use test_inputs::files::sample;
 use ticket_board::Gate;
 use ticket_core::Query;
 
@@ -98,22 +97,10 @@ pub const PLAIN: Flags = Flags {
     addresses: false,
 };
 
-const INNERMOST: Flags = Flags {
-    functions: true,
-    inlines: false,
-    addresses: true,
-};
-
 const FRAMES: Flags = Flags {
     functions: true,
     inlines: true,
     addresses: false,
-};
-
-const ALL: Flags = Flags {
-    functions: true,
-    inlines: true,
-    addresses: true,
 };
 
 /// What is asked for, of two workers by one sender.
@@ -158,31 +145,6 @@ pub fn status_of<T: Threads + Wait + Sync, G: Gate + Sync>(
     Ok(status_in(rt, alloc, &image, asked, gate)?)
 }
 
-/// Of the sample, without faults.
-static ANSWERS: [Asked<'static>; 5] = [
-    Asked {
-        flags: ALL,
-        words: &["0x401004"],
-        text: "0x0000000000401004\nleaf\n/w/a.c:4\nmid\n/w/a.c:30\nmain\n/w/z.c:20\n",
-    },
-    Asked {
-        flags: INNERMOST,
-        words: &["401004"],
-        text: "0x0000000000401004\nleaf\n/w/a.c:4\n",
-    },
-    Asked {
-        flags: PLAIN,
-        words: &["401004"],
-        text: "/w/a.c:4\n",
-    },
-    Asked {
-        flags: FRAMES,
-        words: &["401000", "401006", "40100e"],
-        text: "main\n/w/a.c:3\nmid\n/w/a.c:4\nmain\n/w/z.c:20\n??\n??:0\n",
-    },
-    SPANNED,
-];
-
 /// Addresses, and a span between them.
 const SPANNED: Asked<'static> = Asked {
     flags: FRAMES,
@@ -192,88 +154,8 @@ const SPANNED: Asked<'static> = Asked {
         ??\n??:0\n",
 };
 
-/// Addresses that are asked more than once, with bad addresses between them.
-static AGAIN: Asked<'static> = Asked {
-    flags: PLAIN,
-    words: &["401004", "zz", "401000", "401004", "2", "zz", "2", "401000"],
-    text: "/w/a.c:4\n!bad address\n/w/a.c:3\n/w/a.c:4\n??:0\n!bad address\n??:0\n/w/a.c:3\n",
-};
-
-/// A file is answered by the lines that are asked for, with this status.
-fn expect_lines<R: Threads + Wait + Sync + Abort>(
-    rt: &R,
-    alloc: Global,
-    file: &[u8],
-    asked: &Asked<'_>,
-    status: Status,
-) -> Result<(), Fail> {
-    let found = status_of(rt, alloc, file, asked, &Open)?;
-    expect(rt, asked.text, &found, &Some(status));
-    Ok(())
-}
-
-#[test]
-fn lines_of_frames(rt: HostRuntime) -> Result<(), Fail> {
-    let file = sample(rt.alloc())?;
-    for asked in &ANSWERS {
-        expect_lines(&rt, rt.alloc(), &file, asked, Status::Clean)?;
-    }
-    expect_lines(&rt, rt.alloc(), &file, &AGAIN, Status::Faults)
-}
-
-/// 0x401000 line 0, 0x401001 line 20 in file 9, which isn't there, end 0x40100e.
-const UNKNOWN: &[u8] = &[
-    0, 9, 2, 0, 0x10, 0x40, 0, 0, 0, 0, 0, 3, 0x7f, 1, 2, 1, 4, 9, 3, 20, 1, 2, 0x0d, 0, 1, 1,
-];
-
-/// A file with these lines.
-fn file_with(alloc: Global, program: &[u8]) -> Result<Vec<u8>, AllocError> {
-    let lines = line_table(alloc, HEADER, program)?;
-    elf(
-        alloc,
-        &[
-            (Name::DebugInfo, INFO),
-            (Name::DebugAbbrev, ABBREVS),
-            (Name::DebugLine, &lines),
-        ],
-    )
-}
-
-#[test]
-fn parts_that_are_not_known(rt: HostRuntime) -> Result<(), Fail> {
-    let file = file_with(rt.alloc(), UNKNOWN)?;
-    let asked = Asked {
-        flags: PLAIN,
-        words: &["401000", "401001", "2"],
-        text: "/w/a.c:?\n??:20\n??:0\n",
-    };
-    expect_lines(&rt, rt.alloc(), &file, &asked, Status::Clean)
-}
-
-/// The lines of each fault of a unit, and of a word that is no address.
-static FAULT_LINES: [&str; 4] = [
-    "!unit 0x1af fault 1\n!bad address\n",
-    "!unit 0x1af fault 2\n!bad address\n",
-    "!unit 0x1af fault 3\n!bad address\n",
-    "!unit 0x1af fault 4\n!bad address\n",
-];
-
-#[test]
-fn faults_by_their_numbers(rt: HostRuntime) -> Result<(), Fail> {
-    for (fault, text) in FAULTS.iter().zip(FAULT_LINES.iter()) {
-        let file = unreadable(rt.alloc(), *fault)?;
-        let asked = Asked {
-            flags: FRAMES,
-            words: &["401000", "zz"],
-            text,
-        };
-        expect_lines(&rt, rt.alloc(), &file, &asked, Status::Faults)?;
-    }
-    Ok(())
-}
-
 /// The units of a file.
-pub fn units_of<'a>(alloc: Global, file: &'a [u8]) -> Result<Units<'a>, OpenFault> {
+fn units_of<'a>(alloc: Global, file: &'a [u8]) -> Result<Units<'a>, OpenFault> {
     let elf = Elf::open(file)?;
     Units::read(alloc, &elf)
 }
@@ -283,21 +165,6 @@ const UNITS: &str = "0x0 version 5 compile\n0x5b version 5 partial\n0x6e version
 /// Lists units. No clause says what is written, so that its callers are proved soon.
 fn list(alloc: Global, lines: &mut Compared<'_>, units: &Units<'_>) -> Result<(), RunFault> {
     list_units(alloc, lines, units)
-}
-
-/// The units of a file are listed by these lines.
-fn expect_listed<A: Abort>(rt: &A, alloc: Global, file: &[u8], text: &str) -> Result<(), Fail> {
-    let units = units_of(alloc, file)?;
-    let mut lines = Compared::new(text);
-    list(alloc, &mut lines, &units)?;
-    assert!(rt; lines.is_whole());
-    Ok(())
-}
-
-#[test]
-fn lines_of_units(rt: HostRuntime) -> Result<(), Fail> {
-    let file = sample(rt.alloc())?;
-    expect_listed(&rt, rt.alloc(), &file, UNITS)
 }
 
 /// Answers what is asked for, in the same way.
