@@ -3,9 +3,11 @@
 # random addresses of .text, in the order in which a2l asks them; and four processes of one context each, which is what the
 # machine gives at most. The first word is as for bench.sh, best `many`; the others are numbers of
 # addresses (10,000, 100,000 and a million without). What is timed is answering alone, with the threads and the contexts
-# that are made for it; beside it stands the processors' time. The least of three times counts. Run it after `rt run` in
-# crates/a2l has built the crates. It prints a table, and tests that no run fails.
+# that are made for it; beside it stands the processors' time. The least of three times counts. A second table has whole
+# runs of a2l with more threads than processors, alone and beside work that keeps all processors busy. Run it after
+# `rt run` in crates/a2l has built the crates. It prints the tables, and tests that no run fails.
 . "$(dirname "$0")/../tests/programs.sh"
+need_a2l
 large=${1:-60}
 [ $# -gt 0 ] && shift
 [ $# -gt 0 ] || set -- 10000 100000 1000000
@@ -19,7 +21,7 @@ cat > copy/crates/pool_time/src/main.rt <<'END'
 //! another. It says when it begins and when it has ended.
 #![tactic(auto)]
 
-use a2l_lines::{in_order, order_of, run_pool};
+use a2l_lines::{Crew, in_order, order_of, run_pool};
 use dw_symbols::{Answer, Context, Image};
 use std::alloc::{AllocError, Global};
 use std::io::Write;
@@ -39,7 +41,7 @@ impl Gate for Open {
 }
 
 /// So many random addresses, in the order in which they are best asked.
-fn addresses(alloc: Global, image: &Image<'_>, count: u64, begin: u64, end: u64) -> Result<Vec<Query>, AllocError> {
+fn addresses(alloc: Global, image: &Image<'_>, crew: Crew, count: u64, begin: u64, end: u64) -> Result<Vec<Query>, AllocError> {
     let mut drawn = Vec::new(alloc);
     let size = end.wrapping_sub(begin);
     let mut state = 1u64;
@@ -48,7 +50,7 @@ fn addresses(alloc: Global, image: &Image<'_>, count: u64, begin: u64, end: u64)
         let distance = (state >> 20).checked_rem(size).unwrap_or(0);
         drawn.push(Query::address(begin.wrapping_add(distance)))?;
     }
-    let order = order_of(alloc, image, &drawn)?;
+    let order = order_of(alloc, image, &drawn, crew)?;
     let queries = in_order(alloc, &drawn, &order)?;
     Ok(queries)
 }
@@ -78,7 +80,8 @@ fn answered<T: Threads + Wait + Sync>(rt: &HostRuntime, threads: &T, words: &[St
     let count = words.get(2)?.parse::<u64>().ok()?;
     let begin = words.get(3)?.parse::<u64>().ok()?;
     let end = words.get(4)?.parse::<u64>().ok()?;
-    let queries = addresses(rt.alloc(), &image, count, begin, end).ok()?;
+    let crew = Crew::new(threads, workers as usize);
+    let queries = addresses(rt.alloc(), &image, crew, count, begin, end).ok()?;
     let shape = Shape {
         senders: 1,
         workers: workers as usize,
@@ -153,3 +156,57 @@ read -r begin end < <(objdump -h "$program" | awk '$2 == ".text" { print $4, $3 
 begin=$((16#$begin))
 end=$((begin + 16#$end))
 python3 time.py copy/crates/pool_time/out/pool_time "$program" "$begin" "$end" "$@"
+
+cat > threads.py <<'END_PY'
+import os, random, statistics, subprocess, sys, time
+tool, program, begin, end = sys.argv[1:]
+RUNS = 5
+draws = random.Random(1)
+drawn = draws.sample(range(int(begin), int(end)), min(344_465, int(end) - int(begin)))
+inputs = {}
+for count in (10_000, 100_000, len(drawn)):
+    inputs[count] = f'addresses{count}'
+    with open(inputs[count], 'w') as lines:
+        lines.writelines(f'{address:x}\n' for address in drawn[:count])
+only = {min(os.sched_getaffinity(0))}
+
+def timed(count, workers, senders, processors):
+    """Of a run its seconds, its processor time, and its changes from one thread to another for each address."""
+    words = [tool, '-e', program, '--workers', str(workers), '--senders', str(senders)]
+    pin = (lambda: os.sched_setaffinity(0, processors)) if processors else None
+    began = time.monotonic()
+    run = subprocess.Popen(words, stdin=open(inputs[count]), stdout=subprocess.DEVNULL, preexec_fn=pin)
+    _, status, used = os.wait4(run.pid, 0)
+    seconds = time.monotonic() - began
+    run.returncode = os.waitstatus_to_exitcode(status)
+    assert run.returncode == 0
+    return seconds, used.ru_utime + used.ru_stime, (used.ru_nvcsw + used.ru_nivcsw) / count
+
+def row(name, count, many, few, processors=None):
+    """Two pools beside each other, in alternating runs; each pool is its workers and its senders."""
+    runs = [(timed(count, *many, processors), timed(count, *few, processors)) for _ in range(RUNS)]
+    (time_many, used_many, changes), (time_few, used_few, _) = (
+        [statistics.median(part) for part in zip(*side)] for side in zip(*runs))
+    print(f'{name:>20} {count:>9} {many[0]:>4} and {many[1]:<3} {few[0]:>4} and {few[1]:<3} {time_many:7.3f} s {time_few:7.3f} s '
+          f'{time_many / time_few:5.2f} times {used_many / used_few:10.2f} times {changes:8.2f}', flush=True)
+
+print('the medians of alternating runs: many workers and senders, few, and how many times as long the many take')
+print(f"{'processors':>20} {'addresses':>9} {'many':>12} {'few':>12} {'time':>9} {'':>9} {'':>11} {'processor time':>16} {'switches':>8}")
+_, large = list(inputs)[1:]
+for count in (100_000, large):
+    row('one', count, (64, 1), (1, 1), only)
+row('one', 100_000, (64, 64), (1, 1), only)
+for count in (100_000, large):
+    row('all', count, (64, 1), (4, 1))
+for count in (10_000, large):
+    row('all', count, (4, 1), (1, 1))
+load = [subprocess.Popen([sys.executable, '-c', 'while True: pass']) for _ in range(os.cpu_count())]
+try:
+    row('all, busy', 100_000, (16, 1), (1, 1))
+    row('all, busy', 100_000, (64, 1), (4, 1))
+finally:
+    for work in load:
+        work.kill()
+END_PY
+echo
+python3 threads.py "$a2l" "$program" "$begin" "$end"
