@@ -1,8 +1,8 @@
 #!/usr/bin/env bash
 # Runs of random shapes beside work that keeps all processors busy, half of them on one processor: each ends within ten
-# times the time that it takes without that work, and all write the same bytes. The word is how many runs; 400 without,
-# which take two minutes. A seed is the second word; it is printed. Run it after `rt run` in crates/a2l has built the
-# program.
+# times the time that it takes without that work, or five seconds where that is more, since a short run may wait for a
+# processor alone; and all write the same bytes. The word is how many runs; 100 without. A seed is the second word; it is
+# printed. Run it after `rt run` in crates/a2l has built the program.
 . "$(dirname "$0")/programs.sh"
 need_a2l
 
@@ -17,6 +17,7 @@ draws = random.Random(seed)
 begin, size = (int(word, 16) for word in open('text').read().split())
 addresses = '\n'.join(f'{begin + draws.randrange(size):x}' for _ in range(20_000)) + '\n'
 only = min(os.sched_getaffinity(0))
+LEAST = 5
 
 def run(shape, limit=None):
     """What a run writes, and its seconds."""
@@ -39,10 +40,10 @@ most = 0
 try:
     for shape, alone in zip(shapes, quiet):
         try:
-            found, seconds = run(shape, 10 * alone)
+            found, seconds = run(shape, max(10 * alone, LEAST))
         except subprocess.TimeoutExpired:
             sys.exit(f'{shape[0]} workers, {shape[1]} senders{", one processor" * shape[2]}: '
-                     f'not within ten times {alone:.3f} s (seed {seed})')
+                     f'not within ten times {alone:.3f} s, nor {LEAST} s (seed {seed})')
         assert found == wanted, (shape, 'other bytes', seed)
         most = max(most, seconds / alone)
 finally:
@@ -51,4 +52,4 @@ finally:
 print(f'{count} runs of random shapes beside other work wrote the same bytes, each within {most:.1f} times its own time '
       f'(seed {seed})')
 END_PY
-python3 waits.py "$a2l" "${1:-400}" "${2:-$RANDOM}"
+python3 waits.py "$a2l" "${1:-100}" "${2:-$RANDOM}"
