@@ -11,5 +11,6 @@ pub record SessionState : Type 0 where
 
 abbrev pub session_code : Coded SessionState
 session_code =
-    code_by (List ℕ × List Answer) (coded× (coded_list coded_ℕ) (coded_list answer_code)) (λ state. (state.file, state.answers))
+    code_by (List ℕ × List Answer) (coded× (coded_list coded_ℕ) (coded_list answer_code))
+    (λ state. (state.file, state.answers))
     (λ p. record { file = p.0; answers = p.1 }) (λ _. refl)

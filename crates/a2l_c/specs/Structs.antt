@@ -72,13 +72,16 @@ piece_told told buffer = record { begin = told.begin; end = told.end; location =
 abbrev pub TellsLength : CLocation → Location → (size : ℕ) → Type 0
 TellsLength told location size =
     (if_known told.line_known told.line ≡ location.line) × (if_known told.column_known told.column ≡ location.column)
-    × (told.path_known ≡ true) × MatchOption location.path ⊥ (λ path. (told.path_length ≡ length path) × (size < length path))
+    × (told.path_known ≡ true)
+    × MatchOption location.path ⊥ (λ path. (told.path_length ≡ length path) × (size < length path))
 
 abbrev pub TellsFrameLength : CFrame → Frame → (size : ℕ) → Type 0
-TellsFrameLength told frame size = (if_known told.name_known told.name.now ≡ frame.name) × TellsLength told.location frame.location size
+TellsFrameLength told frame size =
+    (if_known told.name_known told.name.now ≡ frame.name) × TellsLength told.location frame.location size
 
 abbrev pub TellsPieceLength : CPiece → Piece → (size : ℕ) → Type 0
-TellsPieceLength told piece size = (told.begin ≡ piece.begin) × (told.end ≡ piece.end) × TellsLength told.location piece.location size
+TellsPieceLength told piece size =
+    (told.begin ≡ piece.begin) × (told.end ≡ piece.end) × TellsLength told.location piece.location size
 
 -- the numbers of the faults of units
 abbrev pub code_number : Code → ℕ
