@@ -6,7 +6,7 @@ use Rattle.a2l_findings.proofs.told.tell_each.Given as goal
 
 abbrev pub invariant-loop-word : goal.invariant-loop-word
 invariant-loop-word l = record {
-  same : l.context.file ≡ l.image.now;
-  lines : map lines_told l.tolds.items ≡ map (lines_of l.image.now) (map word_shown (take l.word-index l.words));
-  units : map (unit_in (sections l.image.now)) l.tolds.items ≡ map (unit_of_word l.image.now) (map word_shown (take l.word-index l.words));
+  same : l.context.file ≡ l.image;
+  lines : map lines_told l.tolds.items ≡ map (lines_of l.image) (map word_shown (take l.word-index l.words));
+  units : map (unit_in (sections l.image)) l.tolds.items ≡ map (unit_of_word l.image) (map word_shown (take l.word-index l.words));
 }
