@@ -35,7 +35,7 @@ has() {
     local what=$1 command
     shift
     for command in "$@"; do
-        command -v "$command" > /dev/null || { echo "skipped, no $command here: $what"; return 1; }
+        command -v "$command" > /dev/null || { echo "skipped, no ${command##*/} here: $what"; return 1; }
     done
 }
 
