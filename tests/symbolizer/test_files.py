@@ -33,7 +33,10 @@ class Files(Case):
     def test_path_with_a_newline_is_two_lines(self):
         talk = self.talk()
         talk.write(b'CODE "a\nb" 0x401004')
-        self.assertEqual(talk.read() + talk.read(), UNKNOWN + UNKNOWN)
+        replies = talk.read()
+        if replies == UNKNOWN:
+            replies += talk.read()
+        self.assertEqual(replies, UNKNOWN + UNKNOWN)
         self.assert_known(talk)
 
     def test_what_is_no_program(self):
