@@ -40,7 +40,7 @@ for block in blocks:
         doctest = re.sub(r'^(>>> |\.\.\. ?)', '', open('python/a2l.py', encoding='utf-8').read(), flags=re.M)
         if block not in doctest:
             wrong.append('the example for Python is not one of python/a2l.py')
-for path in re.findall(r'\b(?:docs|tests|bench|examples|include|python|samples)/[\w./]+\w', text):
+for path in re.findall(r'\b(?:docs|tests|bench|examples|include|python|rust|samples)/[\w./-]+\w', text):
     if not os.path.exists(path):
         wrong.append(f'{path} is not there')
 if len(text.encode()) > 8192:
