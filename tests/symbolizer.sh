@@ -4,7 +4,8 @@
 # that ends (tests/symbolizer); and lines drawn from the grammar and from noise, as many as the word
 # says (100,000 without), in lockstep, of which each reply is framed as its kind demands and, where
 # llvm-symbolizer 19 is here, each of 10,000 is its reply to the byte (tests/clients/noise.py). The
-# second word is the seed of the lines, 1 without. Then what `make install` puts in place, and its
+# second word is the seed of the lines, 1 without: some other seeds find a line to which the peer
+# replies otherwise (tests/README.md), so what passes is these lines and not all. Then what `make install` puts in place, and its
 # removal.
 . "$(dirname "$0")/programs.sh"
 need_symbolizer
