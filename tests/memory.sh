@@ -1,5 +1,5 @@
 #!/usr/bin/env bash
-# Lets the Nth allocation of a program fail, for each N until a run meets no refusal: each run ends with status 3 and
+# Lets the Nth allocation or start of a thread fail, for each N until a run meets no refusal: each run ends with status 3 and
 # `a2l: out of memory`, after a beginning of its output, or as if nothing had been refused. Run it after `rt run` in
 # crates/a2l has built the program; where a2l_why is built too, the same is tried with it.
 . "$(dirname "$0")/programs.sh"
@@ -17,15 +17,15 @@ refuse() {
         rm -f "$work/mark"
         REFUSE=$n MARK=$work/mark LD_PRELOAD=$work/refuse.so "$program" "$@" > "$work/out" 2> "$work/errors" && status=0 || status=$?
         if [ "$status" = 3 ] && [ "$(cat "$work/errors")" = "$name: out of memory" ]; then
-            cmp -s -n "$(stat -c %s "$work/out")" "$work/out" "$work/whole" || { echo "$name, allocation $n: other output"; exit 1; }
+            cmp -s -n "$(stat -c %s "$work/out")" "$work/out" "$work/whole" || { echo "$name, refusal $n: other output"; exit 1; }
         elif [ "$status" != "$wanted" ] || ! cmp -s "$work/out" "$work/whole" || ! cmp -s "$work/errors" "$work/whole.errors"; then
-            echo "$name, allocation $n: status $status"
+            echo "$name, refusal $n: status $status"
             cat "$work/errors"
             exit 1
         fi
         [ -e "$work/mark" ] || break
     done
-    echo "$((n - 1)) allocations refused in turn: $name $*"
+    echo "$((n - 1)) allocations and threads refused in turn: $name $*"
 }
 
 refuse a2l "$a2l" -e "$here/samples/mixed.elf" --units

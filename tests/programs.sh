@@ -194,17 +194,18 @@ copy_proved() {
     done
 }
 
-# Builds refuse.so. A program that is run with it, by LD_PRELOAD, is refused the allocation that REFUSE counts, from 1, and
-# the file MARK is there then.
+# Builds refuse.so. A program that is run with it, by LD_PRELOAD, is refused the allocation or thread that REFUSE counts,
+# from 1, and the file MARK is there then.
 build_refuser() {
     cat > "$work/refuse.c" <<'END_C'
-/* Refuses the allocation that REFUSE counts, from 1, and leaves a mark where it did. */
+/* Refuses the allocation or thread that REFUSE counts, from 1, and leaves a mark where it did. */
 #define _GNU_SOURCE
 #include <dlfcn.h>
 #include <errno.h>
+#include <fcntl.h>
+#include <pthread.h>
 #include <stdlib.h>
 #include <unistd.h>
-#include <fcntl.h>
 static _Atomic long count;
 static int refused(void) {
     const char *wanted = getenv("REFUSE");
@@ -218,6 +219,7 @@ void *malloc(size_t n) { static void *(*next)(size_t); if (!next) next = dlsym(R
 void *realloc(void *p, size_t n) { static void *(*next)(void *, size_t); if (!next) next = dlsym(RTLD_NEXT, "realloc"); return refused() ? 0 : next(p, n); }
 int posix_memalign(void **p, size_t a, size_t n) { static int (*next)(void **, size_t, size_t); if (!next) next = dlsym(RTLD_NEXT, "posix_memalign"); return refused() ? ENOMEM : next(p, a, n); }
 void *aligned_alloc(size_t a, size_t n) { static void *(*next)(size_t, size_t); if (!next) next = dlsym(RTLD_NEXT, "aligned_alloc"); return refused() ? 0 : next(a, n); }
+int pthread_create(pthread_t *t, const pthread_attr_t *a, void *(*f)(void *), void *x) { static int (*next)(pthread_t *, const pthread_attr_t *, void *(*)(void *), void *); if (!next) next = dlsym(RTLD_NEXT, "pthread_create"); return refused() ? EAGAIN : next(t, a, f, x); }
 END_C
     cc -shared -fPIC -o "$work/refuse.so" "$work/refuse.c" -ldl
 }
