@@ -3,13 +3,12 @@
 # change while they are open, 10,000 of them in one conversation, names with line breaks, a client
 # that ends (tests/symbolizer); and lines drawn from the grammar and from noise, as many as the word
 # says (100,000 without), in lockstep, of which each reply is framed as its kind demands and, where
-# llvm-symbolizer 19 is here, each of 10,000 is its reply to the byte (tests/clients/noise.py). The
-# second word is the seed of the lines, 1 without: some other seeds find a line to which the peer
-# replies otherwise (tests/README.md), so what passes is these lines and not all. Then what `make install` puts in place, and its
-# removal.
+# llvm-symbolizer 19 is here, each of 10,000 is its reply to the byte, or differs for a reason that the
+# file bears out (tests/clients/noise.py). The second word is the seed of the lines, a new one without;
+# it is printed. Then what `make install` puts in place, and its removal.
 . "$(dirname "$0")/programs.sh"
 need_symbolizer
-count=${1:-100000} seed=${2:-1}
+count=${1:-100000} seed=${2:-$RANDOM}
 export A2L_SYMBOLIZER=$symbolizer A2L_SAMPLE=$here/samples/inlined.elf
 python3 -m unittest discover -s "$here/tests/symbolizer" > tests.log 2>&1 || { cat tests.log; exit 1; }
 sed -n 's/^.*skipped .\(.*\)./skipped, \1/p' tests.log

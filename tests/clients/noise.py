@@ -25,7 +25,10 @@ KINDS = {
 }
 WANTED = {b'DATA ': ('data', 'unknown data'), b'FRAME ': ('unknown frame',)}
 
-BEHIND = re.compile(rb'_end\n(?:\?\?:0:0|\d+ 0\n\?\?:\?)\n\n')
+# A name and an offset, as the last part of a line that says where.
+NAME_AND_OFFSET = re.compile(rb'[^\s\d][^ ]*\+\w+')
+# A symbol's name without a line.
+SYMBOL = re.compile(rb'([^\n]+)\n(?:[^\n]+:0:0|\d+ \d+\n\?\?:\?)\n\n')
 
 COMMANDS = [b'CODE ', b'DATA ', b'FRAME ', b'', b'CODE  ', b'code ', b'CODE\t', b'DATA', b' ', b'CODE CODE ',
             b'FRAME FRAME ']
@@ -110,15 +113,26 @@ class Peer:
             return None
 
 
-def is_as_good(line, ours, theirs):
+def is_as_good(line, ours, theirs, not_code):
     """Whether a reply is the peer's, or differs for a reason: both know nothing, of which the peer has
     one spelling for each line that it doesn't understand; FRAME, of which a2l-symbolizer knows nothing;
-    `> >` for `>>`; and addresses behind all sections, which llvm-symbolizer takes for the last symbol."""
+    `> >` for `>>`; an address outside of code, which llvm-symbolizer takes for the last symbol before
+    it, of data or without a size; and DATA with a name and an offset, of which it drops the name."""
     if line.startswith(b'FRAME ') or ours.replace(b'> >', b'>>').replace(b'> >', b'>>') == theirs:
         return True
     unknown = [shape for kind, shape in KINDS.items() if kind.startswith('unknown')]
-    is_unknown = any(shape.fullmatch(ours) for shape in unknown)
-    return is_unknown and any(shape.fullmatch(theirs) for shape in unknown + [BEHIND])
+    if not any(shape.fullmatch(ours) for shape in unknown):
+        return False
+    symbol = SYMBOL.fullmatch(theirs)
+    is_without_name = line.startswith(b'DATA ') and NAME_AND_OFFSET.search(line) and KINDS['data'].fullmatch(theirs)
+    return any(shape.fullmatch(theirs) for shape in unknown) or symbol and symbol[1] in not_code or is_without_name
+
+
+def symbols_not_of_code(program):
+    """The names of symbols of data, and of those that have no size."""
+    shown = subprocess.run(['readelf', '-sW', program], check=True, capture_output=True).stdout
+    rows = re.findall(rb'^ *\d+: \w+ +(\w+) (\w+) +\w+ +\w+ +\w+ ([^\s@]+)', shown, re.MULTILINE)
+    return {name for size, kind, name in rows if kind == b'OBJECT' or int(size, 0) == 0}
 
 
 def text_of(program):
@@ -138,7 +152,7 @@ def main(count, seed, program, *words):
     marker = b'CODE "%s" %#x' % (path, begin)
     paths = [path] * 6 + [b'/no/such', b'/', b'', b'[stack]', b'[vdso]', b'a b', b'/etc/passwd', b'x' * 700]
     counts, differences, failures = collections.Counter(), 0, 0
-    peer = Peer(theirs)
+    peer, not_code = Peer(theirs), symbols_not_of_code(program)
     with Conversation(ours) as tool:
         known = tool.ask(marker)
         if KINDS['unknown code'].fullmatch(known) or not KINDS['frames'].fullmatch(known):
@@ -154,7 +168,7 @@ def main(count, seed, program, *words):
                 failures += 1
                 print(f'after {line[:200]!r}\n  the known request has the reply {after[:400]!r}')
             other = peer.ask(line)
-            if other is not None and not is_as_good(line, reply, other):
+            if other is not None and not is_as_good(line, reply, other, not_code):
                 differences += 1
                 if differences <= 40:
                     print(f'{line[:200]!r}\n  ours   {reply[:300]!r}\n  theirs {other[:300]!r}')

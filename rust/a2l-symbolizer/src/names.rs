@@ -87,20 +87,49 @@ fn has_rust_hash(name: &[u8]) -> bool {
     parts.any(|(at, part)| is_hash(part) && matches!(name.get(at + 20), None | Some(b'.')))
 }
 
-/// A name of C++. The crate writes it into a bounded text first: where that succeeds, the name is
-/// one of those of which the C++ library can write the whole text, which the crate gets wrong for
-/// empty packs and templates of constructors.
+/// A name of C++. The C++ library writes the whole one, since the crate gets empty packs and
+/// templates of constructors wrong. The crate writes it into a bounded text first, unless the name
+/// is one of those that can't stand for a long text.
 fn cpp(name: &[u8], length: Length) -> Option<Vec<u8>> {
-    let options = match length {
-        Length::Whole => DemangleOptions::new(),
-        Length::Short => DemangleOptions::new().no_params().no_return_type(),
-    };
-    let mut bounded = Bounded::default();
-    Symbol::new(name).ok()?.structured_demangle(&mut bounded, &options).ok()?;
     match length {
-        Length::Whole => a2l::demangle_cxx(&CString::new(name).ok()?),
-        Length::Short => Some(without_scopes(bounded.0.as_bytes()).to_vec()),
+        Length::Whole => {
+            if !is_surely_short(name) {
+                bounded_cpp(name, &DemangleOptions::new())?;
+            }
+            a2l::demangle_cxx(&CString::new(name).ok()?).filter(|readable| readable.len() <= LONGEST)
+        }
+        Length::Short => {
+            let readable = bounded_cpp(name, &DemangleOptions::new().no_params().no_return_type())?;
+            Some(without_scopes(readable.as_bytes()).to_vec())
+        }
     }
+}
+
+/// What the crate makes of a name of C++, where it isn't longer than `LONGEST`.
+fn bounded_cpp(name: &[u8], options: &DemangleOptions) -> Option<String> {
+    let mut bounded = Bounded::default();
+    Symbol::new(name).ok()?.structured_demangle(&mut bounded, options).ok()?;
+    Some(bounded.0)
+}
+
+/// The readable name is surely of less than a megabyte, so that nothing is lost in writing it. A
+/// byte of a mangled name stands for at most 18 bytes (`y`, unsigned long long), a stream or string
+/// of the standard library for 80, a constructor for a part of the mangled name. A reference back
+/// (`S_`, `T1_`) repeats at most all that stands before it, so that each can double the text. Packs
+/// (`Dp`, `sp`) repeat it more often, and what a conversion (`cv`) refers to can follow it.
+fn is_surely_short(name: &[u8]) -> bool {
+    const SHORT: usize = 1 << 20;
+    let (mut plain, mut references) = (18 * name.len(), 0_u32);
+    for pair in name.windows(2) {
+        match pair {
+            b"Dp" | b"sp" | b"sZ" | b"sP" | b"cv" => return false,
+            [b'S' | b'T', b'_' | b'0'..=b'9' | b'A'..=b'Z'] => references += 1,
+            [b'S', b's' | b'i' | b'o' | b'd'] => plain += 80,
+            [b'C' | b'D', b'0'..=b'9' | b'I'] => plain += name.len(),
+            _ => {}
+        }
+    }
+    references < 16 && plain << references < SHORT
 }
 
 /// A text that refuses to be longer than `LONGEST`: a short mangled name can stand for an endless
