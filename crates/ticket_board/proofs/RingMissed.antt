@@ -1,40 +1,46 @@
 -- Which cells gave a worker nothing, over several tries.
 use Rattle.std.specs.Prelude.{MatchBool}
-use Rattle.std.proofs.Common.{◌≡◌, ℕ, ◌+◌, ◌<◌, ◌⊎◌, Bool, true, false, List, ◌++◌, IsSome, inl, inr, ⊎_elim, ◌∙◌, ap, append_assoc, arith}
+use Rattle.std.proofs.Common.{◌≡◌, ℕ, ◌+◌, ◌-◌, ◌<◌, ◌≤◌, ◌⊎◌, Bool, true, false, List, ◌++◌, IsSome, inl, inr, ⊎_elim, ◌∙◌, ap, subst, append_assoc, arith}
 use Rattle.std.proofs.lemmas.Bool.{cases_eq, cases_lt}
+use Rattle.std.proofs.lemmas.List.{length-append}
 use Rattle.std.proofs.lemmas.List.Elements.{Contains-append_left, Contains-append_right}
 use Rattle.ticket_board.specs.Ring.Views.{Working}
 use Rattle.ticket_board.specs.Ring.Takers.{TakerState, HasSought, MissedEach, Between, knowing}
 
-joined : (F G H : ℕ → Type 0) (old mid new : Working) → MissedEach F old mid → MissedEach G mid new → ((cell : ℕ) → H cell → F cell ⊎ G cell)
-    → MissedEach H old new
-joined F G H old mid new first second cases = record {
+joined : (many more : ℕ) (F G H : ℕ → Type 0) (old mid new : Working) → MissedEach many F old mid → MissedEach more G mid new
+    → ((cell : ℕ) → H cell → F cell ⊎ G cell) → MissedEach (many + more) H old new
+joined many more F G H old mid new first second cases = record {
   empty = second.empty;
   gained = first.gained ++ second.gained;
   missed = second.missed ∙ ap (λ (cells : List ℕ). cells ++ second.gained) first.missed ∙ append_assoc old.missed first.gained second.gained;
+  once = length-append first.gained second.gained ∙ (λ i. first.once i + second.once i);
   each = λ cell h. ⊎_elim (λ f. Contains-append_left first.gained second.gained cell (first.each cell f))
       (λ g. Contains-append_right first.gained second.gained cell (second.each cell g)) (cases cell h);
 }
 
 -- one cell more
-pub missed-more : (from cell : ℕ) (old mid new : Working) → MissedEach (Between from cell) old mid → MissedEach (λ other. other ≡ cell) mid new
-    → MissedEach (Between from (cell + 1)) old new
-missed-more from cell old mid new first second =
-    joined (Between from cell) (λ other. other ≡ cell) (Between from (cell + 1)) old mid new first second
+pub missed-more : (from cell : ℕ) (old mid new : Working) → from ≤ cell → MissedEach (cell - from) (Between from cell) old mid
+    → MissedEach 1 (λ other. other ≡ cell) mid new → MissedEach (cell + 1 - from) (Between from (cell + 1)) old new
+missed-more from cell old mid new order first second =
+    let many : cell - from + 1 ≡ cell + 1 - from = omega (arith, order) in
+    subst (λ (n : ℕ). MissedEach n (Between from (cell + 1)) old new) many
+    (joined (cell - from) 1 (Between from cell) (λ other. other ≡ cell) (Between from (cell + 1)) old mid new first second
     (λ other h. elim (cases_eq other cell) [
       | inl e ↦ inr e
       | inr ne ↦ inl (h.0, omega (arith, h.1, ne))
-    ])
+    ]))
 
 -- those from one on, and then those before it
-pub missed-round : (begin cells : ℕ) (old mid new : Working) → MissedEach (Between begin cells) old mid → MissedEach (Between 0 begin) mid new
-    → MissedEach (λ cell. cell < cells) old new
-missed-round begin cells old mid new first second =
-    joined (Between begin cells) (Between 0 begin) (λ cell. cell < cells) old mid new first second
+pub missed-round : (begin cells : ℕ) (old mid new : Working) → begin ≤ cells → MissedEach (cells - begin) (Between begin cells) old mid
+    → MissedEach (begin - 0) (Between 0 begin) mid new → MissedEach cells (λ cell. cell < cells) old new
+missed-round begin cells old mid new order first second =
+    let all : cells - begin + (begin - 0) ≡ cells = omega (arith, order) in
+    subst (λ (n : ℕ). MissedEach n (λ cell. cell < cells) old new) all
+    (joined (cells - begin) (begin - 0) (Between begin cells) (Between 0 begin) (λ cell. cell < cells) old mid new first second
     (λ cell h. elim (cases_lt cell begin) [
       | inl lt ↦ inr (omega arith, lt)
       | inr le ↦ inl (le, h)
-    ])
+    ]))
 
 pub sought-on : (old mid new : TakerState) → HasSought old mid → HasSought mid new → HasSought old new
 sought-on old mid new first second = record {
@@ -43,7 +49,8 @@ sought-on old mid new first second = record {
 }
 
 -- the last try gave a number, or all cells gave nothing
-pub round-found : (begin cells : ℕ) (hit : Bool) (old mid new : Working) → MissedEach (Between begin cells) old mid
-    → MatchBool hit (IsSome new.hand) (MissedEach (Between 0 begin) mid new) → MatchBool hit (IsSome new.hand) (MissedEach (λ cell. cell < cells) old new)
-round-found begin cells true old mid new first second = second
-round-found begin cells false old mid new first second = missed-round begin cells old mid new first second
+pub round-found : (begin cells : ℕ) (hit : Bool) (old mid new : Working) → begin ≤ cells → MissedEach (cells - begin) (Between begin cells) old mid
+    → MatchBool hit (IsSome new.hand) (MissedEach (begin - 0) (Between 0 begin) mid new)
+    → MatchBool hit (IsSome new.hand) (MissedEach cells (λ cell. cell < cells) old new)
+round-found begin cells true old mid new order first second = second
+round-found begin cells false old mid new order first second = missed-round begin cells old mid new order first second

@@ -1,5 +1,5 @@
 -- What a client learns of its next number, and what a worker did.
-use Rattle.std.specs.Prelude.{◌≡◌, ◌<◌, ℕ, List, [], ◌∷◌, ◌++◌, slice_index_or}
+use Rattle.std.specs.Prelude.{◌≡◌, ◌<◌, ℕ, List, [], ◌∷◌, ◌++◌, length, slice_index_or}
 use Rattle.std.specs.List.{Contains}
 use Rattle.ticket_core.specs.declared.query.Query.{Query}
 use Rattle.ticket_core.specs.declared.query.QueryKind.TheVariants.{Address}
@@ -43,10 +43,11 @@ abbrev pub done_after : Turn → List Ticket → List Ticket
 done_after (Answered s n) done = done ++ (s, n) ∷ []
 done_after Idle done = done
 
--- each cell of the board gave it nothing since
+-- in one pass each cell of the board gave it nothing: each of them once
 abbrev pub MissedEvery : Shape → List ℕ → List ℕ → Type 0
 MissedEvery shape old new =
-    (gained : List ℕ) × (new ≡ old ++ gained) × ((cell : ℕ) → cell < cells_in shape → Contains gained cell)
+    (gained : List ℕ) × (new ≡ old ++ gained) × (length gained ≡ cells_in shape)
+    × ((cell : ℕ) → cell < cells_in shape → Contains gained cell)
 
 -- where it answered nothing, no cell gave it a query
 abbrev pub IfIdle : Turn → Type 0 → Type 0

@@ -89,11 +89,12 @@ ask_refusal client =
 abbrev pub HasEnded : ClientState → Type 0
 HasEnded client = (client.closed ≡ true) × (length client.received ≡ length client.asked)
 
--- some moves make a ring on which it has these lists
+-- some moves make a ring on which a sender knows what it knows
 abbrev pub ClientOccurs : Meaning → ClientState → Type 0
 ClientOccurs meaning client =
     (asking : Asking) × Occurs meaning (asker client.seat.shape client.seat.key client.seat.sender asking)
     × (asking.asked ≡ client.asked) × (asking.received ≡ client.received)
+    × (asking.found ≡ client.found) × (asking.missed ≡ client.missed)
 
 -- ---- workers
 

@@ -56,6 +56,7 @@ impl<S: Solver> Client<S> {
     pub fn ready<'a>(&mut self, board: &Board<'a, S>) -> bool
         requires board { IsClientOf board.now self.old }
         ensures found { self.old.found ≡ true → result ≡ true }
+        ensures outstanding { result ≡ true → length self.old.received < length self.old.asked }
         ensures looked { self.new ≡ finds result self.old }
     {
         self.asker.ready(&board.ring)

@@ -1,5 +1,6 @@
 -- What a worker's end of the ring shows.
-use Rattle.std.specs.Prelude.{◌≡◌, ℕ, ◌+◌, ◌*◌, ◌^◌, ◌<◌, ◌≤◌, List, [], ◌∷◌, ◌++◌, Option, Some, None, IsSome}
+use Rattle.std.specs.Prelude.{◌≡◌, ℕ, ◌+◌, ◌*◌, ◌^◌, ◌<◌, ◌≤◌, List, [], ◌∷◌, ◌++◌, length, Option}
+use Rattle.std.specs.Prelude.{Some, None, IsSome}
 use Rattle.std.specs.List.{Contains}
 use Rattle.atomic_table.specs.Table as table
 use Rattle.atomic_table.specs.Seated.{TableId}
@@ -58,16 +59,18 @@ answers_one ticket working = record working { hand = None; read = Nothing; done 
 abbrev pub gives_one : Working → Working
 gives_one working = record working { hand = None; read = Nothing }
 
--- its hand is empty, and each of these cells is among those that gave it nothing since
-pub record MissedEach (cells : ℕ → Type 0) (old new : Working) : Type 0 where
+-- its hand is empty, and each of these cells, which are so many, gave it nothing since, and did so
+-- once
+pub record MissedEach (count : ℕ) (cells : ℕ → Type 0) (old new : Working) : Type 0 where
   pub empty : new.hand ≡ None
   pub gained : List ℕ
   pub missed : new.missed ≡ old.missed ++ gained
+  pub once : length gained ≡ count
   pub each : (cell : ℕ) → cells cell → Contains gained cell
 
--- every cell of the ring is among them
+-- every cell of the ring did
 abbrev pub MissedAll : Shape → Working → Working → Type 0
-MissedAll shape old new = MissedEach (λ cell. cell < cells_in shape) old new
+MissedAll shape old new = MissedEach (cells_in shape) (λ cell. cell < cells_in shape) old new
 
 -- the cells from one on and below another
 abbrev pub Between : ℕ → ℕ → ℕ → Type 0

@@ -73,6 +73,7 @@ impl<S: Solver> Asker<S> {
     pub fn ready<'a>(&mut self, ring: &Ring<'a, S>) -> bool
         requires ring { IsAskerOf ring.now self.old }
         ensures found { self.old.asking.found ≡ true → result ≡ true }
+        ensures outstanding { result ≡ true → next_received self.old.asking < next_asked self.old.asking }
         ensures looked { self.new ≡ record self.old { asking = looks result self.old.asking } }
     {
         if self.found {

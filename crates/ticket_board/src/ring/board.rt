@@ -1,5 +1,8 @@
 //! What all seats share.
 
+ghost use Rattle.std.specs.Prelude.{◌≡◌, ◌/◌, ◌<◌, ◌↔◌, IsSome, IfSome};
+ghost use Rattle.ticket_board.specs.Ring.Layout.{cells_in};
+
 use crate::ring::layout::{CELL_WORDS, STATE};
 use crate::ring::rule::{Knowledge, Rule, Terms};
 use atomic_table::Table;
@@ -34,8 +37,11 @@ impl<'a, S: Solver> Ring<'a, S> {
     /// The state word of a cell, as some thread left it: eight times the number for which the cell
     /// is, and 0 where that number isn't asked yet, 1 where it waits, 2 where a worker holds it, 3
     /// where it is answered, or 4 where its answer is on its way to the sender. `None` where there
-    /// is no such cell. It looks without a seat, so it is no step, and it promises nothing.
-    pub fn state_word(&self, cell: usize) -> Option<u64> {
+    /// is no such cell. It looks without a seat, so it is no step, and which word it finds no
+    /// contract says.
+    pub fn state_word(&self, cell: usize) -> Option<u64>
+        ensures { IsSome result ↔ (cell < cells_in self.now.shape) }
+    {
         if cell >= self.shape.senders * self.shape.window {
             return None;
         }
@@ -45,7 +51,10 @@ impl<'a, S: Solver> Ring<'a, S> {
     /// The sender and the number that wait in a cell, as far as can be seen: another thread may
     /// take the number at any moment. `None` where the cell's number doesn't wait, or there is no
     /// such cell.
-    pub fn waits_at(&self, cell: usize) -> Option<(usize, u64)> {
+    pub fn waits_at(&self, cell: usize) -> Option<(usize, u64)>
+        ensures { IfSome result (λ found. (cell < cells_in self.now.shape)
+            × (found.0 ≡ cell / self.now.shape.window)) }
+    {
         let word = self.state_word(cell)?;
         if word % 8 != 1 {
             return None;

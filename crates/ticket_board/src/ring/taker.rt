@@ -1,6 +1,7 @@
 //! A worker's end of the ring.
 
-ghost use Rattle.std.specs.Prelude.{◌≡◌, ◌+◌, ◌*◌, ◌≤◌, ◌<◌, None, Some, IsSome, IsTrue, IfSome, MatchBool};
+ghost use Rattle.std.specs.Prelude.{◌≡◌, ◌+◌, ◌-◌, ◌*◌, ◌≤◌, ◌<◌, None, Some, IsSome, IsTrue, IfSome};
+ghost use Rattle.std.specs.Prelude.{MatchBool};
 ghost use Rattle.ticket_board.specs.Ring.Layout.{cells_in};
 ghost use Rattle.ticket_board.specs.Ring.Takers.{IsTakerOf, HasSought, HoldsRead, IsMeaning, MissedEach, MissedAll};
 ghost use Rattle.ticket_board.specs.Ring.Takers.{Between};
@@ -48,7 +49,7 @@ impl<S: Solver> Taker<S> {
         requires within { cell < cells_in ring.now.shape }
         ensures sought { HasSought self.old self.new }
         ensures found { MatchBool result (IsSome self.new.working.hand)
-            (MissedEach (λ other. other ≡ cell) self.old.working self.new.working) }
+            (MissedEach 1 (λ other. other ≡ cell) self.old.working self.new.working) }
         ensures counted { steps.new ≤ steps.old + 2 }
     {
         let shelf = &ring.table.shared;
@@ -80,7 +81,7 @@ impl<S: Solver> Taker<S> {
         requires within { to ≤ cells_in ring.now.shape }
         ensures sought { HasSought self.old self.new }
         ensures found { MatchBool result (IsSome self.new.working.hand)
-            (MissedEach (Between from to) self.old.working self.new.working) }
+            (MissedEach (to - from) (Between from to) self.old.working self.new.working) }
         ensures counted { steps.new + 2 * from ≤ steps.old + 2 * to }
     {
         for cell in from..to {
