@@ -46,6 +46,7 @@ pub sought-on : (old mid new : TakerState) → HasSought old mid → HasSought m
 sought-on old mid new first second = record {
   same = second.same ∙ ap (knowing new.working) first.same;
   done = second.done ∙ first.done;
+  returned = second.returned ∙ first.returned;
 }
 
 -- the last try gave a number, or all cells gave nothing

@@ -322,7 +322,7 @@ module _ (meaning : Meaning) (shape : Shape) (key : List ℕ) (board : Board) (s
       holds-now : hand_at state w ≡ Some (s, n)
       holds-now = mine.hand ∙ holds
 
-      module _ (event : Event) (can : Can event state) (x : ℕ) (home : Home) (place : Place) (done : List Ticket)
+      module _ (event : Event) (can : Can event state) (x : ℕ) (home : Home) (place : Place) (done returned : List Ticket)
           (is : after meaning event state ≡ puts_down w (s, n) place state)
           (cell : CellShows n (next_received (asking s)) (asking s).collecting place x home)
           (more : (t m : ℕ) → times t m done ≡ times t m working.done + (if finishes event state t m then 1 else 0)) where
@@ -332,7 +332,7 @@ module _ (meaning : Meaning) (shape : Shape) (key : List ℕ) (board : Board) (s
         puts-down : ShowsAfter meaning shape key (Some event) state (record {
           words = set board.words (state_place shape s n) x;
           homes = set board.homes (cell_of shape s n) home;
-          views = set board.views seat (worker shape key w (record working { hand = None; read = Nothing; done = done }));
+          views = set board.views seat (worker shape key w (record working { hand = None; read = Nothing; done = done; returned = returned }));
         })
         puts-down =
             let from : next_received (asking s) ≤ n = held-from w s n holds-now in
@@ -349,7 +349,7 @@ module _ (meaning : Meaning) (shape : Shape) (key : List ℕ) (board : Board) (s
               (can, sym is),
               worker-frame meaning shape key board state shows seat w working sits
                   (set board.words (state_place shape s n) x) (set board.homes (cell_of shape s n) home)
-                  (record working { hand = None; read = Nothing; done = done }) down
+                  (record working { hand = None; read = Nothing; done = done; returned = returned }) down
                   shows.shape_is shows.key_is (subst (IsSound meaning) is (step-sound meaning event state shows.sound can))
                   (length-set board.words (state_place shape s n) x ∙ shows.words) (length-set board.homes (cell_of shape s n) home ∙ shows.homes)
                   (put-senders s n x home place down of from below early was cell changed others)
@@ -369,7 +369,7 @@ module _ (meaning : Meaning) (shape : Shape) (key : List ℕ) (board : Board) (s
 
       pub gives-back : ShowsAfter meaning shape key (Some (GiveBack w)) state (worked shape key seat w working (GivesBack s n) board)
       gives-back =
-          puts-down (GiveBack w) (subst (λ (hand : Option Ticket). IsSome hand) (sym holds-now) refl) (asked_word n) Empty Waiting working.done
+          puts-down (GiveBack w) (subst (λ (hand : Option Ticket). IsSome hand) (sym holds-now) refl) (asked_word n) Empty Waiting working.done (working.returned ++ (s, n) ∷ [])
           (ap (λ (hand : Option Ticket). puts_down w (ticket_in hand) Waiting state) holds-now) (refl, refl) (λ t m. omega arith)
 
       pub answers : (query : Query) (answer : Shown) → working.read ≡ Whole query → answer ≡ meaning key query
@@ -378,7 +378,7 @@ module _ (meaning : Meaning) (shape : Shape) (key : List ℕ) (board : Board) (s
           let asked : query ≡ query_of (sender_at state s) n = subst (λ known. IsKnown known (query_of (sender_at state s) n)) read (mine.read s n holds) in
           let means : answer ≡ meaning_of meaning state (s, n) = right ∙ (λ i. meaning (sym shows.key_is i) (asked i)) in
           puts-down (Finish w) (subst (λ (hand : Option Ticket). IsSome hand) (sym holds-now) refl) (answered_word n) (Full answer)
-          (Answered (meaning_of meaning state (s, n))) (working.done ++ (s, n) ∷ [])
+          (Answered (meaning_of meaning state (s, n))) (working.done ++ (s, n) ∷ []) working.returned
           (ap (λ (hand : Option Ticket). puts_down w (ticket_in hand) (Answered (meaning_of meaning state (ticket_in hand))) state) holds-now)
           (inl (refl, ap Full means))
           (λ t m. subst (λ (hand : Option Ticket). times t m (working.done ++ (s, n) ∷ []) ≡ times t m working.done + (if is_ticket hand t m then 1 else 0)) (sym holds-now)

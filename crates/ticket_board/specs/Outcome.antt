@@ -43,6 +43,10 @@ abbrev pub done_after : Turn → List Ticket → List Ticket
 done_after (Answered s n) done = done ++ (s, n) ∷ []
 done_after Idle done = done
 
+-- a worker has given back one number more, of one of so many senders: it waits again
+abbrev pub ReturnsOne : ℕ → List Ticket → List Ticket → Type 0
+ReturnsOne senders old new = (s n : ℕ) × (s < senders) × (new ≡ old ++ (s, n) ∷ [])
+
 -- in one pass each cell of the board gave it nothing: each of them once
 abbrev pub MissedEvery : Shape → List ℕ → List ℕ → Type 0
 MissedEvery shape old new =

@@ -105,13 +105,14 @@ pub record WorkerSeat : Type 0 where
   pub table : TableId
   pub worker : ℕ
 
--- a worker: the number in its hand, the cells that gave it nothing when it looked or tried, and
--- what it answered
+-- a worker: the number in its hand, the cells that gave it nothing when it looked or tried, what
+-- it answered, and what it gave back
 pub record WorkerState : Type 0 where
   pub seat : WorkerSeat
   pub hand : Option Ticket
   pub missed : List ℕ
   pub done : List Ticket
+  pub returned : List Ticket
 
 -- it was opened with this board
 pub record IsWorkerOf (board : RingState) (worker : WorkerState) : Type 0 where
@@ -126,6 +127,7 @@ worker_shown taker = record {
   hand = taker.working.hand;
   missed = taker.working.missed;
   done = taker.working.done;
+  returned = taker.working.returned;
 }
 
 -- the workers of a board that was just opened, in order: their hands are empty, and nothing is done

@@ -1,9 +1,9 @@
 //! A worker: it takes queries, solves them, and answers them.
 
-ghost use Rattle.std.specs.Prelude.{◌≡◌, ◌+◌, ◌*◌, ◌≤◌, ◌<◌, None, OnErr, IfOk, is_ok, if◌then◌else◌};
+ghost use Rattle.std.specs.Prelude.{◌≡◌, ◌+◌, ◌*◌, ◌≤◌, ◌<◌, None, OnErr, IfOk, MatchResult, is_ok, if◌then◌else◌};
 ghost use Rattle.ticket_board.specs.Ring.Layout.{cells_in};
 ghost use Rattle.ticket_board.specs.Seats.{IsWorkerOf};
-ghost use Rattle.ticket_board.specs.Outcome.{done_after, IsOfSender, IfIdle, MissedEvery};
+ghost use Rattle.ticket_board.specs.Outcome.{done_after, IsOfSender, IfIdle, MissedEvery, ReturnsOne};
 
 use crate::board::Board;
 use crate::gate::Gate;
@@ -15,7 +15,7 @@ use std::sync::ledger::{Blank, Ledger};
 use ticket_core::{NoMemory, Solver};
 
 /// A worker. Contracts see its hand, which is empty between its turns, the cells that gave it
-/// nothing, and the numbers that it answered.
+/// nothing, the numbers that it answered, and those that it gave back.
 #[derive(Drop)]
 pub struct Worker<S: Solver> {
     pub(crate) taker: Taker<S>,
@@ -59,6 +59,8 @@ impl<S: Solver> Worker<S> {
         ensures sender { IfOk result (λ turn. IsOfSender turn board.now.shape.senders) }
         ensures idle { IfOk result (λ turn. IfIdle turn (MissedEvery board.now.shape self.old.missed self.new.missed)) }
         ensures none { OnErr result (self.new.done ≡ self.old.done) }
+        ensures returned { MatchResult result (λ _. self.new.returned ≡ self.old.returned)
+            (λ _. ReturnsOne board.now.shape.senders self.old.returned self.new.returned) }
         ensures key { S.key solver.new ≡ S.key solver.old }
         ensures refused { S.refused solver.new
             ≡ (if is_ok result then S.refused solver.old else S.refused solver.old + 1) }
@@ -85,6 +87,8 @@ impl<S: Solver> Worker<S> {
         ensures sender { IfOk result (λ turn. IsOfSender turn board.now.shape.senders) }
         ensures idle { IfOk result (λ turn. IfIdle turn (MissedEvery board.now.shape self.old.missed self.new.missed)) }
         ensures none { OnErr result (self.new.done ≡ self.old.done) }
+        ensures returned { MatchResult result (λ _. self.new.returned ≡ self.old.returned)
+            (λ _. ReturnsOne board.now.shape.senders self.old.returned self.new.returned) }
         ensures key { S.key solver.new ≡ S.key solver.old }
         ensures refused { S.refused solver.new
             ≡ (if is_ok result then S.refused solver.old else S.refused solver.old + 1) }
@@ -110,6 +114,8 @@ impl<S: Solver> Worker<S> {
         ensures sender { IfOk result (λ turn. IsOfSender turn board.now.shape.senders) }
         ensures idle { IfOk result (λ turn. IfIdle turn (MissedEvery board.now.shape self.old.missed self.new.missed)) }
         ensures none { OnErr result (self.new.done ≡ self.old.done) }
+        ensures returned { MatchResult result (λ _. self.new.returned ≡ self.old.returned)
+            (λ _. ReturnsOne board.now.shape.senders self.old.returned self.new.returned) }
         ensures key { S.key solver.new ≡ S.key solver.old }
         ensures refused { S.refused solver.new
             ≡ (if is_ok result then S.refused solver.old else S.refused solver.old + 1) }

@@ -50,11 +50,18 @@ asking_code =
 
 abbrev pub working_code : Coded Working
 working_code =
-    code_by (Option Ticket × (Known × (Option Ticket × (List ℕ × List Ticket))))
+    code_by (Option Ticket × (Known × (Option Ticket × (List ℕ × (List Ticket × List Ticket)))))
     (coded× (coded_option ticket_code) (coded× known_code (coded× (coded_option ticket_code)
-    (coded× (coded_list coded_ℕ) (coded_list ticket_code)))))
-    (λ working. (working.hand, (working.read, (working.seen, (working.missed, working.done)))))
-    (λ p. record { hand = p.0; read = p.1.0; seen = p.1.1.0; missed = p.1.1.1.0; done = p.1.1.1.1 }) (λ _. refl)
+    (coded× (coded_list coded_ℕ) (coded× (coded_list ticket_code) (coded_list ticket_code))))))
+    (λ working. (working.hand, (working.read, (working.seen, (working.missed, (working.done, working.returned))))))
+    (λ p. record {
+      hand = p.0;
+      read = p.1.0;
+      seen = p.1.1.0;
+      missed = p.1.1.1.0;
+      done = p.1.1.1.1.0;
+      returned = p.1.1.1.1.1;
+    }) (λ _. refl)
 
 abbrev pub role_parts : Role → ℕ ⊎ ((ℕ × Asking) ⊎ (ℕ × Working))
 role_parts (Opens cut) = inl cut

@@ -171,7 +171,11 @@ working_after shape working (Answers s n query answer) word = record working {
   read = Nothing;
   done = working.done ++ (s, n) ∷ [];
 }
-working_after shape working (GivesBack s n) word = record working { hand = None; read = Nothing }
+working_after shape working (GivesBack s n) word = record working {
+  hand = None;
+  read = Nothing;
+  returned = working.returned ++ (s, n) ∷ [];
+}
 
 -- the ring after it
 abbrev pub worked : Shape → List ℕ → ℕ → ℕ → Working → WorkerStep → Board → Board

@@ -37,10 +37,11 @@ knowing working taker = record taker { working = working }
 
 -- ---- what it knows after it looked for a query
 
--- it is the same worker, and has answered what it had answered
+-- it is the same worker, and has answered and given back what it had
 pub record HasSought (old new : TakerState) : Type 0 where
   pub same : new ≡ knowing new.working old
   pub done : new.working.done ≡ old.working.done
+  pub returned : new.working.returned ≡ old.working.returned
 
 -- its hand holds this number of this sender, whose query it read
 abbrev pub HoldsRead : ℕ × ℕ × Query → Working → Type 0
@@ -56,8 +57,12 @@ IsMeaning shown meaning answer taker =
 abbrev pub answers_one : Ticket → Working → Working
 answers_one ticket working = record working { hand = None; read = Nothing; done = working.done ++ ticket ∷ [] }
 
-abbrev pub gives_one : Working → Working
-gives_one working = record working { hand = None; read = Nothing }
+abbrev pub gives_one : Ticket → Working → Working
+gives_one ticket working = record working {
+  hand = None;
+  read = Nothing;
+  returned = working.returned ++ ticket ∷ [];
+}
 
 -- its hand is empty, and each of these cells, which are so many, gave it nothing since, and did so
 -- once

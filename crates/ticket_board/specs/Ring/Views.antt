@@ -66,9 +66,11 @@ pub record Working : Type 0 where
   pub missed : List ℕ
   -- what it answered
   pub done : List Ticket
+  -- what it gave back, which waits again then
+  pub returned : List Ticket
 
 abbrev pub new_working : Working
-new_working = record { hand = None; read = Nothing; seen = None; missed = []; done = [] }
+new_working = record { hand = None; read = Nothing; seen = None; missed = []; done = []; returned = [] }
 
 -- ---- seats
 

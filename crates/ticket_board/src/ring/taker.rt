@@ -221,7 +221,7 @@ impl<S: Solver> Taker<S> {
         requires ring { IsTakerOf ring.now self.old }
         requires held { IsSome self.old.working.hand }
         ensures ticket { self.old.working.hand ≡ Some result }
-        ensures given { self.new ≡ knowing (gives_one self.old.working) self.old }
+        ensures given { self.new ≡ knowing (gives_one result self.old.working) self.old }
     {
         self.give_back_uncounted::<Brand>(ring, Blank::new(1))
     }
@@ -238,7 +238,7 @@ impl<S: Solver> Taker<S> {
         requires ring { IsTakerOf ring.now self.old }
         requires held { IsSome self.old.working.hand }
         ensures ticket { self.old.working.hand ≡ Some result }
-        ensures given { self.new ≡ knowing (gives_one self.old.working) self.old }
+        ensures given { self.new ≡ knowing (gives_one result self.old.working) self.old }
     {
         let mut steps = Steps::<L>::new(blank);
         self.give_back_counted(ring, &mut steps)
@@ -253,7 +253,7 @@ impl<S: Solver> Taker<S> {
         requires ring { IsTakerOf ring.now self.old }
         requires held { IsSome self.old.working.hand }
         ensures ticket { self.old.working.hand ≡ Some result }
-        ensures given { self.new ≡ knowing (gives_one self.old.working) self.old }
+        ensures given { self.new ≡ knowing (gives_one result self.old.working) self.old }
         ensures counted { steps.new ≡ steps.old + 1 }
     {
         let Some((sender, number)) = self.hand else {
