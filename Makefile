@@ -1,19 +1,23 @@
-# The libraries for C and Python, the symbolizer for other tools, and what is installed. `make` builds the libraries,
-# `make install` puts all in place with the program, and `make uninstall` takes it away.
+# The libraries for C and Python, the symbolizer for other tools, what is installed, and a release. `make` builds the
+# libraries, `make install` puts all in place with the programs, and `make uninstall` takes it away. `make dist` and
+# `make deb` pack what is built (docs/RELEASING.md).
 PREFIX ?= /usr/local
+LIBDIR ?= lib
 DESTDIR ?=
 KIT = $(shell dirname "$$(rt doc)")
-VERSION = 0.1.0
+VERSION := $(shell cat VERSION)
 PROGRAM = crates/a2l/out/a2l
+WHY = crates/a2l_why/out/a2l_why
 SYMBOLIZER = rust/target/release/a2l-symbolizer
 
 # All that is installed, below PREFIX, and the folders that hold nothing else.
-INSTALLED = bin/a2l bin/a2l-symbolizer bin/llvm-symbolizer-a2l lib/liba2l.a lib/pkgconfig/a2l.pc include/a2l.h \
-    include/a2l_file.h share/man/man1/a2l.1 share/man/man1/a2l-symbolizer.1 lib/a2l/python/a2l.py \
-    lib/a2l/python/liba2l.so lib/a2l/tools/llvm-symbolizer lib/a2l/tools/addr2line
+INSTALLED = bin/a2l bin/a2l_why bin/a2l-symbolizer bin/llvm-symbolizer-a2l $(LIBDIR)/liba2l.a \
+    $(LIBDIR)/pkgconfig/a2l.pc include/a2l.h include/a2l_file.h share/man/man1/a2l.1 share/man/man1/a2l_why.1 \
+    share/man/man1/a2l-symbolizer.1 share/man/man3/liba2l.3 lib/a2l/python/a2l.py lib/a2l/python/liba2l.so \
+    lib/a2l/tools/llvm-symbolizer lib/a2l/tools/addr2line
 FOLDERS = lib/a2l/python lib/a2l/tools lib/a2l
 
-.PHONY: all library shared program symbolizer install install-files install-symbolizer uninstall
+.PHONY: all library shared program why symbolizer install install-files install-why install-symbolizer uninstall
 
 all: library shared
 
@@ -25,44 +29,55 @@ library:
 	ld -r -o out/a2l.o --whole-archive crates/a2l_c/out/liba2l_c.a "$(KIT)/c/liblibc_c.a"
 	objcopy --wildcard --keep-global-symbol='a2l_*' out/a2l.o
 	rm -f out/liba2l.a
-	ar rcs out/liba2l.a out/a2l.o
+	ar rcsD out/liba2l.a out/a2l.o
 
 # The same object, to be loaded by a program that runs: python/a2l.py does.
 shared: library
 	$(CC) -shared -Wl,-z,defs -o out/liba2l.so -Wl,--whole-archive out/liba2l.a -Wl,--no-whole-archive
 
-# `rt run` proves and builds the program, and runs it, which writes its usage line.
+# `rt run` proves and builds a program, and runs it, which writes its usage line.
 program:
 	cd crates/a2l && rt run > /dev/null
+
+why:
+	cd crates/a2l_why && rt run > /dev/null
 
 # The program that sanitizers, perf and others start, with the library in it.
 symbolizer: library
 	A2L_LIB_DIR="$(CURDIR)/out" rust/cargo.sh build --release --package a2l-symbolizer
 
-install: library shared program symbolizer
-	$(MAKE) install-files install-symbolizer
+install: library shared program why symbolizer
+	$(MAKE) install-files install-why install-symbolizer
+
+# Puts a text in place, with the version and the folders that it names: $(call fill,FILE,PLACE).
+fill = sed -e 's|@PREFIX@|$(PREFIX)|g' -e 's|@LIBDIR@|$(LIBDIR)|g' -e 's|@VERSION@|$(VERSION)|g' $(1) \
+    > "$(DESTDIR)$(PREFIX)/$(2)" && chmod 644 "$(DESTDIR)$(PREFIX)/$(2)"
 
 # The same of what is built already. The shared object is put beside a2l.py and not into lib, where `-la2l` would prefer
 # it, so that programs of C would need it when they run.
 install-files:
-	install -d "$(DESTDIR)$(PREFIX)/bin" "$(DESTDIR)$(PREFIX)/lib/pkgconfig" "$(DESTDIR)$(PREFIX)/lib/a2l/python" \
-	    "$(DESTDIR)$(PREFIX)/include" "$(DESTDIR)$(PREFIX)/share/man/man1"
+	install -d "$(DESTDIR)$(PREFIX)/bin" "$(DESTDIR)$(PREFIX)/$(LIBDIR)/pkgconfig" "$(DESTDIR)$(PREFIX)/include" \
+	    "$(DESTDIR)$(PREFIX)/lib/a2l/python" "$(DESTDIR)$(PREFIX)/share/man/man1" "$(DESTDIR)$(PREFIX)/share/man/man3"
 	install -m 755 $(PROGRAM) "$(DESTDIR)$(PREFIX)/bin/a2l"
-	install -m 644 out/liba2l.a "$(DESTDIR)$(PREFIX)/lib/liba2l.a"
+	install -m 644 out/liba2l.a "$(DESTDIR)$(PREFIX)/$(LIBDIR)/liba2l.a"
 	install -m 755 out/liba2l.so "$(DESTDIR)$(PREFIX)/lib/a2l/python/liba2l.so"
 	install -m 644 python/a2l.py "$(DESTDIR)$(PREFIX)/lib/a2l/python/a2l.py"
 	install -m 644 include/a2l.h include/a2l_file.h "$(DESTDIR)$(PREFIX)/include/"
-	install -m 644 docs/a2l.1 "$(DESTDIR)$(PREFIX)/share/man/man1/a2l.1"
-	sed -e 's|@PREFIX@|$(PREFIX)|' -e 's|@VERSION@|$(VERSION)|' include/a2l.pc.in \
-	    > "$(DESTDIR)$(PREFIX)/lib/pkgconfig/a2l.pc"
-	chmod 644 "$(DESTDIR)$(PREFIX)/lib/pkgconfig/a2l.pc"
+	$(call fill,include/a2l.pc.in,$(LIBDIR)/pkgconfig/a2l.pc)
+	$(call fill,docs/a2l.1,share/man/man1/a2l.1)
+	$(call fill,docs/liba2l.3,share/man/man3/liba2l.3)
 
-# The symbolizer under each name by which it is started: clang's runtimes accept only names that begin so, and the folder
-# of the last two goes to the front of PATH.
+install-why:
+	install -d "$(DESTDIR)$(PREFIX)/bin" "$(DESTDIR)$(PREFIX)/share/man/man1"
+	install -m 755 $(WHY) "$(DESTDIR)$(PREFIX)/bin/a2l_why"
+	$(call fill,docs/a2l_why.1,share/man/man1/a2l_why.1)
+
+# The symbolizer under each name by which it is started: clang's runtimes accept only names that begin so, and the
+# folder of the last two goes to the front of PATH.
 install-symbolizer:
 	install -d "$(DESTDIR)$(PREFIX)/bin" "$(DESTDIR)$(PREFIX)/lib/a2l/tools" "$(DESTDIR)$(PREFIX)/share/man/man1"
 	install -m 755 $(SYMBOLIZER) "$(DESTDIR)$(PREFIX)/bin/a2l-symbolizer"
-	install -m 644 docs/a2l-symbolizer.1 "$(DESTDIR)$(PREFIX)/share/man/man1/a2l-symbolizer.1"
+	$(call fill,docs/a2l-symbolizer.1,share/man/man1/a2l-symbolizer.1)
 	ln -sf a2l-symbolizer "$(DESTDIR)$(PREFIX)/bin/llvm-symbolizer-a2l"
 	ln -sf ../../../bin/a2l-symbolizer "$(DESTDIR)$(PREFIX)/lib/a2l/tools/llvm-symbolizer"
 	ln -sf ../../../bin/a2l-symbolizer "$(DESTDIR)$(PREFIX)/lib/a2l/tools/addr2line"

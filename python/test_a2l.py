@@ -284,8 +284,9 @@ class Library(unittest.TestCase):
         return subprocess.run([sys.executable, '-c', code], env={**os.environ, 'PYTHONPATH': HERE, **variables},
                               capture_output=True, text=True, check=False)
 
-    def test_the_version_is_that_of_the_header(self):
-        self.assertEqual(a2l.version(), '0.1.0')
+    def test_the_version_is_that_of_the_release(self):
+        with open(os.path.join(TOP, 'VERSION'), encoding='ascii') as file:
+            self.assertEqual(a2l.version(), file.read().strip())
 
     def test_a_library_that_is_missing(self):
         code = f'import a2l\ntry: a2l.open({SAMPLE!r})\nexcept a2l.LibraryMissing as why: print(why)'

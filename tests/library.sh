@@ -112,10 +112,10 @@ fi
 # What is installed is enough for a program.
 make -s -C "$here" install-files DESTDIR="$work/root" PREFIX=/opt/a2l PROGRAM="$a2l" > make.log 2>&1 || { cat make.log; exit 1; }
 for file in bin/a2l lib/liba2l.a lib/pkgconfig/a2l.pc include/a2l.h include/a2l_file.h share/man/man1/a2l.1 \
-    lib/a2l/python/a2l.py lib/a2l/python/liba2l.so; do
+    share/man/man3/liba2l.3 lib/a2l/python/a2l.py lib/a2l/python/liba2l.so; do
     [ -s "$work/root/opt/a2l/$file" ] || { echo "not installed: $file"; exit 1; }
 done
-[ "$(find "$work/root" -type f | wc -l)" = 8 ] || { echo "more is installed"; exit 1; }
+[ "$(find "$work/root" -type f | wc -l)" = 9 ] || { echo "more is installed"; exit 1; }
 "${CC:-cc}" "${flags[@]}" -I"$work/root/opt/a2l/include" -I"$here/examples" -o installed "$here/examples/addresses.c" \
     -L"$work/root/opt/a2l/lib" -la2l
 ./installed "$here/samples/inlined.elf" 401004 > found
