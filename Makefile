@@ -17,7 +17,8 @@ INSTALLED = bin/a2l bin/a2l_why bin/a2l-symbolizer bin/llvm-symbolizer-a2l $(LIB
     lib/a2l/tools/llvm-symbolizer lib/a2l/tools/addr2line
 FOLDERS = lib/a2l/python lib/a2l/tools lib/a2l
 
-.PHONY: all library shared program why symbolizer install install-files install-why install-symbolizer uninstall
+.PHONY: all library shared program why symbolizer install install-files install-why install-symbolizer \
+    uninstall dist deb
 
 all: library shared
 
@@ -86,3 +87,7 @@ install-symbolizer:
 uninstall:
 	cd "$(DESTDIR)$(PREFIX)" && rm -f $(INSTALLED) && rm -rf lib/a2l/python/__pycache__ && \
 	    for folder in $(FOLDERS); do [ ! -d $$folder ] || rmdir $$folder; done
+
+# A release of what is built.
+dist deb:
+	release/$@.sh

@@ -1,0 +1,32 @@
+# shellcheck shell=bash disable=SC2034
+# Sourced by dist.sh and deb.sh: a folder for what is packed (`work`), which is removed at the end, the version, and the
+# time that all files get, which is that of the last commit.
+set -euo pipefail
+here=$(cd "$(dirname "${BASH_SOURCE[0]}")/.." && pwd)
+work=$(mktemp -d)
+trap 'rm -rf "$work"' EXIT
+umask 022
+export LC_ALL=C TZ=UTC
+version=$(cat "$here/VERSION")
+out=$here/out/release
+mkdir -p "$out"
+cd "$work"
+
+git -C "$here" diff --quiet HEAD || { echo "commit first: a release is of a commit" >&2; exit 1; }
+SOURCE_DATE_EPOCH=${SOURCE_DATE_EPOCH:-$(git -C "$here" log -1 --format=%ct)}
+export SOURCE_DATE_EPOCH
+
+# Installs what is built below `root`, with some words of make, and without the names that only a debugger reads.
+stage() {
+    make -s -C "$here" install-files install-why install-symbolizer DESTDIR="$work/root" "$@"
+    find root -type f \( -path '*/bin/*' -o -name '*.so' \) -exec strip --strip-unneeded {} +
+    find root -name '*.a' -exec strip --strip-debug {} +
+}
+
+# The files in git below the paths that the words name, into a folder. A path may be missing.
+add_sources() {
+    local folder=$1 files
+    shift
+    mapfile -t files < <(git -C "$here" ls-files -- "$@")
+    git -C "$here" archive HEAD -- "${files[@]}" | tar -x -C "$folder"
+}
