@@ -1,8 +1,11 @@
 //! Addresses of the sample files, whose frames were worked out by hand.
 
 use super::samples::{FOLLOWED, INLINED, MIXED, OVERLAPPING, OVERLAPPING_TURNED, SMALLEST};
-use super::{expect, poked, run_on};
+use super::{Setting, expect, poked, run_in, run_on};
+use std::alloc::Global;
+use std::sync::Wait;
 use std::test::Fail;
+use std::thread::Threads;
 
 /// A sample, what is asked of it, and the lines that answer.
 type Answered = (&'static str, &'static [&'static str], &'static str);
@@ -49,11 +52,19 @@ const ANSWERS: [Answered; 8] = [
     ),
 ];
 
+/// The writer takes all at once, or at most 7 bytes a call.
 #[test]
 fn frames_of_samples(rt: HostRuntime) -> Result<(), Fail> {
     for (sample, words, text) in ANSWERS {
         let file = hex::decode(rt.alloc(), sample)?;
-        expect(&rt, &run_on(&rt, rt.alloc(), &file, words), 0, text, "");
+        for write_most in [usize::MAX, 7] {
+            let setting = Setting {
+                file: Some(&file),
+                write_most,
+                ..Setting::NOTHING
+            };
+            expect(&rt, &run_in(&rt, rt.alloc(), setting, words), 0, text, "");
+        }
     }
     Ok(())
 }
@@ -119,6 +130,57 @@ fn frames_of_damaged_samples(rt: HostRuntime) -> Result<(), Fail> {
             text,
             errors,
         );
+    }
+    Ok(())
+}
+
+/// A byte, and how many runs end with status 0, 1 and 2 where each byte of the sample in turn is
+/// changed to it: the counts of `tests/model`.
+static CHANGED: [(u8, [usize; 3]); 4] = [
+    (0, [594, 52, 40]),
+    (0x7f, [472, 81, 133]),
+    (0x80, [454, 89, 143]),
+    (0xff, [446, 92, 148]),
+];
+
+/// The status of a run over a file with one byte changed.
+fn status_with<T: Threads + Wait + Sync>(
+    rt: &T,
+    alloc: Global,
+    file: &[u8],
+    at: usize,
+    new: u8,
+) -> Result<u8, Fail> {
+    let mut changed = Vec::from_slice(alloc, file)?;
+    *changed.get_mut(at).ok_or("a place in the file")? = new;
+    let words = ["-e", "FILE", "-a", "-f", "-i", "401004"];
+    Ok(run_on(rt, alloc, &changed, &words).status)
+}
+
+/// How many of these runs end with each status.
+fn statuses_with<T: Threads + Wait + Sync>(
+    rt: &T,
+    alloc: Global,
+    file: &[u8],
+    new: u8,
+) -> Result<[usize; 3], Fail> {
+    let mut statuses = [0; 3];
+    for at in 0..file.len() {
+        let status = status_with(rt, alloc, file, at, new)?;
+        let count: &mut usize = statuses
+            .get_mut(usize::from(status))
+            .ok_or("status 0, 1 or 2")?;
+        *count = count.saturating_add(1);
+    }
+    Ok(statuses)
+}
+
+#[test]
+fn each_byte_changed(rt: HostRuntime) -> Result<(), Fail> {
+    let file = hex::decode(rt.alloc(), INLINED)?;
+    for (new, statuses) in &CHANGED {
+        let found = statuses_with(&rt, rt.alloc(), &file, *new)?;
+        assert_eq!(rt; found, *statuses, "for {new}");
     }
     Ok(())
 }
