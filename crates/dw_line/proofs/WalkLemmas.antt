@@ -1,14 +1,16 @@
 -- Going from stretch to stretch through a span of addresses.
-use Rattle.std.proofs.Common.{◌≡◌, ◌≢◌, ℕ, ◌<◌, ◌≤◌, List, Option, Some, None, ◌⊎◌, inl, inr, refl, sym, ap, ◌∙◌, arith}
-use Rattle.std.specs.Prelude.{option_map}
-use Rattle.dw_model.specs.Matrix.{Row}
+use Rattle.std.proofs.Common.{◌≡◌, ◌≢◌, ℕ, ◌+◌, ◌<◌, ◌≤◌, List, [], ◌∷◌, Option, Some, None, ◌⊎◌, inl, inr, refl, sym, subst, ap, ◌∙◌, arith}
+use Rattle.std.specs.Prelude.{option_map, drop, IfSome, MatchOption, slice_get}
+use Rattle.dw_model.specs.LineHeader.{LineHeader}
+use Rattle.dw_model.specs.Matrix.{Row, first_address}
 use Rattle.dw_model.specs.Steady.{IsSteady, last_address}
 use Rattle.dw_line.specs.declared.rows.Row.{Row as RowTold}
 use Rattle.dw_line.specs.declared.search.Last.{Last}
 use Rattle.dw_line.specs.declared.walk.Stretch.{Stretch}
 use Rattle.dw_line.specs.Search.{row_told, told_at}
-use Rattle.dw_line.specs.Reached.{told_of, Stays}
-use Rattle.dw_line.specs.Sequences.{IsOwner}
+use Rattle.dw_line.specs.Border.{OwnerEnds, HasRowAt, IsBorder}
+use Rattle.dw_line.specs.Reached.{told_of, Stays, IsLast, IsReached}
+use Rattle.dw_line.specs.Sequences.{used_sequences, IsOwner}
 use Rattle.dw_line.specs.Walked.{IsStretch}
 use Rattle.dw_line.proofs.SearchLemmas.{decide}
 use Rattle.dw_line.proofs.SequenceLemmas.{is-nowhere}
@@ -48,6 +50,54 @@ in_span rows at end high stretch order is = record {
   within = omega (arith, is.within, order);
   row = is.row;
 }
+
+-- ---- where a stretch ends
+
+-- a row has the address of the first of those after some
+row_there : (rows after : List Row) (passed a : ℕ) → drop passed rows ≡ after → a ≡ first_address after → 0 < a → HasRowAt rows a
+row_there rows [] passed a is there above = absurd (omega (arith, there, above))
+row_there rows (row ∷ others) passed a is there above = record { passed = passed; row = row; others = others; is = is; address = sym there }
+
+rows_there : (header : LineHeader) (found : Last) (sequence : Option (List Row)) → IfSome sequence (λ rows. IsReached header rows found.reached) → 0 < found.reached.next.registers.address → IfSome sequence (λ rows. HasRowAt rows found.reached.next.registers.address)
+rows_there header found None is above = is
+rows_there header found (Some rows) is above = row_there rows (drop (is.passed + 1) rows) (is.passed + 1) found.reached.next.registers.address refl is.is.next.address above
+
+-- another sequence begins, or none is left
+owner_border : (rows : List Row) (number : Option ℕ) (at until : ℕ) → IsOwner rows number at until → OwnerEnds rows number until → at < until → until < last_address → IsBorder rows at until
+owner_border rows number at until owner ends order last = λ same. absurd (ends last (same ∙ owner at (omega arith) order))
+
+-- the next row of the sequence begins
+row_border : (header : LineHeader) (rows : List Row) (number at until : ℕ) (found : Last) → found.number ≡ number → IsOwner rows (Some number) at until → at < until → at < found.reached.next.registers.address → IsLast header (used_sequences rows) (Some found) → IsBorder rows at found.reached.next.registers.address
+row_border header rows number at until found named owner order above is = λ same.
+    subst (λ (n : Option ℕ). MatchOption n ⊥ (λ number. IfSome (slice_get (used_sequences rows) number) (λ rows. HasRowAt rows found.reached.next.registers.address))) (sym (owner at (omega arith) order)) (subst (λ (n : ℕ). IfSome (slice_get (used_sequences rows) n) (λ rows. HasRowAt rows found.reached.next.registers.address)) named (rows_there header found (slice_get (used_sequences rows) found.number) is (omega (arith, above))))
+
+-- the sequence or the span ends
+pub first_border : (rows : List Row) (number : Option ℕ) (at until high end : ℕ) → IsOwner rows number at until → OwnerEnds rows number until → at < until → high ≤ last_address → end ≤ until → ((c : ℕ) → c < until → c < high → c < end) → end < high → IsBorder rows at end
+first_border rows number at until high end owner ends order last within least less = by (decide end until)
+  where
+    by : (end < until) ⊎ (until ≤ end) → IsBorder rows at end
+    by (inl before) = absurd (omega (arith, least end before less))
+    by (inr after) =
+        let is : until ≡ end = omega (arith, within, after) in
+        subst (λ (e : ℕ). IsBorder rows at e) is (owner_border rows number at until owner ends order (omega (arith, is, last, less)))
+
+-- the next row begins, or the sequence or the span ends
+pub either_border : (header : LineHeader) (rows : List Row) (number at until high first end : ℕ) (found : Last) → found.number ≡ number → IsOwner rows (Some number) at until → OwnerEnds rows (Some number) until → at < until → high ≤ last_address
+    → first ≤ until → ((c : ℕ) → c < until → c < high → c < first) → at < found.reached.next.registers.address → IsLast header (used_sequences rows) (Some found)
+    → end ≤ found.reached.next.registers.address → end ≤ first → ((c : ℕ) → c < found.reached.next.registers.address → c < first → c < end) → end < high → IsBorder rows at end
+either_border header rows number at until high first end found named owner ends order last within least above is next before lesser less = by (decide end first)
+  where
+    here : (end < found.reached.next.registers.address) ⊎ (found.reached.next.registers.address ≤ end) → end < first → IsBorder rows at end
+    here (inl under) short = absurd (omega (arith, lesser end under short))
+    here (inr over) short =
+        let same : found.reached.next.registers.address ≡ end = omega (arith, next, over) in
+        subst (λ (e : ℕ). IsBorder rows at e) same (row_border header rows number at until found named owner order above is)
+
+    by : (end < first) ⊎ (first ≤ end) → IsBorder rows at end
+    by (inl short) = here (decide end found.reached.next.registers.address) short
+    by (inr whole) =
+        let same : first ≡ end = omega (arith, before, whole) in
+        subst (λ (e : ℕ). IsBorder rows at e) same (first_border rows (Some number) at until high first owner ends order last within least (omega (arith, same, less)))
 
 -- ---- where the row changes
 

@@ -1,3 +1,4 @@
+pub mod Border
 pub mod Fault
 pub mod Header
 pub mod Instruction

@@ -6,6 +6,7 @@ ghost use Rattle.dw_model.specs.Matrix.{row_of};
 ghost use Rattle.dw_model.specs.Path.{path};
 ghost use Rattle.dw_model.specs.Steady.{IsSteady, last_address};
 ghost use Rattle.dw_forms.specs.Tables.{tables_shown, bases_shown};
+ghost use Rattle.dw_line.specs.Border.{OwnerEnds};
 ghost use Rattle.dw_line.specs.Fault.{line_fault};
 ghost use Rattle.dw_line.specs.Header.{without_lists};
 ghost use Rattle.dw_line.specs.Lines.{lines_of, TellsEach};
@@ -233,6 +234,7 @@ impl<'a> Lines<'a> {
         requires number { number_among (used_sequences self.now.rows) address ≡ Some number }
         requires last { IsLast (without_lists self.now.header) (used_sequences self.now.rows) last.now }
         ensures row { FindsRow (without_lists self.now.header) self.now.rows address (Some result) }
+        ensures number { result.number ≡ number }
         ensures stays { Stays self.now.rows number address result }
         ensures counted { steps.new ≤ steps.old + 64 }
     {
@@ -252,6 +254,7 @@ impl<'a> Lines<'a> {
         requires { a < last_address }
         ensures after { a < result.until }
         ensures owner { IsOwner self.now.rows result.number a result.until }
+        ensures border { OwnerEnds self.now.rows result.number result.until }
     {
         Owner {
             number: self.index.find(a),

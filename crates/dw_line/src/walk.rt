@@ -2,6 +2,7 @@
 
 ghost use Rattle.std.specs.Prelude.{◌≡◌, ◌≤◌, ◌<◌, ℕ, Some, None, IfSome};
 ghost use Rattle.dw_model.specs.Steady.{last_address};
+ghost use Rattle.dw_line.specs.Border.{OwnerEnds, IsBorder};
 ghost use Rattle.dw_line.specs.Header.{without_lists};
 ghost use Rattle.dw_line.specs.Reached.{IsLast, Stays};
 ghost use Rattle.dw_line.specs.Sequences.{used_sequences, number_among, IsOwner};
@@ -62,8 +63,10 @@ fn lesser(a: u64, b: u64) -> u64
 fn owner_from(lines: &Lines<'_>, owner: Owner, at: u64) -> Owner
     requires at { at < last_address }
     requires owner { IsOwner lines.now.rows owner.number at owner.until }
+    requires border { at < owner.until → OwnerEnds lines.now.rows owner.number owner.until }
     ensures after { at < result.until }
     ensures owner { IsOwner lines.now.rows result.number at result.until }
+    ensures border { OwnerEnds lines.now.rows result.number result.until }
 {
     if at < owner.until {
         return owner;
@@ -84,6 +87,7 @@ fn row_uncounted<L: Ledger>(
     requires some { 0 < L.parts }
     requires number { number_among (used_sequences lines.now.rows) address ≡ Some number }
     requires last { IsLast (without_lists lines.now.header) (used_sequences lines.now.rows) last.now }
+    ensures number { result.number ≡ number }
     ensures stays { Stays lines.now.rows number address result }
     ensures last { IsLast (without_lists lines.now.header) (used_sequences lines.now.rows) (Some result) }
 {
@@ -109,9 +113,13 @@ impl<'b, 'a> Walk<'b, 'a> {
         }
     }
 
-    /// The next stretch; `None` at the end of the span. Neighbours may have the same row.
+    /// The next stretch; `None` at the end of the span. It ends where the span does, where a row
+    /// begins, or where another sequence holds the addresses, or none. Neighbours may have the same
+    /// row.
     pub fn next(&mut self) -> Option<Stretch>
         ensures stretch { IfSome result (IsStretch self.old.table.rows self.old.at self.old.high) }
+        ensures border { IfSome result (λ stretch. stretch.end < self.old.high
+            → IsBorder self.old.table.rows self.old.at stretch.end) }
         ensures moved { IfSome result (λ stretch. self.new ≡ walked_to stretch.end self.old) }
         ensures ended { result ≡ None → self.old.high ≤ self.old.at }
         ensures stays { result ≡ None → self.new ≡ self.old }
