@@ -32,15 +32,15 @@ def section_of(file, section):
 # ---- whole runs: a file, words behind `-e FILE`, the input, and what is written
 
 
-def overlapping(units, program='14' '0210' '000101'):
+def overlapping(units, program='14' '0210' '000101', offset_size=4):
     """A unit over 0x1000 to 0x3000 without lines, and one over 0x2000 to 0x2010 with the lines of a program that begins
-    at 0x2000, in some order; those of capital letters have the 64-bit format."""
+    at 0x2000, in some order; those of capital letters have the 64-bit format, and the table that of its offsets."""
     abbrev = hex_of('011100110112060000' '021100101711011206000000')
     made = {'x': unit(hex_of('01' '0010000000000000' '00200000')),
             'y': unit(hex_of('02' '00000000' '0020000000000000' '10000000')),
             'X': unit(hex_of('01' '0010000000000000' '00200000'), offset_size=8),
             'Y': unit(hex_of('02' '0000000000000000' '0020000000000000' '10000000'), offset_size=8)}
-    table = line_table(hex_of('000902' '0020000000000000') + hex_of(program))
+    table = line_table(hex_of('000902' '0020000000000000') + hex_of(program), offset_size=offset_size)
     return file_of(b''.join(made[one] for one in units), abbrev, table)
 
 
@@ -64,10 +64,13 @@ def answers(inlined, mixed):
         # no .debug_line; a code without a declaration
         (poked(inlined, (354, b'x')), '401000 zz', '', 1, '!unit 0x0 fault 4\n!bad address\n'),
         (poked(inlined, (64 + 0x23, b'\x63')), '401000', '', 1, '!unit 0x0 fault 1\n'),
+        # a name that is a block of more bytes than the unit has left
+        (poked(inlined, (189, b'\x0a')), '401000', '', 1, '!unit 0x0 fault 1\n'),
         (overlapping('xy'), '-f 2000', '', 0, '??\n??:0\n'),
         (overlapping('yx'), '-f 2000', '', 0, '??\n/w/a.c:3\n'),
         (overlapping('Xy'), '-f 2000', '', 0, '??\n??:0\n'),
         (overlapping('Yx'), '-f 2000', '', 0, '??\n/w/a.c:3\n'),
+        (overlapping('y', offset_size=8), '-f 2000', '', 0, '??\n/w/a.c:3\n'),
         (overlapping('Xy'), '--units', '', 0, '0x0 version 5 compile\n0x25 version 5 compile\n'),
         (overlapping('Yx'), '--units', '', 0, '0x0 version 5 compile\n0x2d version 5 compile\n'),
         (file_of(info + more, abbrev, line), '-f -i 401004 500001 401004 500004', '', 0, (inner + '??\n??:0\n') * 2),
@@ -155,7 +158,7 @@ def refusals(inlined):
                (366 + 3 * 64 + 33, b'\4', '5 SectionRange .debug_line'), (174, b'\x08', '10 Root 0x0'),
                (167, b'\0', '10 Root 0x5b'), (167, b'\x09', '10 Root 0x5b'), (167, b'\2', '10 Root 0x5b')]
     files = [(poked(inlined, (at, new)), why) for at, new, why in changed]
-    files += [(inlined[:63], '1 NotElf'), (inlined[:685], '4 SectionTable'), (b'', '1 NotElf')]
+    files += [(inlined[:size], '1 NotElf' if size < 64 else '4 SectionTable') for size in (0, 63, 64, 685)]
     for file, why in files:
         yield file, '--units', why
         yield file, '-f 401000', why

@@ -66,14 +66,25 @@ smallest = ehdr 0 0 0 0
 abbrev pub poke : List ℕ → ℕ → List ℕ → List ℕ
 poke bytes at new = take at bytes ++ new ++ drop (at + length new) bytes
 
--- A line table of version 5 with the directory /w, the files z.c and a.c in it, and a program.
-unfoldable pub line_table : List ℕ → List ℕ
+-- the fields of a line table behind its header_length: the directory /w, and the files z.c and a.c in
+-- it
+unfoldable pub table_fields : List ℕ
 unfolding hex
-line_table program =
-    little_bytes 4 (49 + length program)
-    ++ hex (codes "05 00 08 00 29 00 00 00 01 01 01 fb 0e 0d 00 01 01 01 01 00 00 00 01 00 00 01")
+table_fields =
+    hex (codes "01 01 01 fb 0e 0d 00 01 01 01 01 00 00 00 01 00 00 01")
     ++ hex (codes "01 01 08 01 2f 77 00 02 01 08 02 0b 02 7a 2e 63 00 00 61 2e 63 00 00")
-    ++ program
+
+-- a line table of version 5 with these fields and a program
+unfoldable pub line_table : List ℕ → List ℕ
+unfolding hex table_fields
+line_table program = little_bytes 4 (49 + length program) ++ hex (codes "05 00 08 00 29 00 00 00") ++ table_fields ++ program
+
+-- the same in the 64-bit format
+unfoldable pub line_table_64 : List ℕ → List ℕ
+unfolding hex table_fields
+line_table_64 program =
+    hex (codes "ff ff ff ff") ++ little_bytes 8 (53 + length program) ++ hex (codes "05 00 08 00 29 00 00 00 00 00 00 00")
+    ++ table_fields ++ program
 
 -- Three functions, two of them inlined, with the abbreviations and entries of a compile unit and a
 -- partial unit.
@@ -167,15 +178,19 @@ unfolding hex
 narrow_unit_64 =
     hex (codes "ff ff ff ff 21 00 00 00 00 00 00 00 05 00 01 08 00 00 00 00 00 00 00 00 02 00 00 00 00 00 00 00 00 00 20 00 00 00 00 00 00 10 00 00 00")
 
--- a file of such units, whose line table has this program
-unfoldable pub overlapping_by : (program info : List ℕ) → List ℕ
-unfolding three_sections hex line_table
-overlapping_by program info =
-    three_sections info (hex (codes "01 11 00 11 01 12 06 00 00 02 11 00 10 17 11 01 12 06 00 00 00")) (line_table program)
+-- a file of such units with this line table
+unfoldable pub overlapping_with : (table info : List ℕ) → List ℕ
+unfolding three_sections hex
+overlapping_with table info = three_sections info (hex (codes "01 11 00 11 01 12 06 00 00 02 11 00 10 17 11 01 12 06 00 00 00")) table
+
+-- the program of its lines
+unfoldable pub narrow_lines : List ℕ
+unfolding hex
+narrow_lines = hex (codes "00 09 02 00 20 00 00 00 00 00 00 14 02 10 00 01 01")
 
 unfoldable pub overlapping : List ℕ → List ℕ
-unfolding hex overlapping_by
-overlapping info = overlapping_by (hex (codes "00 09 02 00 20 00 00 00 00 00 00 14 02 10 00 01 01")) info
+unfolding overlapping_with line_table narrow_lines
+overlapping info = overlapping_with (line_table narrow_lines) info
 
 -- ---- deep trees, and names far away
 

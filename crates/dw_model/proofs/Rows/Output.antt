@@ -2,7 +2,7 @@
 use Rattle.std.specs.Prelude.{◌≡◌, ℕ, true, false, List, ◌∷◌, [], ◌++◌, Some, None, codes, refl}
 use Rattle.dw_model.specs.Query.{address, span}
 use Rattle.dw_model.specs.Output.{Options, inputs, address_in, query_in, text, has_faults}
-use Rattle.dw_model.proofs.Samples.{hex, poke, smallest, inlined, inlined_info, with_info, mixed_versions, wide_unit, narrow_unit, wide_unit_64, narrow_unit_64, overlapping, overlapping_by, bare_unit, deep}
+use Rattle.dw_model.proofs.Samples.{hex, poke, smallest, inlined, inlined_info, with_info, mixed_versions, wide_unit, narrow_unit, wide_unit_64, narrow_unit_64, overlapping, overlapping_with, line_table, line_table_64, narrow_lines, bare_unit, deep}
 use Rattle.dw_model.proofs.OnSamples.{on_samples}
 
 abbrev plain : Options
@@ -63,6 +63,10 @@ narrow_unit_64_first : text functions (overlapping (narrow_unit_64 ++ wide_unit)
 unfolding on_samples
 narrow_unit_64_first = refl
 
+narrow_unit_by_a_64_table : text functions (overlapping_with (line_table_64 narrow_lines) narrow_unit) (word (codes "2000")) ≡ codes "??\n/w/a.c:3\n"
+unfolding on_samples
+narrow_unit_by_a_64_table = refl
+
 narrow_unit_first : text functions (overlapping (narrow_unit ++ wide_unit)) (word (codes "2000")) ≡ codes "??\n/w/a.c:3\n"
 unfolding on_samples
 narrow_unit_first = refl
@@ -94,6 +98,11 @@ names_itself = refl
 many_directories : text plain (poke inlined 279 (0x7f ∷ [])) (word (codes "401000")) ≡ codes "!unit 0x0 fault 4\n"
 unfolding on_samples
 many_directories = refl
+
+-- the name of `main` as a block of more bytes than its unit has left
+block_past_the_unit : text plain (poke inlined 189 (0x0a ∷ [])) (word (codes "401000")) ≡ codes "!unit 0x0 fault 1\n"
+unfolding on_samples
+block_past_the_unit = refl
 
 depth_512 : text functions (deep 0x219 512) (word (codes "401000")) ≡ codes "??\n/w/a.c:3\n"
 unfolding on_samples
@@ -240,12 +249,12 @@ unfolding on_samples
 span_of_the_wide_unit = refl
 
 -- two rows of one location
-joined_rows : text plain (overlapping_by (hex (codes "00 09 02 00 20 00 00 00 00 00 00 14 20 02 0f 00 01 01")) narrow_unit) (word (codes "2000-2010")) ≡ codes "0x0000000000002000-0x0000000000002010 /w/a.c:3\n"
+joined_rows : text plain (overlapping_with (line_table (hex (codes "00 09 02 00 20 00 00 00 00 00 00 14 20 02 0f 00 01 01"))) narrow_unit) (word (codes "2000-2010")) ≡ codes "0x0000000000002000-0x0000000000002010 /w/a.c:3\n"
 unfolding on_samples
 joined_rows = refl
 
 -- the same with a column in the second
-rows_of_two_columns : text plain (overlapping_by (hex (codes "00 09 02 00 20 00 00 00 00 00 00 14 05 04 20 02 0f 00 01 01")) narrow_unit) (word (codes "2000-2010")) ≡ codes "0x0000000000002000-0x0000000000002001 /w/a.c:3\n0x0000000000002001-0x0000000000002010 /w/a.c:3\n"
+rows_of_two_columns : text plain (overlapping_with (line_table (hex (codes "00 09 02 00 20 00 00 00 00 00 00 14 05 04 20 02 0f 00 01 01"))) narrow_unit) (word (codes "2000-2010")) ≡ codes "0x0000000000002000-0x0000000000002001 /w/a.c:3\n0x0000000000002001-0x0000000000002010 /w/a.c:3\n"
 unfolding on_samples
 rows_of_two_columns = refl
 

@@ -1,6 +1,6 @@
 -- What is refused, and what is listed.
-use Rattle.std.specs.Prelude.{◌≡◌, [], ◌++◌, length, take, Some, None, codes, refl}
-use Rattle.dw_model.specs.Faults.{not_elf, not_elf64_little, relocatable, section_table, section_range, compressed, unit_header, address_size, root, root_ranges}
+use Rattle.std.specs.Prelude.{◌≡◌, ℕ, zero, suc, ◌+◌, List, [], ◌∷◌, ◌++◌, length, take, replicate, Option, Some, None, codes, refl}
+use Rattle.dw_model.specs.Faults.{Refusal, not_elf, not_elf64_little, relocatable, section_table, section_range, compressed, unit_header, address_size, root, root_ranges}
 use Rattle.dw_model.specs.Refusal.{refusal, listing_refusal}
 use Rattle.dw_model.specs.Output.{listing}
 use Rattle.dw_model.proofs.Samples.{hex, poke, smallest, inlined_info, inlined, mixed_versions, with_info, wide_unit, narrow_unit, wide_unit_64, narrow_unit_64, overlapping}
@@ -38,9 +38,18 @@ cut_header : refusal (take 63 smallest) ≡ Some not_elf
 unfolding on_samples
 cut_header = refl
 
-cut_table : refusal (take 685 inlined) ≡ Some section_table
-unfolding on_samples
-cut_table = refl
+-- why n beginnings of the sample are refused, from one of this length on
+refusals_from : ℕ → ℕ → List (Option Refusal)
+refusals_from size zero = []
+refusals_from size (suc n) = refusal (take size inlined) ∷ refusals_from (size + 1) n
+
+each_cut_header : refusals_from 0 64 ≡ replicate 64 (Some not_elf)
+unfolding on_samples refusals_from
+each_cut_header = refl
+
+each_cut_file : refusals_from 64 622 ≡ replicate 622 (Some section_table)
+unfolding on_samples refusals_from
+each_cut_file = refl
 
 no_magic : refusal (poke inlined 0 (hex (codes "00"))) ≡ Some not_elf
 unfolding on_samples
