@@ -87,6 +87,7 @@ numbers() { printf '%d.%d.%d' $(($1 >> 16)) $(($1 >> 8 & 255)) $(($1 & 255)); }
 agree include/a2l.h "$(numbers "$(sed -nE 's/^#define A2L_VERSION (0x[0-9a-f]+)u$/\1/p' "$here/include/a2l.h")")"
 agree python/a2l.py "$(sed -nE 's/^_VERSION = \(([0-9]+), ([0-9]+)\)$/\1.\2/p' "$here/python/a2l.py").${version##*.}"
 agree docs/PROMISES.md "$(sed -nE 's/^\| The version is ([0-9.]+)\. .*/\1/p' "$here/docs/PROMISES.md")"
+[ ! -e "$here/CHANGELOG.md" ] || agree CHANGELOG.md "$(sed -nE '/^## /{s/^## ([0-9.]+).*/\1/p;q}' "$here/CHANGELOG.md")"
 crates=$("$here/rust/cargo.sh" metadata --no-deps --format-version 1 | grep -oE '"version":"[^"]*"' | cut -d '"' -f 4)
 [ "$(wc -l <<< "$crates")" = 2 ] || { echo "other versions of the crates: $crates"; exit 1; }
 for crate in $crates; do agree rust "$crate"; done

@@ -27,6 +27,8 @@ WANTED = {b'DATA ': ('data', 'unknown data'), b'FRAME ': ('unknown frame',)}
 
 # A name and an offset, as the last part of a line that says where.
 NAME_AND_OFFSET = re.compile(rb'[^\s\d][^ ]*\+\w+')
+# An architecture and a quote at the end of a path.
+ARCHITECTURE_AND_QUOTE = re.compile(rb':(?:arm|x86_64)["\']')
 # A symbol's name without a line.
 SYMBOL = re.compile(rb'([^\n]+)\n(?:[^\n]+:0:0|\d+ \d+\n\?\?:\?)\n\n')
 
@@ -117,15 +119,18 @@ def is_as_good(line, ours, theirs, not_code):
     """Whether a reply is the peer's, or differs for a reason: both know nothing, of which the peer has
     one spelling for each line that it doesn't understand; FRAME, of which a2l-symbolizer knows nothing;
     `> >` for `>>`; an address outside of code, which llvm-symbolizer takes for the last symbol before
-    it, of data or without a size; and DATA with a name and an offset, of which it drops the name."""
+    it, of data or without a size; DATA with a name and an offset, of which it drops the name; and a
+    quote behind the architecture of a path, which it takes for a part of that."""
     if line.startswith(b'FRAME ') or ours.replace(b'> >', b'>>').replace(b'> >', b'>>') == theirs:
         return True
     unknown = [shape for kind, shape in KINDS.items() if kind.startswith('unknown')]
     if not any(shape.fullmatch(ours) for shape in unknown):
         return False
     symbol = SYMBOL.fullmatch(theirs)
+    if any(shape.fullmatch(theirs) for shape in unknown) or symbol and symbol[1] in not_code:
+        return True
     is_without_name = line.startswith(b'DATA ') and NAME_AND_OFFSET.search(line) and KINDS['data'].fullmatch(theirs)
-    return any(shape.fullmatch(theirs) for shape in unknown) or symbol and symbol[1] in not_code or is_without_name
+    return bool(is_without_name or ARCHITECTURE_AND_QUOTE.search(line))
 
 
 def symbols_not_of_code(program):
