@@ -1,5 +1,5 @@
 -- How many units a file has, by what is done with them.
-use Rattle.std.specs.Prelude.{◌≡◌, ℕ, Bool, true, false, List}
+use Rattle.std.specs.Prelude.{◌≡◌, ℕ, ◌-◌, ◌^◌, min, Bool, true, false, List}
 use Rattle.std.specs.List.{count_by}
 use Rattle.dw_model.specs.Section.{section}
 use Rattle.dw_model.specs.Unit.{Kind, compile, partial, skeleton, skipped, DwarfUnit, units}
@@ -12,6 +12,10 @@ is_kind partial partial = true
 is_kind skeleton skeleton = true
 is_kind skipped skipped = true
 is_kind wanted kind = false
+
+-- a sum in 64 bits; the greatest number of these where it has more
+abbrev pub saturated : ℕ → ℕ
+saturated sum = min sum (2 ^ 64 - 1)
 
 -- how many of some units are of a kind
 abbrev pub count_of : Kind → List DwarfUnit → ℕ

@@ -1,16 +1,22 @@
 -- What a report comes to.
-use Rattle.std.specs.Prelude.{◌≡◌, Option, Some, None, option_and_then}
+use Rattle.std.specs.Prelude.{◌≡◌, true, false, List, Option, None}
+use Rattle.std.specs.List.{list_all}
+use Rattle.dw_model.specs.Answer.{Answer}
 use Rattle.dw_model.specs.Faults.{Refusal}
-use Rattle.dw_elf.specs.OpenFault.{refusal_of}
+use Rattle.dw_elf.specs.OpenFault.{Refuses}
+use Rattle.a2l_findings.specs.Told.{is_answered}
 use Rattle.a2l_findings.specs.declared.report.Outcome.{Outcome}
 use Rattle.a2l_findings.specs.declared.report.Outcome.TheVariants.{Clean, Findings, Refused}
 
--- the refusal that a report has, if it has one
-abbrev pub refusal_told : Outcome → Option Refusal
-refusal_told Clean = None
-refusal_told Findings = None
-refusal_told (Refused fault) = refusal_of fault
-
 -- a report has a refusal exactly where there is one, and has just that one
 abbrev pub TellsRefusal : Outcome → Option Refusal → Type 0
-TellsRefusal outcome refusal = refusal_told outcome ≡ refusal
+TellsRefusal Clean refusal = refusal ≡ None
+TellsRefusal Findings refusal = refusal ≡ None
+TellsRefusal (Refused fault) refusal = Refuses fault refusal
+
+-- Of a report on texts that have these answers: it is clean exactly where the file isn't refused and
+-- each text is answered.
+abbrev pub IsOutcome : Outcome → Option Refusal → List (Option Answer) → Type 0
+IsOutcome Clean refusal answers = (refusal ≡ None) × (list_all is_answered answers ≡ true)
+IsOutcome Findings refusal answers = (refusal ≡ None) × (list_all is_answered answers ≡ false)
+IsOutcome (Refused fault) refusal answers = Refuses fault refusal

@@ -1,10 +1,11 @@
 -- The report on a text that asks for something.
-use Rattle.std.specs.Prelude.{ℕ, true, false, List, Option, Some, None, option_and_then, slice_get}
-use Rattle.dw_model.specs.Answer.{Answer, unit_of}
+use Rattle.std.specs.Prelude.{ℕ, Bool, true, false, List, [], ◌∷◌, Option, Some, None, option_and_then, option_map, slice_get}
+use Rattle.dw_model.specs.Answer.{Answer, not_covered, fault, found, located, unit_of}
 use Rattle.dw_model.specs.Output as model
 use Rattle.dw_model.specs.Query.{Query, address, span, meaning}
 use Rattle.dw_model.specs.Section.{Sections, sections}
 use Rattle.dw_model.specs.Unit.{DwarfUnit, units}
+use Rattle.dw_symbols.specs.Answer.{answer_shown}
 use Rattle.a2l_findings.specs.declared.told.Told.{Told}
 
 -- functions and all frames are written, without the address: -f and -i
@@ -35,3 +36,24 @@ unit_in sections told = option_and_then (slice_get (units sections.info)) told.w
 -- the lines of a report
 abbrev pub lines_told : Told → List ℕ
 lines_told told = told.lines.items
+
+-- the answer to what a text asks; none of a text that asks for nothing
+abbrev pub answer_of_word : (file : List ℕ) → (text : List ℕ) → Option Answer
+answer_of_word file text = option_map (meaning file) (model.query_in text)
+
+-- the answer of a report
+abbrev pub answer_told : Told → Option Answer
+answer_told told = option_map answer_shown told.answer
+
+-- frames or pieces are answered
+abbrev pub has_places : Answer → Bool
+has_places not_covered = false
+has_places (fault unit code) = false
+has_places (found unit frames) = true
+has_places (located []) = false
+has_places (located (piece ∷ pieces)) = true
+
+-- a text asks for something, and frames or pieces are answered
+abbrev pub is_answered : Option Answer → Bool
+is_answered None = false
+is_answered (Some answer) = has_places answer

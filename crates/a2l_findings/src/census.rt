@@ -1,9 +1,9 @@
 //! How many units a file has, by what is done with them.
 
-ghost use Rattle.std.specs.Prelude.{◌≡◌, ◌<◌, length};
+ghost use Rattle.std.specs.Prelude.{◌≡◌, ◌+◌, ◌<◌, length};
 ghost use Rattle.dw_model.specs.Unit as cut;
 ghost use Rattle.dw_units.specs.Header.{kind_shown};
-ghost use Rattle.a2l_findings.specs.Census.{count_of, is_kind, IsCensus};
+ghost use Rattle.a2l_findings.specs.Census.{count_of, is_kind, saturated, IsCensus};
 
 use dw_units::{Kind, Units};
 
@@ -18,12 +18,16 @@ pub struct Census {
 
 impl Census {
     /// How many units answer addresses.
-    pub fn answering(&self) -> usize {
+    pub fn answering(&self) -> usize
+        ensures { result ≡ saturated (self.now.compile + self.now.skeleton) }
+    {
         self.compile.saturating_add(self.skeleton)
     }
 
     /// How many units there are.
-    pub fn all(&self) -> usize {
+    pub fn all(&self) -> usize
+        ensures { result ≡ saturated (self.now.compile + self.now.skeleton + self.now.partial + self.now.skipped) }
+    {
         self.answering()
             .saturating_add(self.partial)
             .saturating_add(self.skipped)

@@ -1,9 +1,12 @@
 //! A report on a file, or on what texts ask of it: a page to read, or a document for programs.
 
-ghost use Rattle.std.specs.Prelude.{◌≡◌, None, IfOk};
+ghost use Rattle.std.specs.Prelude.{◌≡◌, IfOk, if◌then◌else◌, map};
+ghost use Rattle.std.specs.List.{list_all};
 ghost use Rattle.dw_model.specs.Refusal.{refusal};
-ghost use Rattle.a2l_findings.specs.Report.{TellsRefusal, refusal_told};
-ghost use Rattle.a2l_findings.specs.declared.report.Outcome.TheVariants.{Refused};
+ghost use Rattle.a2l_lines.specs.Input.{word_shown};
+ghost use Rattle.a2l_findings.specs.Report.{IsOutcome, TellsRefusal};
+ghost use Rattle.a2l_findings.specs.Told.{answer_of_word, answer_told, is_answered};
+ghost use Rattle.a2l_findings.specs.declared.report.Outcome.TheVariants.{Clean, Findings, Refused};
 
 use crate::findings::{Progress, findings_of};
 use crate::note::{Allocated, Fact, Note, Words};
@@ -89,7 +92,7 @@ fn refused(alloc: Global, file: &[u8], fault: OpenFault, form: Form) -> Allocate
 
 /// What a report comes to that has findings, or none.
 fn outcome_of(is_clean: bool) -> Outcome
-    ensures { refusal_told result ≡ None }
+    ensures { result ≡ (if is_clean then Clean else Findings) }
 {
     if is_clean {
         return Outcome::Clean;
@@ -122,7 +125,9 @@ pub fn report_on_file<P: Progress>(
 }
 
 /// A text asks for something that is answered: it has frames or pieces.
-fn is_answered(told: &Told<'_>) -> bool {
+fn is_answered(told: &Told<'_>) -> bool
+    ensures { result ≡ is_answered (answer_told told.now) }
+{
     match &told.answer {
         Some(Answer::Found { .. }) => true,
         Some(Answer::Pieces(pieces)) => !pieces.is_empty(),
@@ -130,17 +135,29 @@ fn is_answered(told: &Told<'_>) -> bool {
     }
 }
 
+/// Each of some texts asks for something that is answered.
+fn are_answered(tolds: &[Told<'_>]) -> bool
+    ensures { result ≡ list_all is_answered (map answer_told tolds.now) }
+{
+    let mut all = true;
+    for told in tolds {
+        all = all && is_answered(told);
+    }
+    all
+}
+
 /// The report on what texts ask of a file, in their order: the way of each to its answer, and its
 /// answer as `a2l` has it. It is refused exactly as `a2l` refuses it.
 pub fn report_on_words(alloc: Global, file: &[u8], words: &[&str], form: Form) -> Allocated<Report>
-    ensures { IfOk result (λ report. TellsRefusal report.outcome (refusal file.now)) }
+    ensures { IfOk result (λ report. IsOutcome report.outcome (refusal file.now)
+        (map (answer_of_word file.now) (map word_shown words.now))) }
 {
     let tolds = match tell_words(alloc, file, words) {
         Ok(tolds) => tolds,
         Err(OpenFault::Memory) => return Err(AllocError),
         Err(fault) => return refused(alloc, file, fault, form),
     };
-    let is_clean = tolds.iter().all(|told| is_answered(told));
+    let is_clean = are_answered(&tolds);
     let text = match form {
         Form::Page => page::of_words(alloc, words, &tolds)?,
         Form::Document => document::of_words(alloc, words, &tolds, is_clean)?,

@@ -5,13 +5,13 @@ ghost use Rattle.dw_model.specs.Query.{address as address_query, span as span_qu
 ghost use Rattle.ticket_core.specs.declared.query.QueryKind.TheVariants.{Span};
 ghost use Rattle.dw_model.specs.Refusal.{refusal};
 ghost use Rattle.dw_model.specs.Section.{sections};
-ghost use Rattle.dw_model.specs.Answer as answers;
 ghost use Rattle.dw_model.specs.Output as model;
 ghost use Rattle.dw_elf.specs.OpenFault.{RefusesUnlessMemory};
 ghost use Rattle.dw_symbols.specs.Answer.{answer_shown};
 ghost use Rattle.dw_symbols.specs.Told.{query_shown};
 ghost use Rattle.a2l_lines.specs.Input.{word_shown};
-ghost use Rattle.a2l_findings.specs.Told.{lines_of, lines_told, query_lines, unit_in, unit_of_query, unit_of_word};
+ghost use Rattle.a2l_findings.specs.Told.{answer_of_word, answer_told, lines_of, lines_told};
+ghost use Rattle.a2l_findings.specs.Told.{query_lines, unit_in, unit_of_query, unit_of_word};
 
 use crate::note::{Allocated, Note, Words};
 use crate::scene::Scene;
@@ -79,8 +79,7 @@ fn tell_address<'a>(
     address: u64,
 ) -> Allocated<Told<'a>>
     requires same { context.old.file ≡ image.now }
-    ensures answer { IfOk result (λ told. option_map answer_shown told.answer
-        ≡ Some (answers.answer image.now address)) }
+    ensures answer { IfOk result (λ told. answer_told told ≡ Some (meaning image.now (address_query address))) }
     ensures lines { IfOk result (λ told. lines_told told ≡
         query_lines (address_query address) (meaning image.now (address_query address))) }
     ensures unit { IfOk result (λ told. unit_in (sections image.now) told ≡
@@ -103,6 +102,7 @@ fn tell_span<'a>(
     high: u64,
 ) -> Allocated<Told<'a>>
     requires query { query ≡ Span low high }
+    ensures answer { IfOk result (λ told. answer_told told ≡ Some (meaning context.old.file (span_query low high))) }
     ensures lines { IfOk result (λ told. lines_told told ≡
         query_lines (span_query low high) (meaning context.old.file (span_query low high))) }
     ensures unit { IfOk result (λ told. unit_in (sections context.old.file) told ≡ None) }
@@ -117,6 +117,7 @@ fn tell_span<'a>(
 
 /// The report on a bad address.
 fn tell_bad<'a>(alloc: Global) -> Allocated<Told<'a>>
+    ensures answer { IfOk result (λ told. answer_told told ≡ None) }
     ensures lines { IfOk result (λ told. lines_told told ≡ model.bad_address_line) }
     ensures unit { IfOk result (λ told. told.way.place ≡ None) }
 {
@@ -134,6 +135,7 @@ fn tell<'a>(
     word: &str,
 ) -> Allocated<Told<'a>>
     requires same { context.old.file ≡ image.now }
+    ensures answer { IfOk result (λ told. answer_told told ≡ answer_of_word image.now word.now) }
     ensures lines { IfOk result (λ told. lines_told told ≡ lines_of image.now word.now) }
     ensures unit { IfOk result (λ told. unit_in (sections image.now) told ≡ unit_of_word image.now word.now) }
     ensures file { context.new.file ≡ context.old.file }
@@ -155,6 +157,8 @@ fn tell_each<'a>(
     words: &[&str],
 ) -> Allocated<Vec<Told<'a>>>
     requires same { context.old.file ≡ image.now }
+    ensures answers { IfOk result (λ tolds. map answer_told tolds.items ≡
+        map (answer_of_word image.now) (map word_shown words.now)) }
     ensures lines { IfOk result (λ tolds. map lines_told tolds.items ≡
         map (lines_of image.now) (map word_shown words.now)) }
     ensures units { IfOk result (λ tolds. map (unit_in (sections image.now)) tolds.items ≡
@@ -176,6 +180,8 @@ pub fn tell_words<'a>(
 ) -> Result<Vec<Told<'a>>, OpenFault>
     ensures accepted { OnOk result (refusal file.now ≡ None) }
     ensures refused { IfErr result (λ fault. RefusesUnlessMemory fault (refusal file.now)) }
+    ensures answers { IfOk result (λ tolds. map answer_told tolds.items ≡
+        map (answer_of_word file.now) (map word_shown words.now)) }
     ensures lines { IfOk result (λ tolds. map lines_told tolds.items ≡
         map (lines_of file.now) (map word_shown words.now)) }
     ensures units { IfOk result (λ tolds. map (unit_in (sections file.now)) tolds.items ≡

@@ -1,4 +1,4 @@
-use Rattle.std.proofs.Common.{◌≡◌, ◌∙◌, sym}
+use Rattle.std.proofs.Common.{◌∙◌, sym}
 use Rattle.dw_model.specs.Unit as cut
 use Rattle.dw_units.specs.Header.{kind_shown}
 use Rattle.dw_units.specs.Unit.{unit_shown}
