@@ -59,10 +59,12 @@ pprof_by_addr2line() {
 }
 
 # The one of gperftools takes its tools from its own folder, unless it is given all of them. Frames of
-# the C library are left out here too; paths of its units are relative.
+# the C library are left out here too; paths of its units are relative. So are the columns of samples
+# and stubs of .plt, as above. Lines are in the order of their places, since names may differ.
 pprof_of_gperftools() {
     profile_sorts || return 0
     same 'sorts\.cc:[0-9]+' bash -c '
         for tool in addr2line nm objdump c++filt; do tools+=,$tool:$(command -v $tool); done
-        google-pprof --tools="${tools#,}" --lines --text ./sorts sorts.prof | grep -v " \./" | cut -c 41- | sort'
+        google-pprof --tools="${tools#,}" --lines --text ./sorts sorts.prof | grep -v " \./" |
+            sed -E "s/^( *[0-9.]+%?){5} +//" | grep -vx "_init ??:0" | awk "{ print \$NF, \$0 }" | sort'
 }
