@@ -1,5 +1,5 @@
 -- How a fault is reported, and the status of the run.
-use Rattle.std.specs.Prelude.{◌≡◌, ◌⊎◌, ◌<◌, ℕ, List, [], ◌++◌, Option, codes, decimal}
+use Rattle.std.specs.Prelude.{◌≡◌, ◌⊎◌, ℕ, List, [], ◌++◌, Option, None, codes, decimal}
 use Rattle.std.specs.Io.KnownBytes.{append_known}
 use Rattle.dw_model.specs.Faults.{Refusal}
 use Rattle.dw_model.specs.Output.{hexadecimal}
@@ -61,35 +61,24 @@ pub record Tells (fault : Fault) (old new : Option (List ℕ)) (failures_before 
   pub beginning : WritesBeginning old new (line_of fault)
   pub whole : failures_after ≡ failures_before → new ≡ append_known old (line_of fault)
 
--- a fault is reported by its line and status, or out of memory by its own, where the line couldn't
--- be made
+-- a run ends with the status and the line of some fault of which this holds
+abbrev pub EndsBadly : (Fault → Type 0) → ℕ → Option (List ℕ) → Option (List ℕ) → ℕ → ℕ → Type 0
+EndsBadly Why status old new before after =
+    (told : Fault) × Why told × (status ≡ status_of told) × Tells told old new before after
+
+-- it is this one, or out of memory, where its line couldn't be made
 abbrev pub Reports : Fault → ℕ → Option (List ℕ) → Option (List ℕ) → ℕ → ℕ → Type 0
-Reports fault status old new before after =
-    (told : Fault) × ((told ≡ fault) ⊎ (told ≡ faults.Memory)) × (status ≡ status_of told) × Tells told old new before after
+Reports fault = EndsBadly (λ told. (told ≡ fault) ⊎ (told ≡ faults.Memory))
 
--- a run ends with the status and the line of some fault
-abbrev pub EndsBadly : ℕ → Option (List ℕ) → Option (List ℕ) → ℕ → ℕ → Type 0
-EndsBadly status old new before after = (told : Fault) × (status ≡ status_of told) × Tells told old new before after
-
--- why a listing ends early: the file is refused for just this reason, the writer failed, or it was
--- out of memory
-abbrev pub ListFails : Fault → Option Refusal → ℕ → ℕ → Type 0
-ListFails faults.CommandLine refusal before after = ⊥
-ListFails faults.File refusal before after = ⊥
-ListFails (faults.Refused fault) refusal before after = Refuses fault refusal
-ListFails faults.Read refusal before after = ⊥
-ListFails faults.Write refusal before after = before < after
-ListFails faults.Memory refusal before after = Unit {0}
-
--- why answering ends early: the file is refused for just this reason, the reader or the writer
--- failed, or it was out of memory
-abbrev pub SymbolizeFails : Fault → Option Refusal → (reads_before reads_after writes_before writes_after : ℕ) → Type 0
-SymbolizeFails faults.CommandLine refusal reads_before reads_after writes_before writes_after = ⊥
-SymbolizeFails faults.File refusal reads_before reads_after writes_before writes_after = ⊥
-SymbolizeFails (faults.Refused fault) refusal reads_before reads_after writes_before writes_after = Refuses fault refusal
-SymbolizeFails faults.Read refusal reads_before reads_after writes_before writes_after = reads_before < reads_after
-SymbolizeFails faults.Write refusal reads_before reads_after writes_before writes_after = writes_before < writes_after
-SymbolizeFails faults.Memory refusal reads_before reads_after writes_before writes_after = Unit {0}
+-- Why a run over a file ends early: the file is refused for just this reason; or it isn't, and the
+-- reader or the writer failed; or it was out of memory.
+abbrev pub FailsOver : Option Refusal → (reader_failed writer_failed : Type 0) → Fault → Type 0
+FailsOver refusal reader_failed writer_failed faults.CommandLine = ⊥
+FailsOver refusal reader_failed writer_failed faults.File = ⊥
+FailsOver refusal reader_failed writer_failed (faults.Refused fault) = Refuses fault refusal
+FailsOver refusal reader_failed writer_failed faults.Read = (refusal ≡ None) × reader_failed
+FailsOver refusal reader_failed writer_failed faults.Write = (refusal ≡ None) × writer_failed
+FailsOver refusal reader_failed writer_failed faults.Memory = Unit {0}
 
 abbrev pub IsRefused : Fault → Type 0
 IsRefused faults.CommandLine = ⊥

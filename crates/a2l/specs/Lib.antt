@@ -3,5 +3,7 @@ pub mod Command
 pub mod CommandLine
 pub mod Named
 pub mod Conversions
+pub mod Known
 pub mod Listing
 pub mod Serving
+pub mod Ending

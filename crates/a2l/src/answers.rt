@@ -2,7 +2,7 @@
 
 ghost use Rattle.std.specs.Prelude.{◌≡◌, ◌≢◌, ◌<◌, ◌≤◌, [], None, OnOk, OnErr, IfOk, IfErr, IsErrOf};
 ghost use Rattle.dw_model.specs.Refusal.{refusal};
-ghost use Rattle.a2l.specs.Fault.{IsRefused, SymbolizeFails};
+ghost use Rattle.a2l.specs.Fault.{FailsOver, IsRefused};
 ghost use Rattle.a2l_lines.specs.Symbolize.{Answers, AnswersBeginning};
 
 use crate::fault::Fault;
@@ -41,8 +41,8 @@ pub fn symbolize_file<T: Threads + Wait + Sync, R: Source, W: Sink>(
         (AnswersBeginning options.now file.now (R.left reader.old) (W.told writer.old) (W.told writer.new)) }
     ensures nothing { IsErrOf result Fault.Read → writer.new ≡ writer.old }
     ensures words { options.now.words.items ≢ [] → reader.new ≡ reader.old }
-    ensures fault { IfErr result (λ fault. SymbolizeFails fault (refusal file.now)
-        (R.failures reader.old) (R.failures reader.new) (W.failures writer.old) (W.failures writer.new)) }
+    ensures fault { IfErr result (FailsOver (refusal file.now)
+        (R.failures reader.old < R.failures reader.new) (W.failures writer.old < W.failures writer.new)) }
     ensures refused { IfErr result (λ fault. IsRefused fault → writer.new ≡ writer.old) }
 {
     let image = Image::open(alloc, file)?;

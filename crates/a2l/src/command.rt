@@ -1,6 +1,6 @@
 //! The command line.
 
-ghost use Rattle.std.specs.Prelude.{◌≡◌, ◌≤◌, false, IfOk, Some, [], codes, map, option_map, unwrap_or};
+ghost use Rattle.std.specs.Prelude.{◌≡◌, ◌≤◌, false, IfOk, IsErrOf, Some, [], codes, map, option_map, unwrap_or};
 ghost use Rattle.std.specs.Option.{option_eq};
 ghost use Rattle.std.specs.Str.{bytes_eq};
 ghost use Rattle.clap.specs.Words.{app_of, first_value, found_of, matched_of, raw_values, rule_of};
@@ -8,7 +8,7 @@ ghost use Rattle.a2l_lines.specs.Input.{word_shown};
 ghost use Rattle.a2l.specs.Command.{IsCount, AsksFor};
 ghost use Rattle.a2l.specs.CommandLine as line;
 ghost use Rattle.a2l.specs.CommandLine.{command_line};
-ghost use Rattle.a2l.specs.Named.{IsNamed};
+ghost use Rattle.a2l.specs.Named.{IsNamed, NameJob};
 
 use a2l_lines::Options;
 use clap::error::ErrorKind;
@@ -51,12 +51,24 @@ pub enum ParseFault {
 }
 
 impl From<AllocError> for ParseFault {
+    ghost use Rattle.std.specs.Prelude.{◌≡◌};
+    ghost use Rattle.a2l.specs.declared.command.ParseFault.TheVariants.{Memory};
+
+    ghost from_gives = { λ _ fault. fault ≡ Memory };
+
     fn from(_error: AllocError) -> Self {
         ParseFault::Memory
     }
 }
 
 impl From<clap::Error> for ParseFault {
+    ghost use Rattle.std.specs.Prelude.{◌≡◌, ◌≢◌};
+    ghost use Rattle.clap.specs.Words.{kind_of};
+    ghost use Rattle.clap.specs.declared.error.kind.ErrorKind.TheVariants.{OutOfMemory};
+    ghost use Rattle.a2l.specs.declared.command.ParseFault.TheVariants.{Refused};
+
+    ghost from_gives = { λ error fault. fault ≡ Refused → kind_of error ≢ OutOfMemory };
+
     fn from(error: clap::Error) -> Self {
         match error.kind() {
             ErrorKind::OutOfMemory => ParseFault::Memory,
@@ -142,6 +154,7 @@ fn count(matches: &ArgMatches<'_>, id: &str, default: u8) -> Result<u8, ParseFau
 /// What a command line asks for, whose words are without the program's own name.
 pub fn parse<'a, S: AsStr>(alloc: Global, words: &'a [S]) -> Result<Job<'a>, ParseFault>
     ensures named { IfOk result (IsNamed (map S.text words.now)) }
+    ensures refused { IsErrOf result ParseFault.Refused → ¬ (NameJob (map S.text words.now)) }
     ensures workers { IfOk result (λ job. IsCount job.options.workers) }
     ensures senders { IfOk result (λ job. IsCount job.options.senders) }
 {

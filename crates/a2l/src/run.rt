@@ -1,7 +1,8 @@
 //! The whole program, over any files and streams.
 
-ghost use Rattle.std.specs.Prelude.{◌≡◌, ◌≢◌, ◌<◌, ◌≤◌, [], IfOk, IsErrOf, map};
+ghost use Rattle.std.specs.Prelude.{◌≡◌, ◌≢◌, ◌<◌, ◌≤◌, [], IfOk, IfErr, map};
 ghost use Rattle.std.specs.Io.KnownBytes.{append_known};
+ghost use Rattle.a2l.specs.Ending.{IsFirst};
 ghost use Rattle.a2l.specs.Fault.{usage_line, EndsBadly};
 ghost use Rattle.a2l.specs.Serving.{Serves, number_of};
 ghost use Rattle.a2l_lines.specs.declared.symbolizer.Status.TheVariants.{Clean};
@@ -20,7 +21,7 @@ use std::thread::Threads;
 /// Runs the program on the words of a command line, which are without its own name, and returns its
 /// status: 0 where all is well, 1 where an input is a bad address or its unit can't be read, 2
 /// where the command line or the file is refused, and 3 where reading or writing failed, or it was
-/// out of memory.
+/// out of memory. The first fault decides.
 pub fn run<T: Threads + Wait + Sync, S: AsStr, L: Load, R: Source, W: Sink, E: Sink>(
     rt: &T,
     alloc: Global,
@@ -35,7 +36,8 @@ pub fn run<T: Threads + Wait + Sync, S: AsStr, L: Load, R: Source, W: Sink, E: S
     ensures served { words.now ≢ [] → result ≤ 1 → Serves (L.known loader.old) (map S.text words.now)
         (R.left reader.old) (W.told writer.old) (W.told writer.new) result }
     ensures well { result ≤ 1 → errors.new ≡ errors.old }
-    ensures badly { 1 < result → EndsBadly result
+    ensures badly { 1 < result → EndsBadly (IsFirst (L.known loader.old) (map S.text words.now)
+        (R.failures reader.old < R.failures reader.new) (W.failures writer.old < W.failures writer.new)) result
         (E.told errors.old) (E.told errors.new) (E.failures errors.old) (E.failures errors.new) }
 {
     match answer(rt, alloc, words, loader, reader, writer) {
@@ -58,7 +60,8 @@ fn answer<T: Threads + Wait + Sync, S: AsStr, L: Load, R: Source, W: Sink>(
         × (W.told writer.new ≡ append_known (W.told writer.old) usage_line)) }
     ensures served { words.now ≢ [] → IfOk result (λ status. Serves (L.known loader.old) (map S.text words.now)
         (R.left reader.old) (W.told writer.old) (W.told writer.new) (number_of status)) }
-    ensures write { IsErrOf result Fault.Write → W.failures writer.old < W.failures writer.new }
+    ensures first { IfErr result (IsFirst (L.known loader.old) (map S.text words.now)
+        (R.failures reader.old < R.failures reader.new) (W.failures writer.old < W.failures writer.new)) }
 {
     if words.is_empty() {
         return match write_all(writer, USAGE.as_bytes()) {

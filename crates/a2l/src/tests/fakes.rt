@@ -13,7 +13,7 @@ use std::sync::ledger::Ledger;
 pub struct OneFile<'a>(pub Option<&'a [u8]>, pub Global);
 
 impl Load for OneFile<'_> {
-    ghost known = { λ s _. option_copied s.0 };
+    ghost known = { λ s _. Some (option_copied s.0) };
 
     fn load(&mut self, _path: &str) -> Result<Vec<u8>, LoadFault> {
         let Some(bytes) = self.0 else {
