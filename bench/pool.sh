@@ -21,7 +21,7 @@ cat > copy/crates/pool_time/src/main.rt <<'END'
 //! another. It says when it begins and when it has ended.
 #![tactic(auto)]
 
-use a2l_lines::{Crew, in_order, order_of, run_pool};
+use a2l_lines::{Crew, Plan, in_order, run_pool};
 use dw_symbols::{Answer, Context, Image};
 use std::alloc::{AllocError, Global};
 use std::io::Write;
@@ -50,8 +50,8 @@ fn addresses(alloc: Global, image: &Image<'_>, crew: Crew, count: u64, begin: u6
         let distance = (state >> 20).checked_rem(size).unwrap_or(0);
         drawn.push(Query::address(begin.wrapping_add(distance)))?;
     }
-    let order = order_of(alloc, image, &drawn, crew)?;
-    let queries = in_order(alloc, &drawn, &order)?;
+    let plan = Plan::new(alloc, image, &drawn, crew)?;
+    let queries = in_order(alloc, &drawn, &plan.order)?;
     Ok(queries)
 }
 

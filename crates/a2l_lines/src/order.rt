@@ -1,36 +1,14 @@
-//! The order in which queries are asked.
+//! Queries in the order in which they are asked, and their answers in the order of the queries.
 
 ghost use Rattle.std.specs.Prelude.{◌≡◌, ◌<◌, length, IfOk};
 ghost use Rattle.std.specs.List.{All};
 ghost use Rattle.a2l_lines.specs.Order.{IsOrder, AreInPlace, asked_in};
 
-use crate::crew::Crew;
-use crate::turns::{Turn, Turns};
-use dw_symbols::{Answer, Image};
+use crate::turns::Turn;
+use dw_symbols::Answer;
 use std::alloc::{AllocError, Global};
 use std::mem;
 use ticket_core::Query;
-
-/// The order in which queries are best asked by a pool of these workers: the index of each, after
-/// its turn. Those of a unit are asked together, the largest unit first: of one unit at a time by
-/// one worker, and else of 16 at a time; of these 16 the first query of each comes first, and the
-/// others are evenly mixed.
-pub fn order_of(
-    alloc: Global,
-    image: &Image<'_>,
-    queries: &[Query],
-    crew: Crew,
-) -> Result<Vec<(Turn, usize)>, AllocError>
-    ensures { IfOk result (λ order. IsOrder queries.now order.items) }
-{
-    let mut turns = Turns::new(alloc, image, queries, crew)?;
-    let mut order = Vec::new(alloc);
-    for i in 0..queries.len() {
-        order.push((turns.next(i), i))?;
-    }
-    order.sort_unstable();
-    Ok(order)
-}
 
 /// The queries in an order of their indexes.
 pub fn in_order(

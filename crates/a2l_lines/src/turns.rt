@@ -1,22 +1,11 @@
 //! When each query is asked, so that workers share the units. No promise rests on it.
 
-use crate::crew::Crew;
-use crate::survey::{Load, Survey, survey_of};
-use dw_symbols::Image;
+use crate::survey::Survey;
+use crate::waves::{Share, shares_of};
 use std::alloc::{AllocError, Global};
-use ticket_core::Query;
 
-/// How many units are asked at a time where several workers share them: as many as a worker keeps.
-pub const WAVE: usize = 16;
-
-/// How many units are asked at a time. One worker reads one after the other: where two waves meet,
-/// it would drop units that are asked again.
-fn wave_of(sharers: usize) -> usize {
-    if sharers > 1 {
-        return WAVE;
-    }
-    1
-}
+/// How many queries of one worker are asked in a row, so that it answers as many before it waits.
+const ROW: u64 = 4;
 
 /// How many turns of a wave come after the first of each of its units.
 const LATER: u64 = u32::MAX as u64 - 1;
@@ -27,79 +16,100 @@ pub type Turn = (u32, u32);
 /// The turn of a query without a unit.
 const LAST: Turn = (u32::MAX, u32::MAX);
 
+/// How many queries a worker gets in a wave, and how many of these have a turn.
+#[derive(Clone, Copy, Debug)]
+struct Progress {
+    count: u64,
+    seen: u64,
+}
+
+impl Progress {
+    /// The turn of the next query: rows of queries are evenly spread over the wave.
+    fn next(&mut self) -> u32 {
+        let row = self.seen.checked_div(ROW).unwrap_or(0).wrapping_mul(ROW);
+        self.seen = self.seen.wrapping_add(1);
+        let part = row.wrapping_mul(LATER).checked_div(self.count).unwrap_or(0);
+        let later = u32::try_from(part).unwrap_or(u32::MAX);
+        later.saturating_add(1)
+    }
+}
+
 /// The turns of queries, one after the other.
 #[derive(Debug, Drop)]
-pub struct Turns {
-    survey: Survey,
-    /// How many units a wave has.
-    wave: usize,
-    /// For each unit its rank by size; that of the largest is 0.
-    ranks: Vec<usize>,
-    /// For each unit how many of its queries have a turn.
-    seen: Vec<u64>,
+pub struct Turns<'s> {
+    survey: &'s Survey,
+    /// How many workers share the units.
+    sharers: usize,
+    /// For each unit its wave and its worker.
+    shares: Vec<Share>,
+    /// For each unit whether one of its queries has a turn.
+    begun: Vec<bool>,
+    /// For each wave and each worker how far its queries are.
+    progress: Vec<Progress>,
 }
 
-/// For each unit its rank by size; that of the largest is 0.
-fn ranks_of(alloc: Global, loads: &[Load]) -> Result<Vec<usize>, AllocError> {
-    let mut sizes = Vec::new(alloc);
-    for (i, load) in loads.iter().enumerate() {
-        sizes.push((u64::MAX - load.size, i))?;
+impl<'s> Turns<'s> {
+    /// No query has a turn yet. So many workers share the units.
+    pub fn new(alloc: Global, survey: &'s Survey, sharers: usize) -> Result<Self, AllocError> {
+        let shares = shares_of(alloc, &survey.loads, sharers)?;
+        let waves = shares.iter().map(|share| share.wave).max().unwrap_or(0);
+        let none = Progress { count: 0, seen: 0 };
+        let mut turns = Turns {
+            survey,
+            sharers,
+            shares,
+            begun: vec![in alloc; false; survey.loads.len()]?,
+            progress: vec![in alloc; none; waves.wrapping_add(1).wrapping_mul(sharers)]?,
+        };
+        turns.count();
+        Ok(turns)
     }
-    sizes.sort_unstable();
-    let mut ranks = vec![in alloc; 0usize; loads.len()]?;
-    for (rank, (_, unit)) in sizes.iter().enumerate() {
-        if let Some(place) = ranks.get_mut(*unit) {
-            *place = rank;
+
+    /// Counts the queries of each worker in each wave.
+    fn count(&mut self) {
+        let Turns {
+            survey,
+            sharers,
+            shares,
+            progress,
+            ..
+        } = self;
+        for (share, load) in shares.iter().zip(survey.loads.iter()) {
+            let place = share.wave.wrapping_mul(*sharers).wrapping_add(share.worker);
+            if let Some(progress) = progress.get_mut(place) {
+                progress.count = progress.count.wrapping_add(load.count);
+            }
         }
     }
-    Ok(ranks)
-}
 
-/// The turn of a unit's query after `seen` others of it: the first comes with the first of the
-/// other units of its wave, the others are spread evenly over the rest of the wave.
-fn turn(rank: usize, wave: usize, seen: u64, count: u64) -> Turn {
-    let wave = u32::try_from(rank.checked_div(wave).unwrap_or(0)).unwrap_or(u32::MAX);
-    if seen == 0 {
-        return (wave, 0);
-    }
-    let part = seen.wrapping_mul(LATER).checked_div(count).unwrap_or(0);
-    let later = u32::try_from(part).unwrap_or(u32::MAX);
-    (wave, later.saturating_add(1))
-}
-
-impl Turns {
-    /// No query has a turn yet.
-    pub fn new(
-        alloc: Global,
-        image: &Image<'_>,
-        queries: &[Query],
-        crew: Crew,
-    ) -> Result<Self, AllocError> {
-        let survey = survey_of(alloc, image, queries)?;
-        let ranks = ranks_of(alloc, &survey.loads)?;
-        let seen = vec![in alloc; 0u64; survey.loads.len()]?;
-        let wave = wave_of(crew.sharers(&survey.loads));
-        Ok(Turns {
-            survey,
-            wave,
-            ranks,
-            seen,
-        })
+    /// The share of the unit of the query at an index.
+    pub fn share(&self, index: usize) -> Option<Share> {
+        let unit = self.survey.units.get(index)?;
+        let share = self.shares.get(*unit)?;
+        Some(*share)
     }
 
-    /// The turn of the query at an index. A query without a unit comes last.
+    /// The turn of the query at an index: the first query of a unit comes with those of the other
+    /// units of its wave, and a query without a unit comes last.
     pub fn next(&mut self, index: usize) -> Turn {
-        let Some(unit) = self.survey.units.get(index) else {
+        let (Some(unit), Some(share)) = (self.survey.units.get(index), self.share(index)) else {
             return LAST;
         };
-        let (Some(load), Some(rank)) = (self.survey.loads.get(*unit), self.ranks.get(*unit)) else {
+        let wave = u32::try_from(share.wave).unwrap_or(u32::MAX);
+        let Some(begun) = self.begun.get_mut(*unit) else {
             return LAST;
         };
-        let Some(seen) = self.seen.get_mut(*unit) else {
-            return LAST;
-        };
-        let turn = turn(*rank, self.wave, *seen, load.count);
-        *seen = seen.wrapping_add(1);
-        turn
+        if !*begun {
+            *begun = true;
+            return (wave, 0);
+        }
+        let place = share
+            .wave
+            .wrapping_mul(self.sharers)
+            .wrapping_add(share.worker);
+        match self.progress.get_mut(place) {
+            Some(progress) => (wave, progress.next()),
+            None => LAST,
+        }
     }
 }

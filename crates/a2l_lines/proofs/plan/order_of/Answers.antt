@@ -1,5 +1,5 @@
 use Rattle.a2l_lines.proofs.OrderLemmas.{contains-more, within-more, length-more, sorted}
-use Rattle.a2l_lines.proofs.order.order_of.Goals as goal
+use Rattle.a2l_lines.proofs.plan.order_of.Goals as goal
 
 pub loop-i-preserved : goal.loop-i-preserved
 loop-i-preserved c = record {

@@ -1,6 +1,6 @@
 use Rattle.std.proofs.Common.{◌≡◌, ◌<◌, ℕ, length}
 use Rattle.std.specs.List.{All, Contains}
-use Rattle.a2l_lines.proofs.order.order_of.Given as goal
+use Rattle.a2l_lines.proofs.plan.order_of.Given as goal
 
 abbrev pub invariant-loop-i : goal.invariant-loop-i
 invariant-loop-i l = record {
