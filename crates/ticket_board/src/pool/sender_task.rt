@@ -16,8 +16,8 @@ use std::collections::VecDeque;
 use std::sync::Wait;
 use ticket_core::{NoMemory, Query, Solver};
 
-/// How often a sender looks again before it parks: for some five microseconds.
-const LOOKS: usize = 300;
+/// How often a sender looks again before it parks: for some hundred microseconds.
+const LOOKS: usize = 6000;
 
 /// The phase of a number that waits, as a state word has it.
 const WAITS: u64 = 1;

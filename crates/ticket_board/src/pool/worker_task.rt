@@ -16,8 +16,8 @@ use std::alloc::Global;
 use std::sync::Wait;
 use ticket_core::{NoMemory, Solver};
 
-/// At how many cells a worker looks again before it parks: for some five microseconds.
-const CELLS: usize = 1600;
+/// At how many cells a worker looks again before it parks: for some hundred microseconds.
+const CELLS: usize = 32_000;
 
 /// Where a worker is: its board, its gate, what is meant for it, and the bells of its pool.
 #[derive(Drop)]
