@@ -187,7 +187,6 @@ struct counts counts_of(const uint8_t *file, size_t size)
 
     if (take_apart(file, size, &other)) {
         counts.units = parts_of(&other.sections[INFO]);
-        counts.tables = parts_of(&other.sections[LINE]);
         counts.abbrev_bytes = other.sections[ABBREV].size;
         counts.line_bytes = other.sections[LINE].size;
         counts.range_bytes = other.sections[RNGLISTS].size;

@@ -24,8 +24,8 @@ enum call { OPEN, PIECES, FRAMES, LOCATIONS, CALLS };
 static const char *const call_names[CALLS] = {"a2l_open", "a2l_find_pieces", "a2l_find_frames", "a2l_find_locations"};
 
 /* What a call may cost: so many steps, and so many more for each byte of the file; and of heap the same, where a block that
- * grows counts twice. More is known to be needed only where many things name so many bytes at least. */
-enum { STEPS = 50000, STEPS_A_BYTE = 100, HEAP = 16384, HEAP_A_BYTE = 128, MUCH = 500 };
+ * grows counts twice. */
+enum { STEPS = 50000, STEPS_A_BYTE = 100, HEAP = 16384, HEAP_A_BYTE = 128 };
 
 enum { MOST_QUESTIONS = 64, MOST_PIECES = 6, ROOM = 1 << 16 };
 
@@ -53,7 +53,10 @@ static int64_t steps_left = INT64_MAX;
 static bool limited;
 static jmp_buf given_up;
 
-/* How much many units or line tables may name. */
+/* Costs as features, so that files that cost more than others are kept and go on to be changed. */
+__attribute__((section("__libfuzzer_extra_counters"))) static uint8_t costs[2 * CALLS][65];
+
+/* How much of a section the units, or the tables that they name, may have in common. */
 static size_t values_of_units(const struct counts *has)
 {
     return has->units * has->abbrev_bytes;
@@ -64,26 +67,25 @@ static size_t ranges_of_units(const struct counts *has)
     return has->units * has->range_bytes;
 }
 
-static size_t lines_of_tables(const struct counts *has)
+static size_t lines_of_units(const struct counts *has)
 {
-    return (has->tables - (has->tables > 0)) * has->line_bytes;
+    return has->units * has->line_bytes;
 }
 
-/* Costs as features, so that files that cost more than others are kept and go on to be changed. */
-__attribute__((section("__libfuzzer_extra_counters"))) static uint8_t costs[2 * CALLS][65];
-
-/* What is known to cost more, by calls and by what a file has much of: no finding, and the file is given up. A line goes
- * when its cause is mended. */
+/* What is known to cost more: which calls, where a file has how much of what, and why. It is no finding, and the file is
+ * given up. A line goes when its cause is mended. */
 static const struct known {
     bool calls[CALLS];
     size_t (*much)(const struct counts *has);
+    size_t above;
     const char *reason;
 } known[] = {
-    {{[OPEN] = true}, values_of_units, "the first entries of units may have many values that take no bytes"},
-    {{[OPEN] = true}, ranges_of_units, "units may have the tails of one list, and each tail is read whole"},
-    {{[PIECES] = true}, ranges_of_units, "each border of a span is found by reading the lists of all units again"},
-    {{[PIECES] = true, [FRAMES] = true, [LOCATIONS] = true}, lines_of_tables,
-     "line tables may lead to one list of files or to one program, and each is kept and run whole"},
+    {{[OPEN] = true}, values_of_units, 10000, "first entries of units may have many values that take no bytes"},
+    {{[OPEN] = true}, ranges_of_units, 20000, "units may have the tails of one list, and each tail is read whole"},
+    {{[PIECES] = true}, ranges_of_units, 1000, "each border of a span is found by reading the lists of all units again"},
+    {{[PIECES] = true, [FRAMES] = true, [LOCATIONS] = true}, lines_of_units, 10000,
+     "line tables may lead to one list of files, of which each has a copy"},
+    {{[PIECES] = true}, lines_of_units, 1500, "a program of many rows is run again for each unit, and a stretch without a row behind each hole"},
 };
 enum { KNOWN = sizeof known / sizeof *known };
 static unsigned long known_seen[KNOWN];
@@ -94,7 +96,7 @@ static bool is_known(void)
     size_t i;
 
     for (i = 0; i < KNOWN; i++)
-        if (known[i].calls[calling] && known[i].much(&has) > MUCH) {
+        if (known[i].calls[calling] && known[i].much(&has) > known[i].above) {
             known_seen[i]++;
             return true;
         }
@@ -105,7 +107,6 @@ static void costs_too_much(const char *what, uint64_t much)
 {
     static char text[200];
 
-    if (getenv("COSTS")) { steps_left = INT64_MAX / 2 + steps_left; return; }
     if (is_known()) {
         heap_free_all();
         longjmp(given_up, 1);
@@ -152,11 +153,9 @@ static size_t digits(uint64_t number)
 static void end_call(void)
 {
     uint64_t steps = most_steps() - (uint64_t)steps_left;
-    if (getenv("COSTS") && steps > 1ull << 60) steps += INT64_MAX / 2;
 
     limited = false;
     costs[2 * calling][digits(4 * steps / (file_size + 1))] = 1;
-    if (getenv("COSTS")) fprintf(stderr, "COSTS %s steps %lu a byte %lu of %zu\n", call_names[calling], steps, steps / (file_size + 1), file_size);
 }
 
 /* Looks at the heap that a call took besides its answer, which takes so many bytes, and twice so many while it grows, and
@@ -167,9 +166,7 @@ static void look_at_heap(size_t answer)
     size_t answers = 2 * answer + (calling == OPEN ? 0 : last), heap = heap_peak > answers ? heap_peak - answers : 0;
 
     last = answer;
-
     costs[2 * calling + 1][digits(4 * heap / (file_size + 1))] = 1;
-    if (getenv("COSTS")) fprintf(stderr, "COSTS %s heap %lu a byte %lu of %zu\n", call_names[calling], heap, heap / (file_size + 1), file_size);
     if (heap > HEAP + HEAP_A_BYTE * file_size)
         costs_too_much("bytes of heap", heap);
 }

@@ -14,7 +14,7 @@ from generate import Generator
 from samples import bases
 
 MADE_AT_RANDOM = 1500
-HOSTILE_SIZES = [400, 1500, 3000]
+HOSTILE_SIZES = [400, 1500, 7000]
 
 
 def files(samples):
