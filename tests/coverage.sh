@@ -1,13 +1,14 @@
 #!/usr/bin/env bash
-# Searches for files that a2l answers wrongly, that crash it, or that cost too much, by what they reach in the library for
-# C: libFuzzer changes files by their structure (tests/coverage/mutate.c), keeps those that pass an edge of the program, or
-# cost as much, as none before, and changes these again. What is asked of each, and what is wrong, stands at the head of
-# tests/coverage/search.c. All that was kept is then compared with the model (tests/model): listings, addresses and spans,
-# byte for byte. Words: how many seconds to search (300 without a word), and a folder in which what is kept stays from one
-# run to the next; with 0 seconds only the files of the folder are tried. It runs on all processors that it may use. Run it
-# after `rt run` in crates/a2l has built the program and `rt lib` in crates/a2l_c the library. It needs clang with
-# libclang-rt-14-dev, binutils and python3. A file with a finding is kept, its last lines are printed, and the script fails.
-# The variable A2L_COVERAGE names a folder in which the build stays, and is taken from.
+# Searches for files that a2l answers wrongly, that crash it, or that cost too much, by what they reach in the library
+# for C: libFuzzer changes files by their structure (tests/coverage/mutate.c), keeps those that pass an edge of the
+# program, or cost as much, as none before, and changes these again. What is asked of each, and what is wrong, stands at
+# the head of tests/coverage/search.c. All that was kept is then compared with the model (tests/model): listings,
+# addresses and spans, byte for byte. Words: how many seconds to search (300 without a word), and a folder in which what
+# is kept stays from one run to the next; with 0 seconds only the files of the folder are tried. It runs on all
+# processors that it may use. Run it after `rt run` in crates/a2l has built the program and `rt lib` in crates/a2l_c the
+# library. It needs clang with libclang-rt-14-dev, binutils and python3. A file with a finding is kept, what is wrong
+# with it is printed, and the script fails. The variable A2L_COVERAGE names a folder in which the build stays, and is
+# taken from.
 kept=${TMPDIR:-/tmp}
 . "$(dirname "$0")/programs.sh"
 need_a2l
@@ -15,7 +16,8 @@ seconds=${1:-300}
 corpus=$(realpath -m "${2:-$work/corpus}")
 build=$(realpath -m "${A2L_COVERAGE:-$work/build}")
 most=8192
-[ -f "$(clang -print-file-name=libclang_rt.fuzzer-x86_64.a)" ] || { echo "skipped, no libFuzzer here (libclang-rt-14-dev)"; exit 0; }
+[ -f "$(clang -print-file-name=libclang_rt.fuzzer-x86_64.a)" ] ||
+    { echo "skipped, no libFuzzer here (libclang-rt-14-dev)"; exit 0; }
 mkdir -p "$corpus" "$build" seeds
 
 # The toolchain by links, but for its clang, which keeps the module of the library that it is to compile, and the words.
@@ -29,14 +31,16 @@ lay_out_toolchain() {
     ln -s "$kit/toolchain/lib" kit/toolchain/
     cat > kit/toolchain/bin/clang <<END_CLANG
 #!/usr/bin/env bash
-for word in "\$@"; do [[ \$word != *.bc ]] || { cp "\$word" "$build/module.bc"; printf '%s\n' "\$@" > "$build/words"; }; done
+for word in "\$@"; do
+    [[ \$word != *.bc ]] || { cp "\$word" "$build/module.bc"; printf '%s\n' "\$@" > "$build/words"; }
+done
 exec -a "\$0" "$kit/toolchain/bin/clang" "\$@"
 END_CLANG
     chmod +x kit/toolchain/bin/clang
 }
 
-# Compiles the module once more, with a count of each edge, and links the search to it. The library's own calls for memory
-# go to the heap of the search.
+# Compiles the module once more, with a count of each edge, and links the search to it. The library's own calls for
+# memory go to the heap of the search.
 build_search() {
     local kit name words
     kit=$(dirname "$(rt doc)")
@@ -65,7 +69,11 @@ trap 'rmdir "$findings" 2> /dev/null; rm -rf "$work"' EXIT
 failed=0
 cores=$(nproc)
 how=(-max_total_time="$seconds" -jobs="$cores" -workers="$cores")
-if [ "$seconds" = 0 ]; then how=(-runs=0 -jobs=1); else python3 "$here/tests/coverage/seeds.py" seeds "$here/samples" $most; fi
+if [ "$seconds" = 0 ]; then
+    how=(-runs=0 -jobs=1)
+else
+    python3 "$here/tests/coverage/seeds.py" seeds "$here/samples" $most
+fi
 
 # on a stack of a megabyte
 (ulimit -c 0 -s 1024; "$build/search" "$corpus" seeds "${how[@]}" -max_len=$most -timeout=60 -rss_limit_mb=2048 \

@@ -1,4 +1,5 @@
-/* The heap of the library: counts what is held, refuses one allocation, and sees what is written before or behind a block. */
+/* The heap of the library: it counts what is held, refuses one allocation, and sees what is written before or behind a
+ * block. */
 #include "search.h"
 
 #include <stdlib.h>

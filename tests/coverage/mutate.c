@@ -1,15 +1,15 @@
-/* Changes files by their structure. The sections of DWARF are taken out of a file, and in one of them a unit, a line table
- * or just some bytes are dropped, copied, repeated or changed, or get an address or an offset that means something in the
- * file. The lengths and offsets that this moves are mended, and a file is laid out around the sections again, with two
- * addresses behind it. One in eight changes is of plain bytes instead. */
+/* Changes files by their structure. The sections of DWARF are taken out of a file, and in one of them a unit, a line
+ * table or just some bytes are dropped, copied, repeated or changed, or get an address or an offset that means something
+ * in the file. The lengths and offsets that this moves are mended, and a file is laid out around the sections again,
+ * with two addresses behind it. One in eight changes is of plain bytes instead. */
 #include "search.h"
 
 #include <stdbool.h>
 #include <string.h>
 
 enum { INFO, ABBREV, LINE, LINE_STR, STR, STR_OFFSETS, ADDR, RNGLISTS, SECTIONS };
-static const char *const names[SECTIONS] = {".debug_info", ".debug_abbrev", ".debug_line", ".debug_line_str", ".debug_str",
-                                            ".debug_str_offsets", ".debug_addr", ".debug_rnglists"};
+static const char *const names[SECTIONS] = {".debug_info", ".debug_abbrev", ".debug_line", ".debug_line_str",
+                                            ".debug_str", ".debug_str_offsets", ".debug_addr", ".debug_rnglists"};
 enum { ROOM = 1 << 16, MOST = 4096, MADE = 1 << 12, HEADER = 64, ENDS = 16 };
 
 struct text {

@@ -1,10 +1,10 @@
-/* Searches for files that a2l answers wrongly, or that cost too much: what libFuzzer calls with each file that it makes.
+/* Searches for files that a2l answers wrongly, or that cost too much: what libFuzzer calls with each file that it has.
  *
  * The last 16 bytes of a file are two addresses too. Of each file are asked the pieces of all addresses and of those
  * between the two; then the frames of the two and of some addresses in and beside the pieces, one a question; then the
  * locations of the same. Wrong is, besides a crash:
- *   - a call that costs too much: more than its limit of edges (steps), which don't depend on the machine, or of bytes of
- *     heap beside what its answer takes (`known_cost` names what is known to cost more, and isn't reported);
+ *   - a call that costs too much: more than its limit of edges (steps), which don't depend on the machine, or of bytes
+ *     of heap beside what its answer takes (`known` names what is known to cost more);
  *   - heap that is held after a2l_close or a refusal, and bytes that are written beside a block;
  *   - a location that isn't the innermost frame's or its piece's, pieces that overlap, or touch and have one location;
  *   - another answer where the questions are asked the other way round of a handle of another capacity, or where an
@@ -23,8 +23,8 @@
 enum call { OPEN, PIECES, FRAMES, LOCATIONS, CALLS };
 static const char *const call_names[CALLS] = {"a2l_open", "a2l_find_pieces", "a2l_find_frames", "a2l_find_locations"};
 
-/* What a call may cost: so many steps, and so many more for each byte of the file; and of heap the same, where a block that
- * grows counts twice. */
+/* What a call may cost: so many steps, and so many more for each byte of the file; and of heap the same, where a block
+ * that grows counts twice. */
 enum { STEPS = 50000, STEPS_A_BYTE = 100, HEAP = 16384, HEAP_A_BYTE = 128 };
 
 enum { MOST_QUESTIONS = 64, MOST_PIECES = 6, ROOM = 1 << 16 };
@@ -72,8 +72,8 @@ static size_t lines_of_units(const struct counts *has)
     return has->units * has->line_bytes;
 }
 
-/* What is known to cost more: which calls, where a file has how much of what, and why. It is no finding, and the file is
- * given up. A line goes when its cause is mended. */
+/* What is known to cost more: which calls, where a file has how much of what, and why. It is no finding, and the file
+ * is given up. A line goes when its cause is mended. */
 static const struct known {
     bool calls[CALLS];
     size_t (*much)(const struct counts *has);
@@ -82,10 +82,11 @@ static const struct known {
 } known[] = {
     {{[OPEN] = true}, values_of_units, 10000, "first entries of units may have many values that take no bytes"},
     {{[OPEN] = true}, ranges_of_units, 20000, "units may have the tails of one list, and each tail is read whole"},
-    {{[PIECES] = true}, ranges_of_units, 1000, "each border of a span is found by reading the lists of all units again"},
+    {{[PIECES] = true}, ranges_of_units, 1000, "each border of a span is found by reading all lists of units again"},
     {{[PIECES] = true, [FRAMES] = true, [LOCATIONS] = true}, lines_of_units, 10000,
      "line tables may lead to one list of files, of which each has a copy"},
-    {{[PIECES] = true}, lines_of_units, 1500, "a program of many rows is run again for each unit, and a stretch without a row behind each hole"},
+    {{[PIECES] = true}, lines_of_units, 1500,
+     "one program is run again for each table of it, and a stretch without a row behind each hole"},
 };
 enum { KNOWN = sizeof known / sizeof *known };
 static unsigned long known_seen[KNOWN];
@@ -158,8 +159,8 @@ static void end_call(void)
     costs[2 * calling][digits(4 * steps / (file_size + 1))] = 1;
 }
 
-/* Looks at the heap that a call took besides its answer, which takes so many bytes, and twice so many while it grows, and
- * besides the last one, which is held meanwhile. */
+/* Looks at the heap that a call took besides its answer, which takes so many bytes, and twice so many while it grows,
+ * and besides the last one, which is held meanwhile. */
 static void look_at_heap(size_t answer)
 {
     static size_t last;

@@ -1,6 +1,6 @@
-"""Writes the files with which the search begins into a folder: the samples and those of tests/fuzz that are made byte by
-byte, some that are made at random, and small ones of each kind of tests/hostile.py. Each has two addresses at its end.
-Words: the folder, a folder of samples, and the most bytes of a file. See tests/coverage.sh."""
+"""Writes the files with which the search begins into a folder: the samples and those of tests/fuzz that are made byte
+by byte, some that are made at random, and small ones of each kind of tests/hostile.py. Each has two addresses at its
+end. Words: the folder, a folder of samples, and the most bytes of a file. See tests/coverage.sh."""
 import os
 import random
 import sys
