@@ -82,7 +82,9 @@ fi
 [ $failed = 0 ] || grep -hE '^FOUND|ERROR: |^ +#[0-9]+ .* in |Test unit written' fuzz-*.log
 python3 "$here/tests/coverage/against_model.py" "$a2l" "$corpus" "$findings" || failed=1
 
-# What the logs say: of which files costs are known, how often a file was tried, and how many edges were passed.
+# What the logs say: how near calls came to their limits, of which files costs are known, how often a file was tried,
+# and how many edges were passed.
+grep -h '^used: ' fuzz-0.log || true
 cat fuzz-*.log | awk -v kept="$(find "$corpus" -type f | wc -l)" -v findings="$(find "$findings" -type f | wc -l)" '
     /^known: / { many = $2; sub(/^known: [0-9]+ /, ""); known[$0] += many }
     /^stat::number_of_executed_units: / { executions += $2 }

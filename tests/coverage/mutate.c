@@ -1,7 +1,7 @@
 /* Changes files by their structure. The sections of DWARF are taken out of a file, and in one of them a unit, a line
- * table or just some bytes are dropped, copied, repeated or changed, or get an address or an offset that means something
- * in the file. The lengths and offsets that this moves are mended, and a file is laid out around the sections again,
- * with two addresses behind it. One in eight changes is of plain bytes instead. */
+ * table or just some bytes are dropped, copied, repeated or changed, or get an address or an offset that means
+ * something in the file. The lengths and offsets that this moves are mended, and a file is laid out around the sections
+ * again, with two addresses behind it. One in eight changes is of plain bytes instead. */
 #include "search.h"
 
 #include <stdbool.h>

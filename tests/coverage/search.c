@@ -54,7 +54,7 @@ static bool limited;
 static jmp_buf given_up;
 
 /* Costs as features, so that files that cost more than others are kept and go on to be changed. */
-__attribute__((section("__libfuzzer_extra_counters"))) static uint8_t costs[2 * CALLS][65];
+__attribute__((section("__libfuzzer_extra_counters"))) static uint8_t costs[2][CALLS][65];
 
 /* How much of a section the units, or the tables that they name, may have in common. */
 static size_t values_of_units(const struct counts *has)
@@ -145,18 +145,23 @@ static void begin_call(enum call call)
     limited = true;
 }
 
-static size_t digits(uint64_t number)
+/* The most that a call took so far, in hundredths of its limits: of steps, and of heap. */
+static uint64_t used[2][CALLS];
+
+/* Notes how much of a limit a call took. */
+static void note_cost(size_t which, uint64_t cost, uint64_t limit)
 {
-    return number ? 64 - (size_t)__builtin_clzll(number) : 0;
+    uint64_t hundredths = 100 * cost / limit, a_byte = 4 * cost / (file_size + 1);
+
+    costs[which][calling][a_byte ? 64 - __builtin_clzll(a_byte) : 0] = 1;
+    if (hundredths > used[which][calling])
+        used[which][calling] = hundredths;
 }
 
-/* A call is over: its steps are counted, and how much of the file's limit of heap it has taken. */
 static void end_call(void)
 {
-    uint64_t steps = most_steps() - (uint64_t)steps_left;
-
     limited = false;
-    costs[2 * calling][digits(4 * steps / (file_size + 1))] = 1;
+    note_cost(0, most_steps() - (uint64_t)steps_left, most_steps());
 }
 
 /* Looks at the heap that a call took besides its answer, which takes so many bytes, and twice so many while it grows,
@@ -167,9 +172,9 @@ static void look_at_heap(size_t answer)
     size_t answers = 2 * answer + (calling == OPEN ? 0 : last), heap = heap_peak > answers ? heap_peak - answers : 0;
 
     last = answer;
-    costs[2 * calling + 1][digits(4 * heap / (file_size + 1))] = 1;
     if (heap > HEAP + HEAP_A_BYTE * file_size)
         costs_too_much("bytes of heap", heap);
+    note_cost(1, heap, HEAP + HEAP_A_BYTE * file_size);
 }
 
 /* ---- questions and answers */
@@ -406,10 +411,13 @@ static void ask_again(size_t capacity, bool backwards, size_t refused_at)
     close_handle(&handle);
 }
 
-static void tell_known(void)
+static void tell_costs(void)
 {
     size_t i;
 
+    for (i = 0; i < CALLS; i++)
+        fprintf(stderr, "used: %s %" PRIu64 " hundredths of its steps and %" PRIu64 " of its heap at most\n",
+                call_names[i], used[0][i], used[1][i]);
     for (i = 0; i < KNOWN; i++)
         if (known_seen[i])
             fprintf(stderr, "known: %lu files: %s\n", known_seen[i], known[i].reason);
@@ -420,7 +428,7 @@ int LLVMFuzzerInitialize(int *argc, char ***argv)
 {
     (void)argc;
     (void)argv;
-    return atexit(tell_known);
+    return atexit(tell_costs);
 }
 
 int LLVMFuzzerTestOneInput(const uint8_t *data, size_t size);
