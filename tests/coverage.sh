@@ -79,7 +79,9 @@ fi
 (ulimit -c 0 -s 1024; "$build/search" "$corpus" seeds "${how[@]}" -max_len=$most -timeout=60 -rss_limit_mb=2048 \
     -print_final_stats=1 -artifact_prefix="$findings/") > jobs.log 2>&1 || failed=1
 [ -e fuzz-0.log ] || { cat jobs.log; exit 1; }
-[ $failed = 0 ] || grep -hE '^FOUND|ERROR: |^ +#[0-9]+ .* in |Test unit written' fuzz-*.log
+# where it was, without libFuzzer's own calls
+[ $failed = 0 ] || grep -hE '^FOUND|ERROR: |^ +#[0-9]+ .* in [a-zA-Z]|Test unit written' fuzz-*.log |
+    grep -vE ' in (fuzzer::|raise|abort|main )'
 python3 "$here/tests/coverage/against_model.py" "$a2l" "$corpus" "$findings" || failed=1
 
 # What the logs say: how near calls came to their limits, of which files costs are known, how often a file was tried,

@@ -82,7 +82,7 @@ static const struct known {
 } known[] = {
     {{[OPEN] = true}, values_of_units, 10000, "first entries of units may have many values that take no bytes"},
     {{[OPEN] = true}, ranges_of_units, 20000, "units may have the tails of one list, and each tail is read whole"},
-    {{[PIECES] = true}, ranges_of_units, 1000, "each border of a span is found by reading all lists of units again"},
+    {{[PIECES] = true}, ranges_of_units, 300, "each border of a span is found by reading all lists of units again"},
     {{[PIECES] = true, [FRAMES] = true, [LOCATIONS] = true}, lines_of_units, 10000,
      "line tables may lead to one list of files, of which each has a copy"},
     {{[PIECES] = true}, lines_of_units, 1500,
