@@ -51,8 +51,9 @@ build_search() {
     fi
     # without those that name the module and the object
     mapfile -t words < <(grep -vxE -e '-c|-x|ir|module\.bc|-o|module\.o|-Werror|-' "$build/words")
-    "$kit/toolchain/bin/clang" "${words[@]}" -fsanitize-coverage=inline-8bit-counters,pc-table,trace-pc-guard \
-        -c -x ir "$build/module.bc" -o "$build/counted.o"
+    [ "$build/counted.o" -nt "$build/module.bc" ] ||
+        "$kit/toolchain/bin/clang" "${words[@]}" -fsanitize-coverage=inline-8bit-counters,pc-table,trace-pc-guard \
+            -c -x ir "$build/module.bc" -o "$build/counted.o"
     ld -r -o "$build/library.o" "$build/counted.o" --whole-archive "$kit/c/liblibc_c.a"
     objcopy --redefine-sym malloc=heap_malloc --redefine-sym realloc=heap_realloc --redefine-sym free=heap_free \
         --redefine-sym __sanitizer_cov_trace_pc_guard=passed_edge \
