@@ -77,7 +77,7 @@ else
 fi
 
 # on a stack of a megabyte
-(ulimit -c 0 -s 1024; "$build/search" "$corpus" seeds "${how[@]}" -max_len=$most -timeout=60 -rss_limit_mb=2048 \
+(ulimit -c 0 -s 1024; "$build/search" "$corpus" seeds "${how[@]}" -max_len=$most -timeout=600 -rss_limit_mb=2048 \
     -print_final_stats=1 -artifact_prefix="$findings/") > jobs.log 2>&1 || failed=1
 [ -e fuzz-0.log ] || { cat jobs.log; exit 1; }
 # where it was, without libFuzzer's own calls

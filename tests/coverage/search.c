@@ -80,7 +80,8 @@ static const struct known {
     size_t above;
     const char *reason;
 } known[] = {
-    {{[OPEN] = true}, values_of_units, 10000, "first entries of units may have many values that take no bytes"},
+    {{[OPEN] = true}, values_of_units, 10000,
+     "first entries may have many values that take no bytes, and tables of declarations may begin in one another"},
     {{[OPEN] = true}, ranges_of_units, 20000, "units may have the tails of one list, and each tail is read whole"},
     {{[PIECES] = true}, ranges_of_units, 300, "each border of a span is found by reading all lists of units again"},
     {{[PIECES] = true, [FRAMES] = true, [LOCATIONS] = true}, lines_of_units, 10000,
