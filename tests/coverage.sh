@@ -77,8 +77,8 @@ else
 fi
 
 # on a stack of a megabyte
-(ulimit -c 0 -s 1024; "$build/search" "$corpus" seeds "${how[@]}" -max_len=$most -timeout=600 -rss_limit_mb=2048 \
-    -print_final_stats=1 -artifact_prefix="$findings/") > jobs.log 2>&1 || failed=1
+(ulimit -c 0 -s 1024; "$build/search" "$corpus" seeds "${how[@]}" -max_len=$most -timeout=600 -report_slow_units=600 \
+    -rss_limit_mb=2048 -print_final_stats=1 -artifact_prefix="$findings/") > jobs.log 2>&1 || failed=1
 [ -e fuzz-0.log ] || { cat jobs.log; exit 1; }
 # where it was, without libFuzzer's own calls
 [ $failed = 0 ] || grep -hE '^FOUND|ERROR: |^ +#[0-9]+ .* in [a-zA-Z]|Test unit written' fuzz-*.log |

@@ -10,7 +10,7 @@ from collections import Counter
 here = os.path.dirname(os.path.abspath(__file__))
 sys.path[:0] = [os.path.join(here, '..'), os.path.join(here, '..', 'fuzz')]
 
-from compare import judge
+from compare import GivenUp, Judged, judge
 
 MOST_FILES = 6000
 
@@ -20,7 +20,11 @@ def judged(name):
     with open(os.path.join(FOLDER, name), 'rb') as file:
         content = file.read()
     path = f'compared-{os.getpid()}.elf'
-    found = judge(random.Random(name), PROGRAM, content, path)
+    try:
+        found = judge(random.Random(name), PROGRAM, content, path)
+    except GivenUp:
+        # a machine so busy that the time was over before the run had begun
+        found = Judged('given up', 0, [])
     return name, found.verdict.split()[0], found.asked, found.differences
 
 
