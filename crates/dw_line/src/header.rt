@@ -5,8 +5,11 @@ ghost use Rattle.std.specs.Prelude.{◌<◌};
 use crate::entries::LineEntry;
 
 mod parser;
+mod table;
 
 pub(crate) use parser::header_at;
+pub(crate) use table::table_at;
+pub use table::table_size;
 
 /// The fields of a header that are used, and the program after it.
 #[derive(Debug, Drop)]

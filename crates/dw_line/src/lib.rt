@@ -18,6 +18,7 @@ mod sequences;
 mod walk;
 
 pub use fault::LineFault;
+pub use header::table_size;
 pub use lines::Lines;
 pub use rows::Row;
 pub use walk::{Stretch, Walk};
