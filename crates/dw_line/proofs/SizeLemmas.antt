@@ -19,13 +19,10 @@ use Rattle.dw_model.proofs.AdvanceLemmas.{number-onward}
 use Rattle.dw_model.proofs.NumberLemmas.{bytes_at-between}
 use Rattle.dw_model.proofs.LebReading.{uleb-left}
 use Rattle.dw_model.proofs.ValueLemmas.{value-spans}
+use Rattle.dw_model.proofs.InstructionLemmas.{or_fault-ok}
 use Rattle.dw_model.proofs.InitialLemmas.{initial-left}
 use Rattle.dw_line.specs.TableAt.{table_behind_length, table_at, table_size}
 use Rattle.dw_line.proofs.HeaderLemmas.{header_behind}
-
-or_fault-ok : {A E : Type 0} (r : Result A E) (x : A) → or_fault bad r ≡ Ok x → r ≡ Ok x
-or_fault-ok (Ok y) x e = ap Ok (ok_is y x e)
-or_fault-ok (Err f) x e = absurd cc
 
 -- what is so of each result of a second step, is so of both steps
 behind : {A B : Type 0} (r : Result A Bad) (f : A → Result B Bad) (Is : B → Type 0) → ((x : A) → r ≡ Ok x → (y : B) → f x ≡ Ok y → Is y) → (y : B) → (r >>= f) ≡ Ok y → Is y
@@ -36,12 +33,12 @@ behind (Err fault) f Is each y e = absurd cc
 
 uleb-on : (p : Place) (x : ℕ × Place) → or_fault bad (uleb_at p) ≡ Ok x → length x.1.left ≤ length p.left
 uleb-on p x e =
-    let less = uleb-left p x.1 x.0 (or_fault-ok (uleb_at p) x e) in
+    let less = uleb-left p x.1 x.0 (or_fault-ok bad (uleb_at p) x e) in
     omega (arith, less)
 
 value-on : (size form : ℕ) (p : Place) (x : Value × Place) → or_fault bad (value_at size form None p) ≡ Ok x → length x.1.left ≤ length p.left
 value-on size form p x e =
-    let s = value-spans size form None p x.1 x.0 (or_fault-ok (value_at size form None p) x e) in
+    let s = value-spans size form None p x.1 x.0 (or_fault-ok bad (value_at size form None p) x e) in
     omega (arith, between-length p x.1 s.0 s.1)
 
 formats-on : (count : ℕ) (p : Place) (x : List Format × Place) → formats_at count p ≡ Ok x → length x.1.left ≤ length p.left

@@ -3,6 +3,7 @@
 
 mod checkpoints;
 mod entries;
+mod entry_list;
 mod fault;
 mod header;
 mod instruction;

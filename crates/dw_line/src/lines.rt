@@ -323,14 +323,14 @@ impl<'a> Lines<'a> {
         ensures { IfOk result (λ found. option_map (λ path. path.items) found
             ≡ path self.now.header self.now.comp_dir n) }
     {
-        let Some(file) = self.header.files.get(n as usize) else {
+        let Some(file) = self.header.files.get(n) else {
             return Ok(None);
         };
-        let Some(name) = self.unit.text_of(file) else {
+        let Some(name) = self.unit.text_of(&file) else {
             return Ok(None);
         };
         let top = self.unit.top(&self.header);
-        let directory = self.unit.file_directory(&self.header, file);
+        let directory = self.unit.file_directory(&self.header, &file);
         let mut path = Vec::with_capacity(alloc, room_for(top, directory, name))?;
         path.extend_from_slice(top)?;
         join_some(&mut path, directory)?;
