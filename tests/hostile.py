@@ -323,17 +323,19 @@ def units_that_take_turns(size):
     line, offsets = tables_before(17, lambda left: bytes(4), 0, program(size // 2))
     first = declaration(1, COMPILE_UNIT, 0, [(RANGES, SEC_OFFSET), (LOW_PC, ADDR), (STMT_LIST, SEC_OFFSET)])
     one = b''.join(b'\x04' + uleb(17 * 16 * i, 3) + uleb(17 * 16 * i + 16, 4) for i in range(count)) + b'\0'
-    units = b''.join(unit(b'\x01' + bytes(4) + number(BEGIN + 16 * i, 8) + number(at, 4)) for i, at in enumerate(offsets))
+    entries = (bytes(4) + number(BEGIN + 16 * i, 8) + number(at, 4) for i, at in enumerate(offsets))
+    units = b''.join(unit(b'\x01' + entry) for entry in entries)
     return file_of(units, first + b'\0', line, rnglists=one)
 
 
 def no_rows_between_holes(size):
-    """A long stretch without a row, in a sequence with holes that earlier ones hold. An address in each hole and one behind
-    it are asked in turn."""
+    """A long stretch without a row, in a sequence with holes that earlier ones hold. An address in each hole and one
+    behind it are asked in turn."""
     count = size // 32
     first = declaration(1, COMPILE_UNIT, 0, [*COVERING, (STMT_LIST, SEC_OFFSET)])
     holes = b''.join(b'\x02' + uleb(BEGIN + 16 * i, 4) + b'\x01\x02\x02\0\x01\x01' for i in range(count))
-    last = b'\0\x09\x02' + number(BEGIN, 8) + b'\x01' + b'\x06' * (size // 2) + b'\x02' + uleb(16 * count) + b'\0\x01\x01'
+    stretch = b'\x01' + b'\x06' * (size // 2) + b'\x02' + uleb(16 * count)
+    last = b'\0\x09\x02' + number(BEGIN, 8) + stretch + b'\0\x01\x01'
     return file_of(unit(b'\x01' + covered() + bytes(4)), first + b'\0', line_table(holes + last))
 
 

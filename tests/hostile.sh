@@ -3,8 +3,8 @@
 # say, and prints the time and the peak memory of a listing and of one address, with the memory for each byte of the file.
 # It fails where memory passes 64 bytes for each byte of the file and 16 MB, or where a kind whose work is linear takes more
 # than 2.6 times as long for twice the bytes. Kinds of square time run up to 1 MB, and so does one whose answer is longer
-# than its file, for which memory may be more; spans whose time grows with a higher power run at some kilobytes alone. Run it
-# after `rt run` in crates/a2l has built the program. It needs python3.
+# than its file, for which memory may be more; spans whose time grows with a higher power run at some kilobytes alone.
+# Run it after `rt run` in crates/a2l has built the program. It needs python3.
 . "$(dirname "$0")/programs.sh"
 need_a2l
 
