@@ -12,7 +12,7 @@ sys.path[:0] = [os.path.dirname(__file__), os.path.join(os.path.dirname(__file__
 from assemble import Section, elf_file, number, uleb
 from samples import file_of, line_table, unit
 
-LINEAR, SQUARE, LONG = 'linear', 'square', 'long'
+LINEAR, SQUARE, THIRD, FOURTH, LONG = 'linear', 'square', 'third', 'fourth', 'long'
 
 COMPILE_UNIT, INLINED, SUBPROGRAM = 0x11, 0x1d, 0x2e
 NAME, STMT_LIST, LOW_PC, HIGH_PC, ORIGIN, RANGES, ADDR_BASE, LISTS_BASE = 0x03, 0x10, 0x11, 0x12, 0x31, 0x55, 0x73, 0x74
@@ -253,12 +253,107 @@ def no_rows(size):
     return file_of(unit(b'\x01' + covered() + bytes(4)), first + b'\0', line_table(text))
 
 
+def span_over_all_units_with_bases(size):
+    """The same file, of which a span is asked that has all borders."""
+    return units_with_bases_of_one_list(size)
+
+
+def units_of_tails(size):
+    """Units whose lists are the tails of one list, the shortest first."""
+    count = size // 35
+    first = declaration(1, COMPILE_UNIT, 0, [(RANGES, SEC_OFFSET)])
+    units = b''.join(unit(b'\x01' + number(9 * (count - 1 - i), 4)) for i in range(count))
+    return file_of(units, first + b'\0', rnglists=long_list(count))
+
+
+def span_over_units_of_tails(size):
+    """The same file, of which the span of all addresses is asked."""
+    return units_of_tails(size)
+
+
+def units_of_tables(offsets):
+    """Units of 16 addresses that name line tables at these offsets, with the declaration of their entries."""
+    units = b''.join(unit(b'\x01' + covered(BEGIN + 16 * i, 16) + number(at, 4)) for i, at in enumerate(offsets))
+    return units, declaration(1, COMPILE_UNIT, 0, [*COVERING, (STMT_LIST, SEC_OFFSET)]) + b'\0'
+
+
+def tables_before(count, lists, filler, text):
+    """Line tables one after the other, each with a header up to the same place, where one program follows. A header has
+    lists for so many bytes that are left in it. Returns the section, and where each table begins."""
+    fields = bytes.fromhex('010101fb0e0d000101010100000001000001')
+    each = 12 + len(fields) + len(lists(0))
+    end = count * each + filler
+    heads = (number(end + len(text) - each * i - 4, 4) + number(5, 2) + bytes([8, 0]) + number(end - each * i - 12, 4)
+             + fields + lists(end - each * (i + 1)) for i in range(count))
+    return b''.join(heads) + bytes(filler) + text, range(0, count * each, each)
+
+
+def tables_of_one_list(size):
+    """Line tables whose lists have as many entries as bytes are left, and whose entries take no bytes."""
+    listed = lambda left: (b'\x01\x01\x19' + uleb(left, 4)) * 2
+    line, offsets = tables_before(size // 130, listed, size // 2, b'\0\x01\x01')
+    units, first = units_of_tables(offsets)
+    return file_of(units, first, line)
+
+
+def tables_of_one_program_of_sequences(size):
+    """64 line tables over one program of sequences that take few bytes."""
+    sequences = b''.join(b'\x02' + uleb(BEGIN + i) + b'\x01\x21\0\x01\x01' for i in range((size - 4000) // 9))
+    line, offsets = tables_before(64, lambda left: bytes(4), 0, sequences)
+    units, first = units_of_tables(offsets)
+    return file_of(units, first, line)
+
+
+def tables_of_one_program(size):
+    """Line tables over one program of many rows."""
+    count = size // 128
+    line, offsets = tables_before(count, lambda left: bytes(4), 0, program(size // 2))
+    units, first = units_of_tables(offsets)
+    return file_of(units, first, line)
+
+
+def span_over_tables_of_one_program(size):
+    """The same file, of which a span over all units is asked."""
+    return tables_of_one_program(size)
+
+
+def units_that_take_turns(size):
+    """17 units whose ranges take turns, each with a line table of its own over one program; a span is asked."""
+    count = size // (17 * 16)
+    line, offsets = tables_before(17, lambda left: bytes(4), 0, program(size // 2))
+    first = declaration(1, COMPILE_UNIT, 0, [(RANGES, SEC_OFFSET), (LOW_PC, ADDR), (STMT_LIST, SEC_OFFSET)])
+    one = b''.join(b'\x04' + uleb(17 * 16 * i, 3) + uleb(17 * 16 * i + 16, 4) for i in range(count)) + b'\0'
+    entries = (bytes(4) + number(BEGIN + 16 * i, 8) + number(at, 4) for i, at in enumerate(offsets))
+    units = b''.join(unit(b'\x01' + entry) for entry in entries)
+    return file_of(units, first + b'\0', line, rnglists=one)
+
+
+def no_rows_between_holes(size):
+    """A long stretch without a row, in a sequence with holes that earlier ones hold. An address in each hole and one
+    behind it are asked in turn."""
+    count = size // 32
+    first = declaration(1, COMPILE_UNIT, 0, [*COVERING, (STMT_LIST, SEC_OFFSET)])
+    holes = b''.join(b'\x02' + uleb(BEGIN + 16 * i, 4) + b'\x01\x02\x02\0\x01\x01' for i in range(count))
+    stretch = b'\x01' + b'\x06' * (size // 2) + b'\x02' + uleb(16 * count)
+    last = b'\0\x09\x02' + number(BEGIN, 8) + stretch + b'\0\x01\x01'
+    return file_of(unit(b'\x01' + covered() + bytes(4)), first + b'\0', line_table(holes + last))
+
+
+def span_over_no_rows_between_holes(size):
+    """The same file, of which a span over all holes is asked."""
+    return no_rows_between_holes(size)
+
+
 KINDS = {
     'tables_in_one_another': LINEAR, 'falling_tables_in_one_another': LINEAR, 'functions_of_one_list': LINEAR,
     'inlined_of_one_list': LINEAR, 'functions_of_tails': LINEAR, 'callers_of_one_list': SQUARE,
     'units_with_functions_of_one_list': SQUARE, 'units_of_one_list': LINEAR, 'units_with_bases_of_one_list': SQUARE,
-    'span_over_units_with_bases': SQUARE,
-    'units_of_one_line_table': LINEAR, 'names_without_end': LINEAR, 'functions_of_empty_values': LINEAR,
+    'span_over_units_with_bases': SQUARE, 'span_over_all_units_with_bases': FOURTH, 'units_of_tails': SQUARE,
+    'span_over_units_of_tails': THIRD,
+    'units_of_one_line_table': LINEAR, 'tables_of_one_list': LINEAR, 'tables_of_one_program_of_sequences': LINEAR,
+    'tables_of_one_program': SQUARE, 'span_over_tables_of_one_program': SQUARE, 'units_that_take_turns': SQUARE,
+    'no_rows_between_holes': SQUARE, 'span_over_no_rows_between_holes': SQUARE,
+    'names_without_end': LINEAR, 'functions_of_empty_values': LINEAR,
     'functions_of_empty_values_after_a_number': LINEAR, 'units_of_empty_values': SQUARE,
     'references_of_empty_values': LINEAR, 'skipped_units': LINEAR, 'small_units': LINEAR, 'small_declarations': LINEAR,
     'small_functions': LINEAR, 'small_sequences': LINEAR, 'small_files': LINEAR, 'no_rows': LINEAR,
@@ -266,10 +361,36 @@ KINDS = {
 }
 # How many bytes of memory a kind may take for each byte of the file. The answer of a long one is itself longer than the
 # file: each of 511 frames has the path, and the text of the answer has it as often.
-LIMITS = {LINEAR: 64, SQUARE: 64, LONG: 2000}
+LIMITS = {LINEAR: 64, SQUARE: 64, THIRD: 64, FOURTH: 64, LONG: 2000}
 
-# how many bytes a unit of 16 addresses takes of the file, with what it names
-UNITS = {'units_of_one_line_table': 60, 'units_with_functions_of_one_list': 40}
+
+def every(count):
+    """The addresses to ask: one in each of so many stretches of 16."""
+    return [f'{BEGIN + 16 * i + 5:x}' for i in range(count)]
+
+
+def asked(kind, size):
+    """The addresses to ask, or a span of them, each as a text."""
+    begin = units_with_bases(size)[1]
+    spans = {
+        'span_over_units_with_bases': (begin + 5, begin + 45), 'span_over_all_units_with_bases': (0, begin),
+        'span_over_units_of_tails': (0, 16 * (size // 35)),
+        'span_over_tables_of_one_program': (BEGIN, BEGIN + 16 * (size // 128)),
+        'units_that_take_turns': (BEGIN, BEGIN + size), 'span_over_no_rows_between_holes': (BEGIN, BEGIN + size // 2),
+    }
+    # how many bytes a unit of 16 addresses takes of the file, with what it names
+    each = {
+        'units_of_one_line_table': 60, 'units_with_functions_of_one_list': 40, 'tables_of_one_list': 130,
+        'tables_of_one_program_of_sequences': size // 64, 'tables_of_one_program': 128,
+    }
+    if kind == 'units_with_bases_of_one_list':
+        return [f'{begin + 5:x}']
+    if kind == 'no_rows_between_holes':
+        return [f'{BEGIN + 16 * i + at:x}' for i in range(size // 32) for at in (1, 5)]
+    if kind in spans:
+        return ['{:x}-{:x}'.format(*spans[kind])]
+    return every(size // each[kind] if kind in each else 1)
+
 
 if __name__ == '__main__':
     if len(sys.argv) == 1:
@@ -279,12 +400,4 @@ if __name__ == '__main__':
     kind, size, path = sys.argv[1], int(sys.argv[2]), sys.argv[3]
     with open(path, 'wb') as out:
         out.write(globals()[kind](size))
-    if kind == 'units_with_bases_of_one_list':
-        print(f'{units_with_bases(size)[1] + 5:x}')
-    elif kind == 'span_over_units_with_bases':
-        begin = units_with_bases(size)[1]
-        print(f'{begin + 5:x}-{begin + 45:x}')
-    else:
-        # of units with 16 addresses one address in each
-        units = size // UNITS[kind] if kind in UNITS else 1
-        print(*(f'{BEGIN + 16 * i + 5:x}' for i in range(units)), sep='\n')
+    print(*asked(kind, size), sep='\n')

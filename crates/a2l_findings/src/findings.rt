@@ -134,7 +134,7 @@ impl Survey {
         }
         let functions = subprograms_of(scene.alloc, here)?;
         let has_rows = match lines {
-            Some(lines) => lines.kept() > 0,
+            Some(lines) => lines.has_rows(),
             None => false,
         };
         if ranges.is_empty() && (has_rows || !functions.is_empty()) {

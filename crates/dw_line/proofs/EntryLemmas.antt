@@ -1,17 +1,21 @@
 -- Reading the lists of directories and files as loops do.
-use Rattle.std.proofs.Common.{◌≡◌, Bool, true, false, cond, ℕ, zero, suc, ◌+◌, ◌<◌, ◌≤◌, List, [], ◌∷◌, length, drop, get_or, map, Option, Some, None, Result, Ok, Err, refl, sym, ap, ◌∙◌}
+use Rattle.std.proofs.Common.{◌≡◌, Bool, true, false, cond, ℕ, zero, suc, ◌+◌, ◌<◌, ◌≤◌, List, [], ◌∷◌, ◌++◌, length, drop, get_or, map, replicate, Option, Some, None, Result, Ok, Err, refl, sym, ap, ◌∙◌, subst, arith}
 use Rattle.std.specs.Prelude.{nat_eq, option_map, option_and_then}
 use Rattle.std.specs.Option.{option_or, option_map_or}
 use Rattle.std.specs.Map.{lookup}
 use Rattle.std.proofs.lemmas.List.{drop_more, drop_all}
 use Rattle.dw_model.specs.declared.dwarf.TheConstants.{DW_LNCT_path, DW_LNCT_directory_index}
 use Rattle.dw_model.specs.Results.{◌>>=◌, or_fault}
-use Rattle.dw_model.specs.Reading.{Place}
+use Rattle.dw_model.specs.Reading.{Place, Between}
 use Rattle.dw_model.specs.Faults.{Bad, bad}
 use Rattle.dw_model.specs.Leb.{uleb_at}
 use Rattle.dw_model.specs.Form.{Value, value_at}
 use Rattle.dw_model.specs.Text.{Tables, Bases, text}
-use Rattle.dw_model.proofs.StepLemmas.{ok_is}
+use Rattle.dw_model.proofs.StepLemmas.{ok_is, bind_ok}
+use Rattle.dw_model.proofs.ReadingLemmas.{between-length, between-none}
+use Rattle.dw_model.proofs.SpellingLemmas.{joined}
+use Rattle.dw_model.proofs.ValueLemmas.{value-spans}
+use Rattle.dw_model.proofs.InstructionLemmas.{or_fault-ok}
 use Rattle.dw_model.specs.LineHeader as model
 use Rattle.dw_model.specs.LineHeader.{formats_at, contents_at, entries_at, line_entry}
 use Rattle.dw_forms.specs.Value.{value_shown}
@@ -19,6 +23,9 @@ use Rattle.dw_line.specs.declared.entries.Format.{Format}
 use Rattle.dw_line.specs.declared.entries.Contents.{Contents}
 use Rattle.dw_line.specs.Header.{entry_shown, Used, format_shown, contents_shown, used_of, used_at}
 use Rattle.dw_line.proofs.CountLemmas.{in_front}
+
+plus_none : (n : ℕ) → n + 0 ≡ n
+plus_none n = omega arith
 
 -- ---- formats
 
@@ -155,3 +162,43 @@ module _ (size : ℕ) where
       → directory ≡ option_map_or model.as_directory (option_map value_shown contents.directory) 0 → entry_at tables bases formats p ≡ Ok (entry_shown tables bases (record { path = contents.path; directory = directory }), q)
   entry-kept tables bases formats contents directory p q e same =
       entry-read tables bases formats (contents_shown contents) p q e ∙ ap (λ (n : ℕ). Ok (record { path = option_and_then (text tables bases) (option_map value_shown contents.path); directory = n }, q)) (sym same)
+
+  -- ---- entries without bytes
+
+  contents-between : (formats : List model.Format) (p : Place) (x : List (ℕ × Value) × Place) → contents_at size formats p ≡ Ok x → (piece : List ℕ) × Between p piece x.1
+  unfolding contents_at
+  contents-between [] p x e = ([], between-none p x.1 (ap (λ (x : List (ℕ × Value) × Place). x.1) (ok_is ([], p) x e)))
+  contents-between (format ∷ formats) p x e =
+      let value = bind_ok (or_fault bad (value_at size format.1 None p)) (λ value. contents_at size formats value.1 >>= λ others. Ok ((format.0, value.0) ∷ others.0, others.1)) x e in
+      let others = bind_ok (contents_at size formats value.0.1) (λ others. Ok ((format.0, value.0.0) ∷ others.0, others.1)) x value.2 in
+      let first = value-spans size format.1 None p value.0.1 value.0.0 (or_fault-ok bad (value_at size format.1 None p) value.0 value.1) in
+      let rest = contents-between formats value.0.1 others.0 others.1 in
+      let last : others.0.1 ≡ x.1 = ap (λ (x : List (ℕ × Value) × Place). x.1) (ok_is ((format.0, value.0.0) ∷ others.0.0, others.0.1) x others.2) in
+      (first.0 ++ rest.0, subst (Between p (first.0 ++ rest.0)) last (joined p value.0.1 others.0.1 first.0 rest.0 first.1 rest.1))
+
+  same_place : (p q : Place) (piece : List ℕ) → Between p piece q → length q.left ≡ length p.left → q ≡ p
+  same_place p q [] b e = λ i. record { at = (b.1 ∙ plus_none p.at) i; left = sym b.0 i }
+  same_place p q (x ∷ piece) b e = absurd (omega (arith, e, between-length p q (x ∷ piece) b))
+
+  -- an entry that takes no bytes is each of its list
+  pub empty-entries : (formats : List model.Format) (contents : Contents) (directory : ℕ) (p q : Place) → used_at none_found (contents_at size formats p) ≡ Ok (contents_shown contents, q)
+      → directory ≡ option_map_or model.as_directory (option_map value_shown contents.directory) 0 → length q.left ≡ length p.left → (tables : Tables) (bases : Bases) (count : ℕ)
+      → entries_at tables bases size formats count p ≡ Ok (replicate count (entry_shown tables bases (record { path = contents.path; directory = directory })), p)
+  empty-entries formats contents directory p q e same short tables bases count = by count
+    where
+      place : (read : Result (List (ℕ × Value) × Place) Bad) → contents_at size formats p ≡ read → used_at none_found read ≡ Ok (contents_shown contents, q) → q ≡ p
+      place (Ok x) f g =
+          let here : x.1 ≡ q = ap (λ (y : Used × Place). y.1) (ok_is (used_of none_found x.0, x.1) (contents_shown contents, q) g) in
+          let between = contents-between formats p x f in
+          sym here ∙ same_place p x.1 between.0 between.1 (ap (λ (r : Place). length r.left) here ∙ short)
+      place (Err bad) f g = absurd cc
+
+      entry : model.LineEntry
+      entry = entry_shown tables bases (record { path = contents.path; directory = directory })
+
+      read : entry_at tables bases formats p ≡ Ok (entry, p)
+      read = entry-kept tables bases formats contents directory p q e same ∙ ap (λ (r : Place). Ok (entry, r)) (place (contents_at size formats p) refl e)
+
+      by : (count : ℕ) → entries_at tables bases size formats count p ≡ Ok (replicate count entry, p)
+      by zero = entries-none tables bases formats p
+      by (suc n) = entries-some tables bases formats n p ∙ ap (λ (one : Result (model.LineEntry × Place) Bad). one >>= λ x. in_front (x.0 ∷ []) (entries_at tables bases size formats n x.1)) read ∙ ap (in_front (entry ∷ [])) (by n)

@@ -1,18 +1,45 @@
--- A table that would begin after its section, and what a program's rows depend on.
-use Rattle.std.proofs.Common.{◌≡◌, ℕ, ◌+◌, ◌-◌, ◌*◌, ◌%◌, ◌^◌, ◌<◌, Bool, List, [], ◌∷◌, length, Err, refl, ap, arith}
-use Rattle.std.specs.Prelude.{sum_by, if◌then◌else◌}
+-- The bytes of a table, and what a program's rows depend on.
+use Rattle.std.proofs.Common.{◌≡◌, ℕ, ◌+◌, ◌-◌, ◌*◌, ◌%◌, ◌^◌, ◌<◌, Bool, List, [], ◌∷◌, length, drop, Option, Some, None, Result, refl, ap, arith}
+use Rattle.std.specs.Prelude.{sum_by, if◌then◌else◌, ok_or, option_map, option_and_then}
 use Rattle.std.proofs.lemmas.List.{drop_all}
-use Rattle.dw_model.specs.InitialLength.{initial_length}
+use Rattle.dw_model.specs.Results.{◌>>=◌}
+use Rattle.dw_model.specs.Reading.{Place, start, bytes_at}
+use Rattle.dw_model.specs.InitialLength.{InitialLength, of_length, reserved, initial_length, offset_size}
 use Rattle.dw_model.specs.Text.{Tables, Bases}
-use Rattle.dw_model.specs.LineHeader.{LineHeader, line_header}
-use Rattle.dw_model.specs.Faults.{bad}
+use Rattle.dw_model.specs.LineHeader.{LineHeader, line_header, length_of, table_behind}
+use Rattle.dw_model.specs.Faults.{Bad, bad}
 use Rattle.dw_model.specs.Instruction.{Instruction, special, copy, advance_pc, advance_line, set_file, set_column, const_add_pc, fixed_advance_pc, end_sequence, set_address, no_effect, opcode_at, next_instruction, instructions}
 use Rattle.dw_model.specs.Matrix.{special_advance, line_advance, residue, advanced, file_after, column_after, row_after, is_end, appends, rows_from, matrix}
 use Rattle.dw_line.specs.Header.{without_lists}
+use Rattle.dw_line.specs.TableAt.{table_behind_length, table_at}
 
-pub past_end : (tables : Tables) (bases : Bases) (section : List ℕ) (offset : ℕ) → length section < offset → line_header tables bases section offset ≡ Err bad
-unfolding line_header initial_length
-past_end tables bases section offset h = rw (drop_all offset section (omega (arith, h))) refl
+-- no table begins after the section
+pub no_table : (section : List ℕ) (offset : ℕ) → length section < offset → None ≡ table_at section offset
+unfolding table_at initial_length
+no_table section offset h = rw (drop_all offset section (omega (arith, h))) refl
+
+module _ (tables : Tables) (bases : Bases) where
+  -- the header in the bytes of a table, with the size of their offsets
+  abbrev pub behind : Option (List ℕ × ℕ) → Result LineHeader Bad
+  behind table = ◌>>=◌ {A = List ℕ × ℕ} {B = LineHeader} (ok_or table bad) (λ table. table_behind tables bases table.1 (start table.0))
+
+  taken : (size : ℕ) (table : Option (List ℕ × Place)) → ◌>>=◌ {A = List ℕ × Place} {B = LineHeader} (ok_or table bad) (λ table. table_behind tables bases size (start table.0)) ≡ behind (option_map (λ (table : List ℕ × Place). (table.0, size)) table)
+  taken size (Some table) = refl
+  taken size None = refl
+
+  long : (length : InitialLength) (p : Place) → ◌>>=◌ {A = ℕ × ℕ} {B = LineHeader} (length_of length) (λ len. ◌>>=◌ {A = List ℕ × Place} {B = LineHeader} (ok_or (bytes_at len.0 p) bad) (λ table. table_behind tables bases len.1 (start table.0))) ≡ behind (table_behind_length length p)
+  long (of_length n width) p = taken (offset_size width) (bytes_at n p)
+  long reserved p = refl
+
+  measured : (found : Option (InitialLength × Place)) → ◌>>=◌ {A = InitialLength × Place} {B = LineHeader} (ok_or found bad) (λ unit_length. ◌>>=◌ {A = ℕ × ℕ} {B = LineHeader} (length_of unit_length.0) (λ len. ◌>>=◌ {A = List ℕ × Place} {B = LineHeader} (ok_or (bytes_at len.0 unit_length.1) bad) (λ table. table_behind tables bases len.1 (start table.0))))
+      ≡ behind (option_and_then (λ (unit_length : InitialLength × Place). table_behind_length unit_length.0 unit_length.1) found)
+  measured (Some found) = long found.0 found.1
+  measured None = refl
+
+  -- the header at an offset is that of the bytes of its table
+  pub header_behind : (section : List ℕ) (offset : ℕ) → line_header tables bases section offset ≡ behind (table_at section offset)
+  unfolding line_header table_at
+  header_behind section offset = measured (initial_length (record { at = offset; left = drop offset section }))
 
 -- ---- the lists of a header change no row
 

@@ -12,3 +12,5 @@ pub mod LinesLemmas
 pub mod PathLemmas
 pub mod WalkLemmas
 pub mod HeaderLemmas
+pub mod SizeLemmas
+pub mod CountedLemmas

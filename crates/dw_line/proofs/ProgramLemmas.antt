@@ -1,5 +1,7 @@
 -- Running a program for the first time: what is recorded, and which rows are still appended.
-use Rattle.std.proofs.Common.{◌≡◌, ℕ, ◌≤◌, Bool, true, false, List, [], ◌∷◌, length, drop, Option, Some, None, Ok, Err, sym, subst, ap, ◌∙◌, length-append, arith}
+use Rattle.std.proofs.Common.{◌≡◌, ℕ, ◌+◌, ◌≤◌, Bool, true, false, List, [], ◌∷◌, length, drop, Option, Some, None, Ok, Err, sym, subst, ap, ◌∙◌, length-append, arith}
+use Rattle.std.specs.Prelude.{◌==◌}
+use Rattle.std.proofs.lemmas.List.{length-take}
 use Rattle.std.proofs.Math.Seq.{drop-append_seam}
 use Rattle.dw_model.specs.Reading.{Place, start}
 use Rattle.dw_model.specs.Faults.{bad}
@@ -13,7 +15,7 @@ use Rattle.dw_line.specs.Registers.{registers_shown}
 use Rattle.dw_line.specs.Machine.{State, beginning, rows_on, row_before, registers_behind, appended_row, IsNext, RunsToNext}
 use Rattle.dw_line.specs.Sequences.{used_sequences, AreKept}
 use Rattle.dw_line.specs.Program.{IsRecorded}
-use Rattle.dw_line.specs.Recorder.{Recorder, recorder_shown, empty, recorded, finished}
+use Rattle.dw_line.specs.Recorder.{Recorder, recorder_shown, empty, pushed_by, used_from, closed_from, recorded, finished}
 use Rattle.dw_line.specs.declared.checkpoints.Checkpoints.{Checkpoints}
 use Rattle.dw_line.proofs.MachineLemmas.{Passes, passes, passes_more, passes_none}
 use Rattle.dw_line.proofs.RecorderLemmas as records
@@ -25,18 +27,24 @@ pub record Whole (header : LineHeader) (r : Recorder) (rows : List Row) : Type 0
   pub run : rows_on header (beginning header) ≡ Ok all
   pub records : Records header r all rows
 
+-- how many things are kept so far
+abbrev pub size_of : Recorder → ℕ
+size_of r = length r.checkpoints + length r.sequences
+
 -- A fault on the way from here is the program's, and where the rows from here on can be read, so
--- can all.
+-- can all. No more is kept than one thing for each byte that was passed.
 pub record Recording (header : LineHeader) (r : Recorder) (state : State) : Type 0 where
   pub bad : rows_on header state ≡ Err bad → rows_on header (beginning header) ≡ Err bad
   pub good : (rows : List Row) → rows_on header state ≡ Ok rows → Whole header r rows
   pub place : Passes (start header.program) state.place
+  pub fits : size_of r ≤ state.place.at
 
 pub begins : (header : LineHeader) → Recording header empty (beginning header)
 begins header = record {
   bad = λ e. e;
   good = λ rows e. record { all = rows; run = e; records = records.begins header rows };
   place = passes_none (start header.program);
+  fits = omega arith;
 }
 
 -- a place is given by how many bytes are in front of it
@@ -55,6 +63,19 @@ one_recorded header r registers true place all rows is later within =
 one_recorded header r registers false place all rows is later within =
     records.push header r.checkpoints r.sequences r.pending.first_checkpoint r.pending.last_address r.pending.rises r.pending.room registers place all rows is later within
 
+-- a row makes one thing more at most
+pushed_size : (due : Bool) (registers : Registers) (place : ℕ) (r : Recorder) → size_of (pushed_by due registers place r) ≤ size_of r + 1
+pushed_size true registers place r = omega (arith, length-append r.checkpoints (record { registers = registers; place = place } ∷ []))
+pushed_size false registers place r = omega arith
+
+closed_size : (begin : Option ℕ) (end : ℕ) (r : Recorder) → size_of (closed_from begin end r) ≤ size_of r + 1
+closed_size None end r = omega (arith, length-take r.pending.first_checkpoint r.checkpoints)
+closed_size (Some begin) end r = omega (arith, length-append r.sequences (record { begin = begin; end = end; first_checkpoint = r.pending.first_checkpoint; end_checkpoint = length r.checkpoints } ∷ []))
+
+recorded_size : (ends : Bool) (registers : Registers) (place : ℕ) (r : Recorder) → size_of (recorded (record { registers = registers; ends = ends }) place r) ≤ size_of r + 1
+recorded_size true registers place r = closed_size (used_from registers.address r) registers.address r
+recorded_size false registers place r = pushed_size (r.pending.room == 0) registers place r
+
 pub goes_on : (header : LineHeader) (r : Recorder) (state : State) (next : Appended) (new : Place) (behind : State) → behind ≡ record { registers = registers_behind (registers_shown next.registers) next.ends; place = new } → IsNext header state next new → Recording header r state → Recording header (recorded next new.at r) behind
 goes_on header r state next new behind same is so_far =
     subst (λ (s : State). Recording header (recorded next new.at r) s) (sym same) (record {
@@ -65,6 +86,7 @@ goes_on header r state next new behind same is so_far =
           let later = ap (λ (p : Place). rows_on header (record { registers = registers_behind (registers_shown next.registers) next.ends; place = p })) at.0 ∙ e in
           record { all = whole.all; run = whole.run; records = one_recorded header r next.registers next.ends new.at whole.all rows whole.records later at.1 };
       place = place;
+      fits = omega (arith, recorded_size next.ends next.registers new.at r, so_far.fits, is.spans.1.1, is.spans.2);
     })
   where
     place : Passes (start header.program) new
@@ -91,4 +113,5 @@ finishes header r state kept same none so_far =
       rows = whole.all;
       run = whole.run;
       kept = subst (λ (r : Recorder). AreKept header r.checkpoints r.sequences (used_sequences whole.all)) (sym same) (records.finish header r whole.all whole.records);
+      fits = subst (λ (r : Recorder). size_of r ≤ length header.program) (sym same) (omega (arith, length-take r.pending.first_checkpoint r.checkpoints, so_far.fits, (place_is header.program state.place so_far.place).1));
     }

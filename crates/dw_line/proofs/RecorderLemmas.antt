@@ -33,6 +33,7 @@ pub record Records (header : LineHeader) (r : Recorder) (all rows : List Row) : 
   pub rises : r.pending.rises ≡ never_falls pending
   pub last : r.pending.last_address ≡ last_address pending
   pub few : 64 * r.pending.first_checkpoint ≤ sum_by length (filter is_used ended) + 64 * length (filter is_used ended)
+  pub enough : sum_by length (filter is_used ended) ≤ 64 * r.pending.first_checkpoint + length (filter is_used ended)
 
 abbrev pub recorder : List Checkpoint → List Sequence → (first_checkpoint last_address : ℕ) → Bool → ℕ → Recorder
 recorder checkpoints kept first_checkpoint last_address rises room = record {
@@ -54,6 +55,7 @@ begins header all = record {
   rises = refl;
   last = refl;
   few = omega arith;
+  enough = omega arith;
 }
 
 -- ---- rows one after the other
@@ -115,6 +117,7 @@ push_due header checkpoints kept first last rises room registers place all rows 
       rises = ap (λ (b : Bool). b && nat_le last registers.address) is.rises ∙ ap (λ (n : ℕ). never_falls is.pending && nat_le n registers.address) is.last ∙ sym (falls_push is.pending next);
       last = sym (last_push is.pending next);
       few = is.few;
+      enough = is.enough;
     }
 
 push_between : (header : LineHeader) (checkpoints : List Checkpoint) (kept : List Sequence) (first last : ℕ) (rises : Bool) (room : ℕ) (registers : Registers) (place : ℕ) (all rows : List Row)
@@ -134,6 +137,7 @@ push_between header checkpoints kept first last rises room registers place all r
       rises = ap (λ (b : Bool). b && nat_le last registers.address) is.rises ∙ ap (λ (n : ℕ). never_falls is.pending && nat_le n registers.address) is.last ∙ sym (falls_push is.pending next);
       last = sym (last_push is.pending next);
       few = is.few;
+      enough = is.enough;
     }
 
 some_room : (n : ℕ) → (n == 0) ≡ false → 0 < n
@@ -231,6 +235,7 @@ close header checkpoints kept first last rises room registers all rows is =
           rises = refl;
           last = refl;
           few = rw more (omega (arith, sum_by_push length (filter is_used is.ended) s, length-append (filter is_used is.ended) (s ∷ []), length-append is.pending (end ∷ []), length-drop first checkpoints, is.few, is.count, is.room, is.within));
+          enough = rw more (omega (arith, sum_by_push length (filter is_used is.ended) s, length-append (filter is_used is.ended) (s ∷ []), length-append is.pending (end ∷ []), length-drop first checkpoints, is.enough, is.count, is.room, is.within));
         }
     by false e =
         let end = row (registers_shown registers) true in
@@ -249,6 +254,7 @@ close header checkpoints kept first last rises room registers all rows is =
           rises = refl;
           last = refl;
           few = rw more is.few;
+          enough = rw more is.enough;
         }
 
 -- ---- the end of the program
@@ -264,4 +270,4 @@ finish header r all is =
     let same : used_sequences all ≡ filter is_used is.ended = ap (filter is_used) (parts_all all is.pending is.ended is.parts) in
     let each : AreSequences header (take first r.checkpoints) (length (take first r.checkpoints)) r.sequences (filter is_used is.ended) =
     each_kept header r.checkpoints (take first r.checkpoints) first (length (take first r.checkpoints)) r.sequences (filter is_used is.ended) (cut r.checkpoints first is.within) (omega (arith, size)) is.each in
-    rw same (record { each = each; few = omega (arith, size, is.few) })
+    rw same (record { each = each; few = omega (arith, size, is.few); enough = omega (arith, size, is.enough) })

@@ -1,5 +1,5 @@
 -- The header that was read, as the definitions have it.
-use Rattle.std.specs.Prelude.{ℕ, List, [], Option, map, option_map, option_and_then, Result, Ok, nat_eq}
+use Rattle.std.specs.Prelude.{ℕ, List, [], Option, map, replicate, option_map, option_and_then, Result, Ok, nat_eq}
 use Rattle.std.specs.Option.{option_or}
 use Rattle.std.specs.Map.{lookup}
 use Rattle.dw_model.specs.declared.dwarf.TheConstants.{DW_LNCT_path, DW_LNCT_directory_index}
@@ -13,6 +13,8 @@ use Rattle.dw_forms.specs.Value.{value_shown}
 use Rattle.dw_line.specs.declared.entries.Format.{Format}
 use Rattle.dw_line.specs.declared.entries.Contents.{Contents}
 use Rattle.dw_line.specs.declared.entries.LineEntry.{LineEntry}
+use Rattle.dw_line.specs.declared.entry_list.EntryList.{EntryList}
+use Rattle.dw_line.specs.declared.entry_list.EntryList.TheVariants.{Each, Same}
 use Rattle.dw_line.specs.declared.header.Header.{Header}
 
 abbrev pub format_shown : Format → model.Format
@@ -46,6 +48,11 @@ entry_shown tables bases entry = record {
   directory = entry.directory;
 }
 
+-- the entries of a list
+abbrev pub entries_shown : Tables → Bases → EntryList → List model.LineEntry
+entries_shown tables bases (Each entries) = map (entry_shown tables bases) entries.items
+entries_shown tables bases (Same entry count) = replicate count (entry_shown tables bases entry)
+
 -- the header as a unit with these texts sees it
 abbrev pub header_in : Tables → Bases → Header → model.LineHeader
 header_in tables bases header = record {
@@ -54,8 +61,8 @@ header_in tables bases header = record {
   line_range = header.line_range;
   opcode_base = header.opcode_base;
   standard_opcode_lengths = header.standard_opcode_lengths.now;
-  directories = map (entry_shown tables bases) header.directories.items;
-  files = map (entry_shown tables bases) header.files.items;
+  directories = entries_shown tables bases header.directories;
+  files = entries_shown tables bases header.files;
   program = header.program.now;
 }
 

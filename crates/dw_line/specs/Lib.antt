@@ -7,10 +7,12 @@ pub mod Machine
 pub mod Sequences
 pub mod Recorder
 pub mod Search
+pub mod TableAt
 pub mod Reached
 pub mod Program
 pub mod Path
 pub mod Lines
+pub mod Kept
 pub mod LinesInside
 pub mod Walked
 pub mod WalkInside

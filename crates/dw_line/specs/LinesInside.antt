@@ -1,5 +1,5 @@
 -- What a line table that was read is seen as.
-use Rattle.std.specs.Prelude.{◌≡◌, ℕ, List, Option, Ok, option_map}
+use Rattle.std.specs.Prelude.{◌≡◌, ◌≤◌, ◌+◌, ℕ, List, length, Option, Ok, option_map}
 use Rattle.dw_model.specs.Text.{Tables, Bases}
 use Rattle.dw_index.specs.Segments.{owner_at}
 use Rattle.dw_forms.specs.Tables.{tables_shown, bases_shown}
@@ -24,10 +24,11 @@ lines_in lines =
     table_in lines (tables_shown lines.unit.tables) (bases_shown lines.unit.bases) (option_map (λ directory. directory.now) lines.unit.comp_dir)
 
 -- Each unit sees the table at its offset so. What is kept is of the used sequences of the header's
--- program, the index finds the first of them that holds an address, and the row that was found last
--- is one of theirs.
+-- program, no more things than it has bytes; the index finds the first of them that holds an
+-- address, and the row that was found last is one of theirs.
 pub record AreRead (lines : Inside) : Type 0 where
   pub each : (tables : Tables) (bases : Bases) (comp_dir : Option (List ℕ)) → lines_of tables bases lines.section.now comp_dir lines.offset ≡ Ok (table_in lines tables bases comp_dir)
   pub kept : AreKept (header_shown lines.header) lines.checkpoints.items lines.sequences.items (used_sequences (matrix_of (header_shown lines.header)))
+  pub fits : length lines.checkpoints.items + length lines.sequences.items ≤ length lines.header.program.now
   pub found : (a : ℕ) → owner_at lines.index a ≡ number_among (used_sequences (matrix_of (header_shown lines.header))) a
   pub last : IsLast (header_shown lines.header) (used_sequences (matrix_of (header_shown lines.header))) lines.last

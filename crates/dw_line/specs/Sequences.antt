@@ -97,6 +97,7 @@ AreSequences header checkpoints end _ _ = ⊥
 pub record AreKept (header : LineHeader) (checkpoints : List Checkpoint) (kept : List Sequence) (used : List (List Row)) : Type 0 where
   pub each : AreSequences header checkpoints (length checkpoints) kept used
   pub few : length checkpoints ≤ most_checkpoints used
+  pub enough : sum_by length used ≤ 64 * length checkpoints + length used
 
 -- each sequence's range with its number, counted from a first one
 abbrev pub pairs_from : ℕ → List Sequence → List (Range × ℕ)

@@ -1,6 +1,6 @@
 //! The lists of directories and of files, by section 6.2.4.1 of DWARF 5.
 
-ghost use Rattle.std.specs.Prelude.{◌≡◌, ◌∷◌, [], None, map, option_map};
+ghost use Rattle.std.specs.Prelude.{◌≡◌, ◌∷◌, [], ℕ, None, Ok, IfSome, map, option_map, replicate};
 ghost use Rattle.std.specs.Option.{option_map_or};
 ghost use Rattle.dw_model.specs.LineHeader.{formats_at, contents_at, entries_at, entry_list, as_directory};
 ghost use Rattle.dw_model.specs.Text as model;
@@ -8,8 +8,9 @@ ghost use Rattle.dw_model.specs.Answers.{ReadsOn, ReadsUnlessMemory};
 ghost use Rattle.dw_bytes.specs.Width.{size_of};
 ghost use Rattle.dw_forms.specs.Value.{value_shown};
 ghost use Rattle.dw_line.specs.Fault.{line_fault};
-ghost use Rattle.dw_line.specs.Header.{format_shown, contents_shown, used_of, used_at, entry_shown};
+ghost use Rattle.dw_line.specs.Header.{format_shown, contents_shown, used_of, used_at, entry_shown, entries_shown};
 
+use crate::entry_list::EntryList;
 use crate::fault::LineFault;
 use crate::numbers::{uleb, value};
 use dw_bytes::{Cursor, Width};
@@ -133,6 +134,26 @@ fn entries_of<'a>(
     Ok(entries)
 }
 
+/// The entry of which a list consists whose entries take no bytes; `None` where they take some, or
+/// can't be read.
+fn empty_entry<'a>(cursor: &Cursor<'a>, formats: &[Format], width: Width) -> Option<LineEntry<'a>>
+    ensures { IfSome result (λ entry. (tables : model.Tables) (bases : model.Bases) (count : ℕ)
+        → entries_at tables bases (size_of width) (map format_shown formats.now) count cursor.now
+        ≡ Ok (replicate count (entry_shown tables bases entry), cursor.now)) }
+{
+    let mut ahead = cursor.fork();
+    let Ok(contents) = contents_of(&mut ahead, formats, width) else {
+        return None;
+    };
+    if ahead.left() != cursor.left() {
+        return None;
+    }
+    Some(LineEntry {
+        path: contents.path,
+        directory: directory_of(contents.directory),
+    })
+}
+
 /// A list: the number of formats, the formats, the number of entries, and the entries. A list with
 /// more entries than bytes are left is bad, so that the file bounds entries that take no bytes.
 /// Offsets have a width.
@@ -141,9 +162,9 @@ pub(crate) fn entry_list_of<'a>(
     alloc: Global,
     cursor: &mut Cursor<'a>,
     width: Width,
-) -> Result<Vec<LineEntry<'a>>, LineFault>
+) -> Result<EntryList<'a>, LineFault>
     ensures { (tables : model.Tables) (bases : model.Bases)
-        → ReadsUnlessMemory (λ entries. map (entry_shown tables bases) entries.items) line_fault result
+        → ReadsUnlessMemory (entries_shown tables bases) line_fault result
         (entry_list tables bases (size_of width) cursor.old) cursor.new }
 {
     let format_count = cursor.u8().ok_or(LineFault::Bad)?;
@@ -152,5 +173,9 @@ pub(crate) fn entry_list_of<'a>(
     if count > cursor.left() as u64 {
         return Err(LineFault::Bad);
     }
-    entries_of(alloc, cursor, formats.as_slice(), count, width)
+    if let Some(entry) = empty_entry(cursor, formats.as_slice(), width) {
+        return Ok(EntryList::Same(entry, count));
+    }
+    let entries = entries_of(alloc, cursor, formats.as_slice(), count, width)?;
+    Ok(EntryList::Each(entries))
 }

@@ -2,11 +2,14 @@
 
 ghost use Rattle.std.specs.Prelude.{◌<◌};
 
-use crate::entries::LineEntry;
+use crate::entry_list::EntryList;
 
 mod parser;
+mod table;
 
 pub(crate) use parser::header_at;
+pub(crate) use table::table_at;
+pub use table::table_size;
 
 /// The fields of a header that are used, and the program after it.
 #[derive(Debug, Drop)]
@@ -21,8 +24,8 @@ pub(crate) struct Header<'a> {
     pub(crate) opcode_base: u8,
     /// How many operands each opcode from 1 on and below the first special one has.
     pub(crate) standard_opcode_lengths: &'a [u8],
-    pub(crate) directories: Vec<LineEntry<'a>>,
-    pub(crate) files: Vec<LineEntry<'a>>,
+    pub(crate) directories: EntryList<'a>,
+    pub(crate) files: EntryList<'a>,
     pub(crate) program: &'a [u8],
     ghost some_line_range: { 0 < line_range },
 }

@@ -3,6 +3,7 @@
 
 mod checkpoints;
 mod entries;
+mod entry_list;
 mod fault;
 mod header;
 mod instruction;
@@ -18,6 +19,7 @@ mod sequences;
 mod walk;
 
 pub use fault::LineFault;
+pub use header::table_size;
 pub use lines::Lines;
 pub use rows::Row;
 pub use walk::{Stretch, Walk};

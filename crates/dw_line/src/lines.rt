@@ -1,6 +1,6 @@
 //! A line table: the row of an address, and the path of a file.
 
-ghost use Rattle.std.specs.Prelude.{◌≡◌, ◌≤◌, ◌<◌, ◌+◌, ℕ, Ok, Some, IfOk, IfErr, option_map};
+ghost use Rattle.std.specs.Prelude.{◌≡◌, ◌≤◌, ◌<◌, ◌+◌, ◌*◌, ℕ, Ok, Some, IfOk, IfErr, option_map, length, nat_lt};
 ghost use Rattle.dw_model.specs.Answers.{GivesUnlessMemory};
 ghost use Rattle.dw_model.specs.Matrix.{row_of};
 ghost use Rattle.dw_model.specs.Path.{path};
@@ -10,9 +10,11 @@ ghost use Rattle.dw_line.specs.Border.{OwnerEnds};
 ghost use Rattle.dw_line.specs.Fault.{line_fault};
 ghost use Rattle.dw_line.specs.Header.{without_lists};
 ghost use Rattle.dw_line.specs.Lines.{lines_of, TellsEach};
+ghost use Rattle.dw_line.specs.Kept.{most_kept, spelled};
 ghost use Rattle.dw_line.specs.Reached.{IsLast, FindsRow, Stays};
 ghost use Rattle.dw_line.specs.Search.{row_told, told_at};
-ghost use Rattle.dw_line.specs.Sequences.{used_sequences, number_among, most_checkpoints, IsOwner};
+ghost use Rattle.dw_line.specs.Sequences.{used_sequences, number_among, IsOwner};
+ghost use Rattle.dw_line.specs.TableAt.{table_size};
 
 use crate::checkpoints::{Checkpoint, Checkpoints, Sequence};
 use crate::fault::LineFault;
@@ -291,12 +293,26 @@ impl<'a> Lines<'a> {
         }
     }
 
-    /// How many checkpoints are kept: at most one for 64 rows of used sequences, and one for each
-    /// of these sequences. Nothing else is kept of their rows.
+    /// How many things are kept: the checkpoints of rows, at most one for 64 rows of used sequences
+    /// and one for each of these sequences; the sequences, the directories and the files. These are
+    /// at most twice the bytes of the table, and one at least for 64 rows, directories and files.
+    /// Nothing else is kept that grows with the table.
     pub fn kept(&self) -> usize
-        ensures bound { result ≤ most_checkpoints (used_sequences self.now.rows) }
+        ensures bound { result ≤ most_kept self.now }
+        ensures bytes { result ≤ 2 * table_size self.now.section self.now.offset }
+        ensures least { spelled self.now ≤ 64 * result }
     {
         self.checkpoints.len()
+            + self.sequences.len()
+            + self.header.directories.len()
+            + self.header.files.len()
+    }
+
+    /// Whether some sequence of its rows is used.
+    pub fn has_rows(&self) -> bool
+        ensures { result ≡ nat_lt 0 (length (used_sequences self.now.rows)) }
+    {
+        self.sequences.len() > 0
     }
 
     /// The path of a file, numbered from 0 on: from directory 0, else from the directory in which
@@ -307,14 +323,14 @@ impl<'a> Lines<'a> {
         ensures { IfOk result (λ found. option_map (λ path. path.items) found
             ≡ path self.now.header self.now.comp_dir n) }
     {
-        let Some(file) = self.header.files.get(n as usize) else {
+        let Some(file) = self.header.files.get(n) else {
             return Ok(None);
         };
-        let Some(name) = self.unit.text_of(file) else {
+        let Some(name) = self.unit.text_of(&file) else {
             return Ok(None);
         };
         let top = self.unit.top(&self.header);
-        let directory = self.unit.file_directory(&self.header, file);
+        let directory = self.unit.file_directory(&self.header, &file);
         let mut path = Vec::with_capacity(alloc, room_for(top, directory, name))?;
         path.extend_from_slice(top)?;
         join_some(&mut path, directory)?;

@@ -72,8 +72,8 @@ impl<'a> AskingUnit<'a> {
     fn directory_path(&self, header: &Header<'a>, n: u64) -> Option<&'a [u8]>
         ensures { option_map (λ text. text.now) result ≡ model.directory_path (header_for self.now header.now) n }
     {
-        let directory = header.directories.get(n as usize)?;
-        self.text_of(directory)
+        let directory = header.directories.get(n)?;
+        self.text_of(&directory)
     }
 
     /// Where relative paths begin: at directory 0, else at the directory in which the unit was

@@ -1,10 +1,12 @@
 -- What is kept, by keys.
-use Rattle.std.specs.Prelude.{ℕ, List, IfSome, Contains, slice_get, Option, Result}
+use Rattle.std.specs.Prelude.{◌≤◌, ◌+◌, ℕ, List, [], ◌∷◌, length, IfSome, Contains, slice_get, Option, Result}
 use Rattle.dw_model.specs.Section.{Sections}
 use Rattle.dw_model.specs.Unit.{units}
 use Rattle.dw_line.specs.Lines.{Table}
+use Rattle.dw_line.specs.TableAt.{table_size}
 use Rattle.dw_frames.specs.UnitIn.{UnitIn}
 use Rattle.dw_symbols.specs.declared.answer.UnitFault.{UnitFault}
+use Rattle.dw_symbols.specs.declared.table_cache.KeptTables.{KeptTables}
 use Rattle.dw_symbols.specs.UnitParts.{HasTree, IsTableAt}
 
 -- each value that is kept is that of its key
@@ -22,3 +24,13 @@ AreTrees sections entries = AreOf (IsTreeAt sections) entries
 -- line tables, by their offsets
 abbrev pub AreTables : Sections → List (ℕ × Result (Option Table) UnitFault) → Type 0
 AreTables sections entries = AreOf (IsTableAt sections) entries
+
+-- how many bytes the tables at these offsets have, counted for each of them
+abbrev pub size_together : {V : Type 0} → List ℕ → List (ℕ × V) → ℕ
+size_together line [] = 0
+size_together line (entry ∷ entries) = table_size line entry.0 + size_together line entries
+
+-- The tables that are kept have together no more bytes than .debug_line.
+pub record IsWithin (line : List ℕ) (kept : KeptTables) : Type 0 where
+  pub counted : size_together line kept.tables.entries ≤ kept.size
+  pub within : kept.size ≤ length line

@@ -16,11 +16,10 @@ use crate::image::Image;
 use crate::refusals::Refusals;
 use crate::source::Source;
 use crate::span::{Span, lesser};
+use crate::table_cache::{KeptTables, keep_lines, read_with_room};
 use crate::unit_answers::{location_by, push_pieces_by};
-use crate::unit_cache::{
-    Tables, Trees, keep_lines, keep_tree, kept_answer, kept_location, kept_pieces, tree_answer,
-};
-use crate::unit_parts::{read_lines, read_tree};
+use crate::unit_cache::{Trees, keep_tree, kept_answer, kept_location, kept_pieces, tree_answer};
+use crate::unit_parts::read_tree;
 use dw_model::laws::{law_of_more_pieces, law_of_pieces};
 use lru::LruCache;
 use std::alloc::{AllocError, Global};
@@ -39,7 +38,7 @@ pub struct Context<'b, 'a> {
     /// The functions of the units that were used last.
     trees: Trees<'a>,
     /// The line tables that were used last. Units may name one table, which is kept once.
-    tables: Tables<'a>,
+    tables: KeptTables<'a>,
     refusals: Refusals,
 }
 
@@ -110,7 +109,7 @@ impl<'b, 'a> Context<'b, 'a> {
         ensures refused { IfOk result (λ context. context.refused ≡ 0) }
     {
         let trees = LruCache::sparse(alloc, capacity)?;
-        let tables = LruCache::sparse(alloc, capacity)?;
+        let tables = KeptTables::new(alloc, capacity)?;
         Ok(Context {
             source,
             alloc,
@@ -136,10 +135,10 @@ impl<'b, 'a> Context<'b, 'a> {
         let Some(i) = image.unit_at(a) else {
             return Ok(Answer::NotCovered);
         };
-        if let Some(answer) = kept_location(&mut self.tables, alloc, image, i, a) {
+        if let Some(answer) = kept_location(&mut self.tables.tables, alloc, image, i, a) {
             return answer;
         }
-        let mut lines = read_lines(alloc, image, i)?;
+        let mut lines = read_with_room(&mut self.tables, alloc, image, i)?;
         let answer = location_by(&mut lines, alloc, image, i, a)?;
         keep_lines(&mut self.tables, image, i, lines);
         Ok(answer)
@@ -161,10 +160,10 @@ impl<'b, 'a> Context<'b, 'a> {
         ensures state { self.new ≡ self.old }
     {
         let (alloc, image) = (self.alloc, self.source.image());
-        if let Some(added) = kept_pieces(&mut self.tables, alloc, image, i, span, pieces) {
+        if let Some(added) = kept_pieces(&mut self.tables.tables, alloc, image, i, span, pieces) {
             return added;
         }
-        let mut lines = read_lines(alloc, image, i)?;
+        let mut lines = read_with_room(&mut self.tables, alloc, image, i)?;
         let added = push_pieces_by(&mut lines, alloc, image, i, span, pieces)?;
         keep_lines(&mut self.tables, image, i, lines);
         Ok(added)

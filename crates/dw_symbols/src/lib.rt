@@ -13,6 +13,7 @@ mod refusals;
 mod solver;
 mod source;
 mod span;
+mod table_cache;
 mod unit_answers;
 mod unit_cache;
 mod unit_parts;

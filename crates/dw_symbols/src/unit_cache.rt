@@ -1,28 +1,27 @@
-//! The functions of units and the line tables that were used last, and what they answer.
+//! The functions of units that were used last, and what they and the line tables that are kept
+//! answer.
 
-ghost use Rattle.std.specs.Prelude.{◌≡◌, ◌<◌, ◌≤◌, map, false, IfSome, IfNone, IfOk, length, slice_get};
+ghost use Rattle.std.specs.Prelude.{◌≡◌, ◌<◌, ◌≤◌, ℕ, List, map, false, IfSome, IfNone, IfOk, length, slice_get};
 ghost use Rattle.dw_model.specs.Section.{Sections, sections};
 ghost use Rattle.dw_model.specs.Unit.{is_skipped, units};
 ghost use Rattle.dw_model.specs.Answer.{as_answer, unit_answer, unit_location};
 ghost use Rattle.dw_symbols.specs.Answer.{answer_shown, piece_shown};
-ghost use Rattle.dw_symbols.specs.Kept.{AreTrees, AreTables, IsTreeAt};
-ghost use Rattle.dw_symbols.specs.UnitParts.{HasTree, IsNamed, IsTableAt, IsTreeOf};
+ghost use Rattle.dw_symbols.specs.Kept.{AreTrees, AreTables, IsTreeAt, IsWithin, size_together};
+ghost use Rattle.dw_symbols.specs.UnitParts.{HasTree, IsTreeOf};
 ghost use Rattle.dw_symbols.specs.Span.{AddsUnit};
 
 use crate::answer::{Answer, Piece, UnitFault};
 use crate::image::Image;
 use crate::span::Span;
+use crate::table_cache::{KeptTables, Tables, keep_lines, read_with_room};
 use crate::unit_answers::{frames_by, location_by, push_pieces_by};
-use crate::unit_parts::{UnitLines, UnitTree, read_lines, table_offset};
+use crate::unit_parts::{UnitTree, table_offset};
 use dw_frames::Tree;
 use lru::LruCache;
 use std::alloc::{AllocError, Global};
 
 /// The functions of units by their places, the last used first.
 pub(crate) type Trees<'a> = LruCache<usize, UnitTree<'a>>;
-
-/// Line tables by their offsets in .debug_line, the last used first.
-pub(crate) type Tables<'a> = LruCache<u64, UnitLines<'a>>;
 
 /// Keeps the functions of a unit. Those for which there is no memory are read again when they are
 /// asked for.
@@ -33,36 +32,6 @@ pub(crate) fn keep_tree<'a>(kept: &mut Trees<'a>, i: usize, tree: UnitTree<'a>)
         Ok(_) => {}
         Err(_) => {}
     }
-}
-
-/// Keeps a line table in the same way.
-fn put_table<'a>(kept: &mut Tables<'a>, offset: u64, lines: UnitLines<'a>)
-    ensures { (s : Sections) → AreTables s kept.old.entries → IsTableAt s offset lines.entry
-        → AreTables s kept.new.entries }
-{
-    match kept.put(offset, lines) {
-        Ok(_) => {}
-        Err(_) => {}
-    }
-}
-
-/// Keeps the line table that a unit names.
-pub(crate) fn keep_lines<'a>(
-    kept: &mut Tables<'a>,
-    image: &Image<'a>,
-    i: usize,
-    lines: UnitLines<'a>,
-)
-    requires unit { i < length (units (sections image.now).info) }
-    requires named { IfSome (slice_get (units (sections image.now).info) i)
-        (λ unit. IsNamed (sections image.now) unit lines) }
-    requires kept { AreTables (sections image.now) kept.old.entries }
-    ensures { AreTables (sections image.now) kept.new.entries }
-{
-    let Some(offset) = table_offset(image.units(), i) else {
-        return;
-    };
-    put_table(kept, offset, lines);
 }
 
 /// Where an address comes from, by a line table that is kept; `None` where it isn't.
@@ -76,6 +45,7 @@ pub(crate) fn kept_location<'a>(
     requires unit { i < length (units (sections image.now).info) }
     requires kept { AreTables (sections image.now) kept.old.entries }
     ensures kept { AreTables (sections image.now) kept.new.entries }
+    ensures sizes { (line : List ℕ) → size_together line kept.new.entries ≡ size_together line kept.old.entries }
     ensures answer { IfSome result (λ result. IfOk result
         (λ answer. IfSome (slice_get (units (sections image.now).info) i)
         (λ unit. answer_shown answer ≡ as_answer unit.offset (unit_location (sections image.now) unit a)))) }
@@ -99,6 +69,7 @@ pub(crate) fn kept_pieces<'a>(
     requires kept { AreTables (sections image.now) kept.old.entries }
     requires order { span.low ≤ span.high }
     ensures kept { AreTables (sections image.now) kept.new.entries }
+    ensures sizes { (line : List ℕ) → size_together line kept.new.entries ≡ size_together line kept.old.entries }
     ensures pieces { IfSome result (λ result. IfOk result
         (λ fault. IfSome (slice_get (units (sections image.now).info) i)
         (λ unit. AddsUnit (sections image.now) unit span fault (map piece_shown pieces.old.items)
@@ -126,6 +97,7 @@ fn kept_frames<'a>(
     requires kept { AreTables (sections image.now) kept.old.entries }
     ensures tree { tree.new ≡ tree.old }
     ensures kept { AreTables (sections image.now) kept.new.entries }
+    ensures sizes { (line : List ℕ) → size_together line kept.new.entries ≡ size_together line kept.old.entries }
     ensures answer { IfSome result (λ result. IfOk result
         (λ answer. IfSome (slice_get (units (sections image.now).info) i)
         (λ unit. answer_shown answer ≡ as_answer unit.offset (unit_answer (sections image.now) unit a)))) }
@@ -137,7 +109,7 @@ fn kept_frames<'a>(
 
 /// What an address means, by the functions of its unit.
 pub(crate) fn tree_answer<'a>(
-    tables: &mut Tables<'a>,
+    tables: &mut KeptTables<'a>,
     tree: &mut UnitTree<'a>,
     alloc: Global,
     image: &Image<'a>,
@@ -147,9 +119,11 @@ pub(crate) fn tree_answer<'a>(
     requires unit { i < length (units (sections image.now).info) }
     requires tree { IfSome (slice_get (units (sections image.now).info) i)
         (λ unit. HasTree (sections image.now) unit tree.old) }
-    requires kept { AreTables (sections image.now) tables.old.entries }
+    requires kept { AreTables (sections image.now) tables.old.tables.entries }
+    requires within { IsWithin (sections image.now).line tables.old }
     ensures tree { tree.new ≡ tree.old }
-    ensures kept { AreTables (sections image.now) tables.new.entries }
+    ensures kept { AreTables (sections image.now) tables.new.tables.entries }
+    ensures within { IsWithin (sections image.now).line tables.new }
     ensures answer { IfOk result (λ answer. IfSome (slice_get (units (sections image.now).info) i)
         (λ unit. answer_shown answer ≡ as_answer unit.offset (unit_answer (sections image.now) unit a))) }
 {
@@ -158,10 +132,10 @@ pub(crate) fn tree_answer<'a>(
         Ok(tree) => tree,
         Err(code) => return Ok(Answer::Fault { unit, code: *code }),
     };
-    if let Some(answer) = kept_frames(tables, tree, alloc, image, i, a) {
+    if let Some(answer) = kept_frames(&mut tables.tables, tree, alloc, image, i, a) {
         return answer;
     }
-    let mut lines = read_lines(alloc, image, i)?;
+    let mut lines = read_with_room(tables, alloc, image, i)?;
     let answer = frames_by(&mut lines, tree, alloc, image, i, a)?;
     keep_lines(tables, image, i, lines);
     Ok(answer)
@@ -171,7 +145,7 @@ pub(crate) fn tree_answer<'a>(
 /// aren't.
 pub(crate) fn kept_answer<'a>(
     trees: &mut Trees<'a>,
-    tables: &mut Tables<'a>,
+    tables: &mut KeptTables<'a>,
     alloc: Global,
     image: &Image<'a>,
     i: usize,
@@ -179,9 +153,11 @@ pub(crate) fn kept_answer<'a>(
 ) -> Option<Result<Answer<'a>, AllocError>>
     requires unit { i < length (units (sections image.now).info) }
     requires trees { AreTrees (sections image.now) trees.old.entries }
-    requires tables { AreTables (sections image.now) tables.old.entries }
+    requires tables { AreTables (sections image.now) tables.old.tables.entries }
+    requires within { IsWithin (sections image.now).line tables.old }
     ensures trees { AreTrees (sections image.now) trees.new.entries }
-    ensures tables { AreTables (sections image.now) tables.new.entries }
+    ensures tables { AreTables (sections image.now) tables.new.tables.entries }
+    ensures within { IsWithin (sections image.now).line tables.new }
     ensures answer { IfSome result (λ result. IfOk result
         (λ answer. IfSome (slice_get (units (sections image.now).info) i)
         (λ unit. answer_shown answer ≡ as_answer unit.offset (unit_answer (sections image.now) unit a)))) }

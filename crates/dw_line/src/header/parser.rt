@@ -10,8 +10,8 @@ ghost use Rattle.dw_line.specs.Header.{header_in};
 
 use crate::entries::entry_list_of;
 use crate::fault::LineFault;
-use crate::header::Header;
-use dw_bytes::{Cursor, Initial, Width};
+use crate::header::{Header, table_at};
+use dw_bytes::{Cursor, Width};
 use dw_model::dwarf::{ADDRESS_SIZE, DWARF_VERSION};
 use std::alloc::Global;
 
@@ -86,7 +86,7 @@ fn table_of<'a>(
 }
 
 /// The header of the table at an offset of .debug_line, in the format of the table's own length.
-#[tactic(auto, using(crate::proofs::HeaderLemmas::past_end), unfolding(dw_model::specs::LineHeader::line_header))]
+#[tactic(auto, using(crate::proofs::HeaderLemmas::header_behind))]
 pub(crate) fn header_at<'a>(
     alloc: Global,
     section: &'a [u8],
@@ -96,17 +96,6 @@ pub(crate) fn header_at<'a>(
         → GivesUnlessMemory (header_in tables bases) line_fault result
         (line_header tables bases section.now offset) }
 {
-    if offset > section.len() as u64 {
-        return Err(LineFault::Bad);
-    }
-    let mut cursor = Cursor::new(section);
-    let Some(_) = cursor.take(offset as usize) else {
-        return Err(LineFault::Bad);
-    };
-    let initial = cursor.initial_length().ok_or(LineFault::Bad)?;
-    let Initial::Bytes(unit_length, width) = initial else {
-        return Err(LineFault::Bad);
-    };
-    let table = cursor.take(unit_length as usize).ok_or(LineFault::Bad)?;
+    let (table, width) = table_at(section, offset).ok_or(LineFault::Bad)?;
     table_of(alloc, &mut Cursor::new(table), width)
 }

@@ -1,4 +1,4 @@
-use Rattle.std.proofs.Common.{◌+◌, sym, ◌∙◌, arith}
+use Rattle.std.proofs.Common.{sym, ◌∙◌, arith}
 use Rattle.dw_line.specs.Fault.{line_fault}
 use Rattle.dw_line.specs.Header.{header_shown}
 use Rattle.dw_line.specs.Machine.{state_at}

@@ -4,7 +4,7 @@ use Rattle.dw_model.specs.Section.{Sections, sections}
 use Rattle.dw_model.specs.Unit.{units}
 use Rattle.dw_symbols.specs.UnitParts.{named_table, IsTableAt}
 use Rattle.dw_symbols.proofs.LineLemmas.{named-at, at-named}
-use Rattle.dw_symbols.proofs.KeptLemmas.{after-set, looked-up}
+use Rattle.dw_symbols.proofs.KeptLemmas.{after-set, looked-up, size-after-set}
 use Rattle.dw_symbols.proofs.unit_cache.kept_location.Goals as goal
 
 pub location_by-requires-clause-named : goal.location_by-requires-clause-named
@@ -20,3 +20,6 @@ returns-clause-kept c =
     let names = subst (λ (s : Sections). IfSome (slice_get (units s.info) c.args.i) (λ unit. Some c.in_ok-offset.offset ≡ named_table s unit)) c.units.ensures c.in_ok-offset.ensures in
     after-set (IsTableAt s) c.args.kept.now.entries c.in_ok-offset.offset c.location_by.new.lines c.requires.kept
     (at-named s c.args.i c.in_ok-offset.offset c.location_by.new.lines c.requires.unit names c.location_by.ensures.named)
+
+pub returns-clause-sizes : goal.returns-clause-sizes
+returns-clause-sizes c = λ line. size-after-set line c.args.kept.now.entries c.in_ok-offset.offset c.location_by.new.lines

@@ -1,4 +1,4 @@
-use Rattle.std.proofs.Common.{◌<◌, ℕ, Option, Some, None, subst, arith}
+use Rattle.std.proofs.Common.{◌<◌, ℕ, Option, None, subst, arith}
 use Rattle.dw_line.specs.Sequences.{IsOwner}
 use Rattle.dw_line.specs.Border.{OwnerEnds, IsBorder}
 use Rattle.dw_line.specs.Header.{without_lists}

@@ -4,7 +4,7 @@ use Rattle.dw_model.specs.Section.{sections}
 use Rattle.dw_model.specs.Unit.{units}
 use Rattle.dw_symbols.specs.ContextState.{ContextState}
 use Rattle.dw_symbols.specs.Answer.{answer_shown}
-use Rattle.dw_symbols.specs.Kept.{AreTrees, AreTables}
+use Rattle.dw_symbols.specs.Kept.{AreTrees, AreTables, IsWithin}
 use Rattle.dw_symbols.specs.UnitParts.{HasTree}
 use Rattle.dw_symbols.proofs.AnswerLemmas.{answer-none, answer-some, answer-ok}
 use Rattle.dw_symbols.proofs.context.Context.look_up.Goals as goal
@@ -30,5 +30,6 @@ invariant_of-self-2 c =
     record {
       trees = subst (λ (file : List ℕ). AreTrees (sections file) c.keep_tree.new.kept.entries) c.image-image.ensures
           (c.keep_tree.ensures s c.in_default-kept_answer.ensures.trees (each-some (slice_get (units s.info) c.in-Some.i) (λ unit. HasTree s unit c.tree_answer.new.tree) (rw (c.tree_answer.ensures.tree) c.in_ok-tree.ensures)));
-      tables = subst (λ (file : List ℕ). AreTables (sections file) c.tree_answer.new.tables.entries) c.image-image.ensures c.tree_answer.ensures.kept;
+      tables = subst (λ (file : List ℕ). AreTables (sections file) c.tree_answer.new.tables.tables.entries) c.image-image.ensures c.tree_answer.ensures.kept;
+      within = subst (λ (file : List ℕ). IsWithin (sections file).line c.tree_answer.new.tables) c.image-image.ensures c.tree_answer.ensures.within;
     }

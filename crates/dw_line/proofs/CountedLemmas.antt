@@ -1,0 +1,72 @@
+-- How many things are kept of a table that was read.
+use Rattle.std.proofs.Common.{◌≡◌, ℕ, suc, ◌+◌, ◌*◌, ◌≤◌, List, [], ◌∷◌, length, map, Option, Ok, Bor, refl, ap, ◌∙◌, arith}
+use Rattle.std.specs.Prelude.{option_map}
+use Rattle.std.proofs.lemmas.List.{length-map}
+use Rattle.dw_model.specs.Results.{◌>>=◌}
+use Rattle.dw_model.specs.LineHeader.{LineHeader, line_header}
+use Rattle.dw_model.specs.Instruction.{Instruction, instructions}
+use Rattle.dw_model.specs.Matrix.{Row, matrix}
+use Rattle.dw_model.specs.Text.{Tables, Bases}
+use Rattle.dw_model.proofs.StepLemmas.{bind_ok, ok_is}
+use Rattle.dw_forms.specs.Tables.{tables_shown, bases_shown}
+use Rattle.dw_line.specs.declared.checkpoints.Checkpoint.{Checkpoint}
+use Rattle.dw_line.specs.declared.checkpoints.Sequence.{Sequence}
+use Rattle.dw_line.specs.declared.entry_list.EntryList.{EntryList}
+use Rattle.dw_line.specs.declared.lines.Lines.TheInside.{Inside}
+use Rattle.dw_line.specs.Header.{entries_shown, header_shown}
+use Rattle.dw_line.specs.Kept.{most_kept, spelled}
+use Rattle.dw_line.specs.Lines.{Table, lines_of, matrix_of}
+use Rattle.dw_line.specs.LinesInside.{lines_in, AreRead}
+use Rattle.dw_line.specs.Sequences.{used_sequences, AreSequences}
+use Rattle.dw_line.specs.TableAt.{table_size}
+use Rattle.dw_line.proofs.SizeLemmas.{header-within}
+
+-- a sequence is kept for each that is used
+pub as_many : (header : LineHeader) (checkpoints : List Checkpoint) (end : ℕ) (kept : List Sequence) (used : List (List Row)) → AreSequences header checkpoints end kept used → length kept ≡ length used
+as_many header checkpoints end [] [] are = refl
+as_many header checkpoints end [] (rows ∷ used) are = absurd are
+as_many header checkpoints end (one ∷ kept) [] are = absurd are
+as_many header checkpoints end (one ∷ kept) (rows ∷ used) are = ap suc (as_many header checkpoints end kept used are.1)
+
+-- the header that a table was read with
+header_of : (tables : Tables) (bases : Bases) (section : List ℕ) (comp_dir : Option (List ℕ)) (offset : ℕ) (table : Table) → lines_of tables bases section comp_dir offset ≡ Ok table → line_header tables bases section offset ≡ Ok table.header
+unfolding lines_of
+header_of tables bases section comp_dir offset table e =
+    let made : LineHeader → List Instruction → Table = λ header program. record { section = section; offset = offset; header = header; rows = matrix header program; comp_dir = comp_dir } in
+    let header = bind_ok (line_header tables bases section offset) (λ header. instructions header >>= λ program. Ok (made header program)) table e in
+    let program = bind_ok (instructions header.0) (λ program. Ok (made header.0 program)) table header.2 in
+    header.1 ∙ ap (λ (table : Table). Ok table.header) (ok_is (made header.0 program.0) table program.2)
+
+-- all that is kept, where the lists have so many entries
+abbrev pub count : Inside → (directories files : ℕ) → ℕ
+count lines directories files = length lines.checkpoints.items + length lines.sequences.items + directories + files
+
+module _ (lines : Inside) (are : AreRead lines) where
+  -- the lists of the table, as its unit sees them, and its program
+  abbrev pub own : EntryList → ℕ
+  own list = length (entries_shown (tables_shown lines.unit.tables) (bases_shown lines.unit.bases) list)
+
+  pub lists-within : own lines.header.directories + own lines.header.files + length lines.header.program.now ≤ 2 * table_size lines.section.now lines.offset
+  lists-within =
+      let tables = tables_shown lines.unit.tables in
+      let bases = bases_shown lines.unit.bases in
+      let comp_dir = option_map (λ (directory : Bor (List ℕ)). directory.now) lines.unit.comp_dir in
+      header-within lines.section.now lines.offset tables bases (lines_in lines).header (header_of tables bases lines.section.now comp_dir lines.offset (lines_in lines) (are.each tables bases comp_dir))
+
+  pub count-but-files : (directories : ℕ) → ((tables : Tables) (bases : Bases) → directories ≡ length (entries_shown tables bases lines.header.directories)) → length lines.checkpoints.items + length lines.sequences.items + directories ≤ 2 * table_size lines.section.now lines.offset
+  count-but-files directories first = omega (arith, lists-within, are.fits, first (tables_shown lines.unit.tables) (bases_shown lines.unit.bases))
+
+module _ (lines : Inside) (are : AreRead lines) (directories files : ℕ)
+    (first : (tables : Tables) (bases : Bases) → directories ≡ length (entries_shown tables bases lines.header.directories))
+    (second : (tables : Tables) (bases : Bases) → files ≡ length (entries_shown tables bases lines.header.files)) where
+  pub as_many_sequences : length lines.sequences.items ≡ length (used_sequences (matrix_of (header_shown lines.header)))
+  as_many_sequences = as_many (header_shown lines.header) lines.checkpoints.items (length lines.checkpoints.items) lines.sequences.items (used_sequences (matrix_of (header_shown lines.header))) are.kept.each
+
+  pub count-bytes : count lines directories files ≤ 2 * table_size lines.section.now lines.offset
+  count-bytes = omega (arith, lists-within lines are, are.fits, first (tables_shown lines.unit.tables) (bases_shown lines.unit.bases), second (tables_shown lines.unit.tables) (bases_shown lines.unit.bases))
+
+  pub count-bound : count lines directories files ≤ most_kept (lines_in lines)
+  count-bound = omega (arith, are.kept.few, as_many_sequences, first (tables_shown lines.unit.tables) (bases_shown lines.unit.bases), second (tables_shown lines.unit.tables) (bases_shown lines.unit.bases))
+
+  pub count-least : spelled (lines_in lines) ≤ 64 * count lines directories files
+  count-least = omega (arith, are.kept.enough, as_many_sequences, first (tables_shown lines.unit.tables) (bases_shown lines.unit.bases), second (tables_shown lines.unit.tables) (bases_shown lines.unit.bases))

@@ -1,0 +1,15 @@
+use Rattle.std.proofs.Common.{sym, subst}
+use Rattle.lru.proofs.Splits.{Contains-nil}
+use Rattle.dw_model.specs.Section.{sections}
+use Rattle.dw_symbols.specs.Kept.{AreTrees}
+use Rattle.dw_symbols.specs.Source.{file_in}
+use Rattle.dw_symbols.proofs.context.Context.over.Goals as goal
+
+pub invariant_of-result : goal.invariant_of-result
+invariant_of-result c =
+    let s = sections (file_in c.args.source) in
+    record {
+      trees = subst (λ cache. AreTrees s cache.entries) (sym c.in_ok-trees.ensures) (λ k v h. absurd (Contains-nil (k, v) h));
+      tables = c.in_ok-tables.ensures.tables s;
+      within = c.in_ok-tables.ensures.within s;
+    }
