@@ -4,19 +4,19 @@ ghost use Rattle.std.specs.Prelude.{◌≡◌, ◌<◌, Some, IfOk};
 ghost use Rattle.ticket_core.specs.State.{hand_at};
 ghost use Rattle.ticket_core.specs.Events.{meaning_of};
 
-use crate::solver::Echo;
+use crate::solver::{Echo, Parity};
 use std::alloc::Global;
-use ticket_core::{Core, CoreFault, NewFault, NoMemory, Query, QueryKind, Shape, Solver};
+use ticket_core::{Core, CoreFault, NewFault, NoMemory, Query, Shape, Solver};
 
 /// A core whose answers are the solver's. It knows what each hand holds, so a worker can finish
 /// just that.
 #[derive(Drop)]
-pub struct CoreDesk {
-    core: Core<'static, Echo>,
-    solver: Echo,
+pub struct CoreDesk<S: Solver + Drop> {
+    core: Core<'static, S>,
+    solver: S,
     hands: Vec<Option<(usize, u64)>>,
     pub shape: Shape,
-    ghost same_key: { core.key ≡ solver.key.now },
+    ghost same_key: { core.key ≡ S.key solver },
     ghost shaped: { core.shape ≡ shape },
     ghost same_hands: { core.hands ≡ hands.items },
 }
@@ -39,15 +39,33 @@ fn answer<S: Solver>(
     solver.solve(query)
 }
 
-impl CoreDesk {
+impl CoreDesk<Echo> {
     pub fn new(alloc: Global, shape: Shape, key: &'static [u8]) -> Result<Self, NewFault>
+        ensures { IfOk result (λ desk. desk.shape ≡ shape) }
+    {
+        CoreDesk::of(alloc, shape, key, Echo::new(key, 0))
+    }
+}
+
+impl CoreDesk<Parity> {
+    /// A core whose answers are remainders by 2.
+    pub fn of_parities(alloc: Global, shape: Shape, key: &'static [u8]) -> Result<Self, NewFault>
+        ensures { IfOk result (λ desk. desk.shape ≡ shape) }
+    {
+        CoreDesk::of(alloc, shape, key, Parity::new(key))
+    }
+}
+
+impl<S: Solver + Drop> CoreDesk<S> {
+    fn of(alloc: Global, shape: Shape, key: &'static [u8], solver: S) -> Result<Self, NewFault>
+        requires { key.now ≡ S.key solver }
         ensures { IfOk result (λ desk. desk.shape ≡ shape) }
     {
         let hands = vec![in alloc; None; shape.workers]?;
         let core = Core::new(alloc, shape, key)?;
         Ok(CoreDesk {
             core,
-            solver: Echo::new(key, 0),
+            solver,
             hands,
             shape,
         })
@@ -77,7 +95,8 @@ impl CoreDesk {
     {
         self.core.law_of_state();
         let Some((sender, number)) = self.hands[worker] else {
-            return self.core.finish(worker, QueryKind::Address(0));
+            let unwanted = self.solver.solve(Query::address(0))?;
+            return self.core.finish(worker, unwanted);
         };
         let answer = answer(&self.core, &mut self.solver, worker, sender, number)?;
         let ticket = self.core.finish(worker, answer)?;
@@ -114,7 +133,7 @@ impl CoreDesk {
         self.core.asked(sender)
     }
 
-    pub fn received(&self, sender: usize) -> &[QueryKind]
+    pub fn received(&self, sender: usize) -> &[S::Answer]
         requires { sender < self.now.shape.senders }
     {
         self.core.received(sender)

@@ -1,17 +1,17 @@
 //! Calls of a core, one after the other.
 
 use crate::core_desk::CoreDesk;
-use crate::queries::query_of;
-use crate::solver::KEY;
+use crate::solver::{Echo, KEY};
 use std::process::Abort;
 use std::test::Fail;
-use ticket_core::QueryKind::{Address, Span};
-use ticket_core::{CoreFault, NewFault, Query, QueryKind, Shape};
+use ticket_core::QueryKind::Address;
+use ticket_core::{CoreFault, NewFault, Query, Shape, Solver};
 
 /// A call by the first sender, or by a worker, and what it returns.
 #[derive(Clone, Copy)]
 enum Call {
-    Ask(QueryKind, Result<u64, CoreFault>),
+    /// An address.
+    Ask(u64, Result<u64, CoreFault>),
     /// By a worker, of a number.
     Take(usize, u64, Result<(), CoreFault>),
     Finish(usize, Result<(usize, u64), CoreFault>),
@@ -21,7 +21,7 @@ enum Call {
 }
 
 /// Makes the call at an index of a table. It returns what it should.
-fn make(rt: &impl Abort, desk: &mut CoreDesk, i: usize, call: Call) {
+fn make<S: Solver + Drop>(rt: &impl Abort, desk: &mut CoreDesk<S>, i: usize, call: Call) {
     let Shape {
         senders,
         workers,
@@ -29,9 +29,8 @@ fn make(rt: &impl Abort, desk: &mut CoreDesk, i: usize, call: Call) {
     } = desk.shape;
     assert!(rt; senders > 0);
     match call {
-        Call::Ask(kind, wanted) => {
-            let query = query_of(rt, kind);
-            assert_eq!(rt; desk.ask(0, query), wanted, "call {i}");
+        Call::Ask(a, wanted) => {
+            assert_eq!(rt; desk.ask(0, Query::address(a)), wanted, "call {i}");
         }
         Call::Take(worker, number, wanted) => {
             assert!(rt; worker < workers);
@@ -50,7 +49,7 @@ fn make(rt: &impl Abort, desk: &mut CoreDesk, i: usize, call: Call) {
     }
 }
 
-fn make_all(rt: &impl Abort, desk: &mut CoreDesk, calls: &[Call]) {
+fn make_all<S: Solver + Drop>(rt: &impl Abort, desk: &mut CoreDesk<S>, calls: &[Call]) {
     for (i, call) in calls.iter().enumerate() {
         make(rt, desk, i, *call);
     }
@@ -63,10 +62,11 @@ const SMALL: Shape = Shape {
     most: 2,
 };
 
-const ONE_NUMBER: [Call; 13] = [
+/// `Closed` comes before `Exhausted`, and that before `Full`.
+const ONE_RUN: [Call; 22] = [
     Call::Collect(Err(CoreFault::NotReady)),
-    Call::Ask(Address(5), Ok(0)),
-    Call::Ask(Address(6), Err(CoreFault::Full)),
+    Call::Ask(5, Ok(0)),
+    Call::Ask(6, Err(CoreFault::Full)),
     Call::Take(0, 1, Err(CoreFault::NotAsked)),
     Call::Take(0, 0, Ok(())),
     Call::Take(0, 0, Err(CoreFault::HandFull)),
@@ -76,43 +76,34 @@ const ONE_NUMBER: [Call; 13] = [
     Call::Take(1, 0, Ok(())),
     Call::Finish(1, Ok((0, 0))),
     Call::Collect(Ok(0)),
-    Call::Ask(Span(5, 6), Ok(1)),
-];
-
-#[test]
-fn one_number_at_a_time(rt: HostRuntime) -> Result<(), Fail> {
-    let mut desk = CoreDesk::new(rt.alloc(), SMALL, &KEY)?;
-    make_all(&rt, &mut desk, &ONE_NUMBER);
-    Ok(())
-}
-
-/// `Closed` comes before `Exhausted`, and that before `Full`.
-const TO_THE_END: [Call; 10] = [
-    Call::Ask(Address(5), Ok(0)),
-    Call::Ask(Address(6), Err(CoreFault::Exhausted)),
+    Call::Ask(6, Ok(1)),
+    Call::Ask(7, Err(CoreFault::Exhausted)),
     Call::Close,
-    Call::Ask(Address(6), Err(CoreFault::Closed)),
+    Call::Ask(7, Err(CoreFault::Closed)),
     Call::Collect(Err(CoreFault::NotReady)),
-    Call::Take(0, 0, Ok(())),
-    Call::Finish(0, Ok((0, 0))),
-    Call::Collect(Ok(0)),
+    Call::Take(0, 1, Ok(())),
+    Call::Finish(0, Ok((0, 1))),
+    Call::Collect(Ok(1)),
     Call::Collect(Err(CoreFault::Ended)),
     Call::GiveBack(0, Err(CoreFault::HandEmpty)),
 ];
 
-/// A sender that may ask one query.
+/// The answers are remainders by 2.
 #[test]
-fn a_sender_ends(rt: HostRuntime) -> Result<(), Fail> {
-    let mut desk = CoreDesk::new(rt.alloc(), Shape { most: 1, ..SMALL }, &KEY)?;
-    make_all(&rt, &mut desk, &TO_THE_END);
+fn one_number_at_a_time(rt: HostRuntime) -> Result<(), Fail> {
+    let mut desk = CoreDesk::of_parities(rt.alloc(), SMALL, &KEY)?;
+    make_all(&rt, &mut desk, &ONE_RUN);
     assert!(rt; desk.shape.senders > 0);
-    assert_eq!(rt; desk.asked(0), [Query::address(5)].as_slice());
-    assert_eq!(rt; desk.received(0), [Address(5)].as_slice());
+    assert_eq!(rt;
+        desk.asked(0),
+        [Query::address(5), Query::address(6)].as_slice()
+    );
+    assert_eq!(rt; desk.received(0), [1, 0].as_slice());
     Ok(())
 }
 
 /// Asks an address that is the number too, once more where an allocation was refused.
-fn ask_at_last(rt: &impl Abort, desk: &mut CoreDesk, a: usize) {
+fn ask_at_last(rt: &impl Abort, desk: &mut CoreDesk<Echo>, a: usize) {
     assert!(rt; desk.shape.senders > 0);
     let query = Query::address(a as u64);
     let asked = desk.ask(0, query);

@@ -6,7 +6,7 @@ mod plain;
 
 use crate::core_desk::CoreDesk;
 use crate::queries::draw;
-use crate::solver::KEY;
+use crate::solver::{Echo, KEY};
 use plain::{Misuse, Plain};
 use std::alloc::Global;
 use std::process::Abort;
@@ -18,7 +18,7 @@ use ticket_core::Shape;
 /// whether an answer was received.
 fn play(
     rt: &impl Abort,
-    desk: &mut CoreDesk,
+    desk: &mut CoreDesk<Echo>,
     plain: &mut Plain,
     draws: &mut Draws,
 ) -> Result<bool, Misuse>
@@ -59,7 +59,7 @@ fn play(
 }
 
 /// Each sender's lists are those of the plain definition.
-fn compare(rt: &impl Abort, desk: &CoreDesk, plain: &Plain) -> Result<(), Misuse> {
+fn compare(rt: &impl Abort, desk: &CoreDesk<Echo>, plain: &Plain) -> Result<(), Misuse> {
     for sender in 0..desk.shape.senders {
         let lists = plain.senders.get(sender).ok_or(Misuse)?;
         assert_eq!(rt; desk.asked(sender), lists.asked.as_slice());

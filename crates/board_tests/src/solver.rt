@@ -60,6 +60,44 @@ impl Solver for Echo {
     }
 }
 
+/// Answers each query with what is left of its first word by 2, whatever the key.
+#[derive(Drop)]
+pub struct Parity {
+    key: &'static [u8],
+}
+
+impl Parity {
+    pub fn new(key: &'static [u8]) -> Self
+        ensures { result.key.now ≡ key.now }
+    {
+        Parity { key }
+    }
+}
+
+impl Solver for Parity {
+    ghost use Rattle.std.specs.Prelude.{◌%◌};
+    ghost use Rattle.std.specs.Coded.{coded_ℕ};
+    ghost use Rattle.ticket_core.specs.Query.{first_word};
+
+    type Answer = u64;
+
+    ghost shown = { λ answer. coded_ℕ.code answer };
+
+    ghost meaning = { λ key query. coded_ℕ.code (first_word query % 2) };
+
+    ghost key = { λ solver. solver.key.now };
+
+    ghost refused = { λ solver. 0 };
+
+    fn key(&self) -> &[u8] {
+        self.key
+    }
+
+    fn solve(&mut self, query: Query) -> Result<u64, NoMemory> {
+        Ok(query.first() % 2)
+    }
+}
+
 /// Makes solvers of one key.
 #[derive(Drop)]
 pub struct Echoes {
