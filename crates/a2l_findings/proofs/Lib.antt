@@ -1,1 +1,3 @@
 pub mod CensusLemmas
+pub mod DocumentLemmas
+pub mod PageLemmas

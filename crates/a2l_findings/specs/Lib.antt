@@ -1,4 +1,5 @@
 pub mod Census
+pub mod Document
 pub mod Page
 pub mod Report
 pub mod Told

@@ -1,5 +1,12 @@
 //! Reports as documents of JSON.
 
+ghost use Rattle.std.specs.Prelude.{◌≡◌, [], IfOk, OnOk, codes, map};
+ghost use Rattle.serde_json.specs.Data.{string, put as with_member};
+ghost use Rattle.serde_json.specs.View.{view, members_view};
+ghost use Rattle.a2l_lines.specs.Input.{word_shown};
+ghost use Rattle.a2l_findings.specs.Document.{AddsTold, IsDocument, IsTextOf, TellsWord};
+ghost use Rattle.a2l_findings.specs.Told.{lines_told};
+
 use crate::note::{Allocated, Fact, Note, digits_of};
 use crate::reasons::Reason;
 use crate::told::Told;
@@ -25,7 +32,10 @@ impl Object {
     }
 
     /// Adds a member.
-    fn put(&mut self, name: &str, value: Value) -> Allocated<()> {
+    fn put(&mut self, name: &str, value: Value) -> Allocated<()>
+        ensures { OnOk result (members_view self.new.members.entries
+            ≡ with_member name.now (view value) (members_view self.old.members.entries)) }
+    {
         put(&mut self.members, self.alloc, name, value)
     }
 
@@ -33,7 +43,8 @@ impl Object {
     fn tell(&mut self, name: &str, fact: Fact<'_>) -> Allocated<()> {
         let alloc = self.alloc;
         let value = match fact {
-            Fact::Nothing | Fact::Fault(_) | Fact::Reason(_) => return Ok(()),
+            Fact::Nothing | Fact::Fault(_) => return Ok(()),
+            Fact::Reason(reason) => reason_value(alloc, reason)?,
             Fact::Count(count) | Fact::Unsaid(count) => Value::from(count),
             Fact::Place(place) => Value::String(format!(in alloc; "0x{place:x}")?),
             Fact::Text(text) => Value::String(String::from_utf8_lossy(alloc, text)?),
@@ -68,9 +79,6 @@ impl Object {
                 name = part.group;
             }
             group.tell(part.name, part.fact)?;
-            if let Fact::Reason(reason) = part.fact {
-                group.put(part.name, reason_value(self.alloc, reason)?)?;
-            }
         }
         self.put_group(name, group)
     }
@@ -84,8 +92,11 @@ impl Object {
         self.tell("column", Fact::count(location.column))
     }
 
-    /// Adds an answer.
-    fn put_answer(&mut self, answer: &Answer<'_>) -> Allocated<()> {
+    /// Adds an answer, where there is one.
+    fn put_answer(&mut self, answer: &Option<Answer<'_>>) -> Allocated<()> {
+        let Some(answer) = answer else {
+            return Ok(());
+        };
         match answer {
             Answer::NotCovered => Ok(()),
             Answer::Fault { unit, code } => {
@@ -105,9 +116,12 @@ impl Object {
     }
 
     /// The document of it with its status, and the end of the line.
-    fn finish(mut self, status: &str) -> Allocated<Vec<u8>> {
+    fn finish(mut self, status: &str) -> Allocated<Vec<u8>>
+        ensures { IfOk result (λ text. IsTextOf (with_member (codes "status") (string status.now)
+            (members_view self.members.entries)) text.items) }
+    {
         let alloc = self.alloc;
-        self.tell("status", Fact::Words(status))?;
+        self.put("status", Value::try_from_str(alloc, status)?)?;
         let written = Value::Object(self.members).to_string(alloc)?;
         let mut text = Vec::from_slice(alloc, written.as_bytes())?;
         text.push(b'\n')?;
@@ -122,10 +136,10 @@ fn reason_value(alloc: Global, reason: Reason) -> Allocated<Value> {
     let found = format!(in alloc; "{}", reason.found)?;
     let wanted = format!(in alloc; "{}", reason.wanted)?;
     let mut object = Object::new(alloc);
-    object.tell("place", Fact::Words(&place))?;
-    object.tell("field", Fact::Words(&field))?;
-    object.tell("found", Fact::Words(&found))?;
-    object.tell("wanted", Fact::Words(&wanted))?;
+    object.put("place", Value::String(place))?;
+    object.put("field", Value::String(field))?;
+    object.put("found", Value::String(found))?;
+    object.put("wanted", Value::String(wanted))?;
     Ok(Value::Object(object.members))
 }
 
@@ -178,15 +192,34 @@ fn pieces_value(alloc: Global, pieces: &[Piece]) -> Allocated<Value> {
 }
 
 /// The report on a text.
-fn told_value(alloc: Global, word: &str, told: &Told<'_>) -> Allocated<Value> {
+fn told_value(alloc: Global, word: &str, told: &Told<'_>) -> Allocated<Value>
+    ensures { IfOk result (λ value. TellsWord word.now (lines_told told.now) (view value)) }
+{
     let mut object = Object::new(alloc);
-    object.tell("asked", Fact::Words(word))?;
     object.put("way", notes_value(alloc, &told.way.steps)?)?;
-    if let Some(answer) = &told.answer {
-        object.put_answer(answer)?;
-    }
-    object.tell("lines", Fact::Text(&told.lines))?;
+    object.put_answer(&told.answer)?;
+    let lines = String::from_utf8_lossy(alloc, &told.lines)?;
+    object.put("asked", Value::try_from_str(alloc, word)?)?;
+    object.put("lines", Value::String(lines))?;
     Ok(Value::Object(object.members))
+}
+
+/// The reports on some texts.
+fn told_values(alloc: Global, words: &[&str], tolds: &[Told<'_>]) -> Allocated<Vec<Value>>
+    ensures { IfOk result (λ values.
+        AddsTold (map word_shown words.now) (map lines_told tolds.now) [] (map view values.items)) }
+{
+    let mut list = Vec::new(alloc);
+    for i in 0..words.len() {
+        let Some(word) = words.get(i) else {
+            return Ok(list);
+        };
+        let Some(told) = tolds.get(i) else {
+            return Ok(list);
+        };
+        list.push(told_value(alloc, word, told)?)?;
+    }
+    Ok(list)
 }
 
 /// The document of a refused file.
@@ -211,12 +244,12 @@ pub(crate) fn of_words(
     words: &[&str],
     tolds: &[Told<'_>],
     is_clean: bool,
-) -> Allocated<Vec<u8>> {
-    let mut list = Vec::new(alloc);
-    for (word, told) in words.iter().zip(tolds) {
-        list.push(told_value(alloc, word, told)?)?;
-    }
+) -> Allocated<Vec<u8>>
+    ensures { IfOk result (λ text. IsDocument (map word_shown words.now) (map lines_told tolds.now) text.items) }
+{
+    let list = told_values(alloc, words, tolds)?;
     let mut object = Object::new(alloc);
     object.put("asked", Value::Array(list))?;
-    object.finish(if is_clean { "clean" } else { "findings" })
+    let text = object.finish(if is_clean { "clean" } else { "findings" })?;
+    Ok(text)
 }

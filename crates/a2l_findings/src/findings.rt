@@ -103,10 +103,8 @@ impl Survey {
         let unit = here.unit();
         if unit.kind.is_skipped() {
             let version = unit.version;
-            let unit_type = match unit_header(scene.sections.info, unit.offset) {
-                Ok(header) => header.unit_type,
-                Err(_) => None,
-            };
+            let header = unit_header(scene.sections.info, unit.offset).ok();
+            let unit_type = header.and_then(|header| header.unit_type);
             return self.count(Matter::Skipped { version, unit_type }, here.index());
         }
         if let Kind::Skeleton = unit.kind {
@@ -133,10 +131,7 @@ impl Survey {
             self.count(Matter::Faulty(fault), here.index())?;
         }
         let functions = subprograms_of(scene.alloc, here)?;
-        let has_rows = match lines {
-            Some(lines) => lines.has_rows(),
-            None => false,
-        };
+        let has_rows = lines.is_some_and(|lines| lines.has_rows());
         if ranges.is_empty() && (has_rows || !functions.is_empty()) {
             self.count(Matter::WithoutRanges, here.index())?;
         }

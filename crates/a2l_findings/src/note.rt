@@ -61,18 +61,12 @@ pub struct Note<'a> {
 impl<'a> Fact<'a> {
     /// A text of the file, where there is one.
     pub fn text(text: Option<&'a [u8]>) -> Self {
-        match text {
-            Some(text) => Fact::Text(text),
-            None => Fact::Nothing,
-        }
+        text.map_or(Fact::Nothing, |text| Fact::Text(text))
     }
 
     /// A number, where there is one.
     pub fn count(count: Option<u64>) -> Self {
-        match count {
-            Some(count) => Fact::Count(count),
-            None => Fact::Nothing,
-        }
+        count.map_or(Fact::Nothing, |count| Fact::Count(count))
     }
 
     /// Adds the fact to a sentence. Names and paths are in it byte for byte.

@@ -168,12 +168,8 @@ fn overlap_note<'a>(scene: &Scene<'a>, kind: Words, overlap: Overlap) -> Allocat
     );
     note.count("", "addresses", overlap.addresses)?;
     note.count(" addresses in ", "spans", overlap.spans)?;
-    let words = if overlap.spans == 1 {
-        " span"
-    } else {
-        " spans"
-    };
-    note.say(words)?;
+    let is_one = overlap.spans == 1;
+    note.say(if is_one { " span" } else { " spans" })?;
     note.say(" answered by ranges that begin where no code is, over those of code; the first: ")?;
     note.span("", overlap.first)?;
     note.say(" by ")?;

@@ -1,7 +1,9 @@
 //! Reports in lines of text.
 
-ghost use Rattle.std.specs.Prelude.{◌≡◌, ◌++◌, OnOk};
-ghost use Rattle.a2l_findings.specs.Page.{EndsWith};
+ghost use Rattle.std.specs.Prelude.{OnOk, IfOk, map, []};
+ghost use Rattle.a2l_lines.specs.Input.{word_shown};
+ghost use Rattle.a2l_findings.specs.Page.{AddsReport, AddsReports};
+ghost use Rattle.a2l_findings.specs.Told.{lines_told};
 
 use crate::note::{Allocated, Note};
 use crate::told::Told;
@@ -46,20 +48,31 @@ pub(crate) fn of_file(alloc: Global, units: &Note<'_>, notes: &[Note<'_>]) -> Al
 }
 
 /// Adds the report on a text: the text, the steps, and the lines that `a2l -f -i` writes.
-fn push_told(text: &mut Vec<u8>, word: &str, told: &Told<'_>) -> Allocated<()>
-    ensures { OnOk result (EndsWith text.new.items told.now.lines.items) }
+fn push_told(alloc: Global, text: &mut Vec<u8>, word: &str, told: &Told<'_>) -> Allocated<()>
+    ensures { OnOk result (AddsReport word.now (lines_told told.now) text.old.items text.new.items) }
 {
+    let mut steps = Vec::new(alloc);
+    push_notes(&mut steps, &told.way.steps)?;
     text.extend_from_slice(word.as_bytes())?;
     text.extend_from_slice(b":\n")?;
-    push_notes(text, &told.way.steps)?;
-    text.extend_from_slice(&told.lines)
+    text.extend_from_slice(&steps)?;
+    text.extend_from_slice(&told.lines)?;
+    Ok(())
 }
 
 /// The page of some texts, with the report on each.
-pub(crate) fn of_words(alloc: Global, words: &[&str], tolds: &[Told<'_>]) -> Allocated<Vec<u8>> {
+pub(crate) fn of_words(alloc: Global, words: &[&str], tolds: &[Told<'_>]) -> Allocated<Vec<u8>>
+    ensures { IfOk result (λ text. AddsReports (map word_shown words.now) (map lines_told tolds.now) [] text.items) }
+{
     let mut text = Vec::new(alloc);
-    for (word, told) in words.iter().zip(tolds) {
-        push_told(&mut text, word, told)?;
+    for i in 0..words.len() {
+        let Some(word) = words.get(i) else {
+            return Ok(text);
+        };
+        let Some(told) = tolds.get(i) else {
+            return Ok(text);
+        };
+        push_told(alloc, &mut text, word, told)?;
     }
     Ok(text)
 }

@@ -44,8 +44,5 @@ pub(crate) fn build_id_in(section: &[u8]) -> Option<&[u8]> {
 
 /// The name of the supplementary file, of .gnu_debugaltlink or .debug_sup.
 pub(crate) fn supplementary<'a>(headers: &SectionHeaders<'a>) -> Option<&'a [u8]> {
-    match text_in(headers.contents(".gnu_debugaltlink")) {
-        Some(name) => Some(name),
-        None => sup_name(headers.contents(".debug_sup")),
-    }
+    text_in(headers.contents(".gnu_debugaltlink")).or(sup_name(headers.contents(".debug_sup")))
 }

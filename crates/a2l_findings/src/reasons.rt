@@ -90,11 +90,8 @@ fn check_entry(alloc: Global, here: OpenUnit<'_, '_>, entry: &Entry<'_>, depth: 
     if depth > MOST_DEPTH {
         let field = "below how many entries it stands";
         let wanted = Wanted::Words("512 at most");
-        return Err(Spot::At("entry", entry.offset, ".debug_info").stop(
-            field,
-            Found::Number(depth),
-            wanted,
-        ));
+        let spot = Spot::At("entry", entry.offset, ".debug_info");
+        return Err(spot.stop(field, Found::Number(depth), wanted));
     }
     if entry.tag != DW_TAG_subprogram && entry.tag != DW_TAG_inlined_subroutine {
         return Ok(());

@@ -4,8 +4,8 @@ ghost use Rattle.std.specs.Prelude.{◌≡◌, IfOk, if◌then◌else◌, map};
 ghost use Rattle.std.specs.List.{list_all};
 ghost use Rattle.dw_model.specs.Refusal.{refusal};
 ghost use Rattle.a2l_lines.specs.Input.{word_shown};
-ghost use Rattle.a2l_findings.specs.Report.{IsOutcome, TellsRefusal};
-ghost use Rattle.a2l_findings.specs.Told.{answer_of_word, answer_told, is_answered};
+ghost use Rattle.a2l_findings.specs.Report.{IsOutcome, IsTextIn, TellsAll, TellsRefusal};
+ghost use Rattle.a2l_findings.specs.Told.{answer_of_word, answer_told, is_answered, lines_of, lines_told};
 ghost use Rattle.a2l_findings.specs.declared.report.Outcome.TheVariants.{Clean, Findings, Refused};
 
 use crate::findings::{Progress, findings_of};
@@ -146,11 +146,29 @@ fn are_answered(tolds: &[Told<'_>]) -> bool
     all
 }
 
+/// The text of the reports on some texts, in a form.
+fn text_of_words(
+    alloc: Global,
+    words: &[&str],
+    tolds: &[Told<'_>],
+    is_clean: bool,
+    form: Form,
+) -> Allocated<Vec<u8>>
+    ensures { IfOk result (λ text. IsTextIn form (map word_shown words.now) (map lines_told tolds.now) text.items) }
+{
+    match form {
+        Form::Page => page::of_words(alloc, words, tolds),
+        Form::Document => document::of_words(alloc, words, tolds, is_clean),
+    }
+}
+
 /// The report on what texts ask of a file, in their order: the way of each to its answer, and its
 /// answer as `a2l` has it. It is refused exactly as `a2l` refuses it.
 pub fn report_on_words(alloc: Global, file: &[u8], words: &[&str], form: Form) -> Allocated<Report>
-    ensures { IfOk result (λ report. IsOutcome report.outcome (refusal file.now)
+    ensures outcome { IfOk result (λ report. IsOutcome report.outcome (refusal file.now)
         (map (answer_of_word file.now) (map word_shown words.now))) }
+    ensures told { IfOk result (λ report. TellsAll report.outcome form (map word_shown words.now)
+        (map (lines_of file.now) (map word_shown words.now)) report.text.items) }
 {
     let tolds = match tell_words(alloc, file, words) {
         Ok(tolds) => tolds,
@@ -158,10 +176,7 @@ pub fn report_on_words(alloc: Global, file: &[u8], words: &[&str], form: Form) -
         Err(fault) => return refused(alloc, file, fault, form),
     };
     let is_clean = are_answered(&tolds);
-    let text = match form {
-        Form::Page => page::of_words(alloc, words, &tolds)?,
-        Form::Document => document::of_words(alloc, words, &tolds, is_clean)?,
-    };
+    let text = text_of_words(alloc, words, &tolds, is_clean, form)?;
     let outcome = outcome_of(is_clean);
     Ok(Report { text, outcome })
 }

@@ -94,14 +94,8 @@ pub(crate) fn read_lines<'a>(
     };
     let tables = here.units().tables();
     let bases = &here.unit().bases;
-    match Lines::read(
-        scene.alloc,
-        scene.sections.line,
-        tables,
-        bases,
-        None,
-        offset,
-    ) {
+    let section = scene.sections.line;
+    match Lines::read(scene.alloc, section, tables, bases, None, offset) {
         Ok(lines) => Ok((Some(lines), None)),
         Err(LineFault::Bad) => Ok((None, Some(UnitFault::Line))),
         Err(LineFault::Memory) => Err(AllocError),
@@ -197,11 +191,8 @@ pub(crate) fn tell_skipped<'a>(
             return Err(AllocError);
         }
     }
-    note.tell(
-        " ",
-        "name",
-        text_in(scene, &header, &attributes, DW_AT_name),
-    )?;
+    let name = text_in(scene, &header, &attributes, DW_AT_name);
+    note.tell(" ", "name", name)?;
     let producer = text_in(scene, &header, &attributes, DW_AT_producer);
     note.tell(", made by ", "producer", producer)
 }

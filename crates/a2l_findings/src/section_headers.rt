@@ -113,10 +113,8 @@ impl<'a> SectionHeaders<'a> {
 
     /// The header of an index; `None` where it isn't all there.
     fn header(&self, index: u64) -> Option<SectionHeader> {
-        header_at(
-            self.file,
-            self.e_shoff.checked_add(index.checked_mul(SHDR_SIZE)?)?,
-        )
+        let passed = index.checked_mul(SHDR_SIZE)?;
+        header_at(self.file, self.e_shoff.checked_add(passed)?)
     }
 
     /// The bytes of a section; none where they don't all lie in the file.

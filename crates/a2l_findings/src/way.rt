@@ -13,6 +13,7 @@ mod uncovered;
 use crate::note::{Allocated, Note};
 use crate::reasons::fault_reason;
 use crate::scene::{Scene, holding, ranges_in, read_lines, read_tree, table_offset, tell_unit};
+use dw_ranges::Range;
 use dw_symbols::{Image, UnitFault};
 use dw_units::OpenUnit;
 use uncovered::uncovered_note;
@@ -39,16 +40,19 @@ impl<'b, 'a> Visit<'b, 'a> {
     fn unit_note(self) -> Allocated<Note<'a>> {
         let mut note = Note::new(self.scene.alloc, "unit");
         tell_unit(&mut note, self.here)?;
-        note.count(
-            " of version ",
-            "version",
-            u64::from(self.here.unit().version),
-        )?;
-        if let Some(range) = holding(&ranges_in(self.scene.alloc, self.here)?, self.address) {
-            note.span(": its range ", range)?;
-            note.say(" holds it")?;
-        }
+        let version = u64::from(self.here.unit().version);
+        note.count(" of version ", "version", version)?;
+        self.tell_range(&mut note, &ranges_in(self.scene.alloc, self.here)?)?;
         Ok(note)
+    }
+
+    /// Adds the range that holds the address, of those of a unit or a function.
+    fn tell_range(self, note: &mut Note<'a>, ranges: &[Range]) -> Allocated<()> {
+        let Some(range) = holding(ranges, self.address) else {
+            return Ok(());
+        };
+        note.span(": its range ", range)?;
+        note.say(" holds it")
     }
 
     /// Adds the unit, which doesn't answer the address, where its ranges hold it.

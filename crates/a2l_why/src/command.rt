@@ -51,13 +51,7 @@ pub fn parse<'a, S: AsStr>(alloc: Global, words: &'a [S]) -> Result<Job<'a>, Fau
     let Some(file) = matches.get_str("file") else {
         return Err(Fault::CommandLine);
     };
-    let json = match matches.get_str("json") {
-        Some(text) => text == "true",
-        None => false,
-    };
-    let words = match matches.get_strs("words") {
-        Some(words) => Vec::from_slice(alloc, words)?,
-        None => Vec::new(alloc),
-    };
+    let json = matches.get_str("json") == Some("true");
+    let words = Vec::from_slice(alloc, matches.get_strs("words").unwrap_or(&[]))?;
     Ok(Job { file, json, words })
 }

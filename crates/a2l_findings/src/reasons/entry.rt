@@ -19,12 +19,7 @@ const CODE: &str = "its abbreviation code";
 fn fields_at<'a>(sections: &Sections<'a>, unit: &UnitHeader, offset: u64) -> Fields<'a> {
     let len = sections.info.len().min(unit.end as usize);
     let bytes = sections.info.split_at(len).0;
-    Fields::new(
-        Spot::At("entry", offset, ".debug_info"),
-        ".debug_info",
-        bytes,
-        offset,
-    )
+    Fields::new("entry", ".debug_info", bytes, offset)
 }
 
 /// Adds the attributes of the entry at an offset of a unit, up to the first that can't be read.
@@ -64,14 +59,9 @@ pub fn push_attributes<'a>(
 
 /// Why the first entry of a unit can't be taken.
 pub(super) fn root_reason(alloc: Global, sections: &Sections<'_>, unit: &UnitHeader) -> Read<()> {
-    push_attributes(
-        alloc,
-        sections,
-        unit,
-        unit.first_entry,
-        &mut Vec::new(alloc),
-    )?;
-    let mut fields = fields_at(sections, unit, unit.first_entry);
+    let at = unit.first_entry;
+    push_attributes(alloc, sections, unit, at, &mut Vec::new(alloc))?;
+    let mut fields = fields_at(sections, unit, at);
     if fields.uleb(CODE)? != 0 {
         return Ok(());
     }
@@ -114,8 +104,7 @@ fn pass_pairs(fields: &mut Fields<'_>) -> Read<bool> {
 fn pass_declarations(section: &[u8], offset: u64, first: bool) -> Read<bool> {
     let mut at = offset;
     for _ in 0..section.len() {
-        let spot = Spot::At("declaration", at, ABBREVS);
-        let mut fields = Fields::new(spot, ABBREVS, section, at);
+        let mut fields = Fields::new("declaration", ABBREVS, section, at);
         if fields.left() == 0 || fields.uleb("its code")? == 0 {
             return Ok(false);
         }
@@ -131,20 +120,13 @@ fn pass_declarations(section: &[u8], offset: u64, first: bool) -> Read<bool> {
 
 /// The abbreviations at an offset declare values that lead to a supplementary file.
 pub fn uses_supplementary(section: &[u8], offset: u64) -> bool {
-    match pass_declarations(section, offset, true) {
-        Ok(leads) => leads,
-        Err(_) => false,
-    }
+    pass_declarations(section, offset, true).unwrap_or(false)
 }
 
 /// Why the table at an offset of .debug_abbrev can't be read, of the unit at an offset.
 pub(super) fn abbrevs_reason(section: &[u8], unit: u64, offset: u64) -> Read<()> {
-    Spot::At("unit", unit, ".debug_info").check_offset(
-        "debug_abbrev_offset",
-        offset,
-        section,
-        ABBREVS,
-    )?;
+    let spot = Spot::At("unit", unit, ".debug_info");
+    spot.check_offset("debug_abbrev_offset", offset, section, ABBREVS)?;
     let _ = pass_declarations(section, offset, false)?;
     Ok(())
 }

@@ -18,8 +18,13 @@ pub(super) struct Fields<'a> {
 }
 
 impl<'a> Fields<'a> {
-    /// Fields from an offset of a section on, whose bytes are given, or from its end.
-    pub(super) fn new(spot: Spot, section: Words, bytes: &'a [u8], offset: u64) -> Self {
+    /// Fields of what begins at an offset of a section, whose bytes are given, or at its end.
+    pub(super) fn new(what: Words, section: Words, bytes: &'a [u8], offset: u64) -> Self {
+        Fields::of(Spot::At(what, offset, section), section, bytes, offset)
+    }
+
+    /// Fields of what is at a spot, from an offset of a section on.
+    pub(super) fn of(spot: Spot, section: Words, bytes: &'a [u8], offset: u64) -> Self {
         let mut cursor = Cursor::new(bytes);
         let _ = cursor.take(bytes.len().min(offset as usize));
         Fields {

@@ -40,7 +40,7 @@ pub struct LineTable<'a> {
 /// Fields of the table at an offset of .debug_line, from `at` on and up to an end.
 fn fields_in(section: &[u8], offset: u64, at: u64, end: u64) -> Fields<'_> {
     let bytes = section.split_at(section.len().min(end as usize)).0;
-    Fields::new(Spot::At("line table", offset, SECTION), SECTION, bytes, at)
+    Fields::of(Spot::At("line table", offset, SECTION), SECTION, bytes, at)
 }
 
 /// The entry of a list that is next, which has contents (DW_LNCT codes) in forms (DW_FORM codes).
@@ -122,9 +122,9 @@ fn header_behind<'a>(alloc: Global, fields: &mut Fields<'a>, width: Width) -> Re
 
 /// The header of the table at an offset of .debug_line.
 pub fn line_table(alloc: Global, section: &[u8], offset: u64) -> Read<LineTable<'_>> {
-    let spot = Spot::At("line table", offset, SECTION);
+    let mut fields = Fields::new("line table", SECTION, section, offset);
+    let spot = fields.spot;
     spot.check_offset("DW_AT_stmt_list", offset, section, SECTION)?;
-    let mut fields = Fields::new(spot, SECTION, section, offset);
     let (length, width) = fields.length()?;
     let begin = fields.at();
     let end = begin.saturating_add(length);

@@ -86,7 +86,6 @@ fn check_address(here: OpenUnit<'_, '_>, spot: Spot, field: Words, value: &Value
 #[derive(Drop)]
 struct List<'b, 'a> {
     here: OpenUnit<'b, 'a>,
-    spot: Spot,
     fields: Fields<'a>,
     /// There is a base for offsets.
     has_base: bool,
@@ -107,7 +106,7 @@ impl<'b, 'a> List<'b, 'a> {
             }
             Operand::Index(name, address) => {
                 let index = Value::AddressIndex(self.fields.uleb(name)?);
-                check_address(self.here, self.spot, address, &index)
+                check_address(self.here, self.fields.spot, address, &index)
             }
         }
     }
@@ -135,12 +134,9 @@ impl<'b, 'a> List<'b, 'a> {
 /// Why the list at an offset of .debug_rnglists can't be read.
 fn check_list(here: OpenUnit<'_, '_>, offset: u64, has_base: bool) -> Read<()> {
     let bytes = here.units().tables().rnglists;
-    let spot = Spot::At("range list", offset, SECTION);
-    let fields = Fields::new(spot, SECTION, bytes, offset);
     let mut list = List {
         here,
-        spot,
-        fields,
+        fields: Fields::new("range list", SECTION, bytes, offset),
         has_base,
     };
     // The last turn finds no byte, and is refused.
@@ -167,7 +163,7 @@ fn list_offset(here: OpenUnit<'_, '_>, spot: Spot, value: &Value<'_>) -> Read<Op
     let at = index
         .saturating_mul(width.size() as u64)
         .saturating_add(base);
-    let mut fields = Fields::new(spot, SECTION, here.units().tables().rnglists, at);
+    let mut fields = Fields::of(spot, SECTION, here.units().tables().rnglists, at);
     let offset = fields.offset(width, "DW_AT_ranges, by its index")?;
     Ok(base.checked_add(offset))
 }
@@ -177,10 +173,8 @@ fn has_first_base(here: OpenUnit<'_, '_>) -> bool {
     let Some(root) = &here.unit().root else {
         return true;
     };
-    match root.attr(DW_AT_low_pc) {
-        Some(low) => here.address(low).is_some(),
-        None => true,
-    }
+    root.attr(DW_AT_low_pc)
+        .map_or(true, |low| here.address(low).is_some())
 }
 
 /// Why the ranges of an entry of a unit can't be read.

@@ -2,7 +2,7 @@
 //! versions before it.
 
 use crate::reasons::fields::Fields;
-use crate::reasons::reason::{Read, Spot, Stop};
+use crate::reasons::reason::{Read, Stop};
 use dw_bytes::Width;
 use dw_model::dwarf::{ADDRESS_SIZE, DW_UT_COMPILE, DW_UT_PARTIAL, DW_UT_SKELETON, DWARF_VERSION};
 
@@ -43,12 +43,8 @@ fn pass_ids(fields: &mut Fields<'_>, unit_type: u8, width: Width) -> Read<()> {
         }
         _ => {
             let number = u64::from(unit_type);
-            fields.check(
-                "unit_type",
-                number,
-                (1, 6),
-                "1 to 6, a type of the standard",
-            )?;
+            let wanted = "1 to 6, a type of the standard";
+            fields.check("unit_type", number, (1, 6), wanted)?;
             let _ = fields.u64("type_signature")?;
             let _ = fields.offset(width, "type_offset")?;
         }
@@ -58,12 +54,7 @@ fn pass_ids(fields: &mut Fields<'_>, unit_type: u8, width: Width) -> Read<()> {
 
 /// The header of the unit at an offset of .debug_info, whose bytes are the whole section.
 pub fn unit_header(info: &[u8], offset: u64) -> Read<UnitHeader> {
-    let mut fields = Fields::new(
-        Spot::At("unit", offset, ".debug_info"),
-        ".debug_info",
-        info,
-        offset,
-    );
+    let mut fields = Fields::new("unit", ".debug_info", info, offset);
     let (length, width) = fields.length()?;
     let mut header = UnitHeader {
         end: fields.at().saturating_add(length),
@@ -94,11 +85,6 @@ pub fn unit_header(info: &[u8], offset: u64) -> Read<UnitHeader> {
 pub(super) fn header_reason(info: &[u8], offset: u64) -> Read<()> {
     let found = u64::from(unit_header(info, offset)?.address_size);
     let wanted = u64::from(ADDRESS_SIZE);
-    let fields = Fields::new(
-        Spot::At("unit", offset, ".debug_info"),
-        ".debug_info",
-        info,
-        offset,
-    );
+    let fields = Fields::new("unit", ".debug_info", info, offset);
     fields.check("address_size", found, (wanted, wanted), "8")
 }

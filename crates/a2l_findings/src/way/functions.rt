@@ -101,16 +101,6 @@ impl<'b, 'a> Visit<'b, 'a> {
         note.say(", and that is one reference too many, so without a name")
     }
 
-    /// Adds the range of a function that holds the address.
-    fn tell_range(self, note: &mut Note<'a>, entry: &Entry<'a>) -> Allocated<()> {
-        let ranges = ranges_at(self.scene.alloc, self.here, entry)?;
-        if let Some(range) = holding(&ranges, self.address) {
-            note.span(": its range ", range)?;
-            note.say(" holds it")?;
-        }
-        Ok(())
-    }
-
     /// A function at the address: its entry, its range, its name, and where it was called.
     fn function_note(self, tree: &Tree<'a>, id: EntryId) -> Allocated<Note<'a>> {
         let mut note = Note::new(self.scene.alloc, "function");
@@ -122,7 +112,7 @@ impl<'b, 'a> Visit<'b, 'a> {
         note.place(words, "entry", id.offset)?;
         note.tell(" ", "name", Fact::text(tree.name(id)))?;
         if let Some(entry) = entry {
-            self.tell_range(&mut note, &entry)?;
+            self.tell_range(&mut note, &ranges_at(self.scene.alloc, self.here, &entry)?)?;
             self.tell_name(&mut note, entry)?;
         }
         if is_inlined {

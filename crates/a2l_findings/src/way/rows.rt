@@ -75,14 +75,9 @@ fn row_note<'a>(alloc: Global, table: u64, place: Option<Place>) -> Allocated<No
 
 /// The text to which the path of a directory or a file leads.
 fn path_of<'a>(here: OpenUnit<'_, 'a>, entry: Option<&FileEntry<'a>>) -> Fact<'a> {
-    match entry {
-        Some(
-            FileEntry {
-                path: Some(path),
-                ..
-            },
-        ) => Fact::text(here.text(path)),
-        _ => Fact::Nothing,
+    match entry.and_then(|entry| entry.path) {
+        Some(path) => Fact::text(here.text(&path)),
+        None => Fact::Nothing,
     }
 }
 
@@ -135,10 +130,8 @@ impl<'b, 'a> Visit<'b, 'a> {
     ) -> Allocated<()> {
         let place = place_of(lines, self.address);
         steps.push(row_note(self.scene.alloc, offset, place)?)?;
-        if let Some(place) = place {
-            if let Some(row) = place.stretch.row {
-                steps.push(self.file_note(offset, row.file)?)?;
-            }
+        if let Some(row) = place.and_then(|place| place.stretch.row) {
+            steps.push(self.file_note(offset, row.file)?)?;
         }
         Ok(())
     }

@@ -13,14 +13,8 @@ fn neighbours_of(scene: &Scene<'_>, address: u64) -> Allocated<(Near, Near)> {
     let mut after: Near = None;
     for unit in 0..scene.units.len() {
         for range in ranges_in(scene.alloc, scene.units.at(unit))? {
-            let is_before = match before {
-                Some((nearest, _)) => range.end > nearest.end,
-                None => true,
-            };
-            let is_after = match after {
-                Some((nearest, _)) => range.begin < nearest.begin,
-                None => true,
-            };
+            let is_before = before.map_or(true, |(nearest, _)| range.end > nearest.end);
+            let is_after = after.map_or(true, |(nearest, _)| range.begin < nearest.begin);
             if range.end <= address && is_before {
                 before = Some((range, unit));
             } else if range.begin > address && is_after {
