@@ -10,7 +10,7 @@ use Rattle.serde_json.specs.declared.value.Value.{Value, the_lemmas}
 use Rattle.serde_json.specs.declared.value.Value as value
 use Rattle.serde_json.proofs.Views.{get_member-put, get_member-put_other}
 use Rattle.a2l_lines.specs.Input.{word_shown}
-use Rattle.a2l_findings.specs.Document.{AddsTold, TellsWord}
+use Rattle.a2l_findings.specs.Document.{AddsReportValues, IsReportOn}
 use Rattle.a2l_findings.specs.Told.{lines_told}
 use Rattle.a2l_findings.specs.declared.told.Told.{Told}
 use Rattle.a2l_findings.proofs.PageLemmas.{from, past}
@@ -28,9 +28,9 @@ not_status : codes "asked" ≡ codes "status" → ⊥
 not_status same = differ 97 115 (115 ∷ 107 ∷ 101 ∷ 100 ∷ []) (116 ∷ 97 ∷ 116 ∷ 117 ∷ 115 ∷ []) (omega arith) same
 
 -- an object into which a text and its lines were put last has both
-pub tells : (before between after : Members) (asked lines : Data) (word text : List ℕ) → asked ≡ string word → lines ≡ string (utf8_lossy text)
-    → between ≡ put (codes "asked") asked before → after ≡ put (codes "lines") lines between → TellsWord word text (object after)
-tells before between after asked lines word text is_word is_lines first last =
+pub has_both : (before between after : Members) (asked lines : Data) (word text : List ℕ) → asked ≡ string word → lines ≡ string (utf8_lossy text)
+    → between ≡ put (codes "asked") asked before → after ≡ put (codes "lines") lines between → IsReportOn word text (object after)
+has_both before between after asked lines word text is_word is_lines first last =
     let kept : get_member (codes "asked") (put (codes "lines") lines between) ≡ get_member (codes "asked") between = get_member-put_other (codes "asked") (codes "lines") lines between not_lines in
     let there : get_member (codes "asked") (put (codes "asked") asked before) ≡ Some asked = get_member-put (codes "asked") asked before in
     let behind : get_member (codes "lines") (put (codes "lines") lines between) ≡ Some lines = get_member-put (codes "lines") lines between in
@@ -45,23 +45,23 @@ asked_in before between asked status tolds first is_list =
     kept ∙ ap (get_member (codes "asked")) first ∙ there ∙ ap Some is_list
 
 -- where no text is left, nothing is added
-pub no_words : (words : List (Bor (List ℕ))) (i : ℕ) (lines : List (List ℕ)) (done : List Data) → IsItemAt words i None → AddsTold (map word_shown (drop i words)) lines done done
+pub no_words : (words : List (Bor (List ℕ))) (i : ℕ) (lines : List (List ℕ)) (done : List Data) → IsItemAt words i None → AddsReportValues (map word_shown (drop i words)) lines done done
 no_words words i lines done none = rw (past words i none) refl
 
-none_left : (words : List (List ℕ)) (done : List Data) → AddsTold words [] done done
+none_left : (words : List (List ℕ)) (done : List Data) → AddsReportValues words [] done done
 none_left [] done = refl
 none_left (word ∷ words) done = refl
 
 -- where no report is left
-pub no_reports : (words : List (List ℕ)) (tolds : List Told) (i : ℕ) (done : List Data) → IsItemAt tolds i None → AddsTold words (map lines_told (drop i tolds)) done done
+pub no_reports : (words : List (List ℕ)) (tolds : List Told) (i : ℕ) (done : List Data) → IsItemAt tolds i None → AddsReportValues words (map lines_told (drop i tolds)) done done
 no_reports words tolds i done none = rw (past tolds i none) (none_left words done)
 
 -- the report of an index, and then the later ones
 pub goes_on : (words : List (Bor (List ℕ))) (tolds : List Told) (i : ℕ) (word : Bor (Bor (List ℕ))) (told : Bor Told) (before between : List Value) (one : Value) (after : List Data)
     → IsItemAt words i (Some word) → IsItemAt tolds i (Some told) → between ≡ before ++ one ∷ []
-    → TellsWord (word_shown word.now) (lines_told told.now) (view one) → AddsTold (map word_shown (drop (i + 1) words)) (map lines_told (drop (i + 1) tolds)) (map view between) after
-    → AddsTold (map word_shown (drop i words)) (map lines_told (drop i tolds)) (map view before) after
-goes_on words tolds i word told before between one after at at_told pushed tells later =
+    → IsReportOn (word_shown word.now) (lines_told told.now) (view one) → AddsReportValues (map word_shown (drop (i + 1) words)) (map lines_told (drop (i + 1) tolds)) (map view between) after
+    → AddsReportValues (map word_shown (drop i words)) (map lines_told (drop i tolds)) (map view before) after
+goes_on words tolds i word told before between one after at at_told pushed is_report later =
     let added = ap (map view) pushed ∙ map-append view before (one ∷ []) in
     rw (from words i word at, from tolds i told at_told)
-    (view one, tells, subst (λ (list : List Data). AddsTold (map word_shown (drop (i + 1) words)) (map lines_told (drop (i + 1) tolds)) list after) added later)
+    (view one, is_report, subst (λ (list : List Data). AddsReportValues (map word_shown (drop (i + 1) words)) (map lines_told (drop (i + 1) tolds)) list after) added later)

@@ -8,23 +8,29 @@ use Rattle.serde_json.specs.View.{items_of}
 
 -- the text is a line that reads as an object of these members, if these aren't too deep for a reader
 abbrev pub IsTextOf : Members → (text : List ℕ) → Type 0
-IsTextOf members text = (line : List ℕ) × (text ≡ line ++ codes "\n") × (depth (object members) ≤ max_depth → read line ≡ Some (object members))
+IsTextOf members text =
+    (line : List ℕ) × (text ≡ line ++ codes "\n")
+    × (depth (object members) ≤ max_depth → read line ≡ Some (object members))
 
--- the report on a text has the text, and its lines
-abbrev pub TellsWord : (word lines : List ℕ) → Data → Type 0
-TellsWord word lines told = (get (codes "asked") told ≡ Some (string word)) × (get (codes "lines") told ≡ Some (string (utf8_lossy lines)))
+-- an object has this text under a name
+abbrev pub HasText : (name text : List ℕ) → Data → Type 0
+HasText name text value = get name value ≡ Some (string text)
+
+-- it is the report on a text: it has the text, and its lines
+abbrev pub IsReportOn : (word lines : List ℕ) → Data → Type 0
+IsReportOn word lines value = HasText (codes "asked") word value × HasText (codes "lines") (utf8_lossy lines) value
 
 -- the reports on texts with these lines were added, each behind the one before, and nothing else
-abbrev pub AddsTold : (words lines : List (List ℕ)) (before after : List Data) → Type 0
-AddsTold [] lines before after = after ≡ before
-AddsTold (word ∷ words) [] before after = after ≡ before
-AddsTold (word ∷ words) (line ∷ lines) before after =
-    (told : Data) × TellsWord word line told × AddsTold words lines (before ++ told ∷ []) after
+abbrev pub AddsReportValues : (words lines : List (List ℕ)) (before after : List Data) → Type 0
+AddsReportValues [] lines before after = after ≡ before
+AddsReportValues (word ∷ words) [] before after = after ≡ before
+AddsReportValues (word ∷ words) (line ∷ lines) before after =
+    (value : Data) × IsReportOn word line value × AddsReportValues words lines (before ++ value ∷ []) after
 
 -- the document of texts with these lines has the report on each, in their order
 pub record IsDocument (words lines : List (List ℕ)) (text : List ℕ) : Type 0 where
   pub members : Members
-  pub tolds : List Data
+  pub reports : List Data
   pub is_text : IsTextOf members text
-  pub asked : get (codes "asked") (object members) ≡ Some (array (items_of tolds))
-  pub are_told : AddsTold words lines [] tolds
+  pub asked : get (codes "asked") (object members) ≡ Some (array (items_of reports))
+  pub are_reports : AddsReportValues words lines [] reports

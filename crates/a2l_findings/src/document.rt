@@ -4,7 +4,7 @@ ghost use Rattle.std.specs.Prelude.{◌≡◌, [], IfOk, OnOk, codes, map};
 ghost use Rattle.serde_json.specs.Data.{string, put as with_member};
 ghost use Rattle.serde_json.specs.View.{view, members_view};
 ghost use Rattle.a2l_lines.specs.Input.{word_shown};
-ghost use Rattle.a2l_findings.specs.Document.{AddsTold, IsDocument, IsTextOf, TellsWord};
+ghost use Rattle.a2l_findings.specs.Document.{AddsReportValues, IsDocument, IsTextOf, IsReportOn};
 ghost use Rattle.a2l_findings.specs.Told.{lines_told};
 
 use crate::note::{Allocated, Fact, Note, digits_of};
@@ -193,7 +193,7 @@ fn pieces_value(alloc: Global, pieces: &[Piece]) -> Allocated<Value> {
 
 /// The report on a text.
 fn told_value(alloc: Global, word: &str, told: &Told<'_>) -> Allocated<Value>
-    ensures { IfOk result (λ value. TellsWord word.now (lines_told told.now) (view value)) }
+    ensures { IfOk result (λ value. IsReportOn word.now (lines_told told.now) (view value)) }
 {
     let mut object = Object::new(alloc);
     object.put("way", notes_value(alloc, &told.way.steps)?)?;
@@ -207,7 +207,7 @@ fn told_value(alloc: Global, word: &str, told: &Told<'_>) -> Allocated<Value>
 /// The reports on some texts.
 fn told_values(alloc: Global, words: &[&str], tolds: &[Told<'_>]) -> Allocated<Vec<Value>>
     ensures { IfOk result (λ values.
-        AddsTold (map word_shown words.now) (map lines_told tolds.now) [] (map view values.items)) }
+        AddsReportValues (map word_shown words.now) (map lines_told tolds.now) [] (map view values.items)) }
 {
     let mut list = Vec::new(alloc);
     for i in 0..words.len() {

@@ -6,7 +6,8 @@ use Rattle.dw_line.specs.Sequences.{used_sequences, most_checkpoints}
 -- at most the checkpoints and the bounds of its used sequences, and its directories and files
 abbrev pub most_kept : Table → ℕ
 most_kept table =
-    most_checkpoints (used_sequences table.rows) + length (used_sequences table.rows) + length table.header.directories + length table.header.files
+    most_checkpoints (used_sequences table.rows) + length (used_sequences table.rows)
+    + length table.header.directories + length table.header.files
 
 -- how many rows of used sequences, directories and files the table spells
 abbrev pub spelled : Table → ℕ

@@ -12,7 +12,8 @@ table_behind_length reserved p = None
 -- the bytes of the table at an offset, after its length, where they are there
 unfoldable pub table_at : List ℕ → ℕ → Option (List ℕ × ℕ)
 table_at section offset =
-    option_and_then (λ unit_length. table_behind_length unit_length.0 unit_length.1) (initial_length (record { at = offset; left = drop offset section }))
+    option_and_then (λ unit_length. table_behind_length unit_length.0 unit_length.1)
+    (initial_length (record { at = offset; left = drop offset section }))
 
 -- how many these are
 abbrev pub table_size : List ℕ → ℕ → ℕ

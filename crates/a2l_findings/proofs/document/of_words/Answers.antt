@@ -9,8 +9,8 @@ use Rattle.a2l_findings.proofs.document.of_words.Goals as goal
 pub returns : goal.returns
 returns c = record {
   members = put (codes "status") (string c.if-is_clean.finish.now) (members_view c.put.new.self.members.entries);
-  tolds = map view c.in_ok-list.list.items;
+  reports = map view c.in_ok-list.list.items;
   is_text = c.in_ok-text.ensures;
   asked = asked_in (members_view c.new-object.result.members.entries) (members_view c.put.new.self.members.entries) (view (value.Array c.in_ok-list.list)) (string c.if-is_clean.finish.now) (map view c.in_ok-list.list.items) c.in_ok-put.ensures (view-Array c.in_ok-list.list);
-  are_told = c.in_ok-list.ensures;
+  are_reports = c.in_ok-list.ensures;
 }
