@@ -1,5 +1,6 @@
 -- Abbreviation declarations (DWARF 5, section 7.5.3).
-use Rattle.std.specs.Prelude.{ℕ, ℤ, Bool, not, ◌&&◌, List, length, drop, Option, Some, None, Result, Ok, Err, ok_or, find, nat_le, ◌==◌, if◌then◌else◌}
+use Rattle.std.specs.Prelude.{ℕ, ℤ, Bool, not, ◌&&◌, List, length, drop, Option, Some, None, Result, Ok, Err, ok_or}
+use Rattle.std.specs.Prelude.{find, nat_le, ◌==◌, if◌then◌else◌}
 use Rattle.dw_model.specs.declared.dwarf.TheConstants.{DW_FORM_implicit_const}
 use Rattle.dw_model.specs.Results.{◌>>=◌}
 use Rattle.dw_model.specs.Reading.{Place, number_at, items}
@@ -36,7 +37,10 @@ declaration_behind code p = do
   tag ← uleb_at p
   children ← ok_or (number_at 1 tag.1) ends_early
   specifications ← items (λ q. q.left) next_specification children.1
-  Ok (record { code = code; tag = tag.0; children = not (children.0 == 0); specifications = specifications.0 }, specifications.1)
+  Ok (
+    record { code = code; tag = tag.0; children = not (children.0 == 0); specifications = specifications.0 },
+    specifications.1,
+  )
 
 -- the code 0 ends a table, and so does the section's end where a declaration would begin (own)
 unfoldable pub next_declaration : Place → Result (Option Declaration × Place) Fault
@@ -49,7 +53,9 @@ next_declaration p = if length p.left == 0 then Ok (None, p) else (do
 -- the table at an offset of .debug_abbrev
 unfoldable pub abbreviations : List ℕ → ℕ → Result (List Declaration) Fault
 abbreviations section offset =
-    if nat_le offset (length section) then (items (λ p. p.left) next_declaration (record { at = offset; left = drop offset section }) >>= λ found. Ok found.0)
+    if nat_le offset (length section)
+    then (items (λ p. p.left) next_declaration (record { at = offset; left = drop offset section })
+    >>= λ found. Ok found.0)
     else Err ends_early
 
 -- the first declaration of a code (own)

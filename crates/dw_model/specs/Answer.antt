@@ -1,8 +1,10 @@
 -- What an address means.
-use Rattle.std.specs.Prelude.{ℕ, ◌&&◌, List, [], ◌∷◌, Option, Some, None, Result, Ok, Err, find, option_and_then, ◌==◌, if◌then◌else◌}
+use Rattle.std.specs.Prelude.{ℕ, ◌&&◌, List, [], ◌∷◌, Option, Some, None, Result, Ok, Err, find, option_and_then, ◌==◌}
+use Rattle.std.specs.Prelude.{if◌then◌else◌}
 use Rattle.std.specs.Option.{option_map_or}
 use Rattle.std.specs.Result.{result_unwrap_or}
-use Rattle.dw_model.specs.declared.dwarf.TheConstants.{DW_AT_stmt_list, DW_AT_comp_dir, DW_AT_call_file, DW_AT_call_line, DW_AT_call_column}
+use Rattle.dw_model.specs.declared.dwarf.TheConstants.{DW_AT_stmt_list, DW_AT_comp_dir, DW_AT_call_file}
+use Rattle.dw_model.specs.declared.dwarf.TheConstants.{DW_AT_call_line, DW_AT_call_column}
 use Rattle.dw_model.specs.Results.{◌>>=◌, with_code}
 use Rattle.dw_model.specs.Entry.{Entry, attribute, as_section_offset, number_of}
 use Rattle.dw_model.specs.Section.{Sections, sections}
@@ -89,7 +91,8 @@ row_at (Some table) a = row_of table.rows a
 abbrev pub location_at : Option (List ℕ) → Option ℕ → Option ℕ → Location
 location_at path None column = record { path = path; line = None; column = None }
 location_at path (Some line) column =
-    if line == 0 then record { path = path; line = None; column = None } else record { path = path; line = Some line; column = column }
+    if line == 0 then record { path = path; line = None; column = None }
+    else record { path = path; line = Some line; column = column }
 
 -- the location of the address itself
 abbrev pub row_location : Option Lines → Option Row → Location
@@ -99,7 +102,8 @@ row_location table (Some row) = location_at (file_path table row.file) (Some row
 -- the location of a call that was inlined, as its entry says
 abbrev pub call_location : Option Lines → Entry → Location
 call_location table entry =
-    location_at (option_and_then (file_path table) (number_of DW_AT_call_file entry)) (number_of DW_AT_call_line entry) (number_of DW_AT_call_column entry)
+    location_at (option_and_then (file_path table) (number_of DW_AT_call_file entry))
+    (number_of DW_AT_call_line entry) (number_of DW_AT_call_column entry)
 
 -- ---- frames
 
@@ -108,7 +112,8 @@ call_location table entry =
 unfoldable pub frames_from : (Entry → Option (List ℕ)) → Option Lines → Location → List Node → List Frame
 frames_from name table location [] = []
 frames_from name table location (node ∷ outer) =
-    record { name = name node.entry; location = location } ∷ frames_from name table (call_location table node.entry) outer
+    record { name = name node.entry; location = location }
+    ∷ frames_from name table (call_location table node.entry) outer
 
 -- where no function holds the address, there is one frame without a name
 unfoldable pub frames : (Entry → Option (List ℕ)) → Option Lines → Location → List Node → List Frame
@@ -119,7 +124,8 @@ abbrev pub unit_answer : Sections → DwarfUnit → ℕ → Result (List Frame) 
 unit_answer sections unit a =
     with_code tree_fault (tree sections unit) >>= λ nodes.
     with_code (λ _. line_fault) (lines sections unit) >>= λ table.
-    Ok (frames (λ entry. name sections (record { unit = unit; entry = entry })) table (row_location table (row_at table a)) (chain sections unit nodes a))
+    Ok (frames (λ entry. name sections (record { unit = unit; entry = entry })) table
+    (row_location table (row_at table a)) (chain sections unit nodes a))
 
 abbrev pub unit_location : Sections → DwarfUnit → ℕ → Result (List Frame) Code
 unit_location sections unit a =
@@ -131,10 +137,12 @@ as_answer unit (Ok frames) = found unit frames
 as_answer unit (Err code) = fault unit code
 
 unfoldable pub answer_in : Sections → ℕ → Answer
-answer_in sections a = option_map_or (λ unit. as_answer unit.offset (unit_answer sections unit a)) (unit_of sections a) not_covered
+answer_in sections a =
+    option_map_or (λ unit. as_answer unit.offset (unit_answer sections unit a)) (unit_of sections a) not_covered
 
 unfoldable pub location_in : Sections → ℕ → Answer
-location_in sections a = option_map_or (λ unit. as_answer unit.offset (unit_location sections unit a)) (unit_of sections a) not_covered
+location_in sections a =
+    option_map_or (λ unit. as_answer unit.offset (unit_location sections unit a)) (unit_of sections a) not_covered
 
 -- What an address of a file means: its frames.
 abbrev pub answer : List ℕ → ℕ → Answer

@@ -25,7 +25,8 @@ ReadsOn view told (Ok x) given new = given ≡ Ok (view x, new)
 ReadsOn view told (Err e) given new = Tells (told e) given
 
 -- The same of a call that stays where it was after a fault.
-abbrev pub ReadsOrTells : {X Y E F : Type 0} → (X → Y) → (E → Option F) → Result X E → Result (Y × Place) F → Place → Place → Type 0
+abbrev pub ReadsOrTells : {X Y E F : Type 0} → (X → Y) → (E → Option F) → Result X E
+    → Result (Y × Place) F → Place → Place → Type 0
 ReadsOrTells view told (Ok x) given old new = given ≡ Ok (view x, new)
 ReadsOrTells view told (Err e) given old new = Tells (told e) given × (new ≡ old)
 
@@ -35,6 +36,7 @@ GivesUnlessMemory view told (Ok x) given = given ≡ Ok (view x)
 GivesUnlessMemory view told (Err e) given = MatchOption (told e) (Unit {0}) (λ fault. given ≡ Err fault)
 
 -- The same of a call that reads at a place, and may be anywhere after a fault.
-abbrev pub ReadsUnlessMemory : {X Y E F : Type 0} → (X → Y) → (E → Option F) → Result X E → Result (Y × Place) F → Place → Type 0
+abbrev pub ReadsUnlessMemory : {X Y E F : Type 0} → (X → Y) → (E → Option F) → Result X E
+    → Result (Y × Place) F → Place → Type 0
 ReadsUnlessMemory view told (Ok x) given new = given ≡ Ok (view x, new)
 ReadsUnlessMemory view told (Err e) given new = MatchOption (told e) (Unit {0}) (λ fault. given ≡ Err fault)

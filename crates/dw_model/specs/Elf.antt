@@ -1,6 +1,7 @@
 -- The layout of an ELF64 file: its header, the section header table, and the names of sections
 -- (ELF-64 Object File Format, version 1.5).
-use Rattle.std.specs.Prelude.{ℕ, zero, suc, ◌+◌, ◌*◌, ◌||◌, Bool, List, [], ◌∷◌, length, take, drop, Option, Some, None, option_map, find, nat_le, ◌==◌, if◌then◌else◌, bytes_eq}
+use Rattle.std.specs.Prelude.{ℕ, zero, suc, ◌+◌, ◌*◌, ◌||◌, Bool, List, [], ◌∷◌, length, take, drop, Option, Some, None}
+use Rattle.std.specs.Prelude.{option_map, find, nat_le, ◌==◌, if◌then◌else◌, bytes_eq}
 use Rattle.std.specs.Option.{option_eq, option_map_or}
 use Rattle.dw_model.specs.declared.elf.TheConstants.{SHDR_SIZE, SHN_UNDEF, SHN_XINDEX, SHT_NOBITS}
 use Rattle.dw_model.specs.Options.{◌>>=◌, only_if}
@@ -86,7 +87,8 @@ section_header_at p = do
 -- the headers of a table, one after the other
 unfoldable pub section_headers : ℕ → Place → List SectionHeader
 section_headers zero p = []
-section_headers (suc count) p = option_map_or (λ header. header.0 ∷ section_headers count header.1) (section_header_at p) []
+section_headers (suc count) p =
+    option_map_or (λ header. header.0 ∷ section_headers count header.1) (section_header_at p) []
 
 -- the bytes of the file from an offset on, where they lie in the file
 abbrev pub part : List ℕ → ℕ → ℕ → Option (List ℕ)

@@ -1,5 +1,6 @@
 -- Entries and their attributes (DWARF 5, section 7.5).
-use Rattle.std.specs.Prelude.{ℕ, pos, Bool, true, false, ◌||◌, List, [], ◌∷◌, Option, Some, None, Result, Ok, ok_or, option_and_then, find, nat_eq, ◌==◌, if◌then◌else◌}
+use Rattle.std.specs.Prelude.{ℕ, pos, Bool, true, false, ◌||◌, List, [], ◌∷◌, Option, Some, None, Result, Ok, ok_or}
+use Rattle.std.specs.Prelude.{option_and_then, find, nat_eq, ◌==◌, if◌then◌else◌}
 use Rattle.std.specs.Map.{lookup}
 use Rattle.dw_model.specs.declared.dwarf.TheConstants as constants
 use Rattle.dw_model.specs.Options as options
@@ -40,7 +41,15 @@ entry_at size declarations p = do
   if code.0 == 0 then Ok (None, code.1) else (do
     declaration ← ok_or (declared declarations code.0) undeclared
     attributes ← attributes_at size declaration.specifications code.1
-    Ok (Some (record { offset = p.at; tag = declaration.tag; children = declaration.children; attributes = attributes.0 }), attributes.1))
+    Ok (
+      Some (record {
+        offset = p.at;
+        tag = declaration.tag;
+        children = declaration.children;
+        attributes = attributes.0;
+      }),
+      attributes.1,
+    ))
 
 -- ---- classes of values (section 7.5.5)
 

@@ -1,5 +1,6 @@
 -- The values of attributes (DWARF 5, sections 7.5.5 and 7.5.6).
-use Rattle.std.specs.Prelude.{◌≡◌, ◌≢◌, ℕ, ◌<◌, ◌^◌, ℤ, Bool, true, not, List, [], ◌∷◌, ◌++◌, length, Option, Some, None, Result, Ok, Err, IsTrue, ok_or, nat_eq, ◌==◌, if◌then◌else◌}
+use Rattle.std.specs.Prelude.{◌≡◌, ◌≢◌, ℕ, ◌<◌, ◌^◌, ℤ, Bool, true, not, List, [], ◌∷◌, ◌++◌, length, Option, Some}
+use Rattle.std.specs.Prelude.{None, Result, Ok, Err, IsTrue, ok_or, nat_eq, ◌==◌, if◌then◌else◌}
 use Rattle.std.specs.List.{AllByRecursion}
 use Rattle.std.specs.Map.{lookup}
 use Rattle.byteorder.specs.Endian.{little_number}
@@ -139,9 +140,11 @@ IsSpelling size (uleb make) constant front v = (n : ℕ) × IsUleb front n × (n
 IsSpelling size sleb constant front v = (z : ℤ) × IsSleb front z × IsTrue (fits_i64 z) × (v ≡ signed z)
 IsSpelling size (block n) constant front v = (length front ≡ n) × (v ≡ bytes front)
 IsSpelling size (counted n) constant front v =
-    (len content : List ℕ) × (front ≡ len ++ content) × (length len ≡ n) × (length content ≡ little_number n len) × (v ≡ bytes content)
+    (len content : List ℕ) × (front ≡ len ++ content) × (length len ≡ n) × (length content ≡ little_number n len)
+    × (v ≡ bytes content)
 IsSpelling size uleb_counted constant front v =
-    (len content : List ℕ) × (front ≡ len ++ content) × IsUleb len (length content) × (length content < 2 ^ 64) × (v ≡ bytes content)
+    (len content : List ℕ) × (front ≡ len ++ content) × IsUleb len (length content)
+    × (length content < 2 ^ 64) × (v ≡ bytes content)
 IsSpelling size text constant front v =
     (content : List ℕ) × (front ≡ content ++ 0 ∷ []) × AllByRecursion (λ b. b ≢ 0) content × (v ≡ inline content)
 IsSpelling size implicit constant front v = (z : ℤ) × (constant ≡ Some z) × (front ≡ []) × (v ≡ signed z)
@@ -150,9 +153,11 @@ IsSpelling size present constant front v = (front ≡ []) × (v ≡ flag true)
 -- The same by the form's code: by its spelling in the table, or through DW_FORM_indirect.
 pub data Spells (size : ℕ) : (form : ℕ) → (constant : Option ℤ) → List ℕ → Value → Type 0 where
   direct : {form : ℕ} {constant : Option ℤ} {front : List ℕ} {v : Value} (spelling : Spelling)
-      → lookup (nat_eq form) forms ≡ Some spelling → IsSpelling size spelling constant front v → Spells size form constant front v
+      → lookup (nat_eq form) forms ≡ Some spelling → IsSpelling size spelling constant front v
+      → Spells size form constant front v
   indirect : {constant : Option ℤ} {v : Value} (number front : List ℕ) (form : ℕ)
-      → IsUleb number form → form < 2 ^ 64 → Spells size form None front v → Spells size constants.DW_FORM_indirect constant (number ++ front) v
+      → IsUleb number form → form < 2 ^ 64 → Spells size form None front v
+      → Spells size constants.DW_FORM_indirect constant (number ++ front) v
 
 -- ---- why a value isn't read
 
@@ -163,7 +168,8 @@ pub data IsUnknown : (form : ℕ) → (constant : Option ℤ) → List ℕ → T
       → form ≢ constants.DW_FORM_indirect → lookup (nat_eq form) forms ≡ None → IsUnknown form constant left
   no_constant : {form : ℕ} {left : List ℕ} → lookup (nat_eq form) forms ≡ Some implicit → IsUnknown form None left
   unknown_behind : {constant : Option ℤ} (number left : List ℕ) (form : ℕ)
-      → IsUleb number form → form < 2 ^ 64 → IsUnknown form None left → IsUnknown constants.DW_FORM_indirect constant (number ++ left)
+      → IsUleb number form → form < 2 ^ 64 → IsUnknown form None left
+      → IsUnknown constants.DW_FORM_indirect constant (number ++ left)
 
 -- the spelling begins with a LEB128 number, and that doesn't fit 64 bits
 abbrev pub BeginsWide : Spelling → List ℕ → Type 0

@@ -1,7 +1,8 @@
 -- Initial lengths, each in one of the two formats (DWARF 5, sections 7.2.2 and 7.4).
 use Rattle.std.specs.Prelude.{◌≡◌, ◌<◌, ◌++◌, ℕ, List, length, Option, Some, nat_le, ◌==◌, if◌then◌else◌}
 use Rattle.byteorder.specs.Endian.{little_number}
-use Rattle.dw_model.specs.declared.dwarf.TheConstants.{DW_LENGTH_RESERVED, DW_LENGTH_64BIT, OFFSET_SIZE_32, OFFSET_SIZE_64, LENGTH_SIZE_32, LENGTH_SIZE_64}
+use Rattle.dw_model.specs.declared.dwarf.TheConstants.{DW_LENGTH_RESERVED, DW_LENGTH_64BIT, OFFSET_SIZE_32}
+use Rattle.dw_model.specs.declared.dwarf.TheConstants.{OFFSET_SIZE_64, LENGTH_SIZE_32, LENGTH_SIZE_64}
 use Rattle.dw_model.specs.Options.{◌>>=◌}
 use Rattle.dw_model.specs.Reading.{Place, number_at}
 
@@ -44,5 +45,6 @@ initial_length p = do
 abbrev pub IsInitialLength : Width → (n : ℕ) → List ℕ → Type 0
 IsInitialLength four n bytes = (length bytes ≡ 4) × (little_number 4 bytes ≡ n) × (n < DW_LENGTH_RESERVED)
 IsInitialLength eight n bytes =
-    (escape number : List ℕ) × (bytes ≡ escape ++ number) × (length escape ≡ 4) × (little_number 4 escape ≡ DW_LENGTH_64BIT)
+    (escape number : List ℕ) × (bytes ≡ escape ++ number) × (length escape ≡ 4)
+    × (little_number 4 escape ≡ DW_LENGTH_64BIT)
     × (length number ≡ 8) × (little_number 8 number ≡ n)

@@ -1,5 +1,7 @@
 -- The instructions of a line program (DWARF 5, section 6.2.5).
-use Rattle.std.specs.Prelude.{◌≡◌, ◌≢◌, ◌<◌, ◌≤◌, ◌^◌, ◌++◌, IsTrue, ℕ, zero, suc, ◌-◌, ℤ, List, [], ◌∷◌, length, Option, Some, None, Result, Ok, Err, ok_or, slice_index, nat_eq, nat_le, ◌==◌, if◌then◌else◌}
+use Rattle.std.specs.Prelude.{◌≡◌, ◌≢◌, ◌<◌, ◌≤◌, ◌^◌, ◌++◌, IsTrue, ℕ, zero, suc, ◌-◌, ℤ, List, [], ◌∷◌, length}
+use Rattle.std.specs.Prelude.{Option, Some, None, Result, Ok, Err, ok_or, slice_index, nat_eq, nat_le, ◌==◌}
+use Rattle.std.specs.Prelude.{if◌then◌else◌}
 use Rattle.std.specs.Map.{lookup}
 use Rattle.byteorder.specs.Endian.{little_number}
 use Rattle.dw_model.specs.declared.dwarf.TheConstants as constants
@@ -70,7 +72,9 @@ unfoldable pub extended : List ℕ → Result Instruction Bad
 extended [] = Err bad
 extended (opcode ∷ operands) =
     if opcode == constants.DW_LNE_end_sequence then Ok end_sequence else (
-    if opcode == constants.DW_LNE_set_address then (if length operands == constants.ADDRESS_SIZE then Ok (set_address (little_number 8 operands)) else Err bad)
+    if opcode == constants.DW_LNE_set_address
+    then (if length operands == constants.ADDRESS_SIZE
+    then Ok (set_address (little_number 8 operands)) else Err bad)
     else Ok no_effect)
 
 -- an extended opcode takes exactly its length (own)
@@ -117,21 +121,28 @@ AreOperands (two_bytes make) bytes i = (length bytes ≡ 2) × (i ≡ make (litt
 abbrev pub AreNumbers : ℕ → List ℕ → Type 0
 AreNumbers zero bytes = bytes ≡ []
 AreNumbers (suc count) bytes =
-    (first others : List ℕ) × (n : ℕ) × (bytes ≡ first ++ others) × IsUleb first n × (n < 2 ^ 64) × AreNumbers count others
+    (first others : List ℕ) × (n : ℕ) × (bytes ≡ first ++ others) × IsUleb first n × (n < 2 ^ 64)
+    × AreNumbers count others
 
 -- the bytes are the length of an extended opcode and what it counts
 abbrev pub IsExtended : List ℕ → Instruction → Type 0
 IsExtended bytes i =
-    (len content : List ℕ) × (bytes ≡ len ++ content) × IsUleb len (length content) × (length content < 2 ^ 64) × (extended content ≡ Ok i)
+    (len content : List ℕ) × (bytes ≡ len ++ content) × IsUleb len (length content)
+    × (length content < 2 ^ 64) × (extended content ≡ Ok i)
 
 -- The bytes are what is after the opcode, and with it they make the instruction.
 pub data IsBehind (header : LineHeader) (opcode : ℕ) (bytes : List ℕ) (i : Instruction) : Type 0 where
-  is_special : header.opcode_base ≤ opcode → bytes ≡ [] → i ≡ special (opcode - header.opcode_base) → IsBehind header opcode bytes i
-  is_extended : opcode < header.opcode_base → opcode ≡ constants.DW_LNS_extended → IsExtended bytes i → IsBehind header opcode bytes i
+  is_special : header.opcode_base ≤ opcode → bytes ≡ [] → i ≡ special (opcode - header.opcode_base)
+      → IsBehind header opcode bytes i
+  is_extended : opcode < header.opcode_base → opcode ≡ constants.DW_LNS_extended → IsExtended bytes i
+      → IsBehind header opcode bytes i
   is_standard : opcode < header.opcode_base
-      → (operands : Operands) → lookup (nat_eq opcode) standard_opcodes ≡ Some operands → AreOperands operands bytes i → IsBehind header opcode bytes i
+      → (operands : Operands) → lookup (nat_eq opcode) standard_opcodes ≡ Some operands
+      → AreOperands operands bytes i → IsBehind header opcode bytes i
   is_unknown : opcode < header.opcode_base → opcode ≢ constants.DW_LNS_extended
-      → lookup (nat_eq opcode) standard_opcodes ≡ None → AreNumbers (slice_index header.standard_opcode_lengths (opcode - 1)) bytes → i ≡ no_effect → IsBehind header opcode bytes i
+      → lookup (nat_eq opcode) standard_opcodes ≡ None
+      → AreNumbers (slice_index header.standard_opcode_lengths (opcode - 1)) bytes → i ≡ no_effect
+      → IsBehind header opcode bytes i
 
 -- The bytes are one whole spelling of the instruction.
 abbrev pub IsInstruction : LineHeader → List ℕ → Instruction → Type 0

@@ -1,5 +1,7 @@
 -- LEB128 numbers (DWARF 5, section 7.6).
-use Rattle.std.specs.Prelude.{◌≡◌, ℕ, ◌+◌, ◌*◌, ◌^◌, ◌%◌, ◌<◌, ◌≤◌, ℤ, pos, ◌-ℤ◌, neg_ℤ, Bool, false, IsFalse, ◌&&◌, List, [], ◌∷◌, length, take, Result, Ok, Err, ok_or, position, nat_lt, nat_le, int_lt, int_le, if◌then◌else◌}
+use Rattle.std.specs.Prelude.{◌≡◌, ℕ, ◌+◌, ◌*◌, ◌^◌, ◌%◌, ◌<◌, ◌≤◌, ℤ, pos, ◌-ℤ◌, neg_ℤ, Bool, false, IsFalse, ◌&&◌}
+use Rattle.std.specs.Prelude.{List, [], ◌∷◌, length, take, Result, Ok, Err, ok_or, position, nat_lt, nat_le, int_lt}
+use Rattle.std.specs.Prelude.{int_le, if◌then◌else◌}
 use Rattle.dw_model.specs.Results.{◌>>=◌}
 use Rattle.dw_model.specs.Reading.{Place, past, BeginsWith}
 use Rattle.dw_model.specs.Faults.{Fault, ends_early, too_wide}

@@ -1,9 +1,11 @@
 -- The header of a line table (DWARF 5, section 6.2.4).
-use Rattle.std.specs.Prelude.{ℕ, zero, suc, ◌-◌, ℤ, ◌||◌, not, List, [], ◌∷◌, length, drop, Option, None, Result, Ok, Err, ok_or, option_and_then, nat_lt, nat_eq, ◌==◌}
+use Rattle.std.specs.Prelude.{ℕ, zero, suc, ◌-◌, ℤ, ◌||◌, not, List, [], ◌∷◌, length, drop, Option, None, Result, Ok}
+use Rattle.std.specs.Prelude.{Err, ok_or, option_and_then, nat_lt, nat_eq, ◌==◌}
 use Rattle.std.specs.Option.{option_map_or}
 use Rattle.std.specs.Map.{lookup}
 use Rattle.byteorder.specs.Endian.{twos_complement}
-use Rattle.dw_model.specs.declared.dwarf.TheConstants.{DWARF_VERSION, ADDRESS_SIZE, DW_LNCT_path, DW_LNCT_directory_index}
+use Rattle.dw_model.specs.declared.dwarf.TheConstants.{DWARF_VERSION, ADDRESS_SIZE, DW_LNCT_path}
+use Rattle.dw_model.specs.declared.dwarf.TheConstants.{DW_LNCT_directory_index}
 use Rattle.dw_model.specs.Results.{◌>>=◌, refuse_if, or_fault}
 use Rattle.dw_model.specs.Reading.{Place, start, number_at, bytes_at}
 use Rattle.dw_model.specs.InitialLength.{offset_size, InitialLength, of_length, reserved, initial_length}

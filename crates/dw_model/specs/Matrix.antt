@@ -1,8 +1,10 @@
 -- The matrix of a line program, its sequences, and the row of an address (DWARF 5, section 6.2).
-use Rattle.std.specs.Prelude.{ℕ, ◌+◌, ◌-◌, ◌*◌, ◌/◌, ◌%◌, ◌^◌, ℤ, pos, negsuc, ◌+ℤ◌, Bool, true, false, ◌&&◌, List, [], ◌∷◌, reverse, Option, Some, None, sum_by, find, nat_lt, nat_le, if◌then◌else◌}
+use Rattle.std.specs.Prelude.{ℕ, ◌+◌, ◌-◌, ◌*◌, ◌/◌, ◌%◌, ◌^◌, ℤ, pos, negsuc, ◌+ℤ◌, Bool, true, false, ◌&&◌, List, []}
+use Rattle.std.specs.Prelude.{◌∷◌, reverse, Option, Some, None, sum_by, find, nat_lt, nat_le, if◌then◌else◌}
 use Rattle.dw_model.specs.Options.{◌>>=◌}
 use Rattle.dw_model.specs.LineHeader.{LineHeader}
-use Rattle.dw_model.specs.Instruction.{Instruction, special, copy, advance_pc, advance_line, set_file, set_column, const_add_pc, fixed_advance_pc, end_sequence, set_address}
+use Rattle.dw_model.specs.Instruction.{Instruction, special, copy, advance_pc, advance_line, set_file, set_column}
+use Rattle.dw_model.specs.Instruction.{const_add_pc, fixed_advance_pc, end_sequence, set_address}
 
 -- a row of the matrix: an address and where in the source it comes from, or the address that ends a
 -- sequence

@@ -2,7 +2,8 @@
 use Rattle.std.specs.Prelude.{ℕ, zero, suc, ◌+◌, ◌&&◌, List, Option, Some, None, find, option_and_then, nat_le, nat_lt}
 use Rattle.std.specs.Option.{option_or}
 use Rattle.std.specs.Result.{result_ok}
-use Rattle.dw_model.specs.declared.dwarf.TheConstants.{DW_AT_name, DW_AT_linkage_name, DW_AT_abstract_origin, DW_AT_specification}
+use Rattle.dw_model.specs.declared.dwarf.TheConstants.{DW_AT_name, DW_AT_linkage_name, DW_AT_abstract_origin}
+use Rattle.dw_model.specs.declared.dwarf.TheConstants.{DW_AT_specification}
 use Rattle.dw_model.specs.Options.{◌>>=◌}
 use Rattle.dw_model.specs.Form.{Value}
 use Rattle.dw_model.specs.Form as values
@@ -54,7 +55,8 @@ attribute_text sections here name =
 
 -- the name that an entry has itself: the one for the linker, else the one of the source
 abbrev pub own_name : Sections → UnitEntry → Option (List ℕ)
-own_name sections here = option_or (attribute_text sections here DW_AT_linkage_name) (attribute_text sections here DW_AT_name)
+own_name sections here =
+    option_or (attribute_text sections here DW_AT_linkage_name) (attribute_text sections here DW_AT_name)
 
 -- at most so many references are followed
 unfoldable pub name_within : Sections → ℕ → UnitEntry → Option (List ℕ)

@@ -1,5 +1,7 @@
 -- The bytes that are written.
-use Rattle.std.specs.Prelude.{ℕ, ◌+◌, ◌-◌, Bool, true, false, ◌&&◌, ◌||◌, List, [], ◌∷◌, ◌++◌, length, take, drop, replicate, position, Option, Some, None, option_map, flat_map, unwrap_or, slice_index, nat_lt, nat_le, ◌==◌, if◌then◌else◌, codes, decimal}
+use Rattle.std.specs.Prelude.{ℕ, ◌+◌, ◌-◌, Bool, true, false, ◌&&◌, ◌||◌, List, [], ◌∷◌, ◌++◌, length, take, drop}
+use Rattle.std.specs.Prelude.{replicate, position, Option, Some, None, option_map, flat_map, unwrap_or, slice_index}
+use Rattle.std.specs.Prelude.{nat_lt, nat_le, ◌==◌, if◌then◌else◌, codes, decimal}
 use Rattle.std.specs.List.{list_all, list_any}
 use Rattle.std.specs.Option.{option_map_or}
 use Rattle.std.specs.Fmt.{digits}
@@ -9,7 +11,8 @@ use Rattle.std.specs.Str.Parse.{digits_value}
 use Rattle.dw_model.specs.Section.{section}
 use Rattle.dw_model.specs.Unit.{Kind, compile, partial, skeleton, skipped, DwarfUnit, units}
 use Rattle.dw_model.specs.Faults.{entry_fault, depth_fault, ranges_fault}
-use Rattle.dw_model.specs.Answer.{Frame, Code, tree_fault, line_fault, Piece, Answer, not_covered, fault, found, located}
+use Rattle.dw_model.specs.Answer.{Frame, Code, tree_fault, line_fault, Piece, Answer, not_covered, fault, found}
+use Rattle.dw_model.specs.Answer.{located}
 use Rattle.dw_model.specs.Query.{Query, address, span, meaning}
 
 -- a number in hexadecimal digits of lower case, without leading zeros
@@ -30,7 +33,8 @@ kind_name skipped = codes "skipped"
 -- a unit's line
 abbrev pub unit_line : DwarfUnit → List ℕ
 unit_line unit =
-    codes "0x" ++ (hexadecimal unit.offset ++ (codes " version " ++ (decimal unit.version ++ (codes " " ++ (kind_name unit.kind ++ newline)))))
+    codes "0x" ++ (hexadecimal unit.offset
+    ++ (codes " version " ++ (decimal unit.version ++ (codes " " ++ (kind_name unit.kind ++ newline)))))
 
 -- the lines of these units
 abbrev pub unit_lines : List DwarfUnit → List ℕ
@@ -57,7 +61,8 @@ without_prefix text =
 abbrev pub address_in : List ℕ → Option ℕ
 address_in text =
     let digits = without_prefix text in
-    if nat_lt 0 (length digits) && (nat_le (length digits) 16 && list_all is_ascii_hexdigit digits) then Some (digits_value 16 digits) else None
+    if nat_lt 0 (length digits) && (nat_le (length digits) 16 && list_all is_ascii_hexdigit digits)
+    then Some (digits_value 16 digits) else None
 
 -- a span from an address on and below another, where both are there and the first is below the
 -- second
@@ -73,7 +78,8 @@ dash_in text = position (λ byte. byte == 45) text
 -- anything else is a bad address (own).
 abbrev pub query_in : List ℕ → Option Query
 query_in text =
-    option_map_or (λ dash. span_between (address_in (take dash text)) (address_in (drop (dash + 1) text))) (dash_in text)
+    option_map_or (λ dash. span_between (address_in (take dash text)) (address_in (drop (dash + 1) text)))
+    (dash_in text)
     (option_map address (address_in text))
 
 -- ---- the answers
@@ -106,7 +112,8 @@ name_text name = unwrap_or name (codes "??")
 
 abbrev pub frame_lines : Options → Frame → List ℕ
 frame_lines options frame =
-    (if options.functions then name_text frame.name ++ newline else []) ++ (location_text frame.location.path frame.location.line ++ newline)
+    (if options.functions then name_text frame.name ++ newline else [])
+    ++ (location_text frame.location.path frame.location.line ++ newline)
 
 -- a frame of which nothing is known
 abbrev pub unknown_frame : Frame
@@ -159,7 +166,8 @@ abbrev pub bad_address_line : List ℕ
 bad_address_line = codes "!bad address\n"
 
 abbrev pub input_lines : Options → (Query → Answer) → List ℕ → List ℕ
-input_lines options means input = option_map_or (λ query. query_lines options query (means query)) (query_in input) bad_address_line
+input_lines options means input =
+    option_map_or (λ query. query_lines options query (means query)) (query_in input) bad_address_line
 
 -- what is written for these inputs
 abbrev pub text : Options → List ℕ → List (List ℕ) → List ℕ
@@ -174,4 +182,5 @@ is_fault (located pieces) = false
 
 -- some input is a bad address or has a fault for an answer
 abbrev pub has_faults : List ℕ → List (List ℕ) → Bool
-has_faults file inputs = list_any (λ input. option_map_or (λ query. is_fault (meaning file query)) (query_in input) true) inputs
+has_faults file inputs =
+    list_any (λ input. option_map_or (λ query. is_fault (meaning file query)) (query_in input) true) inputs

@@ -1,5 +1,6 @@
 -- Paths of source files (DWARF 5, section 6.2.4).
-use Rattle.std.specs.Prelude.{ℕ, Bool, false, ◌||◌, List, [], ◌∷◌, ◌++◌, length, Option, Some, None, slice_get, slice_index, unwrap_or, option_map, ◌==◌, nat_lt, if◌then◌else◌}
+use Rattle.std.specs.Prelude.{ℕ, Bool, false, ◌||◌, List, [], ◌∷◌, ◌++◌, length, Option, Some, None, slice_get}
+use Rattle.std.specs.Prelude.{slice_index, unwrap_or, option_map, ◌==◌, nat_lt, if◌then◌else◌}
 use Rattle.std.specs.Option.{option_or}
 use Rattle.dw_model.specs.Options.{◌>>=◌}
 use Rattle.dw_model.specs.LineHeader.{LineHeader}

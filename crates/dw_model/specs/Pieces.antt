@@ -1,11 +1,14 @@
 -- What a span of addresses means: the pieces of it that have locations.
-use Rattle.std.specs.Prelude.{◌≡◌, ◌≢◌, ◌≤◌, ◌<◌, ℕ, zero, suc, ◌+◌, ◌-◌, Bool, true, false, ◌&&◌, List, [], ◌∷◌, Option, Some, None, option_map, Result, Ok, Err, nat_le, nat_lt, nat_eq, ◌==◌, if◌then◌else◌, IsOk}
+use Rattle.std.specs.Prelude.{◌≡◌, ◌≢◌, ◌≤◌, ◌<◌, ℕ, zero, suc, ◌+◌, ◌-◌, Bool, true, false, ◌&&◌, List, [], ◌∷◌}
+use Rattle.std.specs.Prelude.{Option, Some, None, option_map, Result, Ok, Err, nat_le, nat_lt, nat_eq, ◌==◌}
+use Rattle.std.specs.Prelude.{if◌then◌else◌, IsOk}
 use Rattle.std.specs.Cmp.Lexicographic.{pointwise}
 use Rattle.std.specs.Option.{option_map_or}
 use Rattle.dw_model.specs.Results.{◌>>=◌, with_code}
 use Rattle.dw_model.specs.Section.{Sections, sections}
 use Rattle.dw_model.specs.Unit.{DwarfUnit}
-use Rattle.dw_model.specs.Answer.{Location, Piece, Code, line_fault, Answer, fault, located, unit_of, lines, row_at, row_location}
+use Rattle.dw_model.specs.Answer.{Location, Piece, Code, line_fault, Answer, fault, located, unit_of, lines, row_at}
+use Rattle.dw_model.specs.Answer.{row_location}
 
 -- a unit by its offset, and its fault
 abbrev pub UnitFault : Type 0
@@ -81,21 +84,25 @@ IsApart end location (next ∷ pieces) = end ≡ next.begin → location ≢ nex
 abbrev pub AreInOrder : (low high : ℕ) → List Piece → Type 0
 AreInOrder low high [] = Unit {0}
 AreInOrder low high (piece ∷ pieces) =
-    (low ≤ piece.begin) × (piece.begin < piece.end) × (piece.end ≤ high) × IsApart piece.end piece.location pieces × AreInOrder piece.end high pieces
+    (low ≤ piece.begin) × (piece.begin < piece.end) × (piece.end ≤ high) × IsApart piece.end piece.location pieces
+    × AreInOrder piece.end high pieces
 
 -- the location of the piece in which an address lies
 abbrev pub location_in : List Piece → ℕ → Option Location
 location_in [] a = None
-location_in (piece ∷ pieces) a = if nat_le piece.begin a && nat_lt a piece.end then Some piece.location else location_in pieces a
+location_in (piece ∷ pieces) a = if nat_le piece.begin a && nat_lt a piece.end then Some piece.location
+    else location_in pieces a
 
 -- They are in order, and each address lies in one exactly where it has a location, which is that of
 -- the piece.
-pub record ArePieces (location : ℕ → Result (Option Location) UnitFault) (low high : ℕ) (pieces : List Piece) : Type 0 where
+pub record ArePieces (location : ℕ → Result (Option Location) UnitFault) (low high : ℕ)
+    (pieces : List Piece) : Type 0 where
   pub order : AreInOrder low high pieces
   pub each : (a : ℕ) → low ≤ a → a < high → location a ≡ Ok (location_in pieces a)
 
 -- It is the fault of the first address that has one.
-pub record IsFirstFault (location : ℕ → Result (Option Location) UnitFault) (low high : ℕ) (found : UnitFault) : Type 0 where
+pub record IsFirstFault (location : ℕ → Result (Option Location) UnitFault) (low high : ℕ)
+    (found : UnitFault) : Type 0 where
   pub address : ℕ
   pub from : low ≤ address
   pub before : address < high
@@ -117,5 +124,6 @@ with_piece (piece ∷ []) next =
 with_piece (piece ∷ other ∷ pieces) next = piece ∷ with_piece (other ∷ pieces) next
 
 -- the addresses from one on and below another have this location, or none
-abbrev pub HaveLocation : (location : ℕ → Result (Option Location) UnitFault) → (begin end : ℕ) → Option Location → Type 0
+abbrev pub HaveLocation : (location : ℕ → Result (Option Location) UnitFault) → (begin end : ℕ)
+    → Option Location → Type 0
 HaveLocation location begin end here = (a : ℕ) → begin ≤ a → a < end → location a ≡ Ok here

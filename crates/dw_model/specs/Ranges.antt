@@ -1,5 +1,6 @@
 -- Ranges of addresses (DWARF 5, sections 2.17 and 7.25).
-use Rattle.std.specs.Prelude.{ℕ, ◌+◌, ◌-◌, ◌*◌, ◌^◌, pos, negsuc, Bool, ◌&&◌, List, [], ◌∷◌, drop, Option, Some, None, Result, Ok, Err, ok_or, filter, nat_eq, nat_lt, nat_le, ◌==◌, if◌then◌else◌}
+use Rattle.std.specs.Prelude.{ℕ, ◌+◌, ◌-◌, ◌*◌, ◌^◌, pos, negsuc, Bool, ◌&&◌, List, [], ◌∷◌, drop, Option, Some, None}
+use Rattle.std.specs.Prelude.{Result, Ok, Err, ok_or, filter, nat_eq, nat_lt, nat_le, ◌==◌, if◌then◌else◌}
 use Rattle.std.specs.List.{list_any}
 use Rattle.std.specs.Option.{option_map_or}
 use Rattle.std.specs.Map.{lookup}
@@ -114,8 +115,10 @@ entry_ranges tables bases base (startx_length start length ∷ entries) = do
 entry_ranges tables bases base (offset_pair start end ∷ entries) = do
   a ← base
   onto_ranges (a + start) (a + end) (entry_ranges tables bases base entries)
-entry_ranges tables bases base (start_end start end ∷ entries) = onto_ranges start end (entry_ranges tables bases base entries)
-entry_ranges tables bases base (start_length start length ∷ entries) = onto_ranges start (start + length) (entry_ranges tables bases base entries)
+entry_ranges tables bases base (start_end start end ∷ entries) =
+    onto_ranges start end (entry_ranges tables bases base entries)
+entry_ranges tables bases base (start_length start length ∷ entries) =
+    onto_ranges start (start + length) (entry_ranges tables bases base entries)
 
 -- where the list begins that DW_AT_ranges names: at an offset, or at one that is at an index after
 -- the base
@@ -148,18 +151,21 @@ pc_ranges tables bases entry =
     option_map_or (λ low. option_map_or (λ high. do
       begin ← address_of tables bases low
       end ← high_end tables bases begin high
-      Ok (range begin end ∷ [])) (attribute constants.DW_AT_high_pc entry) (Ok [])) (attribute constants.DW_AT_low_pc entry) (Ok [])
+      Ok (range begin end ∷ [])) (attribute constants.DW_AT_high_pc entry) (Ok []))
+    (attribute constants.DW_AT_low_pc entry) (Ok [])
 
 -- the base of a unit's lists before any entry sets one: the address of its first entry, else 0
 -- (own)
 abbrev pub first_base : Tables → Bases → Option Entry → Result ℕ Bad
 first_base tables bases root =
-    option_map_or (λ entry. option_map_or (address_of tables bases) (attribute constants.DW_AT_low_pc entry) (Ok 0)) root (Ok 0)
+    option_map_or (λ entry. option_map_or (address_of tables bases) (attribute constants.DW_AT_low_pc entry) (Ok 0))
+    root (Ok 0)
 
 -- The ranges of an entry that count, in order; `root` is the first entry of its unit.
 unfoldable pub ranges_of : Tables → Bases → Option Entry → Entry → Result (List Range) Bad
 ranges_of tables bases root entry = do
-  ranges ← option_map_or (list_ranges tables bases (first_base tables bases root)) (attribute constants.DW_AT_ranges entry) (pc_ranges tables bases entry)
+  ranges ← option_map_or (list_ranges tables bases (first_base tables bases root))
+      (attribute constants.DW_AT_ranges entry) (pc_ranges tables bases entry)
   Ok (filter is_kept ranges)
 
 -- some range holds the address

@@ -1,5 +1,6 @@
 -- Reading bytes from the front: a value and the place just past it, or nothing.
-use Rattle.std.specs.Prelude.{◌≡◌, ◌↔◌, ◌++◌, ℕ, zero, suc, ◌+◌, List, [], ◌∷◌, length, take, drop, Option, Some, None, Result, Ok, Err, nat_le, ◌==◌, if◌then◌else◌}
+use Rattle.std.specs.Prelude.{◌≡◌, ◌↔◌, ◌++◌, ℕ, zero, suc, ◌+◌, List, [], ◌∷◌, length, take, drop, Option, Some, None}
+use Rattle.std.specs.Prelude.{Result, Ok, Err, nat_le, ◌==◌, if◌then◌else◌}
 use Rattle.std.specs.List.{position}
 use Rattle.std.specs.Option.{option_map_or}
 use Rattle.byteorder.specs.Endian.{little_number}
@@ -79,4 +80,5 @@ FailsAfter {S} next s (item ∷ others) fault = (t : S) × (next s ≡ Ok (Some 
 -- where `next` gives items and then this fault.
 pub record AreRead {S A E : Type 0} (left : S → List ℕ) (next : S → Result (Option A × S) E) : Type 0 where
   pub read : (s t : S) (all : List A) → (items left next s ≡ Ok (all, t)) ↔ AreItems next s all t
-  pub fails : (s : S) (fault : E) → (items left next s ≡ Err fault) ↔ ((before : List A) × FailsAfter next s before fault)
+  pub fails : (s : S) (fault : E)
+      → (items left next s ≡ Err fault) ↔ ((before : List A) × FailsAfter next s before fault)

@@ -1,5 +1,6 @@
 -- What a unit's first entry says of it (DWARF 5, sections 3.1 and 7.5).
-use Rattle.std.specs.Prelude.{ℕ, Bool, true, false, ◌||◌, ◌&&◌, not, take, drop, Option, Result, Err, option_and_then, is_none, nat_lt, nat_le, if◌then◌else◌}
+use Rattle.std.specs.Prelude.{ℕ, Bool, true, false, ◌||◌, ◌&&◌, not, take, drop, Option, Result, Err, option_and_then}
+use Rattle.std.specs.Prelude.{is_none, nat_lt, nat_le, if◌then◌else◌}
 use Rattle.std.specs.Result.{result_ok, result_err}
 use Rattle.dw_model.specs.Results.{◌>>=◌, refuse_if}
 use Rattle.dw_model.specs.Reading.{Place, start}
@@ -40,7 +41,8 @@ answers skipped = false
 
 -- a unit that isn't skipped has to have a first entry, whatever its tag is
 abbrev pub has_root : Sections → Test
-has_root sections unit = refuse_if (not (is_skipped unit.kind) && is_none (root sections unit)) (faults.root unit.offset)
+has_root sections unit =
+    refuse_if (not (is_skipped unit.kind) && is_none (root sections unit)) (faults.root unit.offset)
 
 -- the first condition that a unit fails, unit by unit: those on its header, and then that on its
 -- first entry

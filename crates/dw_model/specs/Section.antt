@@ -1,11 +1,13 @@
 -- The sections of a file, and the conditions under which an ELF file is refused.
-use Rattle.std.specs.Prelude.{◌&&◌, ◌++◌, drop, bit_and, Bool, true, not, List, [], ◌∷◌, Option, Result, Ok, ok_or, is_some, unwrap_or, option_and_then, find, bytes_eq, ◌==◌, if◌then◌else◌, codes}
+use Rattle.std.specs.Prelude.{◌&&◌, ◌++◌, drop, bit_and, Bool, true, not, List, [], ◌∷◌, Option, Result, Ok, ok_or}
+use Rattle.std.specs.Prelude.{is_some, unwrap_or, option_and_then, find, bytes_eq, ◌==◌, if◌then◌else◌, codes}
 use Rattle.std.specs.Option.{option_map_or}
 use Rattle.std.specs.Result.{result_unwrap_or, result_err}
 use Rattle.std.specs.Prelude.{ℕ}
 use Rattle.dw_model.specs.declared.elf.TheConstants.{ELFMAG, ELFCLASS64, ELFDATA2LSB, ET_REL, SHF_COMPRESSED}
 use Rattle.dw_model.specs.Results.{◌>>=◌, refuse_if, refuse_found}
-use Rattle.dw_model.specs.Faults.{Refusal, not_elf, not_elf64_little, relocatable, section_table, section_range, compressed}
+use Rattle.dw_model.specs.Faults.{Refusal, not_elf, not_elf64_little, relocatable, section_table, section_range}
+use Rattle.dw_model.specs.Faults.{compressed}
 use Rattle.dw_model.specs.Elf.{Table, no_sections, file_header, table_at, takes_nothing, header_named, contents}
 use Rattle.dw_model.specs.Text.{Tables}
 
@@ -66,7 +68,8 @@ compressed_name name = codes ".z" ++ drop 1 name
 -- compressed form is there.
 unfoldable pub is_compressed : Table → List ℕ → Bool
 is_compressed table name =
-    option_map_or (λ header. not (bit_and header.sh_flags SHF_COMPRESSED == 0) && not (takes_nothing header)) (header_named name table)
+    option_map_or (λ header. not (bit_and header.sh_flags SHF_COMPRESSED == 0) && not (takes_nothing header))
+    (header_named name table)
     (is_some (header_named (compressed_name name) table))
 
 -- The table of a file that is accepted, or the first condition that it fails: those on its header

@@ -1,6 +1,7 @@
 -- Texts and addresses to which values lead (DWARF 5, sections 7.5.5, 7.26 and 7.27).
 use Rattle.std.specs.Prelude.{ℕ, ◌+◌, ◌*◌, List, drop, Option, Some, None, option_map, option_and_then}
-use Rattle.dw_model.specs.declared.dwarf.TheConstants.{ADDRESS_SIZE, DW_AT_str_offsets_base, DW_AT_addr_base, DW_AT_rnglists_base}
+use Rattle.dw_model.specs.declared.dwarf.TheConstants.{ADDRESS_SIZE, DW_AT_str_offsets_base, DW_AT_addr_base}
+use Rattle.dw_model.specs.declared.dwarf.TheConstants.{DW_AT_rnglists_base}
 use Rattle.dw_model.specs.Options.{◌>>=◌}
 use Rattle.dw_model.specs.Reading.{start, number_at, text_at}
 use Rattle.dw_model.specs.Form.{Value}

@@ -1,6 +1,7 @@
 -- The entries of a unit as a tree, and the functions at an address (DWARF 5, sections 2.3, 3.3 and
 -- 7.5).
-use Rattle.std.specs.Prelude.{ℕ, ◌+◌, ◌-◌, Bool, false, ◌&&◌, ◌||◌, List, [], ◌∷◌, length, reverse, Option, Some, None, Result, Ok, Err, find, filter_map, option_map, is_err, nat_lt, ◌==◌, if◌then◌else◌}
+use Rattle.std.specs.Prelude.{ℕ, ◌+◌, ◌-◌, Bool, false, ◌&&◌, ◌||◌, List, [], ◌∷◌, length, reverse, Option, Some, None}
+use Rattle.std.specs.Prelude.{Result, Ok, Err, find, filter_map, option_map, is_err, nat_lt, ◌==◌, if◌then◌else◌}
 use Rattle.std.specs.List.{list_all}
 use Rattle.std.specs.Option.{option_map_or}
 use Rattle.std.specs.Result.{result_unwrap_or}
@@ -53,20 +54,26 @@ depth_behind depth (Some entry) = if entry.children then depth + 1 else depth
 
 -- An entry or a null entry. The unit's end ends all lists; when the list below the unit's first
 -- entry has ended, nothing more is read.
-unfoldable pub next_node : (ranges : Entry → Result (List Range) Bad) → (size : ℕ) → List Declaration → Reading → Result (Option (Option Node) × Reading) TreeFault
+unfoldable pub next_node : (ranges : Entry → Result (List Range) Bad) → (size : ℕ) → List Declaration
+    → Reading → Result (Option (Option Node) × Reading) TreeFault
 next_node ranges size declarations s = if s.depth == 0 || length s.place.left == 0 then Ok (None, s) else (do
   found ← or_fault entry_fault (entry_at size declarations s.place)
   _ ← option_map_or (checked ranges s.depth) found.0 (Ok tt)
-  Ok (Some (option_map (λ entry. record { depth = s.depth; entry = entry }) found.0), record { place = found.1; depth = depth_behind s.depth found.0 }))
+  Ok (
+    Some (option_map (λ entry. record { depth = s.depth; entry = entry }) found.0),
+    record { place = found.1; depth = depth_behind s.depth found.0 },
+  ))
 
 -- the entries below the first one, which has children
-abbrev pub nodes_below : (ranges : Entry → Result (List Range) Bad) → (size : ℕ) → List Declaration → Place → Result (List Node) TreeFault
+abbrev pub nodes_below : (ranges : Entry → Result (List Range) Bad) → (size : ℕ) → List Declaration
+    → Place → Result (List Node) TreeFault
 nodes_below ranges size declarations p =
     items (λ s. s.place.left) (next_node ranges size declarations) (record { place = p; depth = 1 }) >>= λ found.
     Ok (filter_map (λ node. node) found.0)
 
 -- The first entry, and where it has children those below it.
-unfoldable pub nodes_from : (ranges : Entry → Result (List Range) Bad) → (size : ℕ) → List Declaration → Place → Result (List Node) TreeFault
+unfoldable pub nodes_from : (ranges : Entry → Result (List Range) Bad) → (size : ℕ) → List Declaration
+    → Place → Result (List Node) TreeFault
 nodes_from ranges size declarations p = do
   found ← or_fault entry_fault (entry_at size declarations p)
   option_map_or (λ first. do
@@ -111,17 +118,20 @@ is_at (Some node) offset = node.entry.offset == offset
 -- the first inlined function that holds the address and lies directly in a function
 unfoldable pub inlined_in : (Entry → Bool) → List Node → Node → Option Node
 inlined_in holds nodes outer =
-    find_node (λ before node. is_inlined node.entry && holds node.entry && is_at (enclosing (node ∷ []) before) outer.entry.offset) [] nodes
+    find_node (λ before node. is_inlined node.entry && holds node.entry
+    && is_at (enclosing (node ∷ []) before) outer.entry.offset) [] nodes
 
 -- the next function inwards, and none where none holds the address
 unfoldable pub next_inwards : (Entry → Bool) → List Node → Node → Result (Option Node × Node) (Unit {0})
-next_inwards holds nodes outer = Ok (option_map_or (λ node. (Some node, node)) (inlined_in holds nodes outer) (None, outer))
+next_inwards holds nodes outer =
+    Ok (option_map_or (λ node. (Some node, node)) (inlined_in holds nodes outer) (None, outer))
 
 -- The functions at an address, innermost first: from the first subprogram that holds it (own), step
 -- by step inwards. There are no more steps than nodes, since each goes forward.
 unfoldable pub chain_in : (Entry → Bool) → List Node → List Node
 chain_in holds nodes =
-    option_map_or (λ outermost. reverse (outermost ∷ inner (items_up_to (next_inwards holds nodes) (length nodes) outermost)))
+    option_map_or
+    (λ outermost. reverse (outermost ∷ inner (items_up_to (next_inwards holds nodes) (length nodes) outermost)))
     (find (λ node. is_subprogram node.entry && holds node.entry) nodes) []
   where
     inner : Result (List Node × Node) (Unit {0}) → List Node

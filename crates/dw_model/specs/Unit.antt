@@ -1,11 +1,14 @@
 -- The units of .debug_info (DWARF 5, section 7.5.1).
-use Rattle.std.specs.Prelude.{◌≡◌, ◌<◌, ◌≤◌, ◌++◌, ◌∷◌, ℕ, ◌+◌, Bool, true, false, not, List, [], filter_map, length, Option, Some, None, Result, Ok, Err, ok_or, ◌==◌, if◌then◌else◌}
+use Rattle.std.specs.Prelude.{◌≡◌, ◌<◌, ◌≤◌, ◌++◌, ◌∷◌, ℕ, ◌+◌, Bool, true, false, not, List, [], filter_map, length}
+use Rattle.std.specs.Prelude.{Option, Some, None, Result, Ok, Err, ok_or, ◌==◌, if◌then◌else◌}
 use Rattle.std.specs.List.{cons_option}
 use Rattle.std.specs.Result.{result_unwrap_or}
-use Rattle.dw_model.specs.declared.dwarf.TheConstants.{DWARF_VERSION, ADDRESS_SIZE, DW_UT_COMPILE, DW_UT_PARTIAL, DW_UT_SKELETON, DWO_ID_SIZE}
+use Rattle.dw_model.specs.declared.dwarf.TheConstants.{DWARF_VERSION, ADDRESS_SIZE, DW_UT_COMPILE, DW_UT_PARTIAL}
+use Rattle.dw_model.specs.declared.dwarf.TheConstants.{DW_UT_SKELETON, DWO_ID_SIZE}
 use Rattle.dw_model.specs.Results.{◌>>=◌, refuse_if}
 use Rattle.dw_model.specs.Reading.{Place, start, number_at, bytes_at, items}
-use Rattle.dw_model.specs.InitialLength.{Width, offset_size, length_size, InitialLength, of_length, reserved, initial_length, IsInitialLength}
+use Rattle.dw_model.specs.InitialLength.{Width, offset_size, length_size, InitialLength, of_length, reserved}
+use Rattle.dw_model.specs.InitialLength.{initial_length, IsInitialLength}
 use Rattle.dw_model.specs.Faults.{Refusal, unit_header, address_size}
 
 -- What is done with a unit: compile and skeleton units answer addresses, partial ones are only
@@ -45,7 +48,15 @@ pub record Extent : Type 0 where
 
 abbrev pub skipped_unit : Extent → ℕ → ℕ → DwarfUnit
 skipped_unit extent offset_size version =
-    record { offset = extent.offset; end = extent.end; version = version; kind = skipped; offset_size = offset_size; debug_abbrev_offset = 0; first_entry = extent.end }
+    record {
+      offset = extent.offset;
+      end = extent.end;
+      version = version;
+      kind = skipped;
+      offset_size = offset_size;
+      debug_abbrev_offset = 0;
+      first_entry = extent.end;
+    }
 
 -- only the header of a skeleton unit has a dwo_id (section 7.5.1.2)
 abbrev pub dwo_id_size : Kind → ℕ
@@ -146,19 +157,22 @@ AreContents bytes (content ∷ others) =
 
 -- where the bytes after a unit's length are
 abbrev pub extent_at : ℕ → Width → List ℕ → Extent
-extent_at offset width bytes = record { offset = offset; base = offset + length_size width; end = offset + length_size width + length bytes }
+extent_at offset width bytes =
+    record { offset = offset; base = offset + length_size width; end = offset + length_size width + length bytes }
 
 -- The unit of a piece that begins at the offset; no content makes none.
 abbrev pub IsUnitOf : Test → ℕ → Width → List ℕ → Option DwarfUnit → Type 0
 IsUnitOf test offset width [] found = found ≡ None
 IsUnitOf test offset width (b ∷ bytes) found =
-    (unit : DwarfUnit) × (found ≡ Some unit) × (unit_of (extent_at offset width (b ∷ bytes)) (offset_size width) (b ∷ bytes) ≡ Ok unit) × (test unit ≡ Ok tt)
+    (unit : DwarfUnit) × (found ≡ Some unit)
+    × (unit_of (extent_at offset width (b ∷ bytes)) (offset_size width) (b ∷ bytes) ≡ Ok unit) × (test unit ≡ Ok tt)
 
 -- The units of the pieces with these contents, the first of which begins at the offset.
 abbrev pub AreUnits : Test → ℕ → List Content → List DwarfUnit → Type 0
 AreUnits test offset [] found = found ≡ []
 AreUnits test offset (content ∷ others) found =
-    (unit : Option DwarfUnit) × (rest : List DwarfUnit) × (found ≡ cons_option unit rest) × IsUnitOf test offset content.width content.bytes unit
+    (unit : Option DwarfUnit) × (rest : List DwarfUnit) × (found ≡ cons_option unit rest)
+    × IsUnitOf test offset content.width content.bytes unit
     × AreUnits test (offset + length_size content.width + length content.bytes) others rest
 
 -- A unit that is in a section of so many bytes: its first entry is after its beginning, and no
