@@ -1,14 +1,17 @@
 //! The ends of a ring, used one after the other.
 
-ghost use Rattle.std.specs.Prelude.{◌≡◌, IfOk};
+ghost use Rattle.std.specs.Prelude.{◌≡◌, ◌<◌, IfOk};
 ghost use Rattle.ticket_board.specs.Ring.Ends.{IsAskerOf};
 ghost use Rattle.ticket_board.specs.Ring.Takers.{IsTakerOf, HasEmptyHand};
 
 use crate::queries::query_of;
 use crate::shapes::shape;
 use crate::solver::{Echo, KEY};
+use dw_bytes::Steps;
 use std::alloc::Global;
+use std::marker::Brand;
 use std::process::Abort;
+use std::sync::ledger::{Blank, Ledger};
 use std::test::Fail;
 use ticket_board::ring::{Asker, Ring, Taker};
 use ticket_board::{AskFault, BoardFault};
@@ -62,7 +65,14 @@ pub fn open_ends<'a, S: Solver>(
 
 /// Two workers take two numbers, of a window of two. One that is given back is taken again, with
 /// the same query.
-fn take_two<S: Solver>(rt: &impl Abort, alloc: Global) -> Result<(), BoardFault> {
+fn take_two<S: Solver, L: Ledger>(
+    rt: &impl Abort,
+    alloc: Global,
+    blank: Blank,
+) -> Result<(), BoardFault>
+    requires { (blank.name ≡ L.name) × (blank.parts ≡ L.parts) × (0 < L.parts) }
+{
+    let mut steps = Steps::<L>::new(blank);
     let Ends {
         ring,
         first_asker: mut asker,
@@ -75,20 +85,20 @@ fn take_two<S: Solver>(rt: &impl Abort, alloc: Global) -> Result<(), BoardFault>
     assert_eq!(rt; asker.ask(&ring, span), Ok(0));
     assert_eq!(rt; asker.ask(&ring, address), Ok(1));
     assert_eq!(rt; asker.ask(&ring, span), Err(AskFault::Exhausted));
-    let Some(taken) = first.take(&ring) else {
+    let Some(taken) = first.take(&ring, &mut steps) else {
         panic!(rt; "the first number waits")
     };
     assert_eq!(rt; taken, (0, 0, span));
-    let taken = second.take(&ring);
+    let taken = second.take(&ring, &mut steps);
     assert_eq!(rt; taken, Some((0, 1, address)));
-    assert_eq!(rt; first.give_back(&ring), (0, 0));
-    let taken = first.take(&ring);
+    assert_eq!(rt; first.give_back(&ring, &mut steps), (0, 0));
+    let taken = first.take(&ring, &mut steps);
     assert_eq!(rt; taken, Some((0, 0, span)));
     Ok(())
 }
 
 #[test]
 fn two_takers(rt: HostRuntime) -> Result<(), Fail> {
-    take_two::<Echo>(&rt, rt.alloc())?;
+    take_two::<Echo, Brand>(&rt, rt.alloc(), Blank::new(1))?;
     Ok(())
 }

@@ -118,9 +118,7 @@ fn answer_counted<'a, S: Solver, L: Ledger>(
     solver: &mut S,
     blank: Blank,
 ) -> Result<(), NoMemory>
-    requires name { blank.name ≡ L.name }
-    requires parts { blank.parts ≡ L.parts }
-    requires some { 0 < L.parts }
+    requires blank { (blank.name ≡ L.name) × (blank.parts ≡ L.parts) × (0 < L.parts) }
     requires ring { IsTakerOf ring.now taker.old }
     requires empty { HasEmptyHand taker.old }
     requires key { S.key solver.old ≡ ring.now.key }
@@ -129,7 +127,7 @@ fn answer_counted<'a, S: Solver, L: Ledger>(
     ensures key { S.key solver.new ≡ ring.now.key }
 {
     let mut steps = Steps::<L>::new(blank);
-    let Some((_, _, query)) = taker.take_counted(ring, &mut steps) else {
+    let Some((_, _, query)) = taker.take(ring, &mut steps) else {
         thread::yield_now();
         return Ok(());
     };
@@ -139,7 +137,7 @@ fn answer_counted<'a, S: Solver, L: Ledger>(
             Ok(())
         }
         Err(error) => {
-            taker.give_back_counted(ring, &mut steps);
+            taker.give_back(ring, &mut steps);
             Err(error)
         }
     }

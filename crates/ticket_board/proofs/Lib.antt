@@ -17,4 +17,3 @@ pub mod RingMisses
 pub mod RingTable
 pub mod RingRule
 pub mod RingWorkerRule
-pub mod RingCode

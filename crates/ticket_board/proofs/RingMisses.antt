@@ -301,6 +301,6 @@ module _ (meaning : Meaning) (key : List ℕ) where
       (subst (λ (x : Board). weights x.views ≤ length moves) (sym made.is) (moves-weight meaning small key words moves made.may))
 
 -- so it isn't allowed
-pub never-misses : (meaning : Meaning) → MayMiss meaning → ⊥
-never-misses meaning may =
+pub never_misses : (meaning : Meaning) → MayMiss meaning → ⊥
+never_misses meaning may =
     let it = may small [] (with_sender meaning [] asked) (0 ∷ 5 ∷ 10 ∷ []) 0 asked (is-made meaning []) refl refl in not-made meaning [] it.0 it.1

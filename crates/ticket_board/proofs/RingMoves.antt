@@ -12,7 +12,7 @@ use Rattle.ticket_board.specs.Ring.Views as Views
 use Rattle.ticket_board.specs.Ring.Shows.{Board, StandsAt, Sits, Shows}
 use Rattle.ticket_board.specs.Ring.Steps.{WritesFirst, WritesSecond, Publishes, LooksNext, BringsOut, Receives, LooksAt, Takes, ReadsFirst, ReadsSecond, Answers, GivesBack}
 use Rattle.ticket_board.specs.Ring.Opening.{next_seat}
-use Rattle.ticket_board.specs.Ring.Laws.{Leads, MoveLaw}
+use Rattle.ticket_board.specs.Ring.Laws.{Leads, MoveLaw, OpeningLaw}
 use Rattle.ticket_board.specs.Ring.Moves.{Move, Cuts, Sends, Works, MayMove, moved, event_of, board_after, MayBeMade, then_event, events_of, stamps_moved, IsMade, Occurs}
 use Rattle.ticket_board.proofs.RingSenderSteps.{writes-first, writes-second, publishes, looks-next, brings-out, receives}
 use Rattle.ticket_board.proofs.RingWorkerSteps.{looks-at, takes, reads-first, reads-second, answers, gives-back}
@@ -29,42 +29,48 @@ run-then meaning (first ∷ events) old mid new (Some event) run step =
     (run.0, run-then meaning events (after meaning first old) mid new (Some event) run.1 step)
 
 module _ (meaning : Meaning) where
-  pub any-move : (move : Move) → MoveLaw meaning move
-  any-move (Cuts cut) shape key board state shows may =
+  pub any_opening : OpeningLaw meaning
+  unfolding OpeningLaw
+  any_opening shape key words fits free = opens meaning shape key fits words free
+
+  pub any_move : (move : Move) → MoveLaw meaning move
+  unfolding MoveLaw
+  any_move (Cuts cut) shape key board state shows may =
       (state, refl, cuts meaning shape key board state shows 0 cut may.0 may.1)
-  any-move (Sends s asking (WritesFirst word)) shape key board state shows may =
+  any_move (Sends s asking (WritesFirst word)) shape key board state shows may =
       (state, refl, writes-first meaning shape key board state (sender_seat s) s asking shows may.0 word may.1)
-  any-move (Sends s asking (WritesSecond query)) shape key board state shows may =
+  any_move (Sends s asking (WritesSecond query)) shape key board state shows may =
       (state, refl, writes-second meaning shape key board state (sender_seat s) s asking shows may.0 query may.1.0 may.1.1)
-  any-move (Sends s asking (Publishes query)) shape key board state shows may =
+  any_move (Sends s asking (Publishes query)) shape key board state shows may =
       publishes meaning shape key board state (sender_seat s) s asking shows may.0 query may.1
-  any-move (Sends s asking LooksNext) shape key board state shows may =
+  any_move (Sends s asking LooksNext) shape key board state shows may =
       (state, refl, looks-next meaning shape key board state (sender_seat s) s asking shows may.0)
-  any-move (Sends s asking BringsOut) shape key board state shows may =
+  any_move (Sends s asking BringsOut) shape key board state shows may =
       (state, refl, brings-out meaning shape key board state (sender_seat s) s asking shows may.0 may.1)
-  any-move (Sends s asking (Receives answer)) shape key board state shows may =
+  any_move (Sends s asking (Receives answer)) shape key board state shows may =
       receives meaning shape key board state (sender_seat s) s asking shows may.0 answer may.1
-  any-move (Works w working (LooksAt cell)) shape key board state shows may =
+  any_move (Works w working (LooksAt cell)) shape key board state shows may =
       (state, refl, looks-at meaning shape key board state shows (worker_seat shape w) w working may.0 cell may.1.0 may.1.1)
-  any-move (Works w working (Takes s n)) shape key board state shows may =
+  any_move (Works w working (Takes s n)) shape key board state shows may =
       takes meaning shape key board state shows (worker_seat shape w) w working may.0 s n may.1.0 may.1.1
-  any-move (Works w working (ReadsFirst s n)) shape key board state shows may =
+  any_move (Works w working (ReadsFirst s n)) shape key board state shows may =
       (state, refl, reads-first meaning shape key board state shows (worker_seat shape w) w working may.0 s n may.1)
-  any-move (Works w working (ReadsSecond s n first)) shape key board state shows may =
+  any_move (Works w working (ReadsSecond s n first)) shape key board state shows may =
       (state, refl, reads-second meaning shape key board state shows (worker_seat shape w) w working may.0 s n first may.1.0 may.1.1)
-  any-move (Works w working (Answers s n query answer)) shape key board state shows may =
+  any_move (Works w working (Answers s n query answer)) shape key board state shows may =
       answers meaning shape key board state shows (worker_seat shape w) w working may.0 s n may.1.0 query answer may.1.1 may.1.2
-  any-move (Works w working (GivesBack s n)) shape key board state shows may =
+  any_move (Works w working (GivesBack s n)) shape key board state shows may =
       gives-back meaning shape key board state shows (worker_seat shape w) w working may.0 s n may.1
 
   module _ (shape : Shape) (key : List ℕ) where
     pub moves-show : (words : List ℕ) (moves : List Move) → MayBeMade meaning shape key words moves
         → (core : State) × Shows meaning shape key (board_after shape key words moves) core
         × Reaches meaning shape key (events_of shape key words moves) core
+    unfolding MoveLaw
     moves-show words [] may = (opening shape key, opens meaning shape key may.0 words may.1, refl)
     moves-show words (move ∷ moves) may =
         let before = moves-show words moves may.0 in
-        let now = any-move move shape key (board_after shape key words moves) before.0 before.1 may.1 in (
+        let now = any_move move shape key (board_after shape key words moves) before.0 before.1 may.1 in (
           now.0,
           now.2,
           run-then meaning (events_of shape key words moves) (opening shape key) before.0 now.0

@@ -1,5 +1,6 @@
 -- What a client learns of its next number, and what a worker did.
-use Rattle.std.specs.Prelude.{◌≡◌, ◌<◌, ℕ, List, [], ◌∷◌, ◌++◌, length, slice_index_or}
+use Rattle.std.specs.Prelude.{◌≡◌, ◌<◌, ◌+◌, ℕ, List, [], ◌∷◌, ◌++◌, length, slice_index_or, None, Result, IfOk, OnErr}
+use Rattle.std.specs.Prelude.{is_ok, if◌then◌else◌}
 use Rattle.std.specs.List.{Contains}
 use Rattle.ticket_core.specs.declared.query.Query.{Query}
 use Rattle.ticket_core.specs.declared.query.QueryKind.TheVariants.{Address}
@@ -10,7 +11,7 @@ use Rattle.ticket_board.specs.declared.outcome.Next.TheVariants.{Pending, Answer
 use Rattle.ticket_board.specs.declared.outcome.Turn.{Turn}
 use Rattle.ticket_board.specs.declared.outcome.Turn.TheVariants.{Answered, Idle}
 use Rattle.ticket_board.specs.Ring.Layout.{cells_in}
-use Rattle.ticket_board.specs.Seats.{ClientState}
+use Rattle.ticket_board.specs.Seats.{ClientState, WorkerState}
 
 -- what it asked at a number
 abbrev pub query_of : ClientState → ℕ → Query
@@ -33,6 +34,8 @@ module _ {A : Type 0} where
   IfEnded Ended told = told
   IfEnded _ told = Unit {0}
 
+-- ---- what a worker's turn leaves
+
 -- the number that it answered is of one of so many senders
 abbrev pub IsOfSender : Turn → ℕ → Type 0
 IsOfSender (Answered s n) senders = s < senders
@@ -42,10 +45,6 @@ IsOfSender Idle senders = Unit {0}
 abbrev pub done_after : Turn → List Ticket → List Ticket
 done_after (Answered s n) done = done ++ (s, n) ∷ []
 done_after Idle done = done
-
--- a worker has given back one number more, of one of so many senders: it waits again
-abbrev pub ReturnsOne : ℕ → List Ticket → List Ticket → Type 0
-ReturnsOne senders old new = (s n : ℕ) × (s < senders) × (new ≡ old ++ (s, n) ∷ [])
 
 -- in one pass each cell of the board gave it nothing: each of them once
 abbrev pub MissedEvery : Shape → List ℕ → List ℕ → Type 0
@@ -57,3 +56,30 @@ MissedEvery shape old new =
 abbrev pub IfIdle : Turn → Type 0 → Type 0
 IfIdle (Answered s n) told = Unit {0}
 IfIdle Idle told = told
+
+-- it answered a number, or found none, and gave nothing back
+pub record HasServed (shape : Shape) (turn : Turn) (old new : WorkerState) : Type 0 where
+  pub done : new.done ≡ done_after turn old.done
+  pub sender : IsOfSender turn shape.senders
+  pub idle : IfIdle turn (MissedEvery shape old.missed new.missed)
+  pub returned : new.returned ≡ old.returned
+
+-- it answered nothing, and gave one number back, of one of so many senders: that waits again
+abbrev pub ReturnsOne : ℕ → List Ticket → List Ticket → Type 0
+ReturnsOne senders old new = (s n : ℕ) × (s < senders) × (new ≡ old ++ (s, n) ∷ [])
+
+pub record HasReturned (shape : Shape) (old new : WorkerState) : Type 0 where
+  pub done : new.done ≡ old.done
+  pub returned : ReturnsOne shape.senders old.returned new.returned
+
+-- it is the same worker, whose hand is empty before and after
+pub record HasTurned {E : Type 0} (shape : Shape) (result : Result Turn E) (old new : WorkerState) : Type 0 where
+  pub seat : new.seat ≡ old.seat
+  pub empty_before : old.hand ≡ None
+  pub empty_after : new.hand ≡ None
+  pub served : IfOk result (λ turn. HasServed shape turn old new)
+  pub returned : OnErr result (HasReturned shape old new)
+
+-- how often its solver was out of memory: once more exactly where the turn tells so
+abbrev pub refused_after : {E : Type 0} → Result Turn E → ℕ → ℕ
+refused_after result refused = if is_ok result then refused else refused + 1

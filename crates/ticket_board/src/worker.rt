@@ -1,9 +1,9 @@
 //! A worker: it takes queries, solves them, and answers them.
 
-ghost use Rattle.std.specs.Prelude.{◌≡◌, ◌+◌, ◌*◌, ◌≤◌, ◌<◌, None, OnErr, IfOk, MatchResult, is_ok, if◌then◌else◌};
+ghost use Rattle.std.specs.Prelude.{◌≡◌, ◌+◌, ◌*◌, ◌≤◌, ◌<◌};
 ghost use Rattle.ticket_board.specs.Ring.Layout.{cells_in};
 ghost use Rattle.ticket_board.specs.Seats.{IsWorkerOf};
-ghost use Rattle.ticket_board.specs.Outcome.{done_after, IsOfSender, IfIdle, MissedEvery, ReturnsOne};
+ghost use Rattle.ticket_board.specs.Outcome.{HasTurned, refused_after};
 
 use crate::board::Board;
 use crate::gate::Gate;
@@ -53,17 +53,9 @@ impl<S: Solver> Worker<S> {
     ) -> Result<Turn, NoMemory>
         requires board { IsWorkerOf board.now self.old }
         requires key { S.key solver.old ≡ board.now.key }
-        ensures seat { self.new.seat ≡ self.old.seat }
-        ensures hand { (self.old.hand ≡ None) × (self.new.hand ≡ None) }
-        ensures done { IfOk result (λ turn. self.new.done ≡ done_after turn self.old.done) }
-        ensures sender { IfOk result (λ turn. IsOfSender turn board.now.shape.senders) }
-        ensures idle { IfOk result (λ turn. IfIdle turn (MissedEvery board.now.shape self.old.missed self.new.missed)) }
-        ensures none { OnErr result (self.new.done ≡ self.old.done) }
-        ensures returned { MatchResult result (λ _. self.new.returned ≡ self.old.returned)
-            (λ _. ReturnsOne board.now.shape.senders self.old.returned self.new.returned) }
+        ensures turned { HasTurned board.now.shape result self.old self.new }
         ensures key { S.key solver.new ≡ S.key solver.old }
-        ensures refused { S.refused solver.new
-            ≡ (if is_ok result then S.refused solver.old else S.refused solver.old + 1) }
+        ensures refused { S.refused solver.new ≡ refused_after result (S.refused solver.old) }
     {
         self.turn_uncounted::<G, Brand>(board, solver, gate, Blank::new(1))
     }
@@ -76,22 +68,12 @@ impl<S: Solver> Worker<S> {
         gate: &G,
         blank: Blank,
     ) -> Result<Turn, NoMemory>
-        requires name { blank.name ≡ L.name }
-        requires parts { blank.parts ≡ L.parts }
-        requires some { 0 < L.parts }
+        requires blank { (blank.name ≡ L.name) × (blank.parts ≡ L.parts) × (0 < L.parts) }
         requires board { IsWorkerOf board.now self.old }
         requires key { S.key solver.old ≡ board.now.key }
-        ensures seat { self.new.seat ≡ self.old.seat }
-        ensures hand { (self.old.hand ≡ None) × (self.new.hand ≡ None) }
-        ensures done { IfOk result (λ turn. self.new.done ≡ done_after turn self.old.done) }
-        ensures sender { IfOk result (λ turn. IsOfSender turn board.now.shape.senders) }
-        ensures idle { IfOk result (λ turn. IfIdle turn (MissedEvery board.now.shape self.old.missed self.new.missed)) }
-        ensures none { OnErr result (self.new.done ≡ self.old.done) }
-        ensures returned { MatchResult result (λ _. self.new.returned ≡ self.old.returned)
-            (λ _. ReturnsOne board.now.shape.senders self.old.returned self.new.returned) }
+        ensures turned { HasTurned board.now.shape result self.old self.new }
         ensures key { S.key solver.new ≡ S.key solver.old }
-        ensures refused { S.refused solver.new
-            ≡ (if is_ok result then S.refused solver.old else S.refused solver.old + 1) }
+        ensures refused { S.refused solver.new ≡ refused_after result (S.refused solver.old) }
     {
         let mut steps = Steps::<L>::new(blank);
         self.turn_counted(board, solver, gate, &mut steps)
@@ -108,20 +90,12 @@ impl<S: Solver> Worker<S> {
     ) -> Result<Turn, NoMemory>
         requires board { IsWorkerOf board.now self.old }
         requires key { S.key solver.old ≡ board.now.key }
-        ensures seat { self.new.seat ≡ self.old.seat }
-        ensures hand { (self.old.hand ≡ None) × (self.new.hand ≡ None) }
-        ensures done { IfOk result (λ turn. self.new.done ≡ done_after turn self.old.done) }
-        ensures sender { IfOk result (λ turn. IsOfSender turn board.now.shape.senders) }
-        ensures idle { IfOk result (λ turn. IfIdle turn (MissedEvery board.now.shape self.old.missed self.new.missed)) }
-        ensures none { OnErr result (self.new.done ≡ self.old.done) }
-        ensures returned { MatchResult result (λ _. self.new.returned ≡ self.old.returned)
-            (λ _. ReturnsOne board.now.shape.senders self.old.returned self.new.returned) }
+        ensures turned { HasTurned board.now.shape result self.old self.new }
         ensures key { S.key solver.new ≡ S.key solver.old }
-        ensures refused { S.refused solver.new
-            ≡ (if is_ok result then S.refused solver.old else S.refused solver.old + 1) }
+        ensures refused { S.refused solver.new ≡ refused_after result (S.refused solver.old) }
         ensures counted { steps.new ≤ steps.old + 2 * cells_in board.now.shape + 4 }
     {
-        let Some((sender, number, query)) = self.taker.take_counted(&board.ring, steps) else {
+        let Some((sender, number, query)) = self.taker.take(&board.ring, steps) else {
             return Ok(Turn::Idle);
         };
         gate.enter(sender, number, query);
@@ -131,7 +105,7 @@ impl<S: Solver> Worker<S> {
                 Ok(Turn::Answered(sender, number))
             }
             Err(error) => {
-                self.taker.give_back_counted(&board.ring, steps);
+                self.taker.give_back(&board.ring, steps);
                 Err(error)
             }
         }

@@ -26,14 +26,14 @@ ShowsAfter meaning shape key event old board =
     (new : State) × Leads meaning event old new × Shows meaning shape key board new
 
 -- a move that may be made
-abbrev pub MoveLaw : Meaning → Move → Type 0
+unfoldable pub MoveLaw : Meaning → Move → Type 0
 MoveLaw meaning move =
     (shape : Shape) (key : List ℕ) (board : Board) (state : State)
     → Shows meaning shape key board state → MayMove meaning shape key board move
     → ShowsAfter meaning shape key (event_of shape board move) state (moved shape key board move)
 
 -- the opened ring shows the opening state
-abbrev pub OpeningLaw : Meaning → Type 0
+unfoldable pub OpeningLaw : Meaning → Type 0
 OpeningLaw meaning =
     (shape : Shape) (key words : List ℕ) → Fits shape → AreFree shape words
     → Shows meaning shape key (opened shape key words) (opening shape key)

@@ -4,6 +4,7 @@
 //! A move is a seat that is cut off, or a step: one store, load or compare-exchange on one word.
 //! Where the ring shows a state of the core before a move that may be made, it shows afterwards the
 //! same state, or the state after the one event that the move is.
+#![tactic(auto, using(crate::proofs::RingMoves::any_move))]
 
 ghost use Rattle.std.specs.Prelude.{ℕ};
 ghost use Rattle.ticket_core.specs.declared.query.Query.{Query};
@@ -19,6 +20,7 @@ ghost use Rattle.ticket_board.specs.Ring.Laws.{AnsweredOnce, EndStays};
 
 use ticket_core::law_of_runs;
 
+#[tactic(auto, using(crate::proofs::RingMoves::any_opening, crate::proofs::RingMoves::any_move))]
 /// The opened ring shows the opening state of the core, and cutting off the seat of a sender or of
 /// a worker leaves the state that it shows.
 pub fn law_of_opening()
@@ -96,6 +98,7 @@ pub fn law_of_steps()
     ensures moves { (meaning : Meaning) (move : Move) → MoveLaw meaning move }
 {}
 
+#[tactic(auto, using(crate::proofs::RingMisses::never_misses))]
 /// A sender whose look is noted as a miss whatever it found breaks the rule of the table: on some
 /// ring, no moves make what it would leave.
 pub fn law_of_looks()

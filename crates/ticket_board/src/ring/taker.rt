@@ -13,8 +13,8 @@ use crate::ring::rule::Place;
 use crate::ring::slots::put_in;
 use crate::ring::steps::{finish, give_back, look_at, read_first, read_second, try_take};
 use dw_bytes::Steps;
-use std::marker::{Brand, Model};
-use std::sync::ledger::{Blank, Ledger};
+use std::marker::Model;
+use std::sync::ledger::Ledger;
 use ticket_core::{Query, Shape, Solver};
 
 /// A worker's end of the ring: it takes numbers that wait. Contracts see what its seat knows.
@@ -134,39 +134,9 @@ impl<S: Solver> Taker<S> {
 
     /// Takes a number that waits, and returns its sender, the number and its query; or `None`,
     /// where no cell gave it one in one pass over all cells. It waits for nobody and takes no
-    /// memory.
-    pub fn take<'a>(&mut self, ring: &Ring<'a, S>) -> Option<(usize, u64, Query)>
-        requires ring { IsTakerOf ring.now self.old }
-        requires empty { self.old.working.hand ≡ None }
-        ensures sought { HasSought self.old self.new }
-        ensures taken { IfSome result (λ found. HoldsRead found self.new.working × (found.0 < ring.now.shape.senders)) }
-        ensures none { result ≡ None → MissedAll ring.now.shape self.old.working self.new.working }
-    {
-        self.take_uncounted::<Brand>(ring, Blank::new(1))
-    }
-
-    /// The same with a counter of its own.
-    fn take_uncounted<'a, L: Ledger>(
-        &mut self,
-        ring: &Ring<'a, S>,
-        blank: Blank,
-    ) -> Option<(usize, u64, Query)>
-        requires name { blank.name ≡ L.name }
-        requires parts { blank.parts ≡ L.parts }
-        requires some { 0 < L.parts }
-        requires ring { IsTakerOf ring.now self.old }
-        requires empty { self.old.working.hand ≡ None }
-        ensures sought { HasSought self.old self.new }
-        ensures taken { IfSome result (λ found. HoldsRead found self.new.working × (found.0 < ring.now.shape.senders)) }
-        ensures none { result ≡ None → MissedAll ring.now.shape self.old.working self.new.working }
-    {
-        let mut steps = Steps::<L>::new(blank);
-        self.take_counted(ring, &mut steps)
-    }
-
-    /// Takes a number, as `take` does. A step is one load or compare-exchange of a word: there are
-    /// at most two for each cell, and two more.
-    pub fn take_counted<'a, L: Ledger>(
+    /// memory. A step is one load or compare-exchange of a word: there are at most two for each
+    /// cell, and two more.
+    pub fn take<'a, L: Ledger>(
         &mut self,
         ring: &Ring<'a, S>,
         steps: &mut Steps<L>,
@@ -217,35 +187,7 @@ impl<S: Solver> Taker<S> {
 
     /// Gives the number in the hand back, which waits again, and returns its sender and the number.
     /// It waits for nobody and takes no memory.
-    pub fn give_back<'a>(&mut self, ring: &Ring<'a, S>) -> (usize, u64)
-        requires ring { IsTakerOf ring.now self.old }
-        requires held { IsSome self.old.working.hand }
-        ensures ticket { self.old.working.hand ≡ Some result }
-        ensures given { self.new ≡ knowing (gives_one result self.old.working) self.old }
-    {
-        self.give_back_uncounted::<Brand>(ring, Blank::new(1))
-    }
-
-    /// The same with a counter of its own.
-    fn give_back_uncounted<'a, L: Ledger>(
-        &mut self,
-        ring: &Ring<'a, S>,
-        blank: Blank,
-    ) -> (usize, u64)
-        requires name { blank.name ≡ L.name }
-        requires parts { blank.parts ≡ L.parts }
-        requires some { 0 < L.parts }
-        requires ring { IsTakerOf ring.now self.old }
-        requires held { IsSome self.old.working.hand }
-        ensures ticket { self.old.working.hand ≡ Some result }
-        ensures given { self.new ≡ knowing (gives_one result self.old.working) self.old }
-    {
-        let mut steps = Steps::<L>::new(blank);
-        self.give_back_counted(ring, &mut steps)
-    }
-
-    /// Gives the number in the hand back, as `give_back` does, in one step.
-    pub fn give_back_counted<'a, L: Ledger>(
+    pub fn give_back<'a, L: Ledger>(
         &mut self,
         ring: &Ring<'a, S>,
         steps: &mut Steps<L>,
