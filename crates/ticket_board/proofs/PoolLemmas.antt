@@ -3,13 +3,14 @@ use Rattle.std.proofs.Common.{◌≡◌, ℕ, zero, suc, ◌+◌, ◌-◌, ◌<�
 use Rattle.std.proofs.lemmas.List.{drop-drop, nil_from_length}
 use Rattle.ticket_core.specs.declared.query.Query.{Query}
 use Rattle.ticket_core.specs.declared.query.QueryKind.TheVariants.{Address}
+use Rattle.ticket_core.specs.Shape.{Fits}
 use Rattle.ticket_core.specs.State.{Shown, Meaning}
 use Rattle.ticket_board.specs.declared.pool.task.Task.{Task}
 use Rattle.ticket_board.specs.declared.pool.task.Lot.{Lot}
 use Rattle.ticket_board.specs.Ring.Ends.{RingState}
 use Rattle.ticket_board.specs.Ring.Opened.{askers_from}
 use Rattle.ticket_board.specs.Seats.{ClientState, client_shown, new_clients}
-use Rattle.ticket_board.specs.Pool.{every, EachFrom, IsLane, AreLanes, IsNewSender, IsPromised}
+use Rattle.ticket_board.specs.Pool.{every, EachFrom, IsLane, AreLanes, IsLaneOf, MaySend, IsPromised}
 
 -- what is passed over is dropped
 pub every_drop : (step k : ℕ) (queries : List Query) → every step k queries ≡ every step 0 (drop k queries)
@@ -58,12 +59,15 @@ module _ {V : Type 0} where
   each_from_none F xs none = subst (EachFrom F 0) (sym (nil_from_length xs none)) tt
 
 -- the clients of a new board are those of its senders, in order
-each_new : (board : RingState) (s n : ℕ) → EachFrom (IsNewSender board) s (map (client_shown false) (askers_from board s n))
-each_new board s zero = tt
-each_new board s (suc n) = ((record { shape_is = refl; key_is = refl; table_is = refl }, refl, (refl, refl, refl)), each_new board (suc s) n)
+each_new : (board : RingState) (task : Task) → task.key.now ≡ board.key → Fits task.shape → (s n : ℕ)
+    → EachFrom (MaySend board task) s (map (client_shown false) (askers_from board s n))
+each_new board task key fits s zero = tt
+each_new board task key fits s (suc n) =
+    ((key, fits, (record { shape_is = refl; key_is = refl; table_is = refl }, refl, (refl, refl, refl))), each_new board task key fits (suc s) n)
 
-pub all_new : (board : RingState) (clients : List ClientState) → clients ≡ new_clients board → EachFrom (IsNewSender board) 0 clients
-all_new board clients is = subst (EachFrom (IsNewSender board) 0) (sym is) (each_new board 0 board.shape.senders)
+pub all_new : (board : RingState) (task : Task) (clients : List ClientState) → task.key.now ≡ board.key → Fits task.shape
+    → clients ≡ new_clients board → EachFrom (MaySend board task) 0 clients
+all_new board task clients key fits is = subst (EachFrom (MaySend board task) 0) (sym is) (each_new board task key fits 0 board.shape.senders)
 
 count_new : (board : RingState) (s n : ℕ) → length (map (client_shown false) (askers_from board s n)) ≡ n
 count_new board s zero = refl
@@ -117,8 +121,7 @@ module _ {A : Type 0} (shown : A → Shown) (meaning : Meaning) (key : List ℕ)
       cc each.0
 
 -- what a thread promised is the lane of its sender
-pub kept_lane : {A S : Type 0} (shown : A → Shown) (meaning : Meaning) (task : Task) (sender : ℕ) (lot : Lot S) (lane : List A) → IsPromised task sender lot
-    → IsLane shown meaning lot.task.key.now lot.task.senders lot.task.queries.now lot.sender lane
-    → IsLane shown meaning task.key.now task.senders task.queries.now sender lane
+pub kept_lane : {A S : Type 0} (shown : A → Shown) (meaning : Meaning) (task : Task) (sender : ℕ) (lot : Lot S) (lane : List A)
+    → IsPromised task sender lot → IsLaneOf shown meaning lot.task lot.sender lane → IsLaneOf shown meaning task sender lane
 kept_lane shown meaning task sender lot lane promised kept =
-    subst (λ (x : Task × ℕ). IsLane shown meaning x.0.key.now x.0.senders x.0.queries.now x.1 lane) (λ i. (promised.0 i, promised.1 i)) kept
+    subst (λ (x : Task × ℕ). IsLaneOf shown meaning x.0 x.1 lane) (λ i. (promised.0 i, promised.1 i)) kept

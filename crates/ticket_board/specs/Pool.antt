@@ -1,5 +1,5 @@
 -- What a pool answers, and how its queries are dealt to its senders.
-use Rattle.std.specs.Prelude.{◌≡◌, ℕ, zero, suc, ◌-◌, ◌*◌, ◌≤◌, false, List, [], ◌∷◌, length, map}
+use Rattle.std.specs.Prelude.{◌≡◌, ℕ, zero, suc, ◌-◌, ◌*◌, ◌≤◌, false, List, [], ◌∷◌, length, map, drop}
 use Rattle.std.specs.List.{AllByRecursion}
 use Rattle.ticket_core.specs.declared.query.Query.{Query}
 use Rattle.ticket_core.specs.declared.shape.Shape.{Shape}
@@ -50,6 +50,14 @@ IsLane shown meaning key senders queries sender lane = AreAnswers shown meaning 
 abbrev pub AreLanes : {A : Type 0} → (A → Shown) → Meaning → List ℕ → ℕ → List Query → List (List A) → Type 0
 AreLanes shown meaning key senders queries lanes = EachFrom (IsLane shown meaning key senders queries) 0 lanes
 
+-- the same of a task; and the answers to its queries from one on
+module _ {A : Type 0} (shown : A → Shown) (meaning : Meaning) (task : Task) where
+  abbrev pub IsLaneOf : ℕ → List A → Type 0
+  IsLaneOf sender lane = IsLane shown meaning task.key.now task.shape.senders task.queries.asked.now sender lane
+
+  abbrev pub AreLanesFrom : ℕ → List (List A) → Type 0
+  AreLanesFrom i lanes = AreLanes shown meaning task.key.now task.shape.senders (drop i task.queries.asked.now) lanes
+
 -- ---- threads
 
 -- it has asked and received nothing, and asks still
@@ -59,6 +67,14 @@ IsFresh client = (client.asked ≡ []) × (client.received ≡ []) × (client.cl
 -- it is this sender's of the board, and fresh
 abbrev pub IsNewSender : RingState → ℕ → ClientState → Type 0
 IsNewSender board sender client = IsClientOf board client × (client.seat.sender ≡ sender) × IsFresh client
+
+-- a new sender of the board may ask its part of a task, which is under the board's key
+abbrev pub MaySend : RingState → Task → ℕ → ClientState → Type 0
+MaySend board task sender client = (task.key.now ≡ board.key) × Fits task.shape × IsNewSender board sender client
+
+-- a worker of the board may serve it, by a solver whose key is the board's
+abbrev pub MayServe : RingState → List ℕ → WorkerState → Type 0
+MayServe board made_by worker = (made_by ≡ board.key) × IsWorkerOf board worker
 
 -- a sender learns that all was asked and received
 abbrev pub IsEnd : Came → Type 0
@@ -72,10 +88,7 @@ IsPromised task sender lot = (lot.task ≡ task) × (lot.sender ≡ sender)
 -- what a pool runs on: a new board with all its ends, and a task and a maker under the board's key
 pub record IsPool (board : RingState) (task : Task) (made_by : List ℕ) (clients : List ClientState)
     (workers : List WorkerState) : Type 0 where
-  pub key : task.key.now ≡ board.key
+  pub count : length clients ≡ task.shape.senders
+  pub senders : EachFrom (MaySend board task) 0 clients
   pub maker : made_by ≡ board.key
-  pub some : 1 ≤ task.senders
-  pub few : task.senders ≤ 64
-  pub count : length clients ≡ task.senders
-  pub new : EachFrom (IsNewSender board) 0 clients
   pub hired : AllByRecursion (IsWorkerOf board) workers

@@ -10,10 +10,11 @@ mod bells;
 mod fault;
 mod limits;
 mod maker;
-mod owners;
+mod owned;
 mod patience;
 mod sender_task;
 mod senders;
+mod service;
 mod task;
 mod threads;
 mod worker_task;
@@ -26,15 +27,15 @@ use bells::Bells;
 pub use fault::PoolFault;
 pub use limits::pool_fits;
 pub use maker::Maker;
-use owners::Owners;
-pub use owners::Queries;
+use service::{Pool, Service};
 use std::alloc::Global;
 use std::num::NonZeroUsize;
 use std::sync::Wait;
 use std::thread;
 use std::thread::Threads;
+pub use task::Queries;
 use task::Task;
-use threads::{Pool, run};
+use threads::run;
 use ticket_core::{Shape, Solver};
 
 /// Answers all queries: the answer at `i` is that of `queries.asked[i]`, by the maker's key. There
@@ -74,28 +75,14 @@ pub fn run_pool<
     let (board, clients, workers) = open::<S>(alloc, shape, key)?;
     let processors = thread::available_parallelism(rt).map_or(1, NonZeroUsize::get);
     let bells = Bells::new(alloc, &shape, processors)?;
-    let owners = Owners {
-        owners: queries.owners,
-        senders: shape.senders,
-        workers: shape.workers,
-    };
     let task = Task {
         key,
-        queries: queries.asked,
-        senders: shape.senders,
-        window: shape.window,
-        owners,
+        queries,
+        shape,
     };
-    let pool = Pool {
-        board: &board,
-        clients,
-        workers,
-        maker,
-        gate,
-        task,
-        bells: &bells,
-    };
-    let lanes = run(rt, alloc, pool)?;
+    let pool = Pool { board, task, bells };
+    let service = Service { pool, maker, gate };
+    let lanes = run(rt, alloc, &service, clients, workers)?;
     let answers = gather::<S>(alloc, &task, lanes)?;
     Ok(answers)
 }

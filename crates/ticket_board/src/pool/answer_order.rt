@@ -1,9 +1,9 @@
 //! How the answers of all senders come into the order of the queries.
 
-ghost use Rattle.std.specs.Prelude.{◌≡◌, ◌+◌, ◌<◌, ◌≤◌, length, map, drop, slice_index_or, IfOk};
+ghost use Rattle.std.specs.Prelude.{◌≡◌, ◌+◌, ◌<◌, ◌≤◌, length, map, slice_index_or, IfOk};
 ghost use Rattle.std.specs.VecDeque.{deque_len, deque_capacity};
 ghost use Rattle.ticket_core.specs.declared.query.QueryKind.TheVariants.{Address};
-ghost use Rattle.ticket_board.specs.Pool.{AreAnswers, AreLanes};
+ghost use Rattle.ticket_board.specs.Pool.{AreAnswers, AreLanesFrom};
 
 use super::task::{Lane, Task};
 use std::alloc::Global;
@@ -12,14 +12,13 @@ use ticket_core::{NoMemory, Solver};
 
 /// Takes the answer to the query at `i`: the first of the first lane, which then comes last.
 fn take_answer<S: Solver>(task: &Task<'_>, i: usize, lanes: &mut VecDeque<Lane<S>>) -> S::Answer
-    requires within { i < length task.now.queries.now }
-    requires senders { (1 ≤ task.now.senders) × (deque_len lanes.old ≡ task.now.senders) }
-    requires lanes { AreLanes S.shown S.meaning task.now.key.now task.now.senders (drop i task.now.queries.now)
-        (map (λ lane. lane.items) lanes.old.items) }
-    ensures answer { S.shown result ≡ S.meaning task.now.key.now (slice_index_or task.now.queries.now i (Address 0)) }
+    requires within { i < length task.now.queries.asked.now }
+    requires senders { (1 ≤ task.now.shape.senders) × (deque_len lanes.old ≡ task.now.shape.senders) }
+    requires lanes { AreLanesFrom S.shown S.meaning task.now i (map (λ lane. lane.items) lanes.old.items) }
+    ensures answer { S.shown result
+        ≡ S.meaning task.now.key.now (slice_index_or task.now.queries.asked.now i (Address 0)) }
     ensures senders { deque_len lanes.new ≡ deque_len lanes.old }
-    ensures lanes { AreLanes S.shown S.meaning task.now.key.now task.now.senders
-        (drop (i + 1) task.now.queries.now) (map (λ lane. lane.items) lanes.new.items) }
+    ensures lanes { AreLanesFrom S.shown S.meaning task.now (i + 1) (map (λ lane. lane.items) lanes.new.items) }
 {
     let Some(mut lane) = lanes.pop_front() else {
         unreachable!()
@@ -38,15 +37,14 @@ pub fn gather<S: Solver>(
     task: &Task<'_>,
     lanes: VecDeque<Lane<S>>,
 ) -> Result<Vec<S::Answer>, NoMemory>
-    requires senders { (1 ≤ task.now.senders) × (deque_len lanes ≡ task.now.senders) }
-    requires lanes { AreLanes S.shown S.meaning task.now.key.now task.now.senders task.now.queries.now
-        (map (λ lane. lane.items) lanes.items) }
-    ensures answers { IfOk result (λ answers. AreAnswers S.shown S.meaning task.now.key.now task.now.queries.now
-        answers.items) }
+    requires senders { (1 ≤ task.now.shape.senders) × (deque_len lanes ≡ task.now.shape.senders) }
+    requires lanes { AreLanesFrom S.shown S.meaning task.now 0 (map (λ lane. lane.items) lanes.items) }
+    ensures answers { IfOk result (λ answers. AreAnswers S.shown S.meaning
+        task.now.key.now task.now.queries.asked.now answers.items) }
 {
     let mut lanes = lanes;
-    let mut answers = Vec::with_capacity(alloc, task.queries.len())?;
-    for i in 0..task.queries.len() {
+    let mut answers = Vec::with_capacity(alloc, task.queries.asked.len())?;
+    for i in 0..task.queries.asked.len() {
         answers.push_reserved(take_answer::<S>(task, i, &mut lanes));
     }
     Ok(answers)

@@ -2,12 +2,11 @@
 
 ghost use Rattle.std.specs.Prelude.{◌≡◌, ◌≤◌, ◌<◌, ◌++◌, true, [], drop, map, length, IfOk, OnOk};
 ghost use Rattle.ticket_board.specs.Seats.{IsClientOf, HasEnded};
-ghost use Rattle.ticket_board.specs.Pool.{every, IsEnd, IsLane, IsNewSender};
+ghost use Rattle.ticket_board.specs.Pool.{every, IsEnd, IsLaneOf, MaySend};
 
-use super::bell::Bell;
-use super::bells::Bells;
 use super::patience::Patience;
-use super::task::{Lane, Task};
+use super::service::Pool;
+use super::task::Lane;
 use crate::board::Board;
 use crate::client::Client;
 use crate::outcome::Next;
@@ -89,34 +88,28 @@ fn receive<'a, S: Solver>(
     }
 }
 
-/// A sender at its board, with its part of a task.
+/// A sender of a pool, and its number.
 #[derive(Drop)]
 pub struct Sending<'p, 'a, S: Solver> {
-    pub board: &'p Board<'a, S>,
+    pub pool: &'p Pool<'p, 'a, S>,
     pub client: Client<S>,
-    pub task: Task<'p>,
     pub sender: usize,
-    pub bells: &'p Bells,
 }
 
-/// Where a sender is: its board, what it asks of it, and the bells of its pool.
+/// Where a sender is.
 #[derive(Drop)]
 struct Desk<'p, 'a, S: Solver> {
-    board: &'p Board<'a, S>,
-    task: Task<'p>,
+    pool: &'p Pool<'p, 'a, S>,
     sender: usize,
-    bells: &'p Bells,
 }
 
 impl<S: Solver> Desk<'_, '_, S> {
     /// Whether a number that is outstanding is in this phase.
     fn is_in(&self, phase: u64, number: u64) -> bool {
-        let place = (number as usize).checked_rem(self.task.window).unwrap_or(0);
-        let cell = self
-            .sender
-            .wrapping_mul(self.task.window)
-            .wrapping_add(place);
-        match self.board.state_word(cell) {
+        let window = self.pool.task.shape.window;
+        let place = (number as usize).checked_rem(window).unwrap_or(0);
+        let cell = self.sender.wrapping_mul(window).wrapping_add(place);
+        match self.pool.board.state_word(cell) {
             Some(word) => word % 8 == phase,
             None => false,
         }
@@ -126,8 +119,8 @@ impl<S: Solver> Desk<'_, '_, S> {
     fn wake_workers(&self, from: u64, to: u64) {
         for number in from..to {
             if self.is_in(WAITS, number) {
-                let worker = self.task.owners.of(self.sender, number);
-                self.bells.wake_worker(worker);
+                let worker = self.pool.task.owner_of(self.sender, number);
+                self.pool.bells.wake_worker(worker);
             }
         }
     }
@@ -135,7 +128,7 @@ impl<S: Solver> Desk<'_, '_, S> {
     /// For which number a sender parks that received and asked so many: so that half of its window
     /// is received at a time, or for the next where that number is answered already.
     fn awaited(&self, received: u64, asked: u64) -> u64 {
-        let half = self.task.window.div_ceil(2) as u64;
+        let half = self.pool.task.shape.window.div_ceil(2) as u64;
         let last = received.saturating_add(half).min(asked).saturating_sub(1);
         if self.is_in(ANSWERED, last) {
             return received;
@@ -145,27 +138,27 @@ impl<S: Solver> Desk<'_, '_, S> {
 
     /// Parks the sender with its bell until this number is answered, unless it is, or the pool
     /// ends. Where nobody wakes it for long, a worker is called for help.
-    fn rest<R: Wait>(&self, rt: &R, bell: &Bell, number: u64) {
-        self.bells.announce(bell, number);
-        if self.bells.has_ended() || self.is_in(ANSWERED, number) {
-            self.bells.end_parking(bell);
+    fn rest<R: Wait>(&self, rt: &R, number: u64) {
+        let bells = &self.pool.bells;
+        let Some(bell) = bells.of_sender(self.sender) else {
             return;
-        }
-        if self.bells.park(rt, bell) {
-            self.bells.call_help();
+        };
+        bells.announce(bell, number);
+        if bells.has_ended() || self.is_in(ANSWERED, number) {
+            bells.end_parking(bell);
+        } else if bells.park(rt, bell) {
+            bells.call_help();
         }
     }
 
     /// Looks again soon, or parks, as the next answer of a sender that received and asked so many
     /// isn't there yet.
     fn wait<R: Wait>(&self, rt: &R, patience: &mut Patience, received: u64, asked: u64) {
-        if self.bells.have_processors() && patience.looks_again() {
+        if self.pool.bells.have_processors() && patience.looks_again() {
             return;
         }
         patience.give_up();
-        if let Some(bell) = self.bells.of_sender(self.sender) {
-            self.rest(rt, bell, self.awaited(received, asked));
-        }
+        self.rest(rt, self.awaited(received, asked));
     }
 }
 
@@ -176,38 +169,31 @@ fn ask_all<S: Solver, R: Wait>(
     alloc: Global,
     sending: Sending<'_, '_, S>,
 ) -> Result<Lane<S>, NoMemory>
-    requires key { sending.task.key.now ≡ sending.board.now.key }
-    requires senders { (1 ≤ sending.task.senders) × (sending.task.senders ≤ 64) }
-    requires client { IsNewSender sending.board.now sending.sender sending.client }
-    ensures lane { IfOk result (λ lane. IsLane S.shown S.meaning sending.entry.task.key.now sending.entry.task.senders
-        sending.entry.task.queries.now sending.entry.sender lane.items) }
+    requires { MaySend sending.pool.now.board sending.pool.now.task sending.sender sending.client }
+    ensures { IfOk result (λ lane. IsLaneOf S.shown S.meaning
+        sending.entry.pool.now.task sending.entry.sender lane.items) }
 {
     let Sending {
-        board,
+        pool,
         mut client,
-        task,
         sender,
-        bells,
     } = sending;
-    let desk = Desk {
-        board,
-        task,
-        sender,
-        bells,
-    };
+    let desk = Desk { pool, sender };
+    let task = pool.task;
+    let senders = task.shape.senders;
     let mut lane = VecDeque::new(alloc);
     let mut next = sender;
     let mut told = 0u64;
     let mut patience = Patience::new(LOOKS);
     for _ in rt.forever() {
-        next = ask_on(board, &mut client, task.queries, next, task.senders);
-        match receive(board, &mut client, &mut lane)? {
+        next = ask_on(&pool.board, &mut client, task.queries.asked, next, senders);
+        match receive(&pool.board, &mut client, &mut lane)? {
             Came::Answer => patience.succeed(),
             Came::Nothing => {
-                if bells.has_ended() {
+                if pool.bells.has_ended() {
                     return Err(AllocError);
                 }
-                let asked = next.checked_div(task.senders).unwrap_or(0) as u64;
+                let asked = next.checked_div(senders).unwrap_or(0) as u64;
                 desk.wake_workers(told, asked);
                 told = asked;
                 desk.wait(rt, &mut patience, lane.len() as u64, asked);
@@ -228,13 +214,11 @@ pub fn send<S: Solver, R: Wait>(
     alloc: Global,
     sending: Sending<'_, '_, S>,
 ) -> Result<Lane<S>, NoMemory>
-    requires key { sending.task.key.now ≡ sending.board.now.key }
-    requires senders { (1 ≤ sending.task.senders) × (sending.task.senders ≤ 64) }
-    requires client { IsNewSender sending.board.now sending.sender sending.client }
-    ensures lane { IfOk result (λ lane. IsLane S.shown S.meaning sending.entry.task.key.now sending.entry.task.senders
-        sending.entry.task.queries.now sending.entry.sender lane.items) }
+    requires { MaySend sending.pool.now.board sending.pool.now.task sending.sender sending.client }
+    ensures { IfOk result (λ lane. IsLaneOf S.shown S.meaning
+        sending.entry.pool.now.task sending.entry.sender lane.items) }
 {
-    let bells = sending.bells;
+    let bells = &sending.pool.bells;
     let lane = ask_all(rt, alloc, sending);
     if lane.is_err() {
         bells.end();

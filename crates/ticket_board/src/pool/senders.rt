@@ -1,14 +1,13 @@
 //! The threads of the senders.
 
-ghost use Rattle.std.specs.Prelude.{◌≡◌, ◌+◌, ◌<◌, ◌≤◌, length, map, IfOk, OnOk, vec_len, vec_capacity};
+ghost use Rattle.std.specs.Prelude.{◌≡◌, ◌≤◌, map, IfOk, OnOk, vec_len, vec_capacity};
 ghost use Rattle.std.specs.VecDeque.{deque_len, deque_capacity};
 ghost use Rattle.std.specs.Thread.{IsSync};
-ghost use Rattle.ticket_board.specs.Pool.{EachFrom, IsLane, AreLanes, IsNewSender, IsPromised};
+ghost use Rattle.ticket_board.specs.Pool.{EachFrom, IsLaneOf, AreLanesFrom, MaySend, IsPromised};
 
-use super::bells::Bells;
 use super::sender_task::{Sending, send};
+use super::service::Pool;
 use super::task::{Lane, Lot, Task};
-use crate::board::Board;
 use crate::client::Client;
 use std::alloc::{AllocError, Global};
 use std::collections::VecDeque;
@@ -30,13 +29,11 @@ fn start_sender<'s, 'a: 's, E: 's, S: Solver + Drop + Send + Sync, R: Wait + Syn
     alloc: Global,
     sending: Sending<'s, 'a, S>,
 ) -> Result<SenderThread<'s, S>, NoMemory>
-    requires key { sending.task.key.now ≡ sending.board.now.key }
-    requires senders { (1 ≤ sending.task.senders) × (sending.task.senders ≤ 64) }
-    requires client { IsNewSender sending.board.now sending.sender sending.client }
-    ensures { IfOk result (λ thread. IsPromised sending.entry.task sending.entry.sender thread.promise) }
+    requires { MaySend sending.pool.now.board sending.pool.now.task sending.sender sending.client }
+    ensures { IfOk result (λ thread. IsPromised sending.entry.pool.now.task sending.entry.sender thread.promise) }
 {
     let lot = Lot {
-        task: sending.task,
+        task: sending.pool.task,
         sender: sending.sender,
         solved_by: PhantomData,
     };
@@ -44,11 +41,9 @@ fn start_sender<'s, 'a: 's, E: 's, S: Solver + Drop + Send + Sync, R: Wait + Syn
         lot,
         move || -> Result<VecDeque<S::Answer>, NoMemory>
             requires sync { IsSync R.row }
-            requires key { sending.task.key.now ≡ sending.board.now.key }
-            requires senders { (1 ≤ sending.task.senders) × (sending.task.senders ≤ 64) }
-            requires client { IsNewSender sending.board.now sending.sender sending.client }
-            ensures { IfOk result (λ lane. IsLane S.shown S.meaning sending.entry.task.key.now
-                sending.entry.task.senders sending.entry.task.queries.now sending.entry.sender lane.items) }
+            requires sender { MaySend sending.pool.now.board sending.pool.now.task sending.sender sending.client }
+            ensures { IfOk result (λ lane. IsLaneOf S.shown S.meaning
+                sending.entry.pool.now.task sending.entry.sender lane.items) }
         { send(rt, alloc, sending) },
     )?;
     Ok(thread)
@@ -60,31 +55,24 @@ pub fn start_senders<'s, 'a: 's, E: 's, S: Solver + Drop + Send + Sync, R: Wait 
     scope: &Scope<'s, E>,
     rt: &'s R,
     alloc: Global,
-    board: &'s Board<'a, S>,
+    pool: &'s Pool<'s, 'a, S>,
     clients: Vec<Client<S>>,
-    task: Task<'s>,
-    bells: &'s Bells,
     threads: &mut Vec<SenderThread<'s, S>>,
 ) -> Result<(), NoMemory>
-    requires key { task.key.now ≡ board.now.key }
-    requires senders { (1 ≤ task.senders) × (task.senders ≤ 64) }
-    requires clients { EachFrom (IsNewSender board.now) 0 clients.items }
+    requires clients { EachFrom (MaySend pool.now.board pool.now.task) 0 clients.items }
     requires room { (vec_len threads.old ≡ 0) × (vec_len clients ≤ vec_capacity threads.old) }
     ensures count { OnOk result (vec_len threads.new ≡ vec_len clients) }
     ensures within { vec_len threads.new ≤ vec_len clients }
-    ensures promised { EachFrom (λ sender thread. IsPromised task.entry sender thread.promise) 0 threads.new.items }
+    ensures promised { EachFrom (λ sender thread. IsPromised pool.now.task sender thread.promise) 0 threads.new.items }
 {
     for client in clients {
-        let sender = threads.len();
         let sending = Sending {
-            board,
+            pool,
             client,
-            task,
-            sender,
-            bells,
+            sender: threads.len(),
         };
         let Ok(thread) = start_sender(scope, rt, alloc, sending) else {
-            bells.end();
+            pool.bells.end();
             return Err(AllocError);
         };
         threads.push_reserved(thread);
@@ -103,8 +91,8 @@ pub fn join_senders<S: Solver, R: Threads>(
     requires promised { EachFrom (λ sender thread. IsPromised task.now sender thread.promise) 0 threads.items }
     requires room { (deque_len room ≡ 0) × (vec_len threads ≤ deque_capacity room) }
     ensures count { IfOk result (λ lanes. deque_len lanes ≡ vec_len threads.entry) }
-    ensures lanes { IfOk result (λ lanes. AreLanes S.shown S.meaning task.now.key.now task.now.senders
-        task.now.queries.now (map (λ lane. lane.items) lanes.items)) }
+    ensures lanes { IfOk result (λ lanes. AreLanesFrom S.shown S.meaning task.now 0
+        (map (λ lane. lane.items) lanes.items)) }
 {
     let mut lanes = room;
     let mut refused = false;

@@ -1,23 +1,39 @@
 //! What a pool has to answer, and what each of its senders promises of it.
 
-ghost use Rattle.std.specs.Prelude.{IfOk};
-
-use super::owners::Owners;
 use std::collections::VecDeque;
 use std::marker::PhantomData;
 use std::thread::Promise;
-use ticket_core::{NoMemory, Query, Solver};
+use ticket_core::{NoMemory, Query, Shape, Solver};
 
-/// What a pool has to answer: these queries, under this key, dealt to the senders in turn.
+/// The queries that a pool answers, and which worker each of them is meant for.
+#[derive(Clone, Copy, Debug)]
+pub struct Queries<'q> {
+    /// The queries.
+    pub asked: &'q [Query],
+    /// For each query the number of its worker. A query without one is meant for each worker, and
+    /// so is one whose worker isn't there.
+    pub owners: &'q [u8],
+}
+
+/// What a pool has to answer: these queries, under this key, dealt in turn to the senders of this
+/// shape.
 #[derive(Clone, Copy, Debug)]
 pub struct Task<'q> {
     pub key: &'q [u8],
-    pub queries: &'q [Query],
-    pub senders: usize,
-    /// How many queries each sender has outstanding at most.
-    pub window: usize,
-    /// For which worker each query is meant.
-    pub owners: Owners<'q>,
+    pub queries: Queries<'q>,
+    pub shape: Shape,
+}
+
+impl Task<'_> {
+    /// The worker for which a number of a sender is meant; `None` where it is meant for each. No
+    /// proof rests on it: any worker may answer any query.
+    pub fn owner_of(&self, sender: usize, number: u64) -> Option<usize> {
+        let place = (number as usize)
+            .wrapping_mul(self.shape.senders)
+            .wrapping_add(sender);
+        let owner = usize::from(*self.queries.owners.get(place)?);
+        (owner < self.shape.workers).then_some(owner)
+    }
 }
 
 /// The answers that one sender received, in the order of its queries.
@@ -34,9 +50,7 @@ pub struct Lot<'q, S> {
 
 impl<'q, S: Solver> Promise<Result<VecDeque<S::Answer>, NoMemory>> for Lot<'q, S> {
     ghost use Rattle.std.specs.Prelude.{IfOk};
-    ghost use Rattle.ticket_board.specs.Pool.{IsLane};
+    ghost use Rattle.ticket_board.specs.Pool.{IsLaneOf};
 
-    ghost kept_by = { λ lot result. IfOk result
-        (λ lane. IsLane S.shown S.meaning lot.task.key.now lot.task.senders lot.task.queries.now lot.sender
-        lane.items) };
+    ghost kept_by = { λ lot result. IfOk result (λ lane. IsLaneOf S.shown S.meaning lot.task lot.sender lane.items) };
 }

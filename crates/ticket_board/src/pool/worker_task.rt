@@ -2,13 +2,12 @@
 
 ghost use Rattle.std.specs.Prelude.{◌≡◌, OnOk};
 ghost use Rattle.ticket_board.specs.Seats.{IsWorkerOf};
+ghost use Rattle.ticket_board.specs.Pool.{MayServe};
 
-use super::bell::Bell;
-use super::bells::Bells;
 use super::maker::Maker;
-use super::owners::Owned;
+use super::owned::Owned;
 use super::patience::Patience;
-use crate::board::Board;
+use super::service::{Pool, Service};
 use crate::gate::Gate;
 use crate::outcome::Turn;
 use crate::worker::Worker;
@@ -19,124 +18,121 @@ use ticket_core::{NoMemory, Solver};
 /// At how many cells a worker looks again before it parks: for some hundred microseconds.
 const CELLS: usize = 32_000;
 
-/// Where a worker is: its board, its gate, what is meant for it, and the bells of its pool.
+/// A worker at its board, with its solver, and what is meant for it.
 #[derive(Drop)]
-struct Desk<'p, 'a, S: Solver, G> {
-    board: &'p Board<'a, S>,
+struct Station<'p, 'a, S: Solver, G> {
+    pool: &'p Pool<'p, 'a, S>,
     gate: &'p G,
     owned: Owned<'p>,
-    bells: &'p Bells,
+    worker: Worker<S>,
+    solver: S,
+    /// At which cell it looks first.
+    from: usize,
+    patience: Patience,
+    ghost is_of_board: { IsWorkerOf pool.now.board worker },
 }
 
-impl<S: Solver, G> Desk<'_, '_, S, G> {
+impl<S: Solver + Drop, G: Gate> Station<'_, '_, S, G> {
+    /// Takes a number that waits, from the cell on at which the worker begins, and answers it. The
+    /// error says that the solver is out of memory.
+    fn take(&mut self) -> Result<(), NoMemory>
+        requires { S.key self.old.solver ≡ self.old.pool.now.board.key }
+        ensures key { S.key self.new.solver ≡ self.new.pool.now.board.key }
+        ensures refused { OnOk result (S.refused self.new.solver ≡ S.refused self.old.solver) }
+    {
+        let turn = self
+            .worker
+            .turn(&self.pool.board, &mut self.solver, self.gate)?;
+        match turn {
+            Turn::Answered(sender, number) => self.pool.bells.wake_sender(sender, number),
+            Turn::Idle => {}
+        }
+        Ok(())
+    }
+
     /// Parks the worker with its bell, unless something is meant for it, or the pool ends. Returns
     /// whether it was called to take what isn't meant for it.
-    fn rest<R: Wait>(&self, rt: &R, bell: &Bell, from: usize) -> bool {
-        self.bells.announce(bell, 0);
-        if self.bells.has_ended() || self.owned.find(self.board, from).is_some() {
-            self.bells.end_parking(bell);
+    fn rest<R: Wait>(&self, rt: &R) -> bool {
+        let bells = &self.pool.bells;
+        let Some(bell) = bells.of_worker(self.owned.worker) else {
+            return false;
+        };
+        bells.announce(bell, 0);
+        if bells.has_ended() || self.owned.find(&self.pool.board, self.from).is_some() {
+            bells.end_parking(bell);
         } else {
-            self.bells.park(rt, bell);
+            bells.park(rt, bell);
         }
         bell.was_called()
     }
 
-    /// Parks the worker, as `rest` does.
-    fn rests<R: Wait>(&self, rt: &R, from: usize) -> bool {
-        match self.bells.of_worker(self.owned.worker) {
-            Some(bell) => self.rest(rt, bell, from),
-            None => false,
+    /// Takes a number that is meant for the worker, where one waits. Else it looks again or parks,
+    /// and where it is called it takes any number; it leaves the others to their workers, since
+    /// each unit is best read by one worker alone. The error says that the solver is out of memory.
+    fn take_turn<R: Wait>(&mut self, rt: &R) -> Result<(), NoMemory>
+        requires { S.key self.old.solver ≡ self.old.pool.now.board.key }
+        ensures key { S.key self.new.solver ≡ self.new.pool.now.board.key }
+        ensures refused { OnOk result (S.refused self.new.solver ≡ S.refused self.old.solver) }
+    {
+        if let Some(cell) = self.owned.find(&self.pool.board, self.from) {
+            self.patience.succeed();
+            self.from = cell.saturating_add(1);
+            self.worker.begin_at(cell);
+            return self.take();
         }
-    }
-}
-
-/// Takes a number that waits, from the cell on at which the worker begins, and answers it. The
-/// error says that the solver is out of memory.
-fn take<S: Solver, G: Gate>(
-    desk: &Desk<'_, '_, S, G>,
-    worker: &mut Worker<S>,
-    solver: &mut S,
-) -> Result<(), NoMemory>
-    requires board { IsWorkerOf desk.now.board.now worker.old }
-    requires key { S.key solver.old ≡ desk.now.board.now.key }
-    ensures seat { worker.new.seat ≡ worker.old.seat }
-    ensures key { S.key solver.new ≡ S.key solver.old }
-    ensures refused { OnOk result (S.refused solver.new ≡ S.refused solver.old) }
-{
-    match worker.turn(desk.board, solver, desk.gate)? {
-        Turn::Answered(sender, number) => desk.bells.wake_sender(sender, number),
-        Turn::Idle => {}
-    }
-    Ok(())
-}
-
-/// Takes a number that is meant for the worker, where one waits. Else it looks again or parks, and
-/// where it is called it takes any number; it leaves the others to their workers, since each unit
-/// is best read by one worker alone. The error says that the solver is out of memory.
-fn take_turn<S: Solver, R: Wait, G: Gate>(
-    rt: &R,
-    desk: &Desk<'_, '_, S, G>,
-    worker: &mut Worker<S>,
-    solver: &mut S,
-    patience: &mut Patience,
-    from: &mut usize,
-) -> Result<(), NoMemory>
-    requires board { IsWorkerOf desk.now.board.now worker.old }
-    requires key { S.key solver.old ≡ desk.now.board.now.key }
-    ensures seat { worker.new.seat ≡ worker.old.seat }
-    ensures key { S.key solver.new ≡ S.key solver.old }
-    ensures refused { OnOk result (S.refused solver.new ≡ S.refused solver.old) }
-{
-    if let Some(cell) = desk.owned.find(desk.board, *from) {
-        patience.succeed();
-        *from = cell.saturating_add(1);
-        worker.begin_at(cell);
-        return take(desk, worker, solver);
-    }
-    if desk.bells.have_processors() && patience.looks_again() {
-        return Ok(());
-    }
-    patience.give_up();
-    if !desk.rests(rt, *from) {
-        return Ok(());
-    }
-    let helped = take(desk, worker, solver);
-    desk.bells.end_help();
-    helped
-}
-
-/// Takes turns until the pool ends. The error says that the solver is out of memory.
-fn work<S: Solver, R: Wait, G: Gate>(
-    rt: &R,
-    desk: &Desk<'_, '_, S, G>,
-    worker: &mut Worker<S>,
-    solver: &mut S,
-) -> Result<(), NoMemory>
-    requires board { IsWorkerOf desk.now.board.now worker.old }
-    requires key { S.key solver.old ≡ desk.now.board.now.key }
-    ensures refused { OnOk result (S.refused solver.new ≡ S.refused solver.old) }
-{
-    let looks = CELLS.checked_div(desk.owned.cells).unwrap_or(0);
-    let mut patience = Patience::new(looks);
-    let mut from = 0usize;
-    for _ in rt.forever() {
-        if desk.bells.has_ended() {
-            break;
+        if self.pool.bells.have_processors() && self.patience.looks_again() {
+            return Ok(());
         }
-        take_turn(rt, desk, worker, solver, &mut patience, &mut from)?;
+        self.patience.give_up();
+        if !self.rest(rt) {
+            return Ok(());
+        }
+        let helped = self.take();
+        self.pool.bells.end_help();
+        helped
     }
-    Ok(())
 }
 
-/// A worker at its board, with what it needs for its work.
+/// A worker of a pool, and its number.
 #[derive(Drop)]
 pub struct Serving<'p, 'a, S: Solver, M, G> {
-    pub board: &'p Board<'a, S>,
+    pub service: &'p Service<'p, 'a, S, M, G>,
     pub worker: Worker<S>,
-    pub maker: &'p M,
-    pub gate: &'p G,
-    pub owned: Owned<'p>,
-    pub bells: &'p Bells,
+    pub number: usize,
+}
+
+/// Makes a solver, and takes turns until the pool ends. The error says that the solver is out of
+/// memory.
+fn work<S: Solver + Drop, R: Wait, M: Maker<S>, G: Gate>(
+    rt: &R,
+    alloc: Global,
+    serving: Serving<'_, '_, S, M, G>,
+) -> Result<(), NoMemory>
+    requires { MayServe serving.service.now.pool.board (M.key serving.service.now.maker.now) serving.worker }
+{
+    let service = serving.service;
+    let solver = service.maker.make(alloc)?;
+    let owned = Owned {
+        task: service.pool.task,
+        worker: serving.number,
+    };
+    let looks = CELLS.checked_div(owned.cells()).unwrap_or(0);
+    let mut station = Station {
+        pool: &service.pool,
+        gate: service.gate,
+        owned,
+        worker: serving.worker,
+        solver,
+        from: 0,
+        patience: Patience::new(looks),
+    };
+    for _ in rt.forever() {
+        if service.pool.bells.has_ended() {
+            break;
+        }
+        station.take_turn(rt)?;
+    }
+    Ok(())
 }
 
 /// What a worker's thread does: it makes its solver, and takes turns until the pool ends. Where it
@@ -146,27 +142,10 @@ pub fn serve<S: Solver + Drop, R: Wait, M: Maker<S>, G: Gate>(
     alloc: Global,
     serving: Serving<'_, '_, S, M, G>,
 ) -> Result<(), NoMemory>
-    requires board { IsWorkerOf serving.board.now serving.worker }
-    requires key { M.key serving.maker.now ≡ serving.board.now.key }
+    requires { MayServe serving.service.now.pool.board (M.key serving.service.now.maker.now) serving.worker }
 {
-    let Serving {
-        board,
-        mut worker,
-        maker,
-        gate,
-        owned,
-        bells,
-    } = serving;
-    let desk = Desk {
-        board,
-        gate,
-        owned,
-        bells,
-    };
-    let served = match maker.make(alloc) {
-        Ok(mut solver) => work(rt, &desk, &mut worker, &mut solver),
-        Err(error) => Err(error),
-    };
+    let bells = &serving.service.pool.bells;
+    let served = work(rt, alloc, serving);
     if served.is_err() {
         bells.end();
     }

@@ -4,13 +4,11 @@ ghost use Rattle.std.specs.Prelude.{◌≡◌, ◌≤◌, OnOk, vec_len, vec_cap
 ghost use Rattle.std.specs.List.{AllByRecursion};
 ghost use Rattle.std.specs.Thread.{IsSync};
 ghost use Rattle.ticket_board.specs.Seats.{IsWorkerOf};
+ghost use Rattle.ticket_board.specs.Pool.{MayServe};
 
-use super::bells::Bells;
 use super::maker::Maker;
-use super::owners::Owned;
-use super::task::Task;
+use super::service::Service;
 use super::worker_task::{Serving, serve};
-use crate::board::Board;
 use crate::gate::Gate;
 use crate::worker::Worker;
 use std::alloc::{AllocError, Global};
@@ -36,14 +34,13 @@ fn start_worker<
     alloc: Global,
     serving: Serving<'s, 'a, S, M, G>,
 ) -> Result<WorkerThread, NoMemory>
-    requires board { IsWorkerOf serving.board.now serving.worker }
-    requires key { M.key serving.maker.now ≡ serving.board.now.key }
+    requires { MayServe serving.service.now.pool.board (M.key serving.service.now.maker.now) serving.worker }
 {
     let thread = scope.spawn(
         move || -> Result<(), NoMemory>
             requires sync { IsSync R.row }
-            requires board { IsWorkerOf serving.board.now serving.worker }
-            requires key { M.key serving.maker.now ≡ serving.board.now.key }
+            requires worker { MayServe serving.service.now.pool.board
+                (M.key serving.service.now.maker.now) serving.worker }
         { serve(rt, alloc, serving) },
     )?;
     Ok(thread)
@@ -63,35 +60,23 @@ pub fn start_workers<
     scope: &Scope<'s, E>,
     rt: &'s R,
     alloc: Global,
-    board: &'s Board<'a, S>,
+    service: &'s Service<'s, 'a, S, M, G>,
     workers: Vec<Worker<S>>,
-    maker: &'s M,
-    gate: &'s G,
-    task: Task<'s>,
-    bells: &'s Bells,
     threads: &mut Vec<WorkerThread>,
 ) -> Result<(), NoMemory>
-    requires key { M.key maker.now ≡ board.now.key }
-    requires workers { AllByRecursion (IsWorkerOf board.now) workers.items }
+    requires maker { M.key service.now.maker.now ≡ service.now.pool.board.key }
+    requires workers { AllByRecursion (IsWorkerOf service.now.pool.board) workers.items }
     requires room { (vec_len threads.old ≡ 0) × (vec_len workers ≤ vec_capacity threads.old) }
     ensures count { OnOk result (vec_len threads.new ≡ vec_len workers) }
 {
     for worker in workers {
-        let owned = Owned {
-            owners: task.owners,
-            cells: task.senders.wrapping_mul(task.window),
-            worker: threads.len(),
-        };
         let serving = Serving {
-            board,
+            service,
             worker,
-            maker,
-            gate,
-            owned,
-            bells,
+            number: threads.len(),
         };
         let Ok(thread) = start_worker(scope, rt, alloc, serving) else {
-            bells.end();
+            service.pool.bells.end();
             return Err(AllocError);
         };
         threads.push_reserved(thread);

@@ -2,7 +2,7 @@ use Rattle.std.proofs.Common.{◌≡◌, ◌∷◌, [], ap, ◌∙◌, length, m
 use Rattle.std.specs.VecDeque.{deque_len}
 use Rattle.std.specs.Vec.Iter.{into_iter_items}
 use Rattle.std.proofs.lemmas.List.{map-append, length-map}
-use Rattle.ticket_board.specs.Pool.{IsLane, IsPromised}
+use Rattle.ticket_board.specs.Pool.{IsLaneOf, IsPromised}
 use Rattle.ticket_board.proofs.PoolLemmas.{each_from_end, each_from_next, each_from_none, each_from_same, kept_lane}
 use Rattle.ticket_board.proofs.pool.senders.join_senders.Goals as goal
 
@@ -15,7 +15,7 @@ loop-thread-init g c =
       count = λ going. omega (arith, all.1, c.requires.room);
       left = λ going. each_from_same (λ sender thread. IsPromised c.args.task.now sender thread.promise) 0 _ c.args.threads.items _ c.requires.promised c.requires.room.0 all.0;
       lanes =
-          λ going. each_from_none (IsLane g.S.Solver.shown g.S.Solver.meaning c.args.task.now.key.now c.args.task.now.senders c.args.task.now.queries.now)
+          λ going. each_from_none (IsLaneOf g.S.Solver.shown g.S.Solver.meaning c.args.task.now)
           (map (λ lane. lane.items) c.args.room.items) (length-map c.args.room.items (λ lane. lane.items) ∙ none);
     }
 
@@ -37,7 +37,7 @@ loop-thread-preserved-in-Ok g c =
           λ going.
           let mine = (each_from_next (λ sender thread. IsPromised task sender thread.promise) (deque_len lanes) (deque_len pushed.new.self)
           (into_iter_items c.loop-thread.thread-iterator) (into_iter_items c.next.new.self) c.in-Some.thread (i.left going) step.0 pushed.ensures.len).0 in
-          each_from_end (IsLane g.S.Solver.shown g.S.Solver.meaning task.key.now task.senders task.queries.now)
+          each_from_end (IsLaneOf g.S.Solver.shown g.S.Solver.meaning task)
           (map (λ lane. lane.items) lanes.items) (map (λ lane. lane.items) pushed.new.self.items) c.in-Ok.lane.items (deque_len lanes) (i.lanes going)
           (ap (map (λ lane. lane.items)) pushed.ensures.items ∙ map-append (λ lane. lane.items) lanes.items (c.in-Ok.lane ∷ []))
           (omega (arith, many, length-map lanes.items (λ lane. lane.items)))

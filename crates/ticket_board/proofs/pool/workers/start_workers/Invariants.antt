@@ -9,5 +9,5 @@ abbrev pub invariant-loop-worker : goal.invariant-loop-worker
 invariant-loop-worker g l = record {
   count : vec_len l.threads + into_iter_len l.worker-iterator ≡ vec_len l.fn.workers;
   room : vec_len l.fn.workers ≤ vec_capacity l.threads;
-  left : AllByRecursion (IsWorkerOf l.board) (into_iter_items l.worker-iterator);
+  left : AllByRecursion (IsWorkerOf l.service.pool.board) (into_iter_items l.worker-iterator);
 }
