@@ -57,7 +57,8 @@ place_back Collected = refl
 
 abbrev pub place_code : Coded Place
 place_code =
-    code_by (Unit {0} ⊎ (Unit {0} ⊎ (ℕ ⊎ (Shown ⊎ Unit {0})))) (coded⊎ coded_unit (coded⊎ coded_unit (coded⊎ coded_ℕ (coded⊎ shown_code coded_unit))))
+    code_by (Unit {0} ⊎ (Unit {0} ⊎ (ℕ ⊎ (Shown ⊎ Unit {0}))))
+    (coded⊎ coded_unit (coded⊎ coded_unit (coded⊎ coded_ℕ (coded⊎ shown_code coded_unit))))
     place_parts place_from place_back
 
 abbrev pub sender_code : Coded Sender
@@ -70,6 +71,7 @@ sender_code =
 abbrev pub state_code : Coded State
 state_code =
     code_by (Shape × (List ℕ × (List Sender × List (Option Ticket))))
-    (coded× shape_code (coded× (coded_list coded_ℕ) (coded× (coded_list sender_code) (coded_list (coded_option (coded× coded_ℕ coded_ℕ))))))
+    (coded× shape_code (coded× (coded_list coded_ℕ)
+    (coded× (coded_list sender_code) (coded_list (coded_option (coded× coded_ℕ coded_ℕ))))))
     (λ state. (state.shape, (state.key, (state.senders, state.hands))))
     (λ p. record { shape = p.0; key = p.1.0; senders = p.1.1.0; hands = p.1.1.1 }) (λ _. refl)

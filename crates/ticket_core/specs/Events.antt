@@ -2,7 +2,8 @@
 use Rattle.std.specs.Prelude.{◌≡◌, ℕ, ◌<◌, true, false, [], ◌∷◌, ◌++◌, length, slice_set, Option, Some, None, IsSome}
 use base.Stored.{gnil}
 use Rattle.ticket_core.specs.declared.query.Query.{Query}
-use Rattle.ticket_core.specs.State.{Shown, Meaning, Place, Waiting, Held, Answered, Collected, Sender, Ticket, State, sender_at, hand_at, place_of, query_of, next_of, outstanding}
+use Rattle.ticket_core.specs.State.{Shown, Meaning, Place, Waiting, Held, Answered, Collected, Sender, Ticket, State}
+use Rattle.ticket_core.specs.State.{sender_at, hand_at, place_of, query_of, next_of, outstanding}
 
 pub data Event : Type 0 where
   -- a sender asks a query

@@ -1,7 +1,8 @@
 -- The numbers of the errors.
 use Rattle.std.specs.Prelude.{ℕ}
 use Rattle.ticket_core.specs.declared.fault.CoreFault.{CoreFault}
-use Rattle.ticket_core.specs.declared.fault.CoreFault.TheVariants.{Full, Closed, Exhausted, NotAsked, HandFull, HandEmpty, NotReady, Ended, Memory}
+use Rattle.ticket_core.specs.declared.fault.CoreFault.TheVariants.{Full, Closed, Exhausted, NotAsked, HandFull}
+use Rattle.ticket_core.specs.declared.fault.CoreFault.TheVariants.{HandEmpty, NotReady, Ended, Memory}
 
 abbrev pub number_of : CoreFault → ℕ
 number_of Full = 1

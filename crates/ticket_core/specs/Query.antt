@@ -36,4 +36,5 @@ words_of query = record { first = first_word query; second = second_word query }
 
 pub words_back : (first second : ℕ) → words_of (of_words first second) ≡ record { first = first; second = second }
 words_back first zero = refl
-words_back first (suc second) = ap (λ (none : Bool). words_of (if none then Address first else Span first (suc second))) (eqb-suc-zero second)
+words_back first (suc second) =
+    ap (λ (none : Bool). words_of (if none then Address first else Span first (suc second))) (eqb-suc-zero second)

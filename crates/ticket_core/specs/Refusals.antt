@@ -1,9 +1,12 @@
 -- Why an event is refused: the first condition that fails, in the order in which they are tested.
-use Rattle.std.specs.Prelude.{◌≡◌, ◌<◌, Bool, true, false, ◌&&◌, length, Option, Some, None, nat_eq, nat_le, if◌then◌else◌, MatchOption}
+use Rattle.std.specs.Prelude.{◌≡◌, ◌<◌, Bool, true, false, ◌&&◌, length, Option, Some, None, nat_eq, nat_le}
+use Rattle.std.specs.Prelude.{if◌then◌else◌, MatchOption}
 use Rattle.ticket_core.specs.declared.fault.CoreFault.{CoreFault}
-use Rattle.ticket_core.specs.declared.fault.CoreFault.TheVariants.{Full, Closed, Exhausted, NotAsked, HandFull, HandEmpty, NotReady, Ended, Memory}
+use Rattle.ticket_core.specs.declared.fault.CoreFault.TheVariants.{Full, Closed, Exhausted, NotAsked, HandFull}
+use Rattle.ticket_core.specs.declared.fault.CoreFault.TheVariants.{HandEmpty, NotReady, Ended, Memory}
 use Rattle.ticket_core.specs.declared.shape.Shape.{Shape}
-use Rattle.ticket_core.specs.State.{Place, Waiting, Answered, Sender, Ticket, State, sender_at, hand_at, place_of, next_of, outstanding}
+use Rattle.ticket_core.specs.State.{Place, Waiting, Answered, Sender, Ticket, State, sender_at, hand_at, place_of}
+use Rattle.ticket_core.specs.State.{next_of, outstanding}
 use Rattle.ticket_core.specs.Events.{Event, Ask, Take, Finish, GiveBack, Collect, Close}
 
 -- a hand holds nothing

@@ -1,7 +1,9 @@
 -- Runs of a core: lists of events, one after the other.
-use Rattle.std.specs.Prelude.{◌≡◌, ℕ, ◌+◌, ◌<◌, ◌≤◌, ◌↔◌, Bool, true, false, ◌&&◌, List, [], ◌∷◌, length, Option, Some, None, nat_eq, if◌then◌else◌}
+use Rattle.std.specs.Prelude.{◌≡◌, ℕ, ◌+◌, ◌<◌, ◌≤◌, ◌↔◌, Bool, true, false, ◌&&◌, List, [], ◌∷◌, length, Option}
+use Rattle.std.specs.Prelude.{Some, None, nat_eq, if◌then◌else◌}
 use Rattle.ticket_core.specs.declared.shape.Shape.{Shape}
-use Rattle.ticket_core.specs.State.{Meaning, Place, Unasked, Held, Answered, Collected, Sender, Ticket, State, sender_at, hand_at, place_of, query_of, answer_of, opening}
+use Rattle.ticket_core.specs.State.{Meaning, Place, Unasked, Held, Answered, Collected, Sender, Ticket, State}
+use Rattle.ticket_core.specs.State.{sender_at, hand_at, place_of, query_of, answer_of, opening}
 use Rattle.ticket_core.specs.Events.{Event, Finish, Can, after}
 
 -- the events lead from one state to another: each can happen where it does

@@ -1,6 +1,7 @@
 -- What holds of each state that a run reaches.
 use Rattle.std.specs.Prelude.{◌≡◌, ℕ, ◌+◌, ◌<◌, ◌≤◌, List, length, Some}
-use Rattle.ticket_core.specs.State.{Meaning, Shown, Unasked, Held, Answered, Collected, Sender, State, sender_at, hand_at, place_of, query_of, answer_of}
+use Rattle.ticket_core.specs.State.{Meaning, Shown, Unasked, Held, Answered, Collected, Sender, State, sender_at}
+use Rattle.ticket_core.specs.State.{hand_at, place_of, query_of, answer_of}
 
 -- of one sender
 pub record IsSoundSender (meaning : Meaning) (key : List ℕ) (sender : Sender) : Type 0 where
@@ -14,7 +15,8 @@ pub record IsSoundSender (meaning : Meaning) (key : List ℕ) (sender : Sender) 
   pub collected : (n : ℕ) → n < length sender.received → place_of sender n ≡ Collected
   pub collected_only : (n : ℕ) → place_of sender n ≡ Collected → n < length sender.received
   -- an answer that waits to be received is the meaning of its query
-  pub answered : (n : ℕ) (answer : Shown) → place_of sender n ≡ Answered answer → answer ≡ meaning key (query_of sender n)
+  pub answered : (n : ℕ) (answer : Shown) → place_of sender n ≡ Answered answer
+      → answer ≡ meaning key (query_of sender n)
 
 pub record IsSound (meaning : Meaning) (state : State) : Type 0 where
   -- there are as many senders and hands as the shape says
