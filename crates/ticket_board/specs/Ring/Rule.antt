@@ -4,6 +4,7 @@ use Rattle.std.specs.Prelude.{nat_eq, if◌then◌else◌}
 use base.Stored.{gnil}
 use mathlib.Core.Option as maybe
 use Rattle.atomic_table.specs.Table as table
+use Rattle.atomic_table.specs.Seated.{TableId}
 use Rattle.ticket_core.specs.declared.query.Query.{Query}
 use Rattle.ticket_core.specs.declared.query.QueryKind.TheVariants.{Address}
 use Rattle.ticket_core.specs.declared.shape.Shape.{Shape}
@@ -99,6 +100,10 @@ first_read_of role = first_known (working_of role).read
 abbrev pub IsOfCell : Shape → ℕ → ℕ → Type 0
 IsOfCell shape cell word = word / 8 % shape.window ≡ cell % shape.window
 
+-- a step of a seat of this table on a word that the table has
+abbrev pub IsAt : ℕ → TableId → TableId → Type 0
+IsAt word seat table = (seat ≡ table) × (word < table.words)
+
 -- a seat: what it knows, and the slots that are out with it
 abbrev pub Mine : Type 0 → Type 0
 Mine A = table.Me (Option A) Stamped
@@ -125,6 +130,17 @@ module _ {A : Type 0} where
 
   abbrev pub working_in : Mine A → Working
   working_in me = working_of me.0.view.role
+
+  -- a step of a sender on this word of the cell of this number of its own; and of a worker, on that
+  -- of the number in its hand
+  abbrev pub SendsAt : (Shape → ℕ → ℕ → ℕ) → (Asking → ℕ) → ℕ → Mine A → Type 0
+  SendsAt place number word me =
+      IsSender me.0.view.role × (word ≡ place me.0.view.shape (sender_of me.0.view.role) (number (asking_in me)))
+
+  abbrev pub HoldsAt : (Shape → ℕ → ℕ → ℕ) → ℕ → Mine A → Type 0
+  HoldsAt place word me =
+      IsWorker me.0.view.role × ((working_in me).hand ≡ Some (hand_of me.0.view.role))
+      × (word ≡ place me.0.view.shape (hand_of me.0.view.role).0 (hand_of me.0.view.role).1)
 
   -- a sender's seat after a step, where it found this state word and this in the slot; and the
   -- slots that are out with it then

@@ -8,15 +8,14 @@ ghost use Rattle.ticket_board.specs.Ring.Layout.{cells_in, cell_of, word_of, sta
 ghost use Rattle.ticket_board.specs.Ring.Layout.{state_place, free_word, asked_word, taken_word, answered_word};
 ghost use Rattle.ticket_board.specs.Ring.Layout.{collecting_word};
 ghost use Rattle.ticket_board.specs.Ring.Homes.{Out};
-ghost use Rattle.ticket_board.specs.Ring.Views.{FirstWord, Whole, asking_of, working_of, next_asked, next_received};
-ghost use Rattle.ticket_board.specs.Ring.Views.{HasRoom};
+ghost use Rattle.ticket_board.specs.Ring.Views.{FirstWord, Whole, next_asked, next_received, HasRoom};
 ghost use Rattle.ticket_board.specs.Ring.Steps.{WritesFirst, WritesSecond, Publishes, LooksNext, Receives};
 ghost use Rattle.ticket_board.specs.Ring.Moves.{Occurs};
-ghost use Rattle.ticket_board.specs.Ring.Rule.{IsSender, IsWorker, sender_of, ahead_of, collecting_of, seen_of};
-ghost use Rattle.ticket_board.specs.Ring.Rule.{hand_of, read_of, first_read_of};
-ghost use Rattle.ticket_board.specs.Ring.Rule.{KnowsSent, KnowsAnswer, KnowsLooked, KnowsTried, KnowsFirst};
-ghost use Rattle.ticket_board.specs.Ring.Rule.{KnowsSecond, KnowsAnswered, KnowsGivenBack};
-ghost use Rattle.ticket_board.specs.Ring.Rule.{CarriesFirst, CarriesMeaning};
+ghost use Rattle.ticket_board.specs.Ring.Rule.{IsWorker, sender_of, ahead_of, collecting_of, seen_of, hand_of};
+ghost use Rattle.ticket_board.specs.Ring.Rule.{read_of, first_read_of, KnowsSent, KnowsAnswer, KnowsLooked};
+ghost use Rattle.ticket_board.specs.Ring.Rule.{KnowsTried, KnowsFirst, KnowsSecond, KnowsAnswered, KnowsGivenBack};
+ghost use Rattle.ticket_board.specs.Ring.Rule.{CarriesFirst, CarriesMeaning, IsAt, SendsAt, HoldsAt, asking_in};
+ghost use Rattle.ticket_board.specs.Ring.Rule.{working_in};
 
 use crate::ring::layout::{CELL_WORDS, STATE};
 use crate::ring::plays::{
@@ -35,12 +34,9 @@ pub fn write_first<'a, S: Solver>(
     word: usize,
     first: u64,
 )
-    requires table { seat.old.table_id ≡ shelf.now.table_id }
-    requires within { word < shelf.now.table_id.words }
-    requires sender { IsSender seat.old.me.0.view.role }
-    requires room { HasRoom seat.old.me.0.view.shape (asking_of seat.old.me.0.view.role) }
-    requires place { word ≡ first_place seat.old.me.0.view.shape (sender_of seat.old.me.0.view.role)
-        (next_asked (asking_of seat.old.me.0.view.role)) }
+    requires table { IsAt word seat.old.table_id shelf.now.table_id }
+    requires room { HasRoom seat.old.me.0.view.shape (asking_in seat.old.me) }
+    requires sender { SendsAt first_place next_asked word seat.old.me }
     ensures same { (seat.new.table_id ≡ seat.old.table_id) × (seat.new.id ≡ seat.old.id) }
     ensures told { KnowsSent (WritesFirst first) 0 Out seat.old.me.1 seat.old.me seat.new.me }
 {
@@ -54,12 +50,9 @@ pub fn write_second<'a, S: Solver>(
     word: usize,
     query: Query,
 )
-    requires table { seat.old.table_id ≡ shelf.now.table_id }
-    requires within { word < shelf.now.table_id.words }
-    requires sender { IsSender seat.old.me.0.view.role }
-    requires written { (asking_of seat.old.me.0.view.role).ahead ≡ FirstWord (first_word query) }
-    requires place { word ≡ second_place seat.old.me.0.view.shape (sender_of seat.old.me.0.view.role)
-        (next_asked (asking_of seat.old.me.0.view.role)) }
+    requires table { IsAt word seat.old.table_id shelf.now.table_id }
+    requires written { (asking_in seat.old.me).ahead ≡ FirstWord (first_word query) }
+    requires sender { SendsAt second_place next_asked word seat.old.me }
     ensures same { (seat.new.table_id ≡ seat.old.table_id) × (seat.new.id ≡ seat.old.id) }
     ensures told { KnowsSent (WritesSecond query) 0 Out seat.old.me.1 seat.old.me seat.new.me }
 {
@@ -68,13 +61,10 @@ pub fn write_second<'a, S: Solver>(
 
 /// Stores that this number waits, whose query is written ahead.
 pub fn publish<'a, S: Solver>(shelf: &Shelf<'a, S>, seat: &mut Place<S>, word: usize, asked: u64)
-    requires table { seat.old.table_id ≡ shelf.now.table_id }
-    requires within { word < shelf.now.table_id.words }
-    requires sender { IsSender seat.old.me.0.view.role }
-    requires written { (asking_of seat.old.me.0.view.role).ahead ≡ Whole (ahead_of seat.old.me.0.view.role) }
-    requires place { word ≡ state_place seat.old.me.0.view.shape (sender_of seat.old.me.0.view.role)
-        (next_asked (asking_of seat.old.me.0.view.role)) }
-    requires asked { asked ≡ asked_word (next_asked (asking_of seat.old.me.0.view.role)) }
+    requires table { IsAt word seat.old.table_id shelf.now.table_id }
+    requires written { (asking_in seat.old.me).ahead ≡ Whole (ahead_of seat.old.me.0.view.role) }
+    requires sender { SendsAt state_place next_asked word seat.old.me }
+    requires asked { asked ≡ asked_word (next_asked (asking_in seat.old.me)) }
     ensures same { (seat.new.table_id ≡ seat.old.table_id) × (seat.new.id ≡ seat.old.id) }
     ensures told { KnowsSent (Publishes (ahead_of seat.old.me.0.view.role)) 0 Out seat.old.me.1
         seat.old.me seat.new.me }
@@ -85,12 +75,9 @@ pub fn publish<'a, S: Solver>(shelf: &Shelf<'a, S>, seat: &mut Place<S>, word: u
 
 /// Loads the state of the number that a sender receives next.
 pub fn look_next<'a, S: Solver>(shelf: &Shelf<'a, S>, seat: &mut Place<S>, word: usize) -> u64
-    requires table { seat.old.table_id ≡ shelf.now.table_id }
-    requires within { word < shelf.now.table_id.words }
-    requires sender { IsSender seat.old.me.0.view.role }
-    requires idle { (asking_of seat.old.me.0.view.role).collecting ≡ None }
-    requires place { word ≡ state_place seat.old.me.0.view.shape (sender_of seat.old.me.0.view.role)
-        (next_received (asking_of seat.old.me.0.view.role)) }
+    requires table { IsAt word seat.old.table_id shelf.now.table_id }
+    requires idle { (asking_in seat.old.me).collecting ≡ None }
+    requires sender { SendsAt state_place next_received word seat.old.me }
     ensures same { (seat.new.table_id ≡ seat.old.table_id) × (seat.new.id ≡ seat.old.id) }
     ensures told { KnowsSent LooksNext result Out seat.old.me.1 seat.old.me seat.new.me }
     ensures occurs { Occurs S.meaning seat.new.me.0.view }
@@ -100,13 +87,10 @@ pub fn look_next<'a, S: Solver>(shelf: &Shelf<'a, S>, seat: &mut Place<S>, word:
 
 /// Stores that the answer of this number is on its way out, and takes the slot in which it lies.
 pub fn bring_out<'a, S: Solver>(shelf: &Shelf<'a, S>, seat: &mut Place<S>, word: usize, out: u64)
-    requires table { seat.old.table_id ≡ shelf.now.table_id }
-    requires within { word < shelf.now.table_id.words }
-    requires sender { IsSender seat.old.me.0.view.role }
-    requires found { (asking_of seat.old.me.0.view.role).found ≡ true }
-    requires place { word ≡ state_place seat.old.me.0.view.shape (sender_of seat.old.me.0.view.role)
-        (next_received (asking_of seat.old.me.0.view.role)) }
-    requires out { out ≡ collecting_word (next_received (asking_of seat.old.me.0.view.role)) }
+    requires table { IsAt word seat.old.table_id shelf.now.table_id }
+    requires found { (asking_in seat.old.me).found ≡ true }
+    requires sender { SendsAt state_place next_received word seat.old.me }
+    requires out { out ≡ collecting_word (next_received (asking_in seat.old.me)) }
     ensures same { (seat.new.table_id ≡ seat.old.table_id) × (seat.new.id ≡ seat.old.id) }
     ensures told { (answer : S.Answer) × KnowsAnswer S.shown S.meaning answer seat.old.me seat.new.me }
 {
@@ -116,16 +100,13 @@ pub fn bring_out<'a, S: Solver>(shelf: &Shelf<'a, S>, seat: &mut Place<S>, word:
 /// Stores that the cell is free for the number a window later, and gives the slot back, which is
 /// empty.
 pub fn receive<'a, S: Solver>(shelf: &Shelf<'a, S>, seat: &mut Place<S>, word: usize, free: u64)
-    requires table { seat.old.table_id ≡ shelf.now.table_id }
-    requires within { word < shelf.now.table_id.words }
-    requires sender { IsSender seat.old.me.0.view.role }
-    requires out { (asking_of seat.old.me.0.view.role).collecting ≡ Some (collecting_of seat.old.me.0.view.role) }
+    requires table { IsAt word seat.old.table_id shelf.now.table_id }
+    requires out { (asking_in seat.old.me).collecting ≡ Some (collecting_of seat.old.me.0.view.role) }
     requires slot { CarriesFirst (cell_of seat.old.me.0.view.shape (sender_of seat.old.me.0.view.role)
-        (next_received (asking_of seat.old.me.0.view.role))) None seat.old.me }
-    requires place { word ≡ state_place seat.old.me.0.view.shape (sender_of seat.old.me.0.view.role)
-        (next_received (asking_of seat.old.me.0.view.role)) }
+        (next_received (asking_in seat.old.me))) None seat.old.me }
+    requires sender { SendsAt state_place next_received word seat.old.me }
     requires free { free ≡ free_word
-        (next_received (asking_of seat.old.me.0.view.role) + seat.old.me.0.view.shape.window) }
+        (next_received (asking_in seat.old.me) + seat.old.me.0.view.shape.window) }
     ensures same { (seat.new.table_id ≡ seat.old.table_id) × (seat.new.id ≡ seat.old.id) }
     ensures told { KnowsSent (Receives (collecting_of seat.old.me.0.view.role)) 0 Out
         (rest seat.old.me.1) seat.old.me seat.new.me }
@@ -146,7 +127,7 @@ pub fn look_at<'a, S: Solver, L: Ledger>(
     requires few { cell < 65536 }
     requires within { cell < cells_in seat.old.me.0.view.shape }
     requires worker { IsWorker seat.old.me.0.view.role }
-    requires empty { (working_of seat.old.me.0.view.role).hand ≡ None }
+    requires empty { (working_in seat.old.me).hand ≡ None }
     ensures same { (seat.new.table_id ≡ seat.old.table_id) × (seat.new.id ≡ seat.old.id) }
     ensures told { KnowsLooked cell result seat.old.me seat.new.me }
     ensures counted { steps.new ≡ steps.old + 1 }
@@ -166,11 +147,10 @@ pub fn try_take<'a, S: Solver, L: Ledger>(
     taken: u64,
     steps: &mut Steps<L>,
 ) -> u64
-    requires table { seat.old.table_id ≡ shelf.now.table_id }
-    requires within { word < shelf.now.table_id.words }
+    requires table { IsAt word seat.old.table_id shelf.now.table_id }
     requires worker { IsWorker seat.old.me.0.view.role }
-    requires empty { (working_of seat.old.me.0.view.role).hand ≡ None }
-    requires seen { (working_of seat.old.me.0.view.role).seen ≡ Some (seen_of seat.old.me.0.view.role) }
+    requires empty { (working_in seat.old.me).hand ≡ None }
+    requires seen { (working_in seat.old.me).seen ≡ Some (seen_of seat.old.me.0.view.role) }
     requires place { word ≡ state_place seat.old.me.0.view.shape (seen_of seat.old.me.0.view.role).0
         (seen_of seat.old.me.0.view.role).1 }
     requires asked { asked ≡ asked_word (seen_of seat.old.me.0.view.role).1 }
@@ -190,12 +170,8 @@ pub fn read_first<'a, S: Solver, L: Ledger>(
     word: usize,
     steps: &mut Steps<L>,
 ) -> u64
-    requires table { seat.old.table_id ≡ shelf.now.table_id }
-    requires within { word < shelf.now.table_id.words }
-    requires worker { IsWorker seat.old.me.0.view.role }
-    requires held { (working_of seat.old.me.0.view.role).hand ≡ Some (hand_of seat.old.me.0.view.role) }
-    requires place { word ≡ first_place seat.old.me.0.view.shape (hand_of seat.old.me.0.view.role).0
-        (hand_of seat.old.me.0.view.role).1 }
+    requires table { IsAt word seat.old.table_id shelf.now.table_id }
+    requires held { HoldsAt first_place word seat.old.me }
     ensures same { (seat.new.table_id ≡ seat.old.table_id) × (seat.new.id ≡ seat.old.id) }
     ensures told { KnowsFirst (hand_of seat.old.me.0.view.role) result seat.old.me seat.new.me }
     ensures counted { steps.new ≡ steps.old + 1 }
@@ -211,13 +187,9 @@ pub fn read_second<'a, S: Solver, L: Ledger>(
     word: usize,
     steps: &mut Steps<L>,
 ) -> u64
-    requires table { seat.old.table_id ≡ shelf.now.table_id }
-    requires within { word < shelf.now.table_id.words }
-    requires worker { IsWorker seat.old.me.0.view.role }
-    requires held { (working_of seat.old.me.0.view.role).hand ≡ Some (hand_of seat.old.me.0.view.role) }
-    requires read { (working_of seat.old.me.0.view.role).read ≡ FirstWord (first_read_of seat.old.me.0.view.role) }
-    requires place { word ≡ second_place seat.old.me.0.view.shape (hand_of seat.old.me.0.view.role).0
-        (hand_of seat.old.me.0.view.role).1 }
+    requires table { IsAt word seat.old.table_id shelf.now.table_id }
+    requires read { (working_in seat.old.me).read ≡ FirstWord (first_read_of seat.old.me.0.view.role) }
+    requires held { HoldsAt second_place word seat.old.me }
     ensures same { (seat.new.table_id ≡ seat.old.table_id) × (seat.new.id ≡ seat.old.id) }
     ensures told { KnowsSecond (hand_of seat.old.me.0.view.role)
         (first_read_of seat.old.me.0.view.role) result seat.old.me seat.new.me }
@@ -236,14 +208,10 @@ pub fn finish<'a, S: Solver, L: Ledger>(
     answered: u64,
     steps: &mut Steps<L>,
 )
-    requires table { seat.old.table_id ≡ shelf.now.table_id }
-    requires within { word < shelf.now.table_id.words }
-    requires worker { IsWorker seat.old.me.0.view.role }
-    requires held { (working_of seat.old.me.0.view.role).hand ≡ Some (hand_of seat.old.me.0.view.role) }
-    requires read { (working_of seat.old.me.0.view.role).read ≡ Whole (read_of seat.old.me.0.view.role) }
+    requires table { IsAt word seat.old.table_id shelf.now.table_id }
+    requires read { (working_in seat.old.me).read ≡ Whole (read_of seat.old.me.0.view.role) }
     requires slot { CarriesMeaning S.shown S.meaning seat.old.me }
-    requires place { word ≡ state_place seat.old.me.0.view.shape (hand_of seat.old.me.0.view.role).0
-        (hand_of seat.old.me.0.view.role).1 }
+    requires held { HoldsAt state_place word seat.old.me }
     requires answered { answered ≡ answered_word (hand_of seat.old.me.0.view.role).1 }
     ensures same { (seat.new.table_id ≡ seat.old.table_id) × (seat.new.id ≡ seat.old.id) }
     ensures told { KnowsAnswered (hand_of seat.old.me.0.view.role) (rest seat.old.me.1) seat.old.me seat.new.me }
@@ -261,14 +229,10 @@ pub fn give_back<'a, S: Solver, L: Ledger>(
     asked: u64,
     steps: &mut Steps<L>,
 )
-    requires table { seat.old.table_id ≡ shelf.now.table_id }
-    requires within { word < shelf.now.table_id.words }
-    requires worker { IsWorker seat.old.me.0.view.role }
-    requires held { (working_of seat.old.me.0.view.role).hand ≡ Some (hand_of seat.old.me.0.view.role) }
+    requires table { IsAt word seat.old.table_id shelf.now.table_id }
     requires slot { CarriesFirst (cell_of seat.old.me.0.view.shape (hand_of seat.old.me.0.view.role).0
         (hand_of seat.old.me.0.view.role).1) None seat.old.me }
-    requires place { word ≡ state_place seat.old.me.0.view.shape (hand_of seat.old.me.0.view.role).0
-        (hand_of seat.old.me.0.view.role).1 }
+    requires held { HoldsAt state_place word seat.old.me }
     requires asked { asked ≡ asked_word (hand_of seat.old.me.0.view.role).1 }
     ensures same { (seat.new.table_id ≡ seat.old.table_id) × (seat.new.id ≡ seat.old.id) }
     ensures told { KnowsGivenBack (hand_of seat.old.me.0.view.role) (rest seat.old.me.1) seat.old.me seat.new.me }
