@@ -1,6 +1,6 @@
 -- What a client learns of its next number, and what a worker did.
 use Rattle.std.specs.Prelude.{◌≡◌, ◌<◌, ◌+◌, ℕ, List, [], ◌∷◌, ◌++◌, length, slice_index_or, None, Result, IfOk, OnErr}
-use Rattle.std.specs.Prelude.{is_ok, if◌then◌else◌}
+use Rattle.std.specs.Prelude.{MatchResult, is_ok, if◌then◌else◌}
 use Rattle.std.specs.List.{Contains}
 use Rattle.ticket_core.specs.declared.query.Query.{Query}
 use Rattle.ticket_core.specs.declared.query.QueryKind.TheVariants.{Address}
@@ -36,49 +36,31 @@ module _ {A : Type 0} where
 
 -- ---- what a worker's turn leaves
 
--- the number that it answered is of one of so many senders
-abbrev pub IsOfSender : Turn → ℕ → Type 0
-IsOfSender (Answered s n) senders = s < senders
-IsOfSender Idle senders = Unit {0}
-
--- what a worker has done after a turn: the number that it answered is done, and nothing else
-abbrev pub done_after : Turn → List Ticket → List Ticket
-done_after (Answered s n) done = done ++ (s, n) ∷ []
-done_after Idle done = done
-
 -- in one pass each cell of the board gave it nothing: each of them once
 abbrev pub MissedEvery : Shape → List ℕ → List ℕ → Type 0
 MissedEvery shape old new =
     (gained : List ℕ) × (new ≡ old ++ gained) × (length gained ≡ cells_in shape)
     × ((cell : ℕ) → cell < cells_in shape → Contains gained cell)
 
--- where it answered nothing, no cell gave it a query
-abbrev pub IfIdle : Turn → Type 0 → Type 0
-IfIdle (Answered s n) told = Unit {0}
-IfIdle Idle told = told
+-- what it answered is done, a number of one of the senders; or no cell gave it a query
+abbrev pub HasServed : Shape → Turn → WorkerState → WorkerState → Type 0
+HasServed shape (Answered s n) old new = (s < shape.senders) × (new.done ≡ old.done ++ (s, n) ∷ [])
+HasServed shape Idle old new = MissedEvery shape old.missed new.missed × (new.done ≡ old.done)
 
--- it answered a number, or found none, and gave nothing back
-pub record HasServed (shape : Shape) (turn : Turn) (old new : WorkerState) : Type 0 where
-  pub done : new.done ≡ done_after turn old.done
-  pub sender : IsOfSender turn shape.senders
-  pub idle : IfIdle turn (MissedEvery shape old.missed new.missed)
-  pub returned : new.returned ≡ old.returned
-
--- it answered nothing, and gave one number back, of one of so many senders: that waits again
+-- it gave one number back, of one of so many senders: that waits again
 abbrev pub ReturnsOne : ℕ → List Ticket → List Ticket → Type 0
 ReturnsOne senders old new = (s n : ℕ) × (s < senders) × (new ≡ old ++ (s, n) ∷ [])
 
-pub record HasReturned (shape : Shape) (old new : WorkerState) : Type 0 where
-  pub done : new.done ≡ old.done
-  pub returned : ReturnsOne shape.senders old.returned new.returned
-
--- it is the same worker, whose hand is empty before and after
+-- it is the same worker, whose hand is empty before and after; it served, and gave nothing back, or
+-- its solver was out of memory: then it answered nothing, and gave one number back
 pub record HasTurned {E : Type 0} (shape : Shape) (result : Result Turn E) (old new : WorkerState) : Type 0 where
   pub seat : new.seat ≡ old.seat
   pub empty_before : old.hand ≡ None
   pub empty_after : new.hand ≡ None
   pub served : IfOk result (λ turn. HasServed shape turn old new)
-  pub returned : OnErr result (HasReturned shape old new)
+  pub none : OnErr result (new.done ≡ old.done)
+  pub returned : MatchResult result (λ _. new.returned ≡ old.returned)
+      (λ _. ReturnsOne shape.senders old.returned new.returned)
 
 -- how often its solver was out of memory: once more exactly where the turn tells so
 abbrev pub refused_after : {E : Type 0} → Result Turn E → ℕ → ℕ

@@ -1,7 +1,6 @@
 //! A sender's client: it asks, and receives the answers in the order of its queries.
 
 ghost use Rattle.std.specs.Prelude.{◌≡◌, ◌<◌, ◌↔◌, true, false, None, Some, IfOk, OnOk, OnErr, MatchResult, length};
-ghost use Rattle.std.specs.Prelude.{nat_eq};
 ghost use Rattle.ticket_board.specs.Ring.Laws.{IsServed};
 ghost use Rattle.ticket_board.specs.Seats.{IsClientOf, ClientOccurs, HasEnded, asks, closes, finds, receives};
 ghost use Rattle.ticket_board.specs.Seats.{ask_refusal};
@@ -62,13 +61,6 @@ impl<S: Solver> Client<S> {
         self.asker.ready(&board.ring)
     }
 
-    /// Whether everything that was asked is received.
-    fn has_all(&self) -> bool
-        ensures { result ≡ nat_eq (length self.now.received) (length self.now.asked) }
-    {
-        self.asker.has_all()
-    }
-
     /// The next number and its answer, in the order in which they were asked, each once; or that
     /// there is none yet; or, exactly where the client is closed and received everything, the end.
     /// It waits for nobody and takes no memory.
@@ -83,7 +75,7 @@ impl<S: Solver> Client<S> {
         ensures pending { IfPending result ((self.old.found ≡ false) × (self.new ≡ finds false self.old)) }
         ensures stays { IfEnded result (self.new ≡ self.old) }
     {
-        if self.closed && self.has_all() {
+        if self.closed && self.asker.has_all() {
             return Next::Ended;
         }
         if !self.ready(board) {
