@@ -1,5 +1,5 @@
 -- Halving: how many probes are left.
-use Rattle.std.proofs.Common.{◌≡◌, ℕ, zero, suc, ◌+◌, ◌*◌, ◌/◌, ◌^◌, ◌<◌, ◌≤◌, arith, pow-suc}
+use Rattle.std.proofs.Common.{◌≡◌, ℕ, zero, suc, ◌+◌, ◌/◌, ◌^◌, ◌<◌, ◌≤◌, arith, pow-suc}
 
 -- As many probes as are left of a bound suffice for so many segments.
 pub record Suffices (size steps bound : ℕ) : Type 0 where

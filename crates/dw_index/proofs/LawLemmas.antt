@@ -21,9 +21,6 @@ any_here P x xs h = (0, x, omega arith, refl, h)
 any_there : (P : Pair → Type 0) (x : Pair) (xs : List Pair) → Any P xs → Any P (x ∷ xs)
 any_there P x xs h = (suc h.0, h.1, omega (arith, h.2), h.3, h.4)
 
-any_none : (P : Pair → Type 0) (xs : List Pair) → Any P xs → ((x : Pair) → P x → ⊥) → ⊥
-any_none P xs h other = other h.1 h.4
-
 -- what holds of each element, and of some element
 both : (P Q : Pair → Type 0) (xs : List Pair) → All P xs → Any Q xs → (x : Pair) × P x × Q x
 both P Q xs all some =

@@ -4,7 +4,6 @@ use Rattle.std.proofs.lemmas.Bool.{cases_lt, le-leb, lt-leb}
 use Rattle.dw_model.specs.Ranges as model
 use Rattle.dw_index.specs.declared.segment.Segment.{Segment}
 use Rattle.dw_index.specs.Owners.{least, least_owner}
-use Rattle.dw_index.specs.Segments.{AreIndexOf}
 use Rattle.dw_index.specs.Run.{IsRun, IsClosed}
 use Rattle.dw_index.proofs.OwnerLemmas.{least-none, least_owner-append}
 use Rattle.dw_index.proofs.SegmentLemmas.{below_more, below_push, owner-push, push}
@@ -56,9 +55,6 @@ reached pairs found end at c h = record {
   below = below_more (end + 1) at found (omega arith) c.below;
   size = omega (arith, c.size);
 }
-
-pub is_index : (pairs : List (model.Range × ℕ)) (found : List Segment) (end : ℕ) → IsClosed pairs found end → AreIndexOf pairs found
-is_index pairs found end c = record { owners = c.owners; segments = c.segments; size = c.size }
 
 -- ---- one more range
 

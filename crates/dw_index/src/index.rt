@@ -1,15 +1,16 @@
 //! An index of ranges that finds the least owner of an address.
 
-ghost use Rattle.std.specs.Prelude.{◌≡◌, ◌≤◌, ◌<◌, ◌+◌, ◌*◌, ◌^◌, ℕ, List, [], ◌∷◌, None, IfOk, map, length};
+ghost use Rattle.std.specs.Prelude.{◌≡◌, ◌≤◌, ◌<◌, ◌*◌, ℕ, List, [], ◌∷◌, None, IfOk, map, length};
 ghost use Rattle.dw_model.specs.Steady.{IsSteady, last_address};
 ghost use Rattle.dw_index.specs.Owners.{least_owner};
 ghost use Rattle.dw_index.specs.Range.{pair_shown};
+ghost use Rattle.dw_index.specs.Search.{Passes, TakesDigits};
 ghost use Rattle.dw_index.specs.Segments.{AreIndexOf, owner_at};
 
 use crate::merge::merge;
 use crate::range::Range;
 use crate::run::run_of;
-use crate::search::{next_border, owner_of};
+use crate::search::{count_passed, count_uncounted, next_border, owner_of};
 use crate::segment::Segment;
 use dw_bytes::Steps;
 use std::alloc::{AllocError, Global};
@@ -93,18 +94,7 @@ impl Index {
     pub fn find(&self, a: u64) -> Option<usize>
         ensures { result ≡ owner_at self.now a }
     {
-        self.find_uncounted::<Brand>(a, Blank::new(1))
-    }
-
-    /// The same as `find`, with a counter of its own.
-    fn find_uncounted<L: Ledger>(&self, a: u64, blank: Blank) -> Option<usize>
-        requires name { blank.name ≡ L.name }
-        requires parts { blank.parts ≡ L.parts }
-        requires some { 0 < L.parts }
-        ensures { result ≡ owner_at self.now a }
-    {
-        let mut steps = Steps::<L>::new(blank);
-        self.find_counted(a, &mut steps)
+        owner_of(&self.segments, self.passed(a))
     }
 
     /// The least owner of the ranges that hold an address, as `find` finds it. A step is a probe,
@@ -112,9 +102,10 @@ impl Index {
     /// number of segments has binary digits.
     pub fn find_counted<L: Ledger>(&self, a: u64, steps: &mut Steps<L>) -> Option<usize>
         ensures owner { result ≡ owner_at self.now a }
-        ensures counted { (digits : ℕ) → length self.now < 2 ^ digits → steps.new ≤ steps.old + digits }
+        ensures counted { TakesDigits (length self.now) steps.old steps.new }
     {
-        owner_of(&self.segments, a, steps)
+        let passed = count_passed(&self.segments, a, steps);
+        owner_of(&self.segments, passed)
     }
 
     /// The least address above one at which `find` returns something else than there; 2^64 - 1
@@ -124,18 +115,13 @@ impl Index {
         requires above { a < last_address }
         ensures steady { IsSteady (owner_at self.now) a result }
     {
-        self.steady_uncounted::<Brand>(a, Blank::new(1))
+        next_border(&self.segments, self.passed(a))
     }
 
-    /// The same as `steady`, with a counter of its own.
-    fn steady_uncounted<L: Ledger>(&self, a: u64, blank: Blank) -> u64
-        requires name { blank.name ≡ L.name }
-        requires parts { blank.parts ≡ L.parts }
-        requires some { 0 < L.parts }
-        requires above { a < last_address }
-        ensures { IsSteady (owner_at self.now) a result }
+    /// How many segments don't begin above an address.
+    fn passed(&self, a: u64) -> usize
+        ensures { Passes self.now a result }
     {
-        let mut steps = Steps::<L>::new(blank);
-        next_border(&self.segments, a, &mut steps)
+        count_uncounted::<Brand>(&self.segments, a, Blank::new(1))
     }
 }

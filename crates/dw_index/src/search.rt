@@ -1,12 +1,13 @@
 //! The segment of an address, searched by halves.
 
-ghost use Rattle.std.specs.Prelude.{◌≡◌, ◌≤◌, ◌<◌, ◌+◌, ◌^◌, ℕ, None, length, nat_le};
+ghost use Rattle.std.specs.Prelude.{◌≡◌, ◌≤◌, ◌<◌, ◌+◌, ℕ, None, length, nat_le};
 ghost use Rattle.dw_model.specs.Steady.{IsSteady, last_address};
-ghost use Rattle.dw_index.specs.Segments.{AreSegments, begin_at, owner_at};
+ghost use Rattle.dw_index.specs.Search.{Passes, TakesDigits};
+ghost use Rattle.dw_index.specs.Segments.{AreSegments, owner_at};
 
 use crate::segment::Segment;
 use dw_bytes::Steps;
-use std::sync::ledger::Ledger;
+use std::sync::ledger::{Blank, Ledger};
 
 /// Whether a segment begins at an address or before it: one probe, which is counted.
 #[inline(always)]
@@ -20,12 +21,10 @@ fn begins_by<L: Ledger>(segment: Segment, a: u64, steps: &mut Steps<L>) -> bool
 
 /// How many segments don't begin above an address. A step is a probe: there are at most as many as
 /// the number of segments has binary digits.
-fn count_passed<L: Ledger>(segments: &[Segment], a: u64, steps: &mut Steps<L>) -> usize
+pub(crate) fn count_passed<L: Ledger>(segments: &[Segment], a: u64, steps: &mut Steps<L>) -> usize
     requires { AreSegments 0 None segments.now }
-    ensures within { result ≤ length segments.now }
-    ensures passed { (k : ℕ) → k < result → begin_at segments.now k ≤ a }
-    ensures behind { (k : ℕ) → result ≤ k → k < length segments.now → a < begin_at segments.now k }
-    ensures counted { (digits : ℕ) → length segments.now < 2 ^ digits → steps.new ≤ steps.old + digits }
+    ensures passed { Passes segments.now a result }
+    ensures counted { TakesDigits (length segments.now) steps.old steps.new }
 {
     let mut low = 0;
     let mut high = segments.len();
@@ -40,34 +39,36 @@ fn count_passed<L: Ledger>(segments: &[Segment], a: u64, steps: &mut Steps<L>) -
     low
 }
 
-/// The owner of an address. A step is a probe: there are at most as many as the number of segments
-/// has binary digits.
-pub(crate) fn owner_of<L: Ledger>(
-    segments: &[Segment],
-    a: u64,
-    steps: &mut Steps<L>,
-) -> Option<usize>
-    requires { AreSegments 0 None segments.now }
-    ensures owner { result ≡ owner_at segments.now a }
-    ensures counted { (digits : ℕ) → length segments.now < 2 ^ digits → steps.new ≤ steps.old + digits }
+/// The same as `count_passed`, with a counter of its own.
+pub(crate) fn count_uncounted<L: Ledger>(segments: &[Segment], a: u64, blank: Blank) -> usize
+    requires name { blank.name ≡ L.name }
+    requires parts { blank.parts ≡ L.parts }
+    requires some { 0 < L.parts }
+    requires segments { AreSegments 0 None segments.now }
+    ensures { Passes segments.now a result }
 {
-    let passed = count_passed(segments, a, steps);
+    let mut steps = Steps::<L>::new(blank);
+    count_passed(segments, a, &mut steps)
+}
+
+/// The owner of the addresses that have passed so many segments.
+pub(crate) fn owner_of(segments: &[Segment], passed: usize) -> Option<usize>
+    requires { passed ≤ length segments.now }
+    ensures { (a : ℕ) → Passes segments.now a passed → result ≡ owner_at segments.now a }
+{
     if passed == 0 {
         return None;
     }
     segments[passed - 1].owner
 }
 
-/// The least address above one that has another owner; the last address of all where there is none.
-/// A step is a probe, as for `owner_of`.
-pub(crate) fn next_border<L: Ledger>(segments: &[Segment], a: u64, steps: &mut Steps<L>) -> u64
-    requires segments { AreSegments 0 None segments.now }
-    requires above { a < last_address }
-    ensures steady { IsSteady (owner_at segments.now) a result }
-    ensures counted { (digits : ℕ) → length segments.now < 2 ^ digits → steps.new ≤ steps.old + digits }
+/// The least address that has passed more than so many segments, and so has another owner; the last
+/// address of all where there is none.
+pub(crate) fn next_border(segments: &[Segment], passed: usize) -> u64
+    requires { AreSegments 0 None segments.now }
+    ensures { (a : ℕ) → a < last_address → Passes segments.now a passed → IsSteady (owner_at segments.now) a result }
 {
-    let passed = count_passed(segments, a, steps);
-    if passed == segments.len() {
+    if passed >= segments.len() {
         return u64::MAX;
     }
     segments[passed].begin
