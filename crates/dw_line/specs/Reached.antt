@@ -94,3 +94,9 @@ FindsRow header rows a found =
 pub record Stays (rows : List Row) (number a : ℕ) (found : Last) : Type 0 where
   pub above : a < found.reached.next.registers.address
   pub same : (c : ℕ) → a ≤ c → c < found.reached.next.registers.address → number_among (used_sequences rows) c ≡ Some number → told_at rows c ≡ Some (told_of found.reached)
+
+-- What is found is the row of the address in the used sequence with a number.
+pub record IsRowOf (header : LineHeader) (rows : List Row) (number a : ℕ) (found : Last) : Type 0 where
+  pub row : FindsRow header rows a (Some found)
+  pub named : found.number ≡ number
+  pub stays : Stays rows number a found

@@ -11,7 +11,7 @@ ghost use Rattle.dw_line.specs.Fault.{line_fault};
 ghost use Rattle.dw_line.specs.Header.{without_lists};
 ghost use Rattle.dw_line.specs.Lines.{lines_of, TellsEach};
 ghost use Rattle.dw_line.specs.Kept.{most_kept, spelled};
-ghost use Rattle.dw_line.specs.Reached.{IsLast, FindsRow, Stays};
+ghost use Rattle.dw_line.specs.Reached.{IsLast, FindsRow, IsRowOf};
 ghost use Rattle.dw_line.specs.Search.{row_told, told_at};
 ghost use Rattle.dw_line.specs.Sequences.{used_sequences, number_among, IsOwner};
 ghost use Rattle.dw_line.specs.TableAt.{table_size};
@@ -145,18 +145,8 @@ impl<'a> Lines<'a> {
     pub fn row(&self, address: u64) -> Option<Row>
         ensures { result ≡ option_map row_told (row_of self.now.rows address) }
     {
-        self.row_uncounted::<Brand>(address, Blank::new(1))
-    }
-
-    /// The same as `row`, for a caller that counts no steps.
-    fn row_uncounted<L: Ledger>(&self, address: u64, blank: Blank) -> Option<Row>
-        requires name { blank.name ≡ L.name }
-        requires parts { blank.parts ≡ L.parts }
-        requires some { 0 < L.parts }
-        ensures { result ≡ option_map row_told (row_of self.now.rows address) }
-    {
-        let mut steps = Steps::<L>::new(blank);
-        self.row_counted(address, &mut steps)
+        self.find_row(&None, address)
+            .map(|last| last.reached.told())
     }
 
     /// The row of an address, as `row` finds it. A step is a row that is run again: there are at
@@ -165,8 +155,11 @@ impl<'a> Lines<'a> {
         ensures row { result ≡ option_map row_told (row_of self.now.rows address) }
         ensures counted { steps.new ≤ steps.old + 64 }
     {
-        self.find_row(&None, address, steps)
-            .map(|last| last.reached.told())
+        let Some(number) = self.index.find(address) else {
+            return None;
+        };
+        let found = self.row_of_sequence(number, &None, address, steps);
+        Some(found.reached.told())
     }
 
     /// The row of an address, as `row` finds it. It takes less time where addresses are asked for
@@ -176,57 +169,44 @@ impl<'a> Lines<'a> {
         ensures row { result ≡ option_map row_told (row_of self.old.rows address) }
         ensures table { self.new ≡ self.old }
     {
-        self.row_in_order_uncounted::<Brand>(address, Blank::new(1))
-    }
-
-    /// The same as `row_in_order`, for a caller that counts no steps.
-    fn row_in_order_uncounted<L: Ledger>(&mut self, address: u64, blank: Blank) -> Option<Row>
-        requires name { blank.name ≡ L.name }
-        requires parts { blank.parts ≡ L.parts }
-        requires some { 0 < L.parts }
-        ensures row { result ≡ option_map row_told (row_of self.old.rows address) }
-        ensures table { self.new ≡ self.old }
-    {
-        let mut steps = Steps::<L>::new(blank);
-        self.row_in_order_counted(address, &mut steps)
-    }
-
-    /// The row of an address, as `row_in_order` finds it. A step is a row that is run again: there
-    /// are at most 64.
-    pub fn row_in_order_counted<L: Ledger>(
-        &mut self,
-        address: u64,
-        steps: &mut Steps<L>,
-    ) -> Option<Row>
-        ensures row { result ≡ option_map row_told (row_of self.old.rows address) }
-        ensures table { self.new ≡ self.old }
-        ensures counted { steps.new ≤ steps.old + 64 }
-    {
-        let found = self.find_row(&self.last, address, steps)?;
+        let found = self.find_row(&self.last, address)?;
         self.last = Some(found);
         Some(found.reached.told())
     }
 
     /// The row of an address, from the row that was found last if that serves.
-    fn find_row<L: Ledger>(
-        &self,
-        last: &Option<Last>,
-        address: u64,
-        steps: &mut Steps<L>,
-    ) -> Option<Last>
+    fn find_row(&self, last: &Option<Last>, address: u64) -> Option<Last>
         requires { IsLast (without_lists self.now.header) (used_sequences self.now.rows) last.now }
-        ensures row { FindsRow (without_lists self.now.header) self.now.rows address result }
-        ensures counted { steps.new ≤ steps.old + 64 }
+        ensures { FindsRow (without_lists self.now.header) self.now.rows address result }
     {
         let Some(number) = self.index.find(address) else {
             return None;
         };
-        Some(self.row_of_sequence(number, last, address, steps))
+        Some(self.row_uncounted::<Brand>(number, last, address, Blank::new(1)))
+    }
+
+    /// The same as `row_of_sequence`, with a counter of its own.
+    pub(crate) fn row_uncounted<L: Ledger>(
+        &self,
+        number: usize,
+        last: &Option<Last>,
+        address: u64,
+        blank: Blank,
+    ) -> Last
+        requires name { blank.name ≡ L.name }
+        requires parts { blank.parts ≡ L.parts }
+        requires some { 0 < L.parts }
+        requires number { number_among (used_sequences self.now.rows) address ≡ Some number }
+        requires last { IsLast (without_lists self.now.header) (used_sequences self.now.rows) last.now }
+        ensures { IsRowOf (without_lists self.now.header) self.now.rows number address result }
+    {
+        let mut steps = Steps::<L>::new(blank);
+        self.row_of_sequence(number, last, address, &mut steps)
     }
 
     /// The row of an address in the used sequence of a number, which is the first that holds the
     /// address, from the row that was found last if that serves.
-    pub(crate) fn row_of_sequence<L: Ledger>(
+    fn row_of_sequence<L: Ledger>(
         &self,
         number: usize,
         last: &Option<Last>,
@@ -235,9 +215,7 @@ impl<'a> Lines<'a> {
     ) -> Last
         requires number { number_among (used_sequences self.now.rows) address ≡ Some number }
         requires last { IsLast (without_lists self.now.header) (used_sequences self.now.rows) last.now }
-        ensures row { FindsRow (without_lists self.now.header) self.now.rows address (Some result) }
-        ensures number { result.number ≡ number }
-        ensures stays { Stays self.now.rows number address result }
+        ensures row { IsRowOf (without_lists self.now.header) self.now.rows number address result }
         ensures counted { steps.new ≤ steps.old + 64 }
     {
         let Some(sequence) = self.sequences.get(number) else {

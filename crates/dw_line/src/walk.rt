@@ -1,20 +1,17 @@
 //! Going through the rows of a span of addresses.
 
-ghost use Rattle.std.specs.Prelude.{◌≡◌, ◌≤◌, ◌<◌, ℕ, Some, None, IfSome};
+ghost use Rattle.std.specs.Prelude.{◌≡◌, ◌≤◌, ◌<◌, ℕ, None, IfSome};
 ghost use Rattle.dw_model.specs.Steady.{last_address};
 ghost use Rattle.dw_line.specs.Border.{OwnerEnds, IsBorder};
-ghost use Rattle.dw_line.specs.Header.{without_lists};
-ghost use Rattle.dw_line.specs.Reached.{IsLast, Stays};
-ghost use Rattle.dw_line.specs.Sequences.{used_sequences, number_among, IsOwner};
+ghost use Rattle.dw_line.specs.Sequences.{IsOwner};
 ghost use Rattle.dw_line.specs.Walked.{IsStretch, walked_to};
 
 use crate::lines::Lines;
 use crate::rows::Row;
 use crate::search::Last;
 use crate::sequences::Owner;
-use dw_bytes::Steps;
 use std::marker::{Brand, Model};
-use std::sync::ledger::{Blank, Ledger};
+use std::sync::ledger::Blank;
 
 /// Addresses that one row has, or that no row has: from `begin` on, and below `end`.
 #[derive(Clone, Copy, Debug, PartialEq, Eq)]
@@ -74,27 +71,6 @@ fn owner_from(lines: &Lines<'_>, owner: Owner, at: u64) -> Owner
     lines.owner_from(at)
 }
 
-/// The row of an address, as `row_of_sequence` finds it, for a caller that counts no steps.
-fn row_uncounted<L: Ledger>(
-    lines: &Lines<'_>,
-    number: usize,
-    last: &Option<Last>,
-    address: u64,
-    blank: Blank,
-) -> Last
-    requires name { blank.name ≡ L.name }
-    requires parts { blank.parts ≡ L.parts }
-    requires some { 0 < L.parts }
-    requires number { number_among (used_sequences lines.now.rows) address ≡ Some number }
-    requires last { IsLast (without_lists lines.now.header) (used_sequences lines.now.rows) last.now }
-    ensures number { result.number ≡ number }
-    ensures stays { Stays lines.now.rows number address result }
-    ensures last { IsLast (without_lists lines.now.header) (used_sequences lines.now.rows) (Some result) }
-{
-    let mut steps = Steps::<L>::new(blank);
-    lines.row_of_sequence(number, last, address, &mut steps)
-}
-
 impl<'b, 'a> Walk<'b, 'a> {
     /// Before the first stretch.
     pub(crate) fn new(lines: &'b Lines<'a>, low: u64, high: u64) -> Self
@@ -135,7 +111,9 @@ impl<'b, 'a> Walk<'b, 'a> {
             let row = None;
             return Some(Stretch { begin, end, row });
         };
-        let found = row_uncounted::<Brand>(self.lines, number, &self.last, begin, Blank::new(1));
+        let found = self
+            .lines
+            .row_uncounted::<Brand>(number, &self.last, begin, Blank::new(1));
         let end = lesser(found.reached.next.registers.address, end);
         let row = Some(found.reached.told());
         self.at = end;

@@ -6,7 +6,7 @@ use Rattle.dw_line.specs.Search.{row_told}
 use Rattle.dw_line.proofs.SequenceLemmas.{is-nowhere}
 use Rattle.dw_line.proofs.lines.Lines.find_row.Goals as goal
 
-pub returns-in_default-clause-row : goal.returns-in_default-clause-row
-returns-in_default-clause-row g c =
+pub returns-in_default : goal.returns-in_default
+returns-in_default c =
     let all = matrix_of (header_shown c.self.inside.header) in
     rw (← c.self.view_is) (sym (ap (option_map row_told) (is-nowhere all c.args.address (sym (c.self.invariant.found c.args.address) ∙ sym c.in_default.ensures))), tt)

@@ -25,6 +25,6 @@ returns-clause-border c =
     let ends = subst (λ (number : Option ℕ). OwnerEnds lines.rows number until) c.in-Some.is c.owner_from-self-inside.ensures.border in
     let border : c.lesser-end-2.result < high → IsBorder lines.rows at c.lesser-end-2.result =
     either_border (without_lists lines.header) lines.rows c.in-Some.number at until high c.lesser-end.result c.lesser-end-2.result c.row_uncounted-found.result
-    c.row_uncounted-found.ensures.number owner ends c.owner_from-self-inside.ensures.after (grind arith) c.lesser-end.ensures.first c.lesser-end.ensures.above
-    c.row_uncounted-found.ensures.stays.above c.row_uncounted-found.ensures.last c.lesser-end-2.ensures.first c.lesser-end-2.ensures.second c.lesser-end-2.ensures.above in
+    c.row_uncounted-found.ensures.named owner ends c.owner_from-self-inside.ensures.after (grind arith) c.lesser-end.ensures.first c.lesser-end.ensures.above
+    c.row_uncounted-found.ensures.stays.above c.row_uncounted-found.ensures.row.1 c.lesser-end-2.ensures.first c.lesser-end-2.ensures.second c.lesser-end-2.ensures.above in
     rw (← c.self.view_is) border
