@@ -352,7 +352,7 @@ KINDS = {
     'span_over_units_of_tails': THIRD,
     'units_of_one_line_table': LINEAR, 'tables_of_one_list': LINEAR, 'tables_of_one_program_of_sequences': LINEAR,
     'tables_of_one_program': SQUARE, 'span_over_tables_of_one_program': SQUARE, 'units_that_take_turns': SQUARE,
-    'no_rows_between_holes': SQUARE, 'span_over_no_rows_between_holes': SQUARE,
+    'no_rows_between_holes': LINEAR, 'span_over_no_rows_between_holes': LINEAR,
     'names_without_end': LINEAR, 'functions_of_empty_values': LINEAR,
     'functions_of_empty_values_after_a_number': LINEAR, 'units_of_empty_values': SQUARE,
     'references_of_empty_values': LINEAR, 'skipped_units': LINEAR, 'small_units': LINEAR, 'small_declarations': LINEAR,

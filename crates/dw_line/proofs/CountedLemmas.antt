@@ -1,7 +1,6 @@
 -- How many things are kept of a table that was read.
-use Rattle.std.proofs.Common.{◌≡◌, ℕ, suc, ◌+◌, ◌*◌, ◌≤◌, List, [], ◌∷◌, length, map, Option, Ok, Bor, refl, ap, ◌∙◌, arith}
+use Rattle.std.proofs.Common.{◌≡◌, ℕ, suc, ◌+◌, ◌*◌, ◌≤◌, List, [], ◌∷◌, length, Option, Ok, Bor, refl, ap, ◌∙◌, arith}
 use Rattle.std.specs.Prelude.{option_map}
-use Rattle.std.proofs.lemmas.List.{length-map}
 use Rattle.dw_model.specs.Results.{◌>>=◌}
 use Rattle.dw_model.specs.LineHeader.{LineHeader, line_header}
 use Rattle.dw_model.specs.Instruction.{Instruction, instructions}
@@ -39,7 +38,8 @@ header_of tables bases section comp_dir offset table e =
 
 -- all that is kept, where the lists have so many entries
 abbrev pub count : Inside → (directories files : ℕ) → ℕ
-count lines directories files = length lines.checkpoints.items + length lines.sequences.items + directories + files
+count lines directories files =
+    length lines.checkpoints.items + length lines.sequences.items + length lines.leaps.items + directories + files
 
 module _ (lines : Inside) (are : AreRead lines) where
   -- the lists of the table, as its unit sees them, and its program
@@ -53,7 +53,7 @@ module _ (lines : Inside) (are : AreRead lines) where
       let comp_dir = option_map (λ (directory : Bor (List ℕ)). directory.now) lines.unit.comp_dir in
       header-within lines.section.now lines.offset tables bases (lines_in lines).header (header_of tables bases lines.section.now comp_dir lines.offset (lines_in lines) (are.each tables bases comp_dir))
 
-  pub count-but-files : (directories : ℕ) → ((tables : Tables) (bases : Bases) → directories ≡ length (entries_shown tables bases lines.header.directories)) → length lines.checkpoints.items + length lines.sequences.items + directories ≤ 2 * table_size lines.section.now lines.offset
+  pub count-but-files : (directories : ℕ) → ((tables : Tables) (bases : Bases) → directories ≡ length (entries_shown tables bases lines.header.directories)) → count lines directories 0 ≤ 2 * table_size lines.section.now lines.offset
   count-but-files directories first = omega (arith, lists-within, are.fits, first (tables_shown lines.unit.tables) (bases_shown lines.unit.bases))
 
 module _ (lines : Inside) (are : AreRead lines) (directories files : ℕ)
@@ -66,7 +66,7 @@ module _ (lines : Inside) (are : AreRead lines) (directories files : ℕ)
   count-bytes = omega (arith, lists-within lines are, are.fits, first (tables_shown lines.unit.tables) (bases_shown lines.unit.bases), second (tables_shown lines.unit.tables) (bases_shown lines.unit.bases))
 
   pub count-bound : count lines directories files ≤ most_kept (lines_in lines)
-  count-bound = omega (arith, are.kept.few, as_many_sequences, first (tables_shown lines.unit.tables) (bases_shown lines.unit.bases), second (tables_shown lines.unit.tables) (bases_shown lines.unit.bases))
+  count-bound = omega (arith, are.kept.few, are.few, as_many_sequences, first (tables_shown lines.unit.tables) (bases_shown lines.unit.bases), second (tables_shown lines.unit.tables) (bases_shown lines.unit.bases))
 
   pub count-least : spelled (lines_in lines) ≤ 64 * count lines directories files
   count-least = omega (arith, are.kept.enough, as_many_sequences, first (tables_shown lines.unit.tables) (bases_shown lines.unit.bases), second (tables_shown lines.unit.tables) (bases_shown lines.unit.bases))

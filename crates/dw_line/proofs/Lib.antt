@@ -4,6 +4,7 @@ pub mod OperandLemmas
 pub mod MachineLemmas
 pub mod KeptLemmas
 pub mod RecorderLemmas
+pub mod LeapLemmas
 pub mod ProgramLemmas
 pub mod RunLemmas
 pub mod SearchLemmas

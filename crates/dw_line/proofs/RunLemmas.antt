@@ -14,7 +14,7 @@ use Rattle.dw_line.specs.declared.machine.Appended.{Appended}
 use Rattle.dw_line.specs.declared.checkpoints.Checkpoint.{Checkpoint}
 use Rattle.dw_line.specs.declared.registers.Registers.{Registers}
 use Rattle.dw_line.specs.Registers.{registers_shown}
-use Rattle.dw_line.specs.Machine.{State, rows_on, row_before, registers_behind, appended_row, IsNext}
+use Rattle.dw_line.specs.Machine.{State, rows_on, row_before, registers_behind, appended_row, IsNext, IsIn}
 use Rattle.dw_line.specs.Sequences.{up_to_end, state_of, checkpoint_row, IsCheckpoint}
 use Rattle.dw_line.specs.Search.{row_told, row_before_address}
 use Rattle.dw_line.specs.Reached.{FindsFrom, IsNextRow}
@@ -125,6 +125,10 @@ Next header here old next new = IsNext header (record { registers = registers_sh
 next_of : (header : LineHeader) (here : Checkpoint) (old new : Place) (next : Appended) → Stands header here old → Next header here old next new → IsNext header (state_of header here) next new
 next_of header here old new next stands is = subst (λ (p : Place). Next header here p next new) stands.is is
 
+-- a machine that stands in the program, and what its way to the next row tells
+in_program : (header : LineHeader) (here : Checkpoint) (cursor : Place) → Stands header here cursor → IsIn header cursor
+in_program header here cursor stands = subst (IsIn header) (sym stands.is) (refl, stands.within)
+
 -- ---- the next row
 
 -- These rows are appended after a row, and with it they are those up to the end of its sequence.
@@ -167,8 +171,9 @@ begins_at header first cursor a e within =
     let is : cursor ≡ place_of header first = cc in
     subst (λ (cursor : Place). Runs header first (row_at first.registers cursor) cursor a 0) (sym is) (record { stands = record { is = refl; within = within }; so_far = begins header first a })
 
-pub goes_on : (header : LineHeader) (first here : Checkpoint) (next : Appended) (old new : Place) (a i : ℕ) → i < 64 → Next header here old next new → Runs header first here old a i → next.registers.address ≤ a → next.ends ≡ false → Runs header first (appended_at next new.at) new a (i + 1)
-goes_on header first here next old new a i h is runs below goes =
+pub goes_on : (header : LineHeader) (first here : Checkpoint) (next : Appended) (old new : Place) (a i : ℕ) → i < 64 → (IsIn header old → Next header here old next new) → Runs header first here old a i → next.registers.address ≤ a → next.ends ≡ false → Runs header first (appended_at next new.at) new a (i + 1)
+goes_on header first here next old new a i h told runs below goes =
+    let is = told (in_program header here old runs.stands) in
     let stands = stands_on header here next old new runs.stands is.spans in
     record {
       stands = stands;
@@ -186,10 +191,11 @@ goes_on header first here next old new a i h is runs below goes =
     }
 
 -- the next row lies above the address
-pub stops_above : (header : LineHeader) (first here : Checkpoint) (next : Appended) (old new : Place) (next_checkpoint a i at : ℕ) → at ≡ new.at → i < 64 → Next header here old next new → (first.place ≤ length header.program → Runs header first here old a i) → a < next.registers.address
+pub stops_above : (header : LineHeader) (first here : Checkpoint) (next : Appended) (old new : Place) (next_checkpoint a i at : ℕ) → at ≡ new.at → i < 64 → (IsIn header old → Next header here old next new) → (first.place ≤ length header.program → Runs header first here old a i) → a < next.registers.address
     → FindsFrom header first next_checkpoint a (Some (record { row = here.registers; next = appended_at next at; next_checkpoint = next_checkpoint }))
-stops_above header first here next old new next_checkpoint a i at e-at h is given above = λ there rows e.
+stops_above header first here next old new next_checkpoint a i at e-at h told given above = λ there rows e.
     let runs = given there in
+    let is = told (in_program header here old runs.stands) in
     let later = runs.so_far rows e in
     let t = of_next header first here next new a i rows (next_of header here old new next runs.stands is) later in
     let next_row = next_is header next new later.others (stands_on header here next old new runs.stands is.spans) t in
@@ -207,9 +213,10 @@ stops_above header first here next old new next_checkpoint a i at e-at h is give
     )
 
 -- the sequence ends before the address
-pub stops_end : (header : LineHeader) (first here : Checkpoint) (next : Appended) (old new : Place) (next_checkpoint a i : ℕ) → i < 64 → Next header here old next new → (first.place ≤ length header.program → Runs header first here old a i) → next.registers.address ≤ a → next.ends ≡ true → FindsFrom header first next_checkpoint a None
-stops_end header first here next old new next_checkpoint a i h is given below last = λ there rows e.
+pub stops_end : (header : LineHeader) (first here : Checkpoint) (next : Appended) (old new : Place) (next_checkpoint a i : ℕ) → i < 64 → (IsIn header old → Next header here old next new) → (first.place ≤ length header.program → Runs header first here old a i) → next.registers.address ≤ a → next.ends ≡ true → FindsFrom header first next_checkpoint a None
+stops_end header first here next old new next_checkpoint a i h told given below last = λ there rows e.
     let runs = given there in
+    let is = told (in_program header here old runs.stands) in
     let later = runs.so_far rows e in
     let t = of_next header first here next new a i rows (next_of header here old new next runs.stands is) later in
     (sym (ap (option_map row_told) (reached header first here next new a i rows false true h (le-ltb a next.registers.address below) last later t)), tt)
@@ -227,11 +234,11 @@ same_rows a b xs ys e f = cc
 rows_here : (header : LineHeader) (here : Checkpoint) (old : Place) (read : Result (List Row) Bad) → Stands header here old → rows_on header (record { registers = registers_shown here.registers; place = old }) ≡ read → rows_on header (state_of header here) ≡ read
 rows_here header here old read stands e = ap (λ (p : Place). rows_on header (record { registers = registers_shown here.registers; place = p })) (sym stands.is) ∙ e
 
-pub stops_none : (header : LineHeader) (first here : Checkpoint) (old : Place) (next_checkpoint a i : ℕ) → rows_on header (record { registers = registers_shown here.registers; place = old }) ≡ Ok [] → (first.place ≤ length header.program → Runs header first here old a i) → FindsFrom header first next_checkpoint a None
+pub stops_none : (header : LineHeader) (first here : Checkpoint) (old : Place) (next_checkpoint a i : ℕ) → (IsIn header old → rows_on header (record { registers = registers_shown here.registers; place = old }) ≡ Ok []) → (first.place ≤ length header.program → Runs header first here old a i) → FindsFrom header first next_checkpoint a None
 stops_none header first here old next_checkpoint a i none given = λ there rows e.
     let runs = given there in
     let later = runs.so_far rows e in
-    let empty = same_rows (rows_on header (state_of header here)) (rows_on header (state_of header here)) later.others [] later.appends (rows_here header here old (Ok []) runs.stands none) in
+    let empty = same_rows (rows_on header (state_of header here)) (rows_on header (state_of header here)) later.others [] later.appends (rows_here header here old (Ok []) runs.stands (none (in_program header here old runs.stands))) in
     (sym (ap (option_map row_told) (later.same ∙ ap (row_before_address (64 - i) a (checkpoint_row here)) empty ∙ none_of (64 - i) a (checkpoint_row here))), tt)
 
 -- rows that could be read can be read again
@@ -242,9 +249,9 @@ no_fault header first here old a i rows (Some f) fault runs e =
     let both : Ok later.others ≡ Err f = sym later.appends ∙ rows_here header here old (Err f) runs.stands fault in
     cc
 
-pub stops_fault : (header : LineHeader) (first here : Checkpoint) (old : Place) (next_checkpoint a i : ℕ) (told : Option Bad) → Tells told (rows_on header (record { registers = registers_shown here.registers; place = old })) → (first.place ≤ length header.program → Runs header first here old a i) → FindsFrom header first next_checkpoint a None
+pub stops_fault : (header : LineHeader) (first here : Checkpoint) (old : Place) (next_checkpoint a i : ℕ) (told : Option Bad) → (IsIn header old → Tells told (rows_on header (record { registers = registers_shown here.registers; place = old }))) → (first.place ≤ length header.program → Runs header first here old a i) → FindsFrom header first next_checkpoint a None
 stops_fault header first here old next_checkpoint a i told fault given = λ there rows e.
-    absurd (no_fault header first here old a i rows told fault (given there) e)
+    absurd (no_fault header first here old a i rows told (fault (in_program header here old (given there).stands)) (given there) e)
 
 pub stops_last : (header : LineHeader) (first here : Checkpoint) (old : Place) (next_checkpoint a i : ℕ) → 64 ≤ i → (first.place ≤ length header.program → Runs header first here old a i) → FindsFrom header first next_checkpoint a None
 unfolding row_before_address

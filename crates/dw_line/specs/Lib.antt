@@ -6,6 +6,7 @@ pub mod Registers
 pub mod Machine
 pub mod Sequences
 pub mod Recorder
+pub mod Leaps
 pub mod Search
 pub mod TableAt
 pub mod Reached

@@ -1,5 +1,5 @@
 -- The machine that runs a line program, from any of its states on (DWARF 5, section 6.2.2).
-use Rattle.std.specs.Prelude.{◌≡◌, ◌<◌, Bool, List, [], ◌∷◌, length, Option, Some, None, Result, Ok, Err, if◌then◌else◌}
+use Rattle.std.specs.Prelude.{◌≡◌, ◌<◌, ◌≤◌, Bool, List, [], ◌∷◌, length, drop, Option, Some, None, Result, Ok, Err, if◌then◌else◌}
 use Rattle.dw_model.specs.Results.{◌>>=◌}
 use Rattle.dw_model.specs.Reading.{Place, start, items, Spans}
 use Rattle.dw_model.specs.Faults.{Bad}
@@ -21,6 +21,11 @@ pub record State : Type 0 where
 
 abbrev pub state_at : CodeRegisters → Place → State
 state_at registers place = record { registers = registers_shown registers; place = place }
+
+-- it is a place of the program
+abbrev pub IsIn : LineHeader → Place → Type 0
+IsIn header place =
+    (record { at = place.at; left = drop place.at header.program } ≡ place) × (place.at ≤ length header.program)
 
 -- before the first instruction of a program
 abbrev pub beginning : LineHeader → State

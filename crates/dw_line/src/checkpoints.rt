@@ -14,7 +14,7 @@ pub(crate) const ROWS_APART: usize = 64;
 
 /// A row from which later ones are run again: its registers, and how many bytes of the program the
 /// machine has passed after it.
-#[derive(Clone, Copy, Debug, Default)]
+#[derive(Clone, Copy, Debug, Default, PartialEq, Eq)]
 pub(crate) struct Checkpoint {
     pub(crate) registers: Registers,
     pub(crate) place: usize,

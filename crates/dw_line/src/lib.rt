@@ -7,6 +7,7 @@ mod entry_list;
 mod fault;
 mod header;
 mod instruction;
+mod leaps;
 mod lines;
 mod machine;
 mod numbers;

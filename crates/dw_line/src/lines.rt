@@ -19,8 +19,9 @@ ghost use Rattle.dw_line.specs.TableAt.{table_size};
 use crate::checkpoints::{Checkpoint, Checkpoints, Sequence};
 use crate::fault::LineFault;
 use crate::header::{Header, header_at};
+use crate::leaps::Leap;
 use crate::path::{AskingUnit, join, join_some};
-use crate::program::run_program;
+use crate::program::{Recorded, run_program};
 use crate::rows::Row;
 use crate::search::{Last, last_in, row_onward};
 use crate::sequences::{Owner, index_of, own_checkpoints};
@@ -41,6 +42,8 @@ pub struct Lines<'a> {
     /// Those of all used sequences, one sequence after the other.
     checkpoints: Vec<Checkpoint>,
     sequences: Vec<Sequence>,
+    /// The long ways between two rows.
+    leaps: Vec<Leap>,
     /// Finds the first sequence that holds an address.
     index: Index,
     /// The row that `row_in_order` found last.
@@ -102,16 +105,18 @@ impl<'a> Lines<'a> {
     {
         let header = header_at(alloc, line_section, offset)?;
         let recorded = run_program(alloc, &header)?;
+        let Recorded { rows, leaps } = recorded;
         let Checkpoints {
             checkpoints,
             sequences,
             ..
-        } = recorded;
+        } = rows;
         let index = index_of(alloc, &sequences)?;
         Ok(Lines {
             header,
             checkpoints,
             sequences,
+            leaps,
             index,
             last: None,
             unit: AskingUnit {
@@ -223,7 +228,8 @@ impl<'a> Lines<'a> {
         };
         let checkpoints = own_checkpoints(&self.checkpoints, *sequence);
         let last = last_in(last, number);
-        let Some(reached) = row_onward(&self.header, checkpoints, last, address, steps) else {
+        let Some(reached) = row_onward(&self.header, &self.leaps, checkpoints, last, address, steps)
+        else {
             unreachable!()
         };
         Last { number, reached }
@@ -272,9 +278,10 @@ impl<'a> Lines<'a> {
     }
 
     /// How many things are kept: the checkpoints of rows, at most one for 64 rows of used sequences
-    /// and one for each of these sequences; the sequences, the directories and the files. These are
-    /// at most twice the bytes of the table, and one at least for 64 rows, directories and files.
-    /// Nothing else is kept that grows with the table.
+    /// and one for each of these sequences; the sequences, the directories and the files; and the
+    /// ways of more than 64 bytes without a row. These are at most twice the bytes of the table, and
+    /// one at least for 64 rows, directories and files. Nothing else is kept that grows with the
+    /// table.
     pub fn kept(&self) -> usize
         ensures bound { result ≤ most_kept self.now }
         ensures bytes { result ≤ 2 * table_size self.now.section self.now.offset }
@@ -282,6 +289,7 @@ impl<'a> Lines<'a> {
     {
         self.checkpoints.len()
             + self.sequences.len()
+            + self.leaps.len()
             + self.header.directories.len()
             + self.header.files.len()
     }

@@ -1,14 +1,16 @@
 //! The row of an address in a used sequence: rows are run again from one of its checkpoints, or
 //! run on from the row after the one that was found last.
 
-ghost use Rattle.std.specs.Prelude.{◌≡◌, ◌≤◌, ◌<◌, ◌+◌, Some, IfSome, length, drop, nat_le, option_copied};
+ghost use Rattle.std.specs.Prelude.{◌≡◌, ◌≤◌, ◌<◌, ◌+◌, IfSome, nat_le, option_copied};
 ghost use Rattle.dw_line.specs.Header.{header_shown};
-ghost use Rattle.dw_line.specs.Machine.{RunsToNext, state_at};
+ghost use Rattle.dw_line.specs.Leaps.{AreLeaps};
+ghost use Rattle.dw_line.specs.Machine.{IsIn, RunsToNext, state_at};
 ghost use Rattle.dw_line.specs.Reached.{told_of, reaches, last_in, HoldsAddress, FindsFrom, FindsAmong, FindsOnward};
 
 use crate::checkpoints::{Checkpoint, ROWS_APART};
 use crate::fault::LineFault;
 use crate::header::Header;
+use crate::leaps::{Leap, cursor_at, row_behind};
 use crate::machine::{Appended, next_row};
 use crate::registers::Registers;
 use crate::rows::Row;
@@ -72,28 +74,33 @@ pub(crate) fn last_in(last: &Option<Last>, number: usize) -> Option<&Reached>
     }
 }
 
-/// Runs the machine to its next row, which is counted.
+/// Runs the machine to its next row, which is counted. A long way isn't run again.
 #[inline(always)]
-fn next_counted<L: Ledger>(
-    cursor: &mut Cursor<'_>,
-    header: &Header<'_>,
+fn next_counted<'a, L: Ledger>(
+    cursor: &mut Cursor<'a>,
+    header: &Header<'a>,
+    leaps: &[Leap],
     registers: Registers,
     steps: &mut Steps<L>,
 ) -> Result<Option<Appended>, LineFault>
-    ensures row { RunsToNext (header_shown header.now) (state_at registers cursor.old) result cursor.new }
+    requires { AreLeaps (header_shown header.now) leaps.now }
+    ensures row { IsIn (header_shown header.now) cursor.old
+        → RunsToNext (header_shown header.now) (state_at registers cursor.old) result cursor.new }
     ensures counted { steps.new ≡ steps.old + 1 }
 {
     steps.tick();
+    if leaps.len() > 0 {
+        let place = cursor.at();
+        if let Some((appended, behind)) = row_behind(
+            header,
+            leaps,
+            Checkpoint { registers, place },
+        ) {
+            *cursor = behind;
+            return Ok(Some(appended));
+        }
+    }
     next_row(cursor, header, registers)
-}
-
-/// A cursor past the first `place` bytes of a program, where they are there.
-fn cursor_at<'a>(program: &'a [u8], place: usize) -> Option<Cursor<'a>>
-    ensures { place ≤ length program.now → result ≡ Some (record { at = place; left = drop place program.now }) }
-{
-    let mut cursor = Cursor::new(program);
-    let _passed = cursor.take(place)?;
-    Some(cursor)
 }
 
 /// The row of an address that isn't below the address of a row: the last one before the first that
@@ -103,11 +110,13 @@ fn cursor_at<'a>(program: &'a [u8], place: usize) -> Option<Cursor<'a>>
 #[inline(always)]
 fn row_from<L: Ledger>(
     header: &Header<'_>,
+    leaps: &[Leap],
     row: Checkpoint,
     next_checkpoint: usize,
     address: u64,
     steps: &mut Steps<L>,
 ) -> Option<Reached>
+    requires { AreLeaps (header_shown header.now) leaps.now }
     ensures row { FindsFrom (header_shown header.now) row next_checkpoint address result }
     ensures holds { row.registers.address ≤ address → IfSome result (HoldsAddress address) }
     ensures counted { steps.new ≤ steps.old + 64 }
@@ -117,7 +126,7 @@ fn row_from<L: Ledger>(
     };
     let mut last = row.registers;
     for _ in 0..ROWS_APART {
-        let Ok(found) = next_counted(&mut cursor, header, last, steps) else {
+        let Ok(found) = next_counted(&mut cursor, header, leaps, last, steps) else {
             return None;
         };
         let Some(appended) = found else {
@@ -145,10 +154,12 @@ fn row_from<L: Ledger>(
 #[inline(never)]
 pub(crate) fn row_in_sequence<L: Ledger>(
     header: &Header<'_>,
+    leaps: &[Leap],
     checkpoints: &[Checkpoint],
     address: u64,
     steps: &mut Steps<L>,
 ) -> Option<Reached>
+    requires { AreLeaps (header_shown header.now) leaps.now }
     ensures row { FindsAmong (header_shown header.now) checkpoints.now address result }
     ensures counted { steps.new ≤ steps.old + 64 }
 {
@@ -160,7 +171,7 @@ pub(crate) fn row_in_sequence<L: Ledger>(
     if next == 0 {
         return None;
     }
-    row_from(header, checkpoints[next - 1], next, address, steps)
+    row_from(header, leaps, checkpoints[next - 1], next, address, steps)
 }
 
 /// The same as `row_in_sequence`, where a row of the sequence may have been found before: if the
@@ -168,23 +179,32 @@ pub(crate) fn row_in_sequence<L: Ledger>(
 /// one after it. So no row is run twice.
 pub(crate) fn row_onward<L: Ledger>(
     header: &Header<'_>,
+    leaps: &[Leap],
     checkpoints: &[Checkpoint],
     last: Option<&Reached>,
     address: u64,
     steps: &mut Steps<L>,
 ) -> Option<Reached>
+    requires { AreLeaps (header_shown header.now) leaps.now }
     ensures row { FindsOnward (header_shown header.now) checkpoints.now
         (option_copied last.entry) address result }
     ensures counted { steps.new ≤ steps.old + 64 }
 {
     let Some(last) = last else {
-        return row_in_sequence(header, checkpoints, address, steps);
+        return row_in_sequence(header, leaps, checkpoints, address, steps);
     };
     if !last.reaches(checkpoints, address) {
-        return row_in_sequence(header, checkpoints, address, steps);
+        return row_in_sequence(header, leaps, checkpoints, address, steps);
     }
     if address < last.next.registers.address {
         return Some(*last);
     }
-    row_from(header, last.next, last.next_checkpoint, address, steps)
+    row_from(
+        header,
+        leaps,
+        last.next,
+        last.next_checkpoint,
+        address,
+        steps,
+    )
 }

@@ -1,7 +1,7 @@
 use Rattle.std.proofs.Common.{sym, ◌∙◌, arith}
 use Rattle.dw_line.specs.Fault.{line_fault}
 use Rattle.dw_line.specs.Header.{header_shown}
-use Rattle.dw_line.specs.Machine.{state_at}
+use Rattle.dw_line.specs.Machine.{IsIn, IsNext, state_at}
 use Rattle.dw_line.proofs.ProgramLemmas.{none_left, one_more}
 use Rattle.dw_line.proofs.RunLemmas.{row_at, begins_at, stops_above, stops_end, goes_on, stops_none, stops_fault, stops_last}
 use Rattle.dw_line.proofs.search.row_from.Goals as goal
@@ -15,30 +15,30 @@ loop-init g c = record {
 
 pub returns-in_default-next_counted-clause-row : goal.returns-in_default-next_counted-clause-row
 returns-in_default-next_counted-clause-row g c =
-    stops_fault (header_shown c.args.header.now) c.args.row (row_at c.loop.last c.loop.cursor) c.loop.cursor c.args.next_checkpoint c.args.address c.loop.counter (line_fault c.in_default-next_counted.field-0) c.in_default-next_counted.ensures.row c.loop.invariant.runs
+    stops_fault (header_shown c.args.header.now) c.args.row (row_at c.loop.last c.loop.cursor) c.loop.cursor c.args.next_checkpoint c.args.address c.loop.counter (line_fault c.in_default-next_counted.field-0) (λ there. c.in_default-next_counted.ensures.row there) c.loop.invariant.runs
 
 pub returns-in_default-found-clause-row : goal.returns-in_default-found-clause-row
 returns-in_default-found-clause-row g c =
     let header = header_shown c.args.header.now in
     stops_none header c.args.row (row_at c.loop.last c.loop.cursor) c.loop.cursor c.args.next_checkpoint c.args.address c.loop.counter
-    (none_left header (state_at c.loop.last c.loop.cursor) c.in-Ok.found c.next_counted.new.cursor c.in_default-found.is c.in-Ok.ensures.row) c.loop.invariant.runs
+    (λ there. none_left header (state_at c.loop.last c.loop.cursor) c.in-Ok.found c.next_counted.new.cursor c.in_default-found.is (c.in-Ok.ensures.row there)) c.loop.invariant.runs
 
 pub returns-then-registers-address-clause-row : goal.returns-then-registers-address-clause-row
 returns-then-registers-address-clause-row g c =
     let header = header_shown c.args.header.now in
-    let is = one_more header (state_at c.loop.last c.loop.cursor) c.in-Ok.found c.in-Some-found.appended c.next_counted.new.cursor c.in-Some-found.is c.in-Ok.ensures.row in
+    let is : IsIn header c.loop.cursor → IsNext header (state_at c.loop.last c.loop.cursor) c.in-Some-found.appended c.next_counted.new.cursor = λ there. one_more header (state_at c.loop.last c.loop.cursor) c.in-Ok.found c.in-Some-found.appended c.next_counted.new.cursor c.in-Some-found.is (c.in-Ok.ensures.row there) in
     stops_above header c.args.row (row_at c.loop.last c.loop.cursor) c.in-Some-found.appended c.loop.cursor c.next_counted.new.cursor c.args.next_checkpoint c.args.address c.loop.counter c.at-place.result c.at-place.ensures c.loop-test.true is c.loop.invariant.runs c.if-registers-address.true
 
 pub returns-then-appended-clause-row : goal.returns-then-appended-clause-row
 returns-then-appended-clause-row g c =
     let header = header_shown c.args.header.now in
-    let is = one_more header (state_at c.loop.last c.loop.cursor) c.in-Ok.found c.in-Some-found.appended c.next_counted.new.cursor c.in-Some-found.is c.in-Ok.ensures.row in
+    let is : IsIn header c.loop.cursor → IsNext header (state_at c.loop.last c.loop.cursor) c.in-Some-found.appended c.next_counted.new.cursor = λ there. one_more header (state_at c.loop.last c.loop.cursor) c.in-Ok.found c.in-Some-found.appended c.next_counted.new.cursor c.in-Some-found.is (c.in-Ok.ensures.row there) in
     stops_end header c.args.row (row_at c.loop.last c.loop.cursor) c.in-Some-found.appended c.loop.cursor c.next_counted.new.cursor c.args.next_checkpoint c.args.address c.loop.counter c.loop-test.true is c.loop.invariant.runs c.if-registers-address.false c.if-appended.true
 
 pub loop-preserved : goal.loop-preserved
 loop-preserved g c =
     let header = header_shown c.args.header.now in
-    let is = one_more header (state_at c.loop.last c.loop.cursor) c.in-Ok.found c.in-Some-found.appended c.next_counted.new.cursor c.in-Some-found.is c.in-Ok.ensures.row in
+    let is : IsIn header c.loop.cursor → IsNext header (state_at c.loop.last c.loop.cursor) c.in-Some-found.appended c.next_counted.new.cursor = λ there. one_more header (state_at c.loop.last c.loop.cursor) c.in-Ok.found c.in-Some-found.appended c.next_counted.new.cursor c.in-Some-found.is (c.in-Ok.ensures.row there) in
     record {
       runs = λ there. goes_on header c.args.row (row_at c.loop.last c.loop.cursor) c.in-Some-found.appended c.loop.cursor c.next_counted.new.cursor c.args.address c.loop.counter c.loop-test.true is (c.loop.invariant.runs there) c.if-registers-address.false c.if-appended.false;
       below = λ from. c.if-registers-address.false;

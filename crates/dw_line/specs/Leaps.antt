@@ -1,0 +1,26 @@
+-- Long ways of a program without a row.
+use Rattle.std.specs.Prelude.{◌≤◌, ◌-◌, List, [], ◌∷◌, ◌++◌, length, drop, nat_lt, if◌then◌else◌}
+use Rattle.std.specs.List.{All}
+use Rattle.dw_model.specs.LineHeader.{LineHeader}
+use Rattle.dw_model.specs.Reading.{Place}
+use Rattle.dw_line.specs.declared.checkpoints.Checkpoint.{Checkpoint}
+use Rattle.dw_line.specs.declared.leaps.Leap.{Leap}
+use Rattle.dw_line.specs.declared.machine.Appended.{Appended}
+use Rattle.dw_line.specs.Machine.{IsNext}
+use Rattle.dw_line.specs.Sequences.{state_of}
+
+-- The machine appends the row on its way from there, and no other, and stands at the place.
+pub record IsLeap (header : LineHeader) (leap : Leap) : Type 0 where
+  pub within : leap.place ≤ length header.program
+  pub next : IsNext header (state_of header leap.from) leap.next (record { at = leap.place; left = drop leap.place header.program })
+
+abbrev pub AreLeaps : LineHeader → List Leap → Type 0
+AreLeaps header leaps = All (IsLeap header) leaps
+
+-- a row that the machine appends on its way from a checkpoint to a place, and no other
+abbrev pub LeadsTo : LineHeader → Checkpoint → Appended × Place → Type 0
+LeadsTo header here found = IsNext header (state_of header here) found.0 found.1
+
+-- one more, if it is of more than 64 bytes
+abbrev pub with_leap : Leap → List Leap → List Leap
+with_leap leap leaps = if nat_lt 64 (leap.place - leap.from.place) then leaps ++ leap ∷ [] else leaps
