@@ -1,8 +1,8 @@
 -- Rows that are run again, one after the other, up to the first above an address.
-use Rattle.std.proofs.Common.{◌≡◌, ℕ, zero, suc, ◌+◌, ◌-◌, ◌<◌, ◌≤◌, Bool, true, false, cond, List, [], ◌∷◌, take, drop, length, Option, Some, None, Result, Ok, Err, refl, sym, subst, ap, ◌∙◌, arith}
-use Rattle.std.specs.Prelude.{nat_lt, option_map}
-use Rattle.std.proofs.lemmas.Bool.{lt-ltb, le-ltb}
-use Rattle.std.proofs.lemmas.List.{drop-drop, take-append-drop, length-take-le}
+use Rattle.std.proofs.Common.{◌≡◌, ℕ, ◌+◌, ◌<◌, ◌≤◌, Bool, true, false, cond, List, [], ◌∷◌, take, drop, length, Option, Some, None, Result, Ok, Err, ◌⊎◌, inl, inr, refl, sym, subst, ap, ◌∙◌, arith}
+use Rattle.std.proofs.lemmas.Bool.{cases_lt}
+use Rattle.std.proofs.lemmas.Option.{same_Some}
+use Rattle.std.proofs.lemmas.List.{drop-drop, drop_all, take-append-drop, length-take-le, length-drop}
 use Rattle.dw_model.specs.Reading.{Place, start}
 use Rattle.dw_model.specs.Faults.{Bad}
 use Rattle.dw_model.specs.Answers.{Tells}
@@ -12,12 +12,12 @@ use Rattle.dw_model.specs.Registers.{row}
 use Rattle.dw_model.specs.Registers as model
 use Rattle.dw_line.specs.declared.machine.Appended.{Appended}
 use Rattle.dw_line.specs.declared.checkpoints.Checkpoint.{Checkpoint}
+use Rattle.dw_line.specs.declared.search.Reached.{Reached}
 use Rattle.dw_line.specs.declared.registers.Registers.{Registers}
 use Rattle.dw_line.specs.Registers.{registers_shown}
 use Rattle.dw_line.specs.Machine.{State, rows_on, row_before, registers_behind, appended_row, IsNext, IsIn}
 use Rattle.dw_line.specs.Sequences.{up_to_end, state_of, checkpoint_row, IsCheckpoint}
-use Rattle.dw_line.specs.Search.{row_told, row_before_address}
-use Rattle.dw_line.specs.Reached.{FindsFrom, IsNextRow}
+use Rattle.dw_line.specs.Reached.{IsNextRow, IsReached, IsSought, HoldsAddress}
 use Rattle.dw_line.proofs.MachineLemmas.{Passes, Advances, passes, passes_more}
 use Rattle.dw_line.proofs.ProgramLemmas.{place_is}
 
@@ -49,23 +49,7 @@ stands_on header here next old new stands spans =
     let is = place_is header.program new passed in
     record { is = sym is.0; within = is.1 }
 
--- ---- rows so far
-
--- the rows from a row on, after `i` that were run
-pub record Later (header : LineHeader) (first here : Checkpoint) (a i : ℕ) (rows : List Row) : Type 0 where
-  pub others : List Row
-  pub appends : rows_on header (state_of header here) ≡ Ok others
-  pub same : row_before_address 64 a (checkpoint_row first) rows ≡ row_before_address (64 - i) a (checkpoint_row here) others
-  pub rest : checkpoint_row here ∷ up_to_end others ≡ drop i (checkpoint_row first ∷ up_to_end rows)
-
-abbrev pub SoFar : LineHeader → (first here : Checkpoint) → (a i : ℕ) → Type 0
-SoFar header first here a i = (rows : List Row) → rows_on header (state_of header first) ≡ Ok rows → Later header first here a i rows
-
-pub begins : (header : LineHeader) (first : Checkpoint) (a : ℕ) → SoFar header first first a 0
-begins header first a = λ rows e. record { others = rows; appends = e; same = refl; rest = refl }
-
-more : (i : ℕ) → i < 64 → 64 - i ≡ suc (64 - (i + 1))
-more i h = omega (arith, h)
+-- ---- the next row
 
 -- the first of the rows that were read
 pub record Taken (first : Row) (others : Result (List Row) Bad) (rows : List Row) : Type 0 where
@@ -78,11 +62,6 @@ taken first (Ok rest) rows e =
     let same : first ∷ rest ≡ rows = cc in
     record { rest = rest; behind = refl; whole = sym same }
 taken first (Err f) rows e = absurd cc
-
--- the answer with one row more
-one : (most a : ℕ) (r next : Row) (rest : List Row) (above ends : Bool) → nat_lt a next.address ≡ above → next.ends ≡ ends → row_before_address (suc most) a r (next ∷ rest) ≡ cond above (Some r) (cond ends None (row_before_address most a next rest))
-unfolding row_before_address
-one most a r next rest above ends e f = rw (e, f) refl
 
 up_to_end-goes : (r : Row) (rows : List Row) → r.ends ≡ false → up_to_end (r ∷ rows) ≡ r ∷ up_to_end rows
 up_to_end-goes r rows e = rw e refl
@@ -107,17 +86,6 @@ behind i r own all e = ap (drop 1) e ∙ drop-drop 1 i all
 abbrev next_state : LineHeader → Appended → Place → State
 next_state header next new = record { registers = registers_behind (registers_shown next.registers) next.ends; place = new }
 
-of_next : (header : LineHeader) (first here : Checkpoint) (next : Appended) (new : Place) (a i : ℕ) (rows : List Row) → IsNext header (state_of header here) next new → (later : Later header first here a i rows) → Taken (appended_row next) (rows_on header (next_state header next new)) later.others
-of_next header first here next new a i rows is later =
-    taken (appended_row next) (rows_on header (next_state header next new)) later.others (sym is.rows ∙ later.appends)
-
-reached : (header : LineHeader) (first here : Checkpoint) (next : Appended) (new : Place) (a i : ℕ) (rows : List Row) (above ends : Bool) → i < 64 → nat_lt a next.registers.address ≡ above → next.ends ≡ ends → (later : Later header first here a i rows)
-    → (taken : Taken (appended_row next) (rows_on header (next_state header next new)) later.others)
-    → row_before_address 64 a (checkpoint_row first) rows ≡ cond above (Some (checkpoint_row here)) (cond ends None (row_before_address (64 - (i + 1)) a (appended_row next) taken.rest))
-reached header first here next new a i rows above ends h e f later taken =
-    later.same ∙ ap (λ (n : ℕ). row_before_address n a (checkpoint_row here) later.others) (more i h) ∙ ap (row_before_address (suc (64 - (i + 1))) a (checkpoint_row here)) taken.whole
-    ∙ one (64 - (i + 1)) a (checkpoint_row here) (appended_row next) taken.rest above ends e f
-
 -- where the state is that of the row
 abbrev pub Next : LineHeader → Checkpoint → Place → Appended → Place → Type 0
 Next header here old next new = IsNext header (record { registers = registers_shown here.registers; place = old }) next new
@@ -128,8 +96,6 @@ next_of header here old new next stands is = subst (λ (p : Place). Next header 
 -- a machine that stands in the program, and what its way to the next row tells
 in_program : (header : LineHeader) (here : Checkpoint) (cursor : Place) → Stands header here cursor → IsIn header cursor
 in_program header here cursor stands = subst (IsIn header) (sym stands.is) (refl, stands.within)
-
--- ---- the next row
 
 -- These rows are appended after a row, and with it they are those up to the end of its sequence.
 record RunsOn (header : LineHeader) (next : Checkpoint) (rows others : List Row) : Type 0 where
@@ -160,102 +126,126 @@ next_is header next new others stands t = record {
 
 -- ---- how it goes on and ends
 
--- what is known in the loop, where the first row's place is in the program
-pub record Runs (header : LineHeader) (first here : Checkpoint) (cursor : Place) (a i : ℕ) : Type 0 where
+-- What is known in the loop: the machine stands after a row that isn't above the address, in front
+-- of one that is.
+pub record Runs (header : LineHeader) (rows : List Row) (here : Checkpoint) (cursor : Place) (a stop i : ℕ) : Type 0 where
   pub stands : Stands header here cursor
-  pub so_far : SoFar header first here a i
+  pub on : IsCheckpoint header here (drop i rows)
+  pub below : here.registers.address ≤ a
+  pub before : i < stop
 
--- before the first row is run
-pub begins_at : (header : LineHeader) (first : Checkpoint) (cursor : Place) (a : ℕ) → Some cursor ≡ Some (place_of header first) → first.place ≤ length header.program → Runs header first (row_at first.registers cursor) cursor a 0
-begins_at header first cursor a e within =
-    let is : cursor ≡ place_of header first = cc in
-    subst (λ (cursor : Place). Runs header first (row_at first.registers cursor) cursor a 0) (sym is) (record { stands = record { is = refl; within = within }; so_far = begins header first a })
+-- what is known of the loop from the first row on
+abbrev pub RunsFrom : LineHeader → (first here : Checkpoint) → Place → (next_checkpoint a i : ℕ) → Type 0
+RunsFrom header first here cursor next_checkpoint a i =
+    (rows : List Row) → (sought : IsSought header rows first next_checkpoint a) → Runs header rows here cursor a sought.stop (sought.place + i)
 
-pub goes_on : (header : LineHeader) (first here : Checkpoint) (next : Appended) (old new : Place) (a i : ℕ) → i < 64 → (IsIn header old → Next header here old next new) → Runs header first here old a i → next.registers.address ≤ a → next.ends ≡ false → Runs header first (appended_at next new.at) new a (i + 1)
-goes_on header first here next old new a i h told runs below goes =
-    let is = told (in_program header here old runs.stands) in
-    let stands = stands_on header here next old new runs.stands is.spans in
+first_is : (header : LineHeader) (here : Checkpoint) (rows : List Row) → IsCheckpoint header here rows → first_address rows ≡ here.registers.address
+first_is header here rows is = ap first_address (sym is.rest)
+
+-- a row that isn't above the address isn't the one that is
+later_stop : (rows : List Row) (a i stop : ℕ) → i ≤ stop → first_address (drop i rows) ≤ a → a < first_address (drop stop rows) → i < stop
+later_stop rows a i stop order below above = by (cases_lt i stop)
+  where
+    by : (i < stop) ⊎ (stop ≤ i) → i < stop
+    by (inl less) = less
+    by (inr more) =
+        let same : stop ≡ i = omega (arith, order, more) in
+        absurd (omega (arith, below, above, ap (λ (n : ℕ). first_address (drop n rows)) same))
+
+-- behind all rows is none above it
+none_there : (rows : List Row) (a stop : ℕ) → length rows ≤ stop → a < first_address (drop stop rows) → ⊥
+none_there rows a stop past above = omega (arith, above, ap first_address (drop_all stop rows past))
+
+pub begins_at : (header : LineHeader) (first : Checkpoint) (cursor : Place) (next_checkpoint a : ℕ) → (first.place ≤ length header.program → Some cursor ≡ Some (place_of header first)) → RunsFrom header first (row_at first.registers cursor) cursor next_checkpoint a 0
+begins_at header first cursor next_checkpoint a e = λ rows sought.
+    let is : cursor ≡ place_of header first = same_Some cursor (place_of header first) (e sought.is.within) in
+    let first_row = first_is header first (drop sought.place rows) sought.is in
+    let before = later_stop rows a sought.place sought.stop sought.after (omega (arith, first_row, sought.below)) sought.above in
+    let none : sought.place ≡ sought.place + 0 = omega arith in
+    let start : Runs header rows first (place_of header first) a sought.stop (sought.place + 0) = record {
+      stands = record { is = refl; within = sought.is.within };
+      on = subst (λ (n : ℕ). IsCheckpoint header first (drop n rows)) none sought.is;
+      below = sought.below;
+      before = omega (arith, before);
+    } in
+    subst (λ (cursor : Place). Runs header rows (row_at first.registers cursor) cursor a sought.stop (sought.place + 0)) (sym is) start
+
+-- what the machine's way to the next row tells, where it stands in the program
+module _ (header : LineHeader) (first here : Checkpoint) (old new : Place) (next : Appended) (next_checkpoint a i : ℕ)
+    (told : IsIn header old → Next header here old next new) (given : RunsFrom header first here old next_checkpoint a i)
+    (rows : List Row) (sought : IsSought header rows first next_checkpoint a) where
+  runs : Runs header rows here old a sought.stop (sought.place + i)
+  runs = given rows sought
+
+  is : Next header here old next new
+  is = told (in_program header here old runs.stands)
+
+  stands : Stands header (appended_at next new.at) new
+  stands = stands_on header here next old new runs.stands is.spans
+
+  t : Taken (appended_row next) (rows_on header (next_state header next new)) runs.on.others
+  t = taken (appended_row next) (rows_on header (next_state header next new)) runs.on.others (sym (next_of header here old new next runs.stands is).rows ∙ runs.on.appends)
+
+  own : up_to_end runs.on.others ≡ drop (sought.place + i + 1) rows
+  own = behind (sought.place + i) (checkpoint_row here) (up_to_end runs.on.others) rows runs.on.rest
+
+  next_row : IsNextRow header (drop (sought.place + i + 1) rows) (appended_at next new.at)
+  next_row = subst (λ (own : List Row). IsNextRow header own (appended_at next new.at)) own (next_is header next new runs.on.others stands t)
+
+  further : next.registers.address ≤ a → sought.place + i + 1 < sought.stop
+  further below = later_stop rows a (sought.place + i + 1) sought.stop (omega (arith, runs.before)) (omega (arith, next_row.address, below)) sought.above
+
+  pub goes_on : next.registers.address ≤ a → next.ends ≡ false → Runs header rows (appended_at next new.at) new a sought.stop (sought.place + (i + 1))
+  goes_on below goes =
+      let on = runs_on header next new runs.on.others stands t goes in
+      let here : IsCheckpoint header (appended_at next new.at) (drop (sought.place + i + 1) rows) = record { others = t.rest; appends = on.appends; rest = on.rest ∙ own; within = stands.within } in
+      let places : sought.place + i + 1 ≡ sought.place + (i + 1) = omega arith in
+      record { stands = stands; on = subst (λ (n : ℕ). IsCheckpoint header (appended_at next new.at) (drop n rows)) places here; below = below; before = omega (arith, further below) }
+
+  -- the sequence doesn't end before a row that is above the address
+  pub no_end : next.registers.address ≤ a → next.ends ≡ true → ⊥
+  no_end below last =
+      let one : length (drop (sought.place + i + 1) rows) ≡ 1 = ap length (sym own) ∙ ap (λ (others : List Row). length (up_to_end others)) t.whole ∙ up_to_end-ends (appended_row next) t.rest last in
+      none_there rows a sought.stop (omega (arith, one, length-drop (sought.place + i + 1) rows, further below)) sought.above
+
+  abbrev found : ℕ → Reached
+  found at = record { row = here.registers; next = appended_at next at; next_checkpoint = next_checkpoint }
+
+  pub stops_above : (at : ℕ) → at ≡ new.at → a < next.registers.address → IsReached header rows (found at) × HoldsAddress a (found at)
+  stops_above at e-at above = (
     record {
-      stands = stands;
-      so_far = λ rows e.
-          let later = runs.so_far rows e in
-          let t = of_next header first here next new a i rows (next_of header here old new next runs.stands is) later in
-          let on = runs_on header next new later.others stands t goes in
-          record {
-            others = t.rest;
-            appends = on.appends;
-            same = reached header first here next new a i rows false false h (le-ltb a next.registers.address below) goes later t
-                ∙ ap (λ (r : Row). row_before_address (64 - (i + 1)) a r t.rest) (goes_row next goes);
-            rest = on.rest ∙ behind i (checkpoint_row here) (up_to_end later.others) (checkpoint_row first ∷ up_to_end rows) later.rest;
-          };
-    }
+      passed = sought.place + i;
+      behind = omega (arith, sought.near);
+      is = record {
+        is = ap (λ (own : List Row). checkpoint_row here ∷ own) (sym own) ∙ runs.on.rest;
+        next = subst (λ (n : ℕ). IsNextRow header (drop (sought.place + i + 1) rows) (appended_at next n)) (sym e-at) next_row;
+      };
+    },
+    (runs.below, above),
+  )
 
--- the next row lies above the address
-pub stops_above : (header : LineHeader) (first here : Checkpoint) (next : Appended) (old new : Place) (next_checkpoint a i at : ℕ) → at ≡ new.at → i < 64 → (IsIn header old → Next header here old next new) → (first.place ≤ length header.program → Runs header first here old a i) → a < next.registers.address
-    → FindsFrom header first next_checkpoint a (Some (record { row = here.registers; next = appended_at next at; next_checkpoint = next_checkpoint }))
-stops_above header first here next old new next_checkpoint a i at e-at h told given above = λ there rows e.
-    let runs = given there in
-    let is = told (in_program header here old runs.stands) in
-    let later = runs.so_far rows e in
-    let t = of_next header first here next new a i rows (next_of header here old new next runs.stands is) later in
-    let next_row = next_is header next new later.others (stands_on header here next old new runs.stands is.spans) t in
-    let all = checkpoint_row first ∷ up_to_end rows in
-    let own : up_to_end later.others ≡ drop (i + 1) all = behind i (checkpoint_row here) (up_to_end later.others) all later.rest in (
-      sym (ap (option_map row_told) (reached header first here next new a i rows true next.ends h (lt-ltb a next.registers.address above) refl later t)),
-      record {
-        passed = i;
-        number = refl;
-        is = record {
-          is = ap (λ (own : List Row). checkpoint_row here ∷ own) (sym own) ∙ later.rest;
-          next = subst (λ (n : ℕ). IsNextRow header (drop (i + 1) all) (appended_at next n)) (sym e-at) (subst (λ (own : List Row). IsNextRow header own (appended_at next new.at)) own next_row);
-        };
-      },
-    )
+-- what it tells where there is no next row, or none that can be read
+module _ (header : LineHeader) (first here : Checkpoint) (old : Place) (next_checkpoint a i : ℕ)
+    (given : RunsFrom header first here old next_checkpoint a i) (rows : List Row) (sought : IsSought header rows first next_checkpoint a) where
+  abbrev read : Result (List Row) Bad
+  read = rows_on header (record { registers = registers_shown here.registers; place = old })
 
--- the sequence ends before the address
-pub stops_end : (header : LineHeader) (first here : Checkpoint) (next : Appended) (old new : Place) (next_checkpoint a i : ℕ) → i < 64 → (IsIn header old → Next header here old next new) → (first.place ≤ length header.program → Runs header first here old a i) → next.registers.address ≤ a → next.ends ≡ true → FindsFrom header first next_checkpoint a None
-stops_end header first here next old new next_checkpoint a i h told given below last = λ there rows e.
-    let runs = given there in
-    let is = told (in_program header here old runs.stands) in
-    let later = runs.so_far rows e in
-    let t = of_next header first here next new a i rows (next_of header here old new next runs.stands is) later in
-    (sym (ap (option_map row_told) (reached header first here next new a i rows false true h (le-ltb a next.registers.address below) last later t)), tt)
+  is_read : read ≡ Ok (given rows sought).on.others
+  is_read = ap (λ (p : Place). rows_on header (record { registers = registers_shown here.registers; place = p })) (given rows sought).stands.is ∙ (given rows sought).on.appends
 
--- there is no row after it
-none_of : (most a : ℕ) (r : Row) → row_before_address most a r [] ≡ None
-unfolding row_before_address
-none_of zero a r = refl
-none_of (suc most) a r = refl
+  pub no_none : (IsIn header old → read ≡ Ok []) → ⊥
+  no_none none =
+      let runs = given rows sought in
+      let empty : runs.on.others ≡ [] = cc (is_read, none (in_program header here old runs.stands)) in
+      let one : length (drop (sought.place + i) rows) ≡ 1 = ap length (sym runs.on.rest) ∙ ap (λ (others : List Row). length (checkpoint_row here ∷ up_to_end others)) empty in
+      none_there rows a sought.stop (omega (arith, one, length-drop (sought.place + i) rows, runs.before)) sought.above
 
-same_rows : (a b : Result (List Row) Bad) (xs ys : List Row) → a ≡ Ok xs → a ≡ Ok ys → xs ≡ ys
-same_rows a b xs ys e f = cc
+  pub no_fault : (told : Option Bad) → (IsIn header old → Tells told read) → ⊥
+  no_fault told fault = by told (fault (in_program header here old (given rows sought).stands))
+    where
+      by : (told : Option Bad) → Tells told read → ⊥
+      by None fault = fault
+      by (Some f) fault = cc (is_read, fault)
 
--- the rows from where the machine is
-rows_here : (header : LineHeader) (here : Checkpoint) (old : Place) (read : Result (List Row) Bad) → Stands header here old → rows_on header (record { registers = registers_shown here.registers; place = old }) ≡ read → rows_on header (state_of header here) ≡ read
-rows_here header here old read stands e = ap (λ (p : Place). rows_on header (record { registers = registers_shown here.registers; place = p })) (sym stands.is) ∙ e
-
-pub stops_none : (header : LineHeader) (first here : Checkpoint) (old : Place) (next_checkpoint a i : ℕ) → (IsIn header old → rows_on header (record { registers = registers_shown here.registers; place = old }) ≡ Ok []) → (first.place ≤ length header.program → Runs header first here old a i) → FindsFrom header first next_checkpoint a None
-stops_none header first here old next_checkpoint a i none given = λ there rows e.
-    let runs = given there in
-    let later = runs.so_far rows e in
-    let empty = same_rows (rows_on header (state_of header here)) (rows_on header (state_of header here)) later.others [] later.appends (rows_here header here old (Ok []) runs.stands (none (in_program header here old runs.stands))) in
-    (sym (ap (option_map row_told) (later.same ∙ ap (row_before_address (64 - i) a (checkpoint_row here)) empty ∙ none_of (64 - i) a (checkpoint_row here))), tt)
-
--- rows that could be read can be read again
-no_fault : (header : LineHeader) (first here : Checkpoint) (old : Place) (a i : ℕ) (rows : List Row) (told : Option Bad) → Tells told (rows_on header (record { registers = registers_shown here.registers; place = old })) → Runs header first here old a i → rows_on header (state_of header first) ≡ Ok rows → ⊥
-no_fault header first here old a i rows None fault runs e = fault
-no_fault header first here old a i rows (Some f) fault runs e =
-    let later = runs.so_far rows e in
-    let both : Ok later.others ≡ Err f = sym later.appends ∙ rows_here header here old (Err f) runs.stands fault in
-    cc
-
-pub stops_fault : (header : LineHeader) (first here : Checkpoint) (old : Place) (next_checkpoint a i : ℕ) (told : Option Bad) → (IsIn header old → Tells told (rows_on header (record { registers = registers_shown here.registers; place = old }))) → (first.place ≤ length header.program → Runs header first here old a i) → FindsFrom header first next_checkpoint a None
-stops_fault header first here old next_checkpoint a i told fault given = λ there rows e.
-    absurd (no_fault header first here old a i rows told (fault (in_program header here old (given there).stands)) (given there) e)
-
-pub stops_last : (header : LineHeader) (first here : Checkpoint) (old : Place) (next_checkpoint a i : ℕ) → 64 ≤ i → (first.place ≤ length header.program → Runs header first here old a i) → FindsFrom header first next_checkpoint a None
-unfolding row_before_address
-stops_last header first here old next_checkpoint a i h given = λ there rows e.
-    let later = (given there).so_far rows e in
-    let none : 64 - i ≡ 0 = omega (arith, h) in
-    (sym (ap (option_map row_told) (later.same ∙ ap (λ (n : ℕ). row_before_address n a (checkpoint_row here) later.others) none)), tt)
+  pub no_more : 64 ≤ i → ⊥
+  no_more h = omega (arith, h, (given rows sought).before, sought.soon)

@@ -1,9 +1,9 @@
 -- The row of an address in a sequence, from one of its checkpoints on.
 use Rattle.std.proofs.Common.{◌≡◌, ℕ, zero, suc, ◌+◌, ◌-◌, ◌*◌, ◌<◌, ◌≤◌, Bool, true, false, cond, List, [], ◌∷◌, length, drop, get_or, Option, Some, None, ◌⊎◌, inl, inr, refl, sym, subst, ap, ◌∙◌, arith}
-use Rattle.std.specs.Prelude.{nat_le, nat_lt, ◌&&◌, IfSome, option_map, slice_get}
+use Rattle.std.specs.Prelude.{nat_le, nat_lt, ◌&&◌, IfSome, MatchOption, option_map, slice_get}
 use Rattle.std.specs.List.Sorted.{IsNonDecreasingBy, IsPartitionPoint}
 use Rattle.std.proofs.Math.Seq.{drop-nil}
-use Rattle.std.proofs.lemmas.Bool.{leb-true, leb-false, lt-ltb, le-leb, le-ltb, ltb-true, ltb-false, and_parts}
+use Rattle.std.proofs.lemmas.Bool.{cases_lt, leb-true, leb-false, lt-ltb, le-leb, le-ltb, ltb-true, ltb-false, and_parts}
 use Rattle.std.proofs.lemmas.List.{drop-drop, length-drop}
 use Rattle.std.proofs.lemmas.List.Sorted.{IsNonDecreasingBy-from_all_adjacent}
 use Rattle.std.proofs.lemmas.Option.{slice_get_read}
@@ -12,8 +12,8 @@ use Rattle.dw_model.specs.Matrix.{Row, never_falls, is_used, first_address, last
 use Rattle.dw_line.specs.declared.checkpoints.Checkpoint.{Checkpoint}
 use Rattle.dw_line.specs.declared.search.Reached.{Reached}
 use Rattle.dw_line.specs.Sequences.{up_to_end, kept_row, checkpoint_row, IsCheckpoint, AreCheckpoints, HasCheckpoints}
-use Rattle.dw_line.specs.Search.{row_told, row_before_address}
-use Rattle.dw_line.specs.Reached.{reaches, is_before, IsReached, IsPassed, IsNextRow, HoldsAddress, FindsFrom, FindsIn}
+use Rattle.dw_line.specs.Search.{row_told}
+use Rattle.dw_line.specs.Reached.{reaches, is_before, IsReached, IsSought, HoldsAddress, FindsFrom, FindsIn}
 
 -- ---- rows that never fall
 
@@ -105,51 +105,6 @@ short a [] h = refl
 short a (r ∷ []) h = refl
 short a (r ∷ s ∷ rows) h = absurd (omega (arith, h))
 
--- ---- running on
-
--- one of the first so many rows lies above the address
-pub record Stops (n a : ℕ) (rows : List Row) : Type 0 where
-  pub place : ℕ
-  pub row : Row
-  pub rest : List Row
-  pub soon : place < n
-  pub there : row ∷ rest ≡ drop place rows
-  pub above : a < row.address
-
-run_is : (n a : ℕ) (r : Row) (rows : List Row) → r.address ≤ a → Stops n a (up_to_end rows) → row_in a (r ∷ up_to_end rows) ≡ row_before_address n a r rows
-unfolding row_in row_before_address
-run_is zero a r rows below stops = absurd (omega (arith, stops.soon))
-run_is (suc n) a r [] below stops =
-    let none : stops.row ∷ stops.rest ≡ [] = stops.there ∙ drop-nil stops.place in
-    absurd cc
-run_is (suc n) a r (next ∷ rows) below stops =
-    by next.ends (le-leb r.address a below) (nat_lt a next.address) refl stops.place stops.soon stops.there (λ below later. run_is n a next rows below later)
-  where
-    by : (ends : Bool) → nat_le r.address a ≡ true → (above : Bool) → nat_lt a next.address ≡ above → (place : ℕ) → place < suc n → stops.row ∷ stops.rest ≡ drop place (cond ends (next ∷ []) (next ∷ up_to_end rows))
-        → (next.address ≤ a → Stops n a (up_to_end rows) → row_in a (next ∷ up_to_end rows) ≡ row_before_address n a next rows)
-        → row_in a (r ∷ cond ends (next ∷ []) (next ∷ up_to_end rows)) ≡ cond above (Some r) (cond {A = Option Row} ends None (row_before_address n a next rows))
-    by true here true behind place soon there on = rw (here, behind) refl
-    by true here false behind zero soon there on =
-        let same : stops.row.address ≡ next.address = ap first_address there in
-        absurd (omega (arith, same, stops.above, ltb-false a next.address behind))
-    by true here false behind (suc place) soon there on =
-        let none : stops.row ∷ stops.rest ≡ [] = there ∙ drop-nil place in
-        absurd cc
-    by false here true behind place soon there on = rw (here, behind) refl
-    by false here false behind zero soon there on =
-        let same : stops.row.address ≡ next.address = ap first_address there in
-        absurd (omega (arith, same, stops.above, ltb-false a next.address behind))
-    by false here false behind (suc place) soon there on =
-        let later : Stops n a (up_to_end rows) = record { place = place; row = stops.row; rest = stops.rest; soon = omega (arith, soon); there = there; above = stops.above } in
-        rw (here, behind) (on (ltb-false a next.address behind) later)
-
--- the last row lies above the address
-last_stops : (a : ℕ) (s : Row) (rows : List Row) → a < last_address (s ∷ rows) → Stops (suc (length rows)) a (s ∷ rows)
-last_stops a s [] h = record { place = 0; row = s; rest = []; soon = omega arith; there = refl; above = h }
-last_stops a s (t ∷ rows) h =
-    let later = last_stops a t rows h in
-    record { place = suc later.place; row = later.row; rest = later.rest; soon = omega (arith, later.soon); there = later.there; above = later.above }
-
 -- ---- checkpoints
 
 checkpoint_at : (header : LineHeader) (checkpoints : List Checkpoint) (rows : List Row) → AreCheckpoints header checkpoints rows → (k : ℕ) (d : Checkpoint) → k < length checkpoints → IsCheckpoint header (get_or checkpoints k d) (drop (64 * k) rows)
@@ -182,14 +137,25 @@ none_before header (c ∷ checkpoints) rows a d has point =
     let above = leb-false c.registers.address a (point.1 0 d (omega arith) (omega arith)) in
     none_below a rows never (omega (arith, first, above))
 
--- ---- from a row on
+-- a row before whose next one the address lies is its own
+own_row : (a : ℕ) (r : Row) (own : List Row) → r.address ≤ a → a < first_address own → row_in a (r ∷ own) ≡ Some r
+unfolding row_in
+own_row a r [] below above = absurd (omega (arith, above))
+own_row a r (s ∷ own) below above = rw (le-leb r.address a below, lt-ltb a s.address above) refl
 
-pub decide : (m n : ℕ) → (m < n) ⊎ (n ≤ m)
-decide m n = by (nat_lt m n) refl
-  where
-    by : (b : Bool) → nat_lt m n ≡ b → (m < n) ⊎ (n ≤ m)
-    by true e = inl (ltb-true m n e)
-    by false e = inr (ltb-false m n e)
+-- the row of an address at one of the rows or after it, and before the next
+pub row_on : (header : LineHeader) (rows : List Row) (a : ℕ) (last : Reached) → never_falls rows ≡ true → IsReached header rows last → last.row.address ≤ a → a < last.next.registers.address → row_in a rows ≡ Some (kept_row last.row)
+row_on header rows a last never is below above =
+    let r = kept_row last.row in
+    let own = drop (is.passed + 1) rows in
+    let next : a < first_address own = omega (arith, above, is.is.next.address) in
+    row_later is.passed a rows r own never is.is.is below ∙ own_row a r own below next
+
+own_found : (header : LineHeader) (rows : List Row) (a : ℕ) (found : Reached) → never_falls rows ≡ true → IsReached header rows found → HoldsAddress a found → FindsIn header rows a (Some found)
+own_found header rows a found never is holds =
+    (sym (ap (option_map row_told) (row_on header rows a found never is holds.0 holds.1)), is, holds)
+
+-- ---- from a row on
 
 -- the address lies before the checkpoint with a number, if there is one
 abbrev pub Before : List Checkpoint → (number a : ℕ) → Type 0
@@ -208,97 +174,63 @@ is_before_all checkpoints number a e = λ d h.
     let there = slice_get_read checkpoints (length checkpoints) number (get_or checkpoints number d) refl h (any checkpoints number d (get_or checkpoints number d) h) in
     ltb-true a (get_or checkpoints number d).registers.address (sym (ap (is_before a) there) ∙ e)
 
-later_above : (rows : List Row) (place number a : ℕ) (r s : Row) (own rest : List Row) → never_falls rows ≡ true → r ∷ own ≡ drop place rows → s ∷ rest ≡ drop number rows → r.address ≤ a → a < s.address → place < number
-later_above rows place number a r s own rest e h there below above = by (decide place number)
+-- a row above the address isn't in front of one that isn't
+not_below : (rows : List Row) (place stop a : ℕ) (r s : Row) (own rest : List Row) → never_falls rows ≡ true → r ∷ own ≡ drop place rows → s ∷ rest ≡ drop stop rows → r.address ≤ a → a < s.address → place ≤ stop
+not_below rows place stop a r s own rest e h there below above = by (cases_lt stop place)
   where
-    by : (place < number) ⊎ (number ≤ place) → place < number
-    by (inl less) = less
-    by (inr more) =
-        let places : number + (place - number) ≡ place = omega (arith, more) in
-        let same = h ∙ ap (λ (n : ℕ). drop n rows) (sym places) ∙ sym (drop-drop (place - number) number rows) ∙ ap (drop (place - number)) (sym there) in
-        let less = first_below (place - number) s r rest own (subst (λ (rows : List Row). never_falls rows ≡ true) (sym there) (later_rises number rows e)) same in
-        absurd (omega (arith, less, below, above))
+    by : (stop < place) ⊎ (place ≤ stop) → place ≤ stop
+    by (inr more) = more
+    by (inl less) =
+        let places : stop + (place - stop) ≡ place = omega (arith, less) in
+        let same = h ∙ ap (λ (n : ℕ). drop n rows) (sym places) ∙ sym (drop-drop (place - stop) stop rows) ∙ ap (drop (place - stop)) (sym there) in
+        let order = first_below (place - stop) s r rest own (subst (λ (rows : List Row). never_falls rows ≡ true) (sym there) (later_rises stop rows e)) same in
+        absurd (omega (arith, order, below, above))
 
-stops_at : (rows : List Row) (place number a : ℕ) (r s : Row) (own rest : List Row) → r ∷ own ≡ drop place rows → s ∷ rest ≡ drop number rows → place < number → number ≤ place + 64 → a < s.address → Stops 64 a own
-stops_at rows place number a r s own rest h there less near above =
-    let n : ℕ = number - (place + 1) in
-    let places : place + (n + 1) ≡ number = omega (arith, less) in
-    record {
-      place = n;
-      row = s;
-      rest = rest;
-      soon = omega (arith, near, less);
-      there = there ∙ ap (λ (n : ℕ). drop n rows) (sym places) ∙ sym (drop-drop (n + 1) place rows) ∙ ap (drop (n + 1)) (sym h) ∙ ap (λ (m : ℕ). drop m (r ∷ own)) (one_more n);
-      above = above;
-    }
+-- the last of some rows
+last_first : (rows : List Row) → first_address (drop (length rows - 1) rows) ≡ last_address rows
+last_first [] = refl
+last_first (r ∷ own) =
+    let size : length (r ∷ own) - 1 ≡ length own = omega arith in
+    ap (λ (n : ℕ). first_address (drop n (r ∷ own))) size ∙ by r own
   where
-    one_more : (n : ℕ) → n + 1 ≡ suc n
-    one_more n = omega arith
+    by : (r : Row) (own : List Row) → first_address (drop (length own) (r ∷ own)) ≡ last_address (r ∷ own)
+    by r [] = refl
+    by r (s ∷ own) = by s own
 
-stops_soon : (header : LineHeader) (checkpoints : List Checkpoint) (rows : List Row) (a place number : ℕ) (c : Checkpoint) → HasCheckpoints header checkpoints rows → a < last_address rows → (is : IsCheckpoint header c (drop place rows)) → c.registers.address ≤ a → 64 * number ≤ place + 64 → Before checkpoints number a → (number < length checkpoints) ⊎ (length checkpoints ≤ number)
-    → Stops 64 a (up_to_end is.others)
-stops_soon header checkpoints rows a place number c has below_end is below near before (inl more) =
-    let never : never_falls rows ≡ true = never_falls_used rows has.used in
-    let other = checkpoint_at header checkpoints rows has.each number c more in
-    let s = checkpoint_row (get_or checkpoints number c) in
-    let above : a < s.address = before c more in
-    let less = later_above rows place (64 * number) a (checkpoint_row c) s (up_to_end is.others) (up_to_end other.others) never is.rest other.rest below above in
-    stops_at rows place (64 * number) a (checkpoint_row c) s (up_to_end is.others) (up_to_end other.others) is.rest other.rest less near above
-stops_soon header checkpoints rows a place number c has below_end is below near before (inr last) =
-    by (up_to_end is.others) is.rest
+-- from a row that isn't above an address, and from which it is at most 64 rows to the next
+-- checkpoint, the address is sought
+sought : (header : LineHeader) (checkpoints : List Checkpoint) (rows : List Row) (a place number : ℕ) (c : Checkpoint) → HasCheckpoints header checkpoints rows → a < last_address rows → IsCheckpoint header c (drop place rows) → c.registers.address ≤ a → 64 * number ≤ place + 64 → Before checkpoints number a
+    → IsSought header rows c number a
+sought header checkpoints rows a place number c has below_end is below near before = by (cases_lt number (length checkpoints))
   where
-    by : (own : List Row) → checkpoint_row c ∷ own ≡ drop place rows → Stops 64 a own
-    by [] rest =
-        let same : c.registers.address ≡ last_address rows = last_later place rows (checkpoint_row c) [] rest in
-        absurd (omega (arith, same, below, below_end))
-    by (s ∷ own) rest =
-        let same : last_address (s ∷ own) ≡ last_address rows = last_later place rows (checkpoint_row c) (s ∷ own) rest in
-        let stops = last_stops a s own (omega (arith, same, below_end)) in
-        record { place = stops.place; row = stops.row; rest = stops.rest; soon = omega (arith, stops.soon, ap length rest, length-drop place rows, has.enough, last, near); there = stops.there; above = stops.above }
-
--- the row of the address is at a row that isn't above it, or after it and before the next
--- checkpoint
-row_is : (header : LineHeader) (checkpoints : List Checkpoint) (rows : List Row) (a place number : ℕ) (c : Checkpoint) → HasCheckpoints header checkpoints rows → a < last_address rows → (is : IsCheckpoint header c (drop place rows)) → c.registers.address ≤ a → 64 * number ≤ place + 64 → Before checkpoints number a
-    → row_in a rows ≡ row_before_address 64 a (checkpoint_row c) is.others
-row_is header checkpoints rows a place number c has below_end is below near before =
-    let never : never_falls rows ≡ true = never_falls_used rows has.used in
-    let stops = stops_soon header checkpoints rows a place number c has below_end is below near before (decide number (length checkpoints)) in
-    row_later place a rows (checkpoint_row c) (up_to_end is.others) never is.rest below
-    ∙ run_is 64 a (checkpoint_row c) is.others below stops
-
--- a row after one of the rows is one of them
-later_reached : (header : LineHeader) (rows : List Row) (place number : ℕ) (r : Row) (own : List Row) (found : Option Reached) → r ∷ own ≡ drop place rows → 64 * number ≤ place + 64 → IfSome found (IsPassed header (r ∷ own) number) → IfSome found (IsReached header rows)
-later_reached header rows place number r own None h near passed = tt
-later_reached header rows place number r own (Some reached) h near is =
-    let all : (n : ℕ) → drop n (r ∷ own) ≡ drop (place + n) rows = λ n. ap (drop n) h ∙ drop-drop n place rows in
-    let places : place + (is.passed + 1) ≡ (place + is.passed) + 1 = omega arith in
-    let later = all (is.passed + 1) ∙ ap (λ (n : ℕ). drop n rows) places in
-    record {
-      passed = place + is.passed;
-      behind = omega (arith, near, is.number);
-      is = record {
-        is = ap (λ (own : List Row). kept_row reached.row ∷ own) (sym later) ∙ is.is.is ∙ all is.passed;
-        next = subst (λ (own : List Row). IsNextRow header own reached.next) later is.is.next;
-      };
-    }
+    by : (number < length checkpoints) ⊎ (length checkpoints ≤ number) → IsSought header rows c number a
+    by (inl more) =
+        let next = get_or checkpoints number c in
+        let other = checkpoint_at header checkpoints rows has.each number c more in
+        let after = not_below rows place (64 * number) a (checkpoint_row c) (checkpoint_row next) (up_to_end is.others) (up_to_end other.others) (never_falls_used rows has.used) is.rest other.rest below (before c more) in
+        record { place = place; is = is; near = near; below = below; stop = 64 * number; after = after; soon = near; above = omega (arith, ap first_address other.rest, before c more) }
+    by (inr last) =
+        let some : 0 < length (drop place rows) = omega (arith, ap length is.rest) in
+        let size = length-drop place rows in
+        record { place = place; is = is; near = near; below = below; stop = length rows - 1; after = omega (arith, some, size); soon = omega (arith, has.enough, last, near); above = omega (arith, last_first rows, below_end) }
 
 -- What is found from a row on, which isn't above the address, is the row of the address.
 pub finds : (header : LineHeader) (checkpoints : List Checkpoint) (rows : List Row) (a place number : ℕ) (c : Checkpoint) (found : Option Reached) → HasCheckpoints header checkpoints rows → a < last_address rows → IsCheckpoint header c (drop place rows) → c.registers.address ≤ a → 64 * number ≤ place + 64 → Before checkpoints number a
-    → FindsFrom header c number a found → (c.registers.address ≤ a → IfSome found (HoldsAddress a)) → FindsIn header rows a found
-finds header checkpoints rows a place number c found has below_end is below near before from holds =
-    let what = from is.within is.others is.appends in (
-      what.0 ∙ sym (ap (option_map row_told) (row_is header checkpoints rows a place number c has below_end is below near before)),
-      later_reached header rows place number (checkpoint_row c) (up_to_end is.others) found is.rest near what.1,
-      holds below,
-    )
+    → FindsFrom header c number a found → FindsIn header rows a found
+finds header checkpoints rows a place number c found has below_end is below near before from =
+    by found (from rows (sought header checkpoints rows a place number c has below_end is below near before))
+  where
+    by : (found : Option Reached) → MatchOption found ⊥ (λ reached. IsReached header rows reached × HoldsAddress a reached) → FindsIn header rows a found
+    by None none = absurd none
+    by (Some reached) is = own_found header rows a reached (never_falls_used rows has.used) is.0 is.1
 
 -- the same from the last checkpoint that isn't above the address
 pub finds_by_halves : (header : LineHeader) (checkpoints : List Checkpoint) (rows : List Row) (a k : ℕ) (d : Checkpoint) (found : Option Reached) → HasCheckpoints header checkpoints rows → a < last_address rows → k < length checkpoints → Splits checkpoints a (k + 1)
-    → FindsFrom header (get_or checkpoints k d) (k + 1) a found → ((get_or checkpoints k d).registers.address ≤ a → IfSome found (HoldsAddress a)) → FindsIn header rows a found
-finds_by_halves header checkpoints rows a k d found has below_end within point from holds =
+    → FindsFrom header (get_or checkpoints k d) (k + 1) a found → FindsIn header rows a found
+finds_by_halves header checkpoints rows a k d found has below_end within point from =
     let is = checkpoint_at header checkpoints rows has.each k d within in
     let below = leb-true (get_or checkpoints k d).registers.address a (point.0 k d (omega arith) (omega arith)) in
-    finds header checkpoints rows a (64 * k) (k + 1) (get_or checkpoints k d) found has below_end is below (omega arith) (split_before checkpoints a (k + 1) point) from holds
+    finds header checkpoints rows a (64 * k) (k + 1) (get_or checkpoints k d) found has below_end is below (omega arith) (split_before checkpoints a (k + 1) point) from
 
 -- before the first checkpoint there is no row
 pub finds_none : (header : LineHeader) (checkpoints : List Checkpoint) (rows : List Row) (a : ℕ) (d : Checkpoint) → HasCheckpoints header checkpoints rows → Splits checkpoints a 0 → FindsIn header rows a None
@@ -336,26 +268,11 @@ on_from_next header rows a last is below next below_end =
     let first : first_address own ≤ a = omega (arith, next, is.is.next.address) in
     is.is.next.on (more_behind is.passed a rows (kept_row last.row) own is.is.is below first below_end)
 
-pub finds_onward : (header : LineHeader) (checkpoints : List Checkpoint) (rows : List Row) (a : ℕ) (last : Reached) (found : Option Reached) → HasCheckpoints header checkpoints rows → a < last_address rows → IsReached header rows last → reaches last checkpoints a ≡ true → last.next.registers.address ≤ a → FindsFrom header last.next last.next_checkpoint a found → (last.next.registers.address ≤ a → IfSome found (HoldsAddress a)) → FindsIn header rows a found
-finds_onward header checkpoints rows a last found has below_end is e next from holds =
+pub finds_onward : (header : LineHeader) (checkpoints : List Checkpoint) (rows : List Row) (a : ℕ) (last : Reached) (found : Option Reached) → HasCheckpoints header checkpoints rows → a < last_address rows → IsReached header rows last → reaches last checkpoints a ≡ true → last.next.registers.address ≤ a → FindsFrom header last.next last.next_checkpoint a found → FindsIn header rows a found
+finds_onward header checkpoints rows a last found has below_end is e next from =
     let w = within checkpoints last a e in
-    finds header checkpoints rows a (is.passed + 1) last.next_checkpoint last.next found has below_end (on_from_next header rows a last is w.below next below_end) next (omega (arith, is.behind)) w.before from holds
-
--- a row before whose next one the address lies is its own
-own_row : (a : ℕ) (r : Row) (own : List Row) → r.address ≤ a → a < first_address own → row_in a (r ∷ own) ≡ Some r
-unfolding row_in
-own_row a r [] below above = absurd (omega (arith, above))
-own_row a r (s ∷ own) below above = rw (le-leb r.address a below, lt-ltb a s.address above) refl
-
--- the row of an address at one of the rows or after it, and before the next
-pub row_on : (header : LineHeader) (rows : List Row) (a : ℕ) (last : Reached) → never_falls rows ≡ true → IsReached header rows last → last.row.address ≤ a → a < last.next.registers.address → row_in a rows ≡ Some (kept_row last.row)
-row_on header rows a last never is below above =
-    let r = kept_row last.row in
-    let own = drop (is.passed + 1) rows in
-    let next : a < first_address own = omega (arith, above, is.is.next.address) in
-    row_later is.passed a rows r own never is.is.is below ∙ own_row a r own below next
+    finds header checkpoints rows a (is.passed + 1) last.next_checkpoint last.next found has below_end (on_from_next header rows a last is w.below next below_end) next (omega (arith, is.behind)) w.before from
 
 pub finds_again : (header : LineHeader) (checkpoints : List Checkpoint) (rows : List Row) (a : ℕ) (last : Reached) → HasCheckpoints header checkpoints rows → IsReached header rows last → reaches last checkpoints a ≡ true → a < last.next.registers.address → FindsIn header rows a (Some last)
 finds_again header checkpoints rows a last has is e above =
-    let below = (within checkpoints last a e).below in
-    (sym (ap (option_map row_told) (row_on header rows a last (never_falls_used rows has.used) is below above)), is, (below, above))
+    own_found header rows a last (never_falls_used rows has.used) is ((within checkpoints last a e).below, above)

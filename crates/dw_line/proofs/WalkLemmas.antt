@@ -12,7 +12,7 @@ use Rattle.dw_line.specs.Border.{OwnerEnds, HasRowAt, IsBorder}
 use Rattle.dw_line.specs.Reached.{told_of, Stays, IsLast, IsReached}
 use Rattle.dw_line.specs.Sequences.{used_sequences, IsOwner}
 use Rattle.dw_line.specs.Walked.{IsStretch}
-use Rattle.dw_line.proofs.SearchLemmas.{decide}
+use Rattle.std.proofs.lemmas.Bool.{cases_lt}
 use Rattle.dw_line.proofs.SequenceLemmas.{is-nowhere}
 
 -- the same owner from a later address on
@@ -73,7 +73,7 @@ row_border header rows number at until found named owner order above is = λ sam
 
 -- the sequence or the span ends
 pub first_border : (rows : List Row) (number : Option ℕ) (at until high end : ℕ) → IsOwner rows number at until → OwnerEnds rows number until → at < until → high ≤ last_address → end ≤ until → ((c : ℕ) → c < until → c < high → c < end) → end < high → IsBorder rows at end
-first_border rows number at until high end owner ends order last within least less = by (decide end until)
+first_border rows number at until high end owner ends order last within least less = by (cases_lt end until)
   where
     by : (end < until) ⊎ (until ≤ end) → IsBorder rows at end
     by (inl before) = absurd (omega (arith, least end before less))
@@ -85,7 +85,7 @@ first_border rows number at until high end owner ends order last within least le
 pub either_border : (header : LineHeader) (rows : List Row) (number at until high first end : ℕ) (found : Last) → found.number ≡ number → IsOwner rows (Some number) at until → OwnerEnds rows (Some number) until → at < until → high ≤ last_address
     → first ≤ until → ((c : ℕ) → c < until → c < high → c < first) → at < found.reached.next.registers.address → IsLast header (used_sequences rows) (Some found)
     → end ≤ found.reached.next.registers.address → end ≤ first → ((c : ℕ) → c < found.reached.next.registers.address → c < first → c < end) → end < high → IsBorder rows at end
-either_border header rows number at until high first end found named owner ends order last within least above is next before lesser less = by (decide end first)
+either_border header rows number at until high first end found named owner ends order last within least above is next before lesser less = by (cases_lt end first)
   where
     here : (end < found.reached.next.registers.address) ⊎ (found.reached.next.registers.address ≤ end) → end < first → IsBorder rows at end
     here (inl under) short = absurd (omega (arith, lesser end under short))
@@ -94,7 +94,7 @@ either_border header rows number at until high first end found named owner ends 
         subst (λ (e : ℕ). IsBorder rows at e) same (row_border header rows number at until found named owner order above is)
 
     by : (end < first) ⊎ (first ≤ end) → IsBorder rows at end
-    by (inl short) = here (decide end found.reached.next.registers.address) short
+    by (inl short) = here (cases_lt end found.reached.next.registers.address) short
     by (inr whole) =
         let same : first ≡ end = omega (arith, before, whole) in
         subst (λ (e : ℕ). IsBorder rows at e) same (first_border rows (Some number) at until high first owner ends order last within least (omega (arith, same, less)))
@@ -109,7 +109,7 @@ pub first_have : (rows : List Row) (a high : ℕ) (stretch : Stretch) → IsStre
 first_have rows a high stretch is = is.row
 
 pub more_have : (rows : List Row) (a at high : ℕ) (stretch : Stretch) (row : Option RowTold) → HaveRow rows a at row → IsStretch rows at high stretch → stretch.row ≡ row → HaveRow rows a stretch.end row
-more_have rows a at high stretch row have is same = λ c from before. by c from before (decide c at)
+more_have rows a at high stretch row have is same = λ c from before. by c from before (cases_lt c at)
   where
     by : (c : ℕ) → a ≤ c → c < stretch.end → (c < at) ⊎ (at ≤ c) → told_at rows c ≡ row
     by c from before (inl less) = have c from less

@@ -279,9 +279,9 @@ impl<'a> Lines<'a> {
 
     /// How many things are kept: the checkpoints of rows, at most one for 64 rows of used sequences
     /// and one for each of these sequences; the sequences, the directories and the files; and the
-    /// ways of more than 64 bytes without a row. These are at most twice the bytes of the table, and
-    /// one at least for 64 rows, directories and files. Nothing else is kept that grows with the
-    /// table.
+    /// ways of more than 64 bytes without a row. These are at most twice the bytes of the table,
+    /// and one at least for 64 rows, directories and files. Nothing else is kept that grows with
+    /// the table.
     pub fn kept(&self) -> usize
         ensures bound { result ≤ most_kept self.now }
         ensures bytes { result ≤ 2 * table_size self.now.section self.now.offset }

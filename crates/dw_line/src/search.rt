@@ -1,11 +1,11 @@
 //! The row of an address in a used sequence: rows are run again from one of its checkpoints, or
 //! run on from the row after the one that was found last.
 
-ghost use Rattle.std.specs.Prelude.{◌≡◌, ◌≤◌, ◌<◌, ◌+◌, IfSome, nat_le, option_copied};
+ghost use Rattle.std.specs.Prelude.{◌≡◌, ◌≤◌, ◌<◌, ◌+◌, nat_le, option_copied};
 ghost use Rattle.dw_line.specs.Header.{header_shown};
 ghost use Rattle.dw_line.specs.Leaps.{AreLeaps};
 ghost use Rattle.dw_line.specs.Machine.{IsIn, RunsToNext, state_at};
-ghost use Rattle.dw_line.specs.Reached.{told_of, reaches, last_in, HoldsAddress, FindsFrom, FindsAmong, FindsOnward};
+ghost use Rattle.dw_line.specs.Reached.{told_of, reaches, last_in, FindsFrom, FindsAmong, FindsOnward};
 
 use crate::checkpoints::{Checkpoint, ROWS_APART};
 use crate::fault::LineFault;
@@ -118,7 +118,6 @@ fn row_from<L: Ledger>(
 ) -> Option<Reached>
     requires { AreLeaps (header_shown header.now) leaps.now }
     ensures row { FindsFrom (header_shown header.now) row next_checkpoint address result }
-    ensures holds { row.registers.address ≤ address → IfSome result (HoldsAddress address) }
     ensures counted { steps.new ≤ steps.old + 64 }
 {
     let Some(mut cursor) = cursor_at(header.program, row.place) else {

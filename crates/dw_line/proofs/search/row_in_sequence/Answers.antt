@@ -31,4 +31,4 @@ returns-clause-row g c = λ rows has below.
     (IsPartitionedBy-leb (λ checkpoint. checkpoint.registers.address) c.args.checkpoints.now c.args.address (rises header c.args.checkpoints.now rows has)) in
     let split = subst (λ (n : ℕ). Splits c.args.checkpoints.now c.args.address n) same point in
     finds_by_halves header c.args.checkpoints.now rows c.args.address (next - 1) none c.row_from.result has below within split
-    (subst (λ (n : ℕ). FindsFrom header (get_or c.args.checkpoints.now (next - 1) none) n c.args.address c.row_from.result) same c.row_from.ensures.row) c.row_from.ensures.holds
+    (subst (λ (n : ℕ). FindsFrom header (get_or c.args.checkpoints.now (next - 1) none) n c.args.address c.row_from.result) same c.row_from.ensures.row)

@@ -16,4 +16,4 @@ returns-clause-row g c = λ rows has below was.
     let header = header_shown c.args.header.now in
     let last = c.in-Some.last.now in
     finds_onward header c.args.checkpoints.now rows c.args.address last c.row_from.result has below (was_reached header rows (option_copied c.args.last) last (ap option_copied c.in-Some.is) was)
-    (sym c.reaches.ensures ∙ c.if-not-reaches.false) c.if-address-last.false c.row_from.ensures.row c.row_from.ensures.holds
+    (sym c.reaches.ensures ∙ c.if-not-reaches.false) c.if-address-last.false c.row_from.ensures.row
