@@ -1,7 +1,8 @@
 -- The used sections by their names.
 use Rattle.std.specs.Prelude.{ℕ, List, codes}
 use Rattle.dw_elf.specs.declared.name.Name.{Name}
-use Rattle.dw_elf.specs.declared.name.Name.TheVariants.{DebugInfo, DebugAbbrev, DebugLine, DebugLineStr, DebugStr, DebugStrOffsets, DebugAddr, DebugRnglists}
+use Rattle.dw_elf.specs.declared.name.Name.TheVariants.{DebugInfo, DebugAbbrev, DebugLine, DebugLineStr, DebugStr}
+use Rattle.dw_elf.specs.declared.name.Name.TheVariants.{DebugStrOffsets, DebugAddr, DebugRnglists}
 
 -- the name as it is in a file
 abbrev pub text_of : Name → List ℕ

@@ -3,7 +3,9 @@ use Rattle.std.specs.Prelude.{◌≡◌, ℕ, List, codes, Option, Some, None, I
 use Rattle.dw_model.specs.Faults as model
 use Rattle.dw_model.specs.Faults.{Refusal}
 use Rattle.dw_elf.specs.declared.fault.OpenFault.{OpenFault}
-use Rattle.dw_elf.specs.declared.fault.OpenFault.TheVariants.{NotElf, NotElf64Little, Relocatable, SectionTable, SectionRange, Compressed, UnitHeader, AddressSize, Root, RootRanges, Memory}
+use Rattle.dw_elf.specs.declared.fault.OpenFault.TheVariants.{NotElf, NotElf64Little, Relocatable, SectionTable}
+use Rattle.dw_elf.specs.declared.fault.OpenFault.TheVariants.{SectionRange, Compressed, UnitHeader, AddressSize}
+use Rattle.dw_elf.specs.declared.fault.OpenFault.TheVariants.{Root, RootRanges, Memory}
 use Rattle.dw_elf.specs.Name.{text_of}
 
 -- the refusal that an error reports: out of memory is none

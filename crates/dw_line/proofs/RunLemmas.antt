@@ -15,7 +15,7 @@ use Rattle.dw_line.specs.declared.checkpoints.Checkpoint.{Checkpoint}
 use Rattle.dw_line.specs.declared.search.Reached.{Reached}
 use Rattle.dw_line.specs.declared.registers.Registers.{Registers}
 use Rattle.dw_line.specs.Registers.{registers_shown}
-use Rattle.dw_line.specs.Machine.{State, rows_on, row_before, registers_behind, appended_row, IsNext, IsIn}
+use Rattle.dw_line.specs.Machine.{state_behind, rows_on, row_before, registers_behind, appended_row, IsNext, IsIn}
 use Rattle.dw_line.specs.Sequences.{up_to_end, state_of, checkpoint_row, IsCheckpoint}
 use Rattle.dw_line.specs.Reached.{IsNextRow, IsReached, IsSought, HoldsAddress}
 use Rattle.dw_line.proofs.MachineLemmas.{Passes, Advances, passes, passes_more}
@@ -83,9 +83,6 @@ first-up r rows = by r.ends
 behind : (i : ℕ) (r : Row) (own all : List Row) → r ∷ own ≡ drop i all → own ≡ drop (i + 1) all
 behind i r own all e = ap (drop 1) e ∙ drop-drop 1 i all
 
-abbrev next_state : LineHeader → Appended → Place → State
-next_state header next new = record { registers = registers_behind (registers_shown next.registers) next.ends; place = new }
-
 -- where the state is that of the row
 abbrev pub Next : LineHeader → Checkpoint → Place → Appended → Place → Type 0
 Next header here old next new = IsNext header (record { registers = registers_shown here.registers; place = old }) next new
@@ -103,7 +100,7 @@ record RunsOn (header : LineHeader) (next : Checkpoint) (rows others : List Row)
   rest : checkpoint_row next ∷ up_to_end others ≡ rows
 
 -- it is so of the next row, if that doesn't end its sequence
-runs_on : (header : LineHeader) (next : Appended) (new : Place) (others : List Row) → Stands header (appended_at next new.at) new → (t : Taken (appended_row next) (rows_on header (next_state header next new)) others) → next.ends ≡ false → RunsOn header (appended_at next new.at) (up_to_end others) t.rest
+runs_on : (header : LineHeader) (next : Appended) (new : Place) (others : List Row) → Stands header (appended_at next new.at) new → (t : Taken (appended_row next) (rows_on header (state_behind next new)) others) → next.ends ≡ false → RunsOn header (appended_at next new.at) (up_to_end others) t.rest
 runs_on header next new others stands t goes =
     let ends : registers_behind (registers_shown next.registers) next.ends ≡ registers_shown next.registers = ap (registers_behind (registers_shown next.registers)) goes in
     record {
@@ -112,7 +109,7 @@ runs_on header next new others stands t goes =
     }
 
 -- rows are run on from it, unless it ends its sequence
-next_is : (header : LineHeader) (next : Appended) (new : Place) (others : List Row) → Stands header (appended_at next new.at) new → Taken (appended_row next) (rows_on header (next_state header next new)) others → IsNextRow header (up_to_end others) (appended_at next new.at)
+next_is : (header : LineHeader) (next : Appended) (new : Place) (others : List Row) → Stands header (appended_at next new.at) new → Taken (appended_row next) (rows_on header (state_behind next new)) others → IsNextRow header (up_to_end others) (appended_at next new.at)
 next_is header next new others stands t = record {
   address = sym (first-up (appended_row next) t.rest) ∙ ap (λ (others : List Row). first_address (up_to_end others)) (sym t.whole);
   on = by next.ends refl;
@@ -183,8 +180,8 @@ module _ (header : LineHeader) (first here : Checkpoint) (old new : Place) (next
   stands : Stands header (appended_at next new.at) new
   stands = stands_on header here next old new runs.stands is.spans
 
-  t : Taken (appended_row next) (rows_on header (next_state header next new)) runs.on.others
-  t = taken (appended_row next) (rows_on header (next_state header next new)) runs.on.others (sym (next_of header here old new next runs.stands is).rows ∙ runs.on.appends)
+  t : Taken (appended_row next) (rows_on header (state_behind next new)) runs.on.others
+  t = taken (appended_row next) (rows_on header (state_behind next new)) runs.on.others (sym (next_of header here old new next runs.stands is).rows ∙ runs.on.appends)
 
   own : up_to_end runs.on.others ≡ drop (sought.place + i + 1) rows
   own = behind (sought.place + i) (checkpoint_row here) (up_to_end runs.on.others) rows runs.on.rest

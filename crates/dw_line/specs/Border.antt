@@ -16,9 +16,13 @@ pub record HasRowAt (rows : List Row) (a : ℕ) : Type 0 where
   pub is : drop passed rows ≡ row ∷ others
   pub address : row.address ≡ a
 
+-- the used sequence with a number has a property
+abbrev pub InSequence : List Row → (List Row → Type 0) → ℕ → Type 0
+InSequence rows P number = IfSome (slice_get (used_sequences rows) number) P
+
 -- Where the same used sequence holds two addresses, one of its rows has the second; and it isn't so
 -- that none holds them.
 abbrev pub IsBorder : List Row → (at end : ℕ) → Type 0
 IsBorder rows at end =
     number_among (used_sequences rows) end ≡ number_among (used_sequences rows) at
-    → MatchOption (number_among (used_sequences rows) at) ⊥ (λ number. IfSome (slice_get (used_sequences rows) number) (λ rows. HasRowAt rows end))
+    → MatchOption (number_among (used_sequences rows) at) ⊥ (InSequence rows (λ rows. HasRowAt rows end))

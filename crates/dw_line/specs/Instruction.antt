@@ -1,7 +1,9 @@
 -- Instructions as the definitions have them.
 use Rattle.dw_model.specs.Instruction as model
 use Rattle.dw_line.specs.declared.instruction.Instruction.{Instruction}
-use Rattle.dw_line.specs.declared.instruction.Instruction.TheVariants.{Special, AppendRow, AdvancePc, AdvanceLine, SetFile, SetColumn, ConstAddPc, FixedAdvancePc, EndSequence, SetAddress, NoEffect}
+use Rattle.dw_line.specs.declared.instruction.Instruction.TheVariants.{Special, AppendRow, AdvancePc, AdvanceLine}
+use Rattle.dw_line.specs.declared.instruction.Instruction.TheVariants.{SetFile, SetColumn, ConstAddPc, FixedAdvancePc}
+use Rattle.dw_line.specs.declared.instruction.Instruction.TheVariants.{EndSequence, SetAddress, NoEffect}
 
 abbrev pub instruction_shown : Instruction → model.Instruction
 instruction_shown (Special n) = model.special n

@@ -9,17 +9,17 @@ use Rattle.dw_line.specs.declared.machine.Appended.{Appended}
 use Rattle.dw_line.specs.Machine.{IsNext}
 use Rattle.dw_line.specs.Sequences.{state_of}
 
--- The machine appends the row on its way from there, and no other, and stands at the place.
-pub record IsLeap (header : LineHeader) (leap : Leap) : Type 0 where
-  pub within : leap.place ≤ length header.program
-  pub next : IsNext header (state_of header leap.from) leap.next (record { at = leap.place; left = drop leap.place header.program })
-
-abbrev pub AreLeaps : LineHeader → List Leap → Type 0
-AreLeaps header leaps = All (IsLeap header) leaps
-
 -- a row that the machine appends on its way from a checkpoint to a place, and no other
 abbrev pub LeadsTo : LineHeader → Checkpoint → Appended × Place → Type 0
 LeadsTo header here found = IsNext header (state_of header here) found.0 found.1
+
+-- It leads to its row and its place, which is in the program.
+pub record IsLeap (header : LineHeader) (leap : Leap) : Type 0 where
+  pub within : leap.place ≤ length header.program
+  pub next : LeadsTo header leap.from (leap.next, record { at = leap.place; left = drop leap.place header.program })
+
+abbrev pub AreLeaps : LineHeader → List Leap → Type 0
+AreLeaps header leaps = All (IsLeap header) leaps
 
 -- one more, if it is of more than 64 bytes
 abbrev pub with_leap : Leap → List Leap → List Leap

@@ -33,7 +33,8 @@ lines_of tables bases section comp_dir offset = do
 -- whichever unit names the table, it can't be read, unless the error is that it is out of memory
 abbrev pub TellsEach : List ℕ → ℕ → LineFault → Type 0
 TellsEach section offset e =
-    (tables : Tables) (bases : Bases) (comp_dir : Option (List ℕ)) → MatchOption (line_fault e) (Unit {0}) (λ fault. lines_of tables bases section comp_dir offset ≡ Err fault)
+    (tables : Tables) (bases : Bases) (comp_dir : Option (List ℕ))
+    → MatchOption (line_fault e) (Unit {0}) (λ fault. lines_of tables bases section comp_dir offset ≡ Err fault)
 
 -- the rows of a header's program, where it can be read
 abbrev pub matrix_of : LineHeader → List Row

@@ -1,5 +1,6 @@
 -- What a line table that was read is seen as.
 use Rattle.std.specs.Prelude.{◌≡◌, ◌≤◌, ◌+◌, ◌*◌, ℕ, List, length, Option, Ok, option_map}
+use Rattle.dw_model.specs.Matrix.{Row}
 use Rattle.dw_model.specs.Text.{Tables, Bases}
 use Rattle.dw_index.specs.Segments.{owner_at}
 use Rattle.dw_forms.specs.Tables.{tables_shown, bases_shown}
@@ -22,16 +23,23 @@ table_in lines tables bases comp_dir = record {
 
 abbrev pub lines_in : Inside → Table
 lines_in lines =
-    table_in lines (tables_shown lines.unit.tables) (bases_shown lines.unit.bases) (option_map (λ directory. directory.now) lines.unit.comp_dir)
+    table_in lines (tables_shown lines.unit.tables) (bases_shown lines.unit.bases)
+    (option_map (λ directory. directory.now) lines.unit.comp_dir)
+
+-- the used sequences of its program
+abbrev pub used_in : Inside → List (List Row)
+used_in lines = used_sequences (matrix_of (header_shown lines.header))
 
 -- Each unit sees the table at its offset so. What is kept is of the used sequences of the header's
 -- program, no more things than it has bytes; the index finds the first of them that holds an
 -- address, and the row that was found last is one of theirs.
 pub record AreRead (lines : Inside) : Type 0 where
-  pub each : (tables : Tables) (bases : Bases) (comp_dir : Option (List ℕ)) → lines_of tables bases lines.section.now comp_dir lines.offset ≡ Ok (table_in lines tables bases comp_dir)
-  pub kept : AreKept (header_shown lines.header) lines.checkpoints.items lines.sequences.items (used_sequences (matrix_of (header_shown lines.header)))
+  pub each : (tables : Tables) (bases : Bases) (comp_dir : Option (List ℕ))
+      → lines_of tables bases lines.section.now comp_dir lines.offset ≡ Ok (table_in lines tables bases comp_dir)
+  pub kept : AreKept (header_shown lines.header) lines.checkpoints.items lines.sequences.items (used_in lines)
   pub leaps : AreLeaps (header_shown lines.header) lines.leaps.items
   pub few : 64 * length lines.leaps.items ≤ length lines.header.program.now
-  pub fits : length lines.checkpoints.items + length lines.sequences.items + length lines.leaps.items ≤ length lines.header.program.now
-  pub found : (a : ℕ) → owner_at lines.index a ≡ number_among (used_sequences (matrix_of (header_shown lines.header))) a
-  pub last : IsLast (header_shown lines.header) (used_sequences (matrix_of (header_shown lines.header))) lines.last
+  pub fits : length lines.checkpoints.items + length lines.sequences.items + length lines.leaps.items
+      ≤ length lines.header.program.now
+  pub found : (a : ℕ) → owner_at lines.index a ≡ number_among (used_in lines) a
+  pub last : IsLast (header_shown lines.header) (used_in lines) lines.last

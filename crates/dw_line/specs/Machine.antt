@@ -1,5 +1,6 @@
 -- The machine that runs a line program, from any of its states on (DWARF 5, section 6.2.2).
-use Rattle.std.specs.Prelude.{◌≡◌, ◌<◌, ◌≤◌, Bool, List, [], ◌∷◌, length, drop, Option, Some, None, Result, Ok, Err, if◌then◌else◌}
+use Rattle.std.specs.Prelude.{◌≡◌, ◌<◌, ◌≤◌, Bool, if◌then◌else◌}
+use Rattle.std.specs.Prelude.{List, [], ◌∷◌, length, drop, Option, Some, None, Result, Ok, Err}
 use Rattle.dw_model.specs.Results.{◌>>=◌}
 use Rattle.dw_model.specs.Reading.{Place, start, items, Spans}
 use Rattle.dw_model.specs.Faults.{Bad}
@@ -47,9 +48,14 @@ registers_behind registers ends = if ends then initial else registers
 abbrev pub appended_row : Appended → Row
 appended_row appended = row (registers_shown appended.registers) appended.ends
 
+-- after a row that is appended, at a place
+abbrev pub state_behind : Appended → Place → State
+state_behind next place =
+    record { registers = registers_behind (registers_shown next.registers) next.ends; place = place }
+
 -- The machine appends this row on its way from a state to a place, and no other.
 pub record IsNext (header : LineHeader) (old : State) (next : Appended) (new : Place) : Type 0 where
-  pub rows : rows_on header old ≡ row_before (appended_row next) (rows_on header (record { registers = registers_behind (registers_shown next.registers) next.ends; place = new }))
+  pub rows : rows_on header old ≡ row_before (appended_row next) (rows_on header (state_behind next new))
   pub spans : Spans (λ piece. 0 < length piece) old.place new
 
 -- what a call returns that runs the machine to its next row

@@ -1,5 +1,6 @@
 -- What is recorded of a line program while it runs.
-use Rattle.std.specs.Prelude.{ℕ, ◌-◌, Bool, true, ◌&&◌, List, [], ◌∷◌, ◌++◌, length, take, Option, Some, None, option_and_then, slice_get, nat_le, nat_lt, ◌==◌, if◌then◌else◌}
+use Rattle.std.specs.Prelude.{ℕ, ◌-◌, Bool, true, ◌&&◌, nat_le, nat_lt, ◌==◌, if◌then◌else◌}
+use Rattle.std.specs.Prelude.{List, [], ◌∷◌, ◌++◌, length, take, Option, Some, None, option_and_then, slice_get}
 use Rattle.dw_line.specs.declared.registers.Registers.{Registers}
 use Rattle.dw_line.specs.declared.checkpoints.Checkpoint.{Checkpoint}
 use Rattle.dw_line.specs.declared.checkpoints.Sequence.{Sequence}
@@ -15,7 +16,8 @@ pub record Recorder : Type 0 where
   pub pending : Pending
 
 abbrev pub recorder_shown : Checkpoints → Recorder
-recorder_shown kept = record { checkpoints = kept.checkpoints.items; sequences = kept.sequences.items; pending = kept.pending }
+recorder_shown kept =
+    record { checkpoints = kept.checkpoints.items; sequences = kept.sequences.items; pending = kept.pending }
 
 -- no row is pending after so many checkpoints
 abbrev pub none_pending : ℕ → Pending
@@ -46,10 +48,25 @@ pushed_by due registers place r = record {
 abbrev pub pushed : Registers → ℕ → Recorder → Recorder
 pushed registers place r = pushed_by (r.pending.room == 0) registers place r
 
+-- the pending rows, which begin at an address, are used with an end row at another
+abbrev pub are_used : Pending → (begin end : ℕ) → Bool
+are_used pending begin end = pending.rises && nat_le pending.last_address end && nat_lt begin end
+
 -- the address at which the pending rows begin, where they are used with an end row at an address
 abbrev pub used_from : ℕ → Recorder → Option ℕ
 used_from end r =
-    option_and_then (λ first. if r.pending.rises && nat_le r.pending.last_address end && nat_lt first.registers.address end then Some first.registers.address else None) (slice_get r.checkpoints r.pending.first_checkpoint)
+    option_and_then (λ first.
+    if are_used r.pending first.registers.address end then Some first.registers.address else None)
+    (slice_get r.checkpoints r.pending.first_checkpoint)
+
+-- what is kept of the pending rows, where they are a used sequence from one address to another
+abbrev pub sequence_of : (begin end : ℕ) → Recorder → Sequence
+sequence_of begin end r = record {
+  begin = begin;
+  end = end;
+  first_checkpoint = r.pending.first_checkpoint;
+  end_checkpoint = length r.checkpoints;
+}
 
 -- the pending rows end: they are a sequence, which is kept where it is used
 abbrev pub closed_from : Option ℕ → ℕ → Recorder → Recorder
@@ -60,7 +77,7 @@ closed_from None end r = record {
 }
 closed_from (Some begin) end r = record {
   checkpoints = r.checkpoints;
-  sequences = r.sequences ++ record { begin = begin; end = end; first_checkpoint = r.pending.first_checkpoint; end_checkpoint = length r.checkpoints } ∷ [];
+  sequences = r.sequences ++ sequence_of begin end r ∷ [];
   pending = none_pending (length r.checkpoints);
 }
 

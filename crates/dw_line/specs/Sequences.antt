@@ -1,5 +1,6 @@
 -- The used sequences of a matrix, and the checkpoints from which their rows are run again.
-use Rattle.std.specs.Prelude.{◌≡◌, ◌≤◌, ◌<◌, ℕ, ◌+◌, ◌*◌, ◌/◌, Bool, true, false, ◌&&◌, List, [], ◌∷◌, length, take, drop, sum_by, filter, Option, Ok, nat_le, nat_lt, if◌then◌else◌}
+use Rattle.std.specs.Prelude.{◌≡◌, ◌≤◌, ◌<◌, ℕ, ◌+◌, ◌*◌, ◌/◌, Bool, true, false, ◌&&◌, nat_le, nat_lt, if◌then◌else◌}
+use Rattle.std.specs.Prelude.{List, [], ◌∷◌, length, take, drop, sum_by, filter, Option, Ok}
 use Rattle.std.specs.List.{position_from}
 use Rattle.dw_model.specs.LineHeader.{LineHeader}
 use Rattle.dw_model.specs.Matrix.{Row, sequences, is_used, first_address, last_address}
@@ -79,7 +80,8 @@ checkpoints_in checkpoints sequence = drop sequence.first_checkpoint (take seque
 
 -- What is kept of a used sequence: its bounds, and its checkpoints, whose indexes are below a
 -- bound.
-pub record IsSequence (header : LineHeader) (checkpoints : List Checkpoint) (end : ℕ) (sequence : Sequence) (rows : List Row) : Type 0 where
+pub record IsSequence (header : LineHeader) (checkpoints : List Checkpoint) (end : ℕ) (sequence : Sequence)
+    (rows : List Row) : Type 0 where
   pub ordered : sequence.first_checkpoint ≤ sequence.end_checkpoint
   pub within : sequence.end_checkpoint ≤ end
   pub begins : sequence.begin ≡ first_address rows
@@ -94,7 +96,8 @@ AreSequences header checkpoints end (sequence ∷ sequences) (rows ∷ used) =
 AreSequences header checkpoints end _ _ = ⊥
 
 -- What is kept of the used sequences of a matrix.
-pub record AreKept (header : LineHeader) (checkpoints : List Checkpoint) (kept : List Sequence) (used : List (List Row)) : Type 0 where
+pub record AreKept (header : LineHeader) (checkpoints : List Checkpoint) (kept : List Sequence)
+    (used : List (List Row)) : Type 0 where
   pub each : AreSequences header checkpoints (length checkpoints) kept used
   pub few : length checkpoints ≤ most_checkpoints used
   pub enough : sum_by length used ≤ 64 * length checkpoints + length used
