@@ -1,8 +1,7 @@
 -- Running a program for the first time: what is recorded, and which rows are still appended.
-use Rattle.std.proofs.Common.{◌≡◌, ℕ, ◌+◌, ◌*◌, ◌≤◌, Bool, true, false, List, [], ◌∷◌, length, drop, Option, Some, None, Ok, Err, sym, subst, ap, ◌∙◌, length-append, arith}
+use Rattle.std.proofs.Common.{◌≡◌, ℕ, ◌+◌, ◌≤◌, Bool, true, false, List, [], ◌∷◌, length, drop, Option, Some, None, Ok, Err, sym, subst, ap, ◌∙◌, length-append, arith}
 use Rattle.std.specs.Prelude.{◌==◌}
 use Rattle.std.proofs.lemmas.List.{length-take}
-use Rattle.std.proofs.lemmas.List.Elements.{All-nil}
 use Rattle.std.proofs.Math.Seq.{drop-append_seam}
 use Rattle.dw_model.specs.Reading.{Place, start}
 use Rattle.dw_model.specs.Faults.{bad}
@@ -13,14 +12,11 @@ use Rattle.dw_model.specs.Registers as model
 use Rattle.dw_line.specs.declared.registers.Registers.{Registers}
 use Rattle.dw_line.specs.declared.machine.Appended.{Appended}
 use Rattle.dw_line.specs.Registers.{registers_shown}
-use Rattle.dw_line.specs.Machine.{State, IsIn, state_at, beginning, rows_on, row_before, registers_behind, appended_row, IsNext, RunsToNext}
+use Rattle.dw_line.specs.Machine.{State, beginning, rows_on, row_before, registers_behind, appended_row, IsNext, RunsToNext}
 use Rattle.dw_line.specs.Sequences.{used_sequences, AreKept}
 use Rattle.dw_line.specs.Program.{IsRecorded}
 use Rattle.dw_line.specs.Recorder.{Recorder, recorder_shown, empty, pushed_by, used_from, closed_from, recorded, finished}
-use Rattle.dw_line.specs.declared.leaps.Leap.{Leap}
-use Rattle.dw_line.specs.declared.program.Recorded.{Recorded}
-use Rattle.dw_line.specs.Leaps.{IsLeap, AreLeaps, with_leap}
-use Rattle.dw_line.proofs.LeapLemmas.{way, is_leap, Grows, grows}
+use Rattle.dw_line.specs.declared.checkpoints.Checkpoints.{Checkpoints}
 use Rattle.dw_line.proofs.MachineLemmas.{Passes, passes, passes_more, passes_none}
 use Rattle.dw_line.proofs.RecorderLemmas as records
 use Rattle.dw_line.proofs.RecorderLemmas.{Records}
@@ -36,22 +32,18 @@ abbrev pub size_of : Recorder → ℕ
 size_of r = length r.checkpoints + length r.sequences
 
 -- A fault on the way from here is the program's, and where the rows from here on can be read, so
--- can all. No more is kept than one thing for each byte that was passed, and one way for 64.
-pub record Recording (header : LineHeader) (r : Recorder) (leaps : List Leap) (state : State) : Type 0 where
+-- can all. No more is kept than one thing for each byte that was passed.
+pub record Recording (header : LineHeader) (r : Recorder) (state : State) : Type 0 where
   pub bad : rows_on header state ≡ Err bad → rows_on header (beginning header) ≡ Err bad
   pub good : (rows : List Row) → rows_on header state ≡ Ok rows → Whole header r rows
   pub place : Passes (start header.program) state.place
-  pub are : AreLeaps header leaps
-  pub few : 64 * length leaps ≤ state.place.at
-  pub fits : size_of r + length leaps ≤ state.place.at
+  pub fits : size_of r ≤ state.place.at
 
-pub begins : (header : LineHeader) → Recording header empty [] (beginning header)
+pub begins : (header : LineHeader) → Recording header empty (beginning header)
 begins header = record {
   bad = λ e. e;
   good = λ rows e. record { all = rows; run = e; records = records.begins header rows };
   place = passes_none (start header.program);
-  are = All-nil (IsLeap header);
-  few = omega arith;
   fits = omega arith;
 }
 
@@ -84,32 +76,21 @@ recorded_size : (ends : Bool) (registers : Registers) (place : ℕ) (r : Recorde
 recorded_size true registers place r = closed_size (used_from registers.address r) registers.address r
 recorded_size false registers place r = pushed_size (r.pending.room == 0) registers place r
 
-pub goes_on : (header : LineHeader) (r : Recorder) (leaps : List Leap) (registers : Registers) (old new : Place) (next : Appended) (behind : State) → behind ≡ record { registers = registers_behind (registers_shown next.registers) next.ends; place = new } → IsNext header (state_at registers old) next new → Recording header r leaps (state_at registers old)
-    → Recording header (recorded next new.at r) (with_leap (way registers old.at next new.at) leaps) behind
-goes_on header r leaps registers old new next behind same is so_far =
-    subst (λ (s : State). Recording header (recorded next new.at r) (with_leap (way registers old.at next new.at) leaps) s) (sym same) (record {
+pub goes_on : (header : LineHeader) (r : Recorder) (state : State) (next : Appended) (new : Place) (behind : State) → behind ≡ record { registers = registers_behind (registers_shown next.registers) next.ends; place = new } → IsNext header state next new → Recording header r state → Recording header (recorded next new.at r) behind
+goes_on header r state next new behind same is so_far =
+    subst (λ (s : State). Recording header (recorded next new.at r) s) (sym same) (record {
       bad = λ e. so_far.bad (is.rows ∙ ap (row_before (appended_row next)) e);
       good = λ rows e.
           let whole = so_far.good (appended_row next ∷ rows) (is.rows ∙ ap (row_before (appended_row next)) e) in
+          let at = place_is header.program new place in
           let later = ap (λ (p : Place). rows_on header (record { registers = registers_behind (registers_shown next.registers) next.ends; place = p })) at.0 ∙ e in
           record { all = whole.all; run = whole.run; records = one_recorded header r next.registers next.ends new.at whole.all rows whole.records later at.1 };
       place = place;
-      are = more.are;
-      few = omega (arith, more.few, so_far.few, passed);
-      fits = omega (arith, recorded_size next.ends next.registers new.at r, so_far.fits, more.fits, passed);
+      fits = omega (arith, recorded_size next.ends next.registers new.at r, so_far.fits, is.spans.1.1, is.spans.2);
     })
   where
     place : Passes (start header.program) new
-    place = passes (start header.program) new (passes_more (start header.program) old new so_far.place is.spans)
-
-    at : IsIn header new
-    at = place_is header.program new place
-
-    passed : new.at ≡ old.at + length is.spans.0
-    passed = omega (arith, is.spans.1.1)
-
-    more : Grows header leaps (with_leap (way registers old.at next new.at) leaps) (length is.spans.0)
-    more = grows header leaps (way registers old.at next new.at) (length is.spans.0) so_far.are (is_leap header registers old new next (place_is header.program old so_far.place) at is) passed is.spans.2
+    place = passes (start header.program) new (passes_more (start header.program) state.place new so_far.place is.spans)
 
 -- ---- what a call that runs the machine to its next row answers
 
@@ -119,22 +100,18 @@ none_left header old found new none is = subst (λ (found : Option Appended). Ru
 pub one_more : (header : LineHeader) (old : State) (found : Option Appended) (next : Appended) (new : Place) → found ≡ Some next → RunsToNext header old (Ok found) new → IsNext header old next new
 one_more header old found next new some is = subst (λ (found : Option Appended). RunsToNext header old (Ok found) new) some is
 
-pub begins_as : (header : LineHeader) (r : Recorder) (leaps : List Leap) (registers : model.Registers) (p : Place) → r ≡ empty → leaps ≡ [] → registers ≡ model.initial → p ≡ start header.program → Recording header r leaps (record { registers = registers; place = p })
-begins_as header r leaps registers p e none f g =
-    subst (λ (p : Place). Recording header r leaps (record { registers = registers; place = p })) (sym g)
-    (subst (λ (registers : model.Registers). Recording header r leaps (record { registers = registers; place = start header.program })) (sym f)
-    (subst (λ (leaps : List Leap). Recording header r leaps (beginning header)) (sym none)
-    (subst (λ (r : Recorder). Recording header r [] (beginning header)) (sym e) (begins header))))
+pub begins_as : (header : LineHeader) (r : Recorder) (registers : model.Registers) (p : Place) → r ≡ empty → registers ≡ model.initial → p ≡ start header.program → Recording header r (record { registers = registers; place = p })
+begins_as header r registers p e f g =
+    subst (λ (p : Place). Recording header r (record { registers = registers; place = p })) (sym g)
+    (subst (λ (registers : model.Registers). Recording header r (record { registers = registers; place = start header.program })) (sym f)
+    (subst (λ (r : Recorder). Recording header r (beginning header)) (sym e) (begins header)))
 
-pub finishes : (header : LineHeader) (r : Recorder) (state : State) (kept : Recorded) → recorder_shown kept.rows ≡ finished r → rows_on header state ≡ Ok [] → Recording header r kept.leaps.items state → IsRecorded header kept
+pub finishes : (header : LineHeader) (r : Recorder) (state : State) (kept : Checkpoints) → recorder_shown kept ≡ finished r → rows_on header state ≡ Ok [] → Recording header r state → IsRecorded header kept
 finishes header r state kept same none so_far =
     let whole = so_far.good [] none in
-    let within = (place_is header.program state.place so_far.place).1 in
     record {
       rows = whole.all;
       run = whole.run;
       kept = subst (λ (r : Recorder). AreKept header r.checkpoints r.sequences (used_sequences whole.all)) (sym same) (records.finish header r whole.all whole.records);
-      leaps = so_far.are;
-      few = omega (arith, so_far.few, within);
-      fits = subst (λ (r : Recorder). size_of r + length kept.leaps.items ≤ length header.program) (sym same) (omega (arith, length-take r.pending.first_checkpoint r.checkpoints, so_far.fits, within));
+      fits = subst (λ (r : Recorder). size_of r ≤ length header.program) (sym same) (omega (arith, length-take r.pending.first_checkpoint r.checkpoints, so_far.fits, (place_is header.program state.place so_far.place).1));
     }

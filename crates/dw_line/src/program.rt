@@ -4,41 +4,28 @@ ghost use Rattle.std.specs.Prelude.{◌≡◌};
 ghost use Rattle.dw_line.specs.Header.{header_shown};
 ghost use Rattle.dw_line.specs.Program.{RecordsProgram};
 
-use crate::checkpoints::{Checkpoint, Checkpoints};
+use crate::checkpoints::Checkpoints;
 use crate::fault::LineFault;
 use crate::header::Header;
-use crate::leaps::Leap;
 use crate::machine::next_row;
 use crate::registers::Registers;
 use dw_bytes::Cursor;
 use std::alloc::Global;
 
-/// What is kept of a program that was run.
-#[derive(Drop)]
-pub(crate) struct Recorded {
-    pub(crate) rows: Checkpoints,
-    pub(crate) leaps: Vec<Leap>,
-}
-
 /// Runs a header's program to its end. Nothing is kept of its rows but the checkpoints of used
-/// sequences, and the long ways between two.
-pub(crate) fn run_program(alloc: Global, header: &Header<'_>) -> Result<Recorded, LineFault>
+/// sequences.
+pub(crate) fn run_program(alloc: Global, header: &Header<'_>) -> Result<Checkpoints, LineFault>
     ensures { RecordsProgram (header_shown header.now) result }
 {
-    let mut rows = Checkpoints::new(alloc);
-    let mut leaps = Vec::new(alloc);
+    let mut recorded = Checkpoints::new(alloc);
     let mut cursor = Cursor::new(header.program);
     let mut registers = Registers::initial();
     loop {
-        let place = cursor.at();
-        let from = Checkpoint { registers, place };
-        let Some(next) = next_row(&mut cursor, header, registers)? else {
-            rows.finish();
-            return Ok(Recorded { rows, leaps });
+        let Some(appended) = next_row(&mut cursor, header, registers)? else {
+            recorded.finish();
+            return Ok(recorded);
         };
-        let place = cursor.at();
-        Leap { from, next, place }.keep(&mut leaps)?;
-        rows.record(next, place)?;
-        registers = next.registers_behind();
+        recorded.record(appended, cursor.at())?;
+        registers = appended.registers_behind();
     }
 }

@@ -20,6 +20,8 @@ between_bounds tables bases low high = do
 
 -- those that are named so, and count
 abbrev pub ranges_by : Tables → Bases → Option Entry → NamedRanges → Result (List Range) Bad
-ranges_by tables bases root (Listed list) = all_kept (list_ranges tables bases (first_base tables bases root) (value_shown list))
-ranges_by tables bases root (Bounds low high) = all_kept (between_bounds tables bases (value_shown low) (value_shown high))
+ranges_by tables bases root (Listed list) =
+    all_kept (list_ranges tables bases (first_base tables bases root) (value_shown list))
+ranges_by tables bases root (Bounds low high) =
+    all_kept (between_bounds tables bases (value_shown low) (value_shown high))
 ranges_by tables bases root Nothing = Ok []

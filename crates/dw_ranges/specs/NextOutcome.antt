@@ -20,7 +20,8 @@ entry_behind code p = if code == constants.DW_RLE_end_of_list then Ok (None, p) 
 -- what an entry that was read does, where the base before it is this one; nothing at the list's end
 abbrev pub done_by : Tables → Bases → Result ℕ Bad → Option RangeEntry × Place → Result (Option Outcome × Place) Bad
 done_by tables bases base found =
-    option_map_or (λ entry. step tables bases base entry >>= λ outcome. Ok (Some outcome, found.1)) found.0 (Ok (None, found.1))
+    option_map_or (λ entry. step tables bases base entry >>= λ outcome. Ok (Some outcome, found.1))
+    found.0 (Ok (None, found.1))
 
 abbrev pub outcome_behind : Tables → Bases → Result ℕ Bad → ℕ → Place → Result (Option Outcome × Place) Bad
 outcome_behind tables bases base code p = entry_behind code p >>= done_by tables bases base

@@ -1,7 +1,8 @@
 -- Entries of range lists as the definitions have them.
 use Rattle.dw_model.specs.Ranges as model
 use Rattle.dw_ranges.specs.declared.range_entry.RangeEntry.{RangeEntry}
-use Rattle.dw_ranges.specs.declared.range_entry.RangeEntry.TheVariants.{BaseAddressx, StartxEndx, StartxLength, OffsetPair, BaseAddress, StartEnd, StartLength}
+use Rattle.dw_ranges.specs.declared.range_entry.RangeEntry.TheVariants.{BaseAddressx, StartxEndx, StartxLength}
+use Rattle.dw_ranges.specs.declared.range_entry.RangeEntry.TheVariants.{OffsetPair, BaseAddress, StartEnd, StartLength}
 
 abbrev pub range_entry_shown : RangeEntry → model.RangeEntry
 range_entry_shown (BaseAddressx index) = model.base_addressx index

@@ -7,7 +7,8 @@ use Rattle.dw_ranges.specs.declared.read_lists.ReadLists.TheInside.{Inside}
 -- the lists that begin at the places that are marked, of which the first is this one
 unfoldable pub marked_from : ℕ → Option ℕ → Option ℕ → List Bool → List (RangeList × ℕ)
 marked_from begin base addr [] = []
-marked_from begin base addr (true ∷ marks) = (record { begin = begin; base = base; addr = addr }, 0) ∷ marked_from (begin + 1) base addr marks
+marked_from begin base addr (true ∷ marks) =
+    (record { begin = begin; base = base; addr = addr }, 0) ∷ marked_from (begin + 1) base addr marks
 marked_from begin base addr (false ∷ marks) = marked_from (begin + 1) base addr marks
 
 abbrev pub reads_of : Inside → List (RangeList × ℕ)

@@ -1,11 +1,14 @@
 -- What each entry of a range list does, one after the other.
-use Rattle.std.specs.Prelude.{ℕ, ◌+◌, List, drop, length, Option, Some, None, Result, Ok, Err, nat_le, filter, if◌then◌else◌}
+use Rattle.std.specs.Prelude.{ℕ, ◌+◌, nat_le, if◌then◌else◌}
+use Rattle.std.specs.Prelude.{List, drop, length, filter, Option, Some, None, Result, Ok, Err}
 use Rattle.dw_model.specs.Results.{◌>>=◌}
 use Rattle.dw_model.specs.Reading.{Place}
 use Rattle.dw_model.specs.Form.{Value}
 use Rattle.dw_model.specs.Text.{Tables, Bases}
 use Rattle.dw_model.specs.Faults.{Bad, bad}
-use Rattle.dw_model.specs.Ranges.{Range, range, is_kept, RangeEntry, base_addressx, startx_endx, startx_length, offset_pair, base_address, start_end, start_length, address_at, range_entries, entry_ranges, list_offset, high_end}
+use Rattle.dw_model.specs.Ranges.{RangeEntry, base_addressx, startx_endx, startx_length, offset_pair, base_address}
+use Rattle.dw_model.specs.Ranges.{start_end, start_length, address_at, range_entries}
+use Rattle.dw_model.specs.Ranges.{Range, range, is_kept, entry_ranges, list_offset, high_end}
 
 -- the range, where it counts
 abbrev pub kept : Range → Option Range

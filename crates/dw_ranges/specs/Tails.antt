@@ -25,7 +25,8 @@ pub record EndsAs (tables : Tables) (list other : RangeList) : Type 0 where
   pub some : (ranges : List Range) → ranges_of_list tables other ≡ Ok ranges → (length ranges == 0) ≡ false
 
 -- The ranges are those of the list, or those before it goes on as one that was read.
-abbrev pub ReadsNew : Tables → List (RangeList × ℕ) → RangeList → Result (Option RangeList) RangeFault → List Range → Type 0
+abbrev pub ReadsNew : Tables → List (RangeList × ℕ) → RangeList
+    → Result (Option RangeList) RangeFault → List Range → Type 0
 ReadsNew tables read list (Ok None) ranges = ranges_of_list tables list ≡ Ok ranges
 ReadsNew tables read list (Ok (Some other)) ranges =
     Has read (other, 0) × (ranges_of_list tables list ≡ onto_front ranges (ranges_of_list tables other))

@@ -5,9 +5,9 @@ use Rattle.dw_line.specs.Registers.{registers_shown}
 use Rattle.dw_line.proofs.ProgramLemmas.{Recording}
 use Rattle.dw_line.proofs.program.run_program.Given as goal
 
-abbrev pub invariant-loop-leaps : goal.invariant-loop-leaps
-invariant-loop-leaps l =
-    Recording (header_shown l.header) (recorder_shown l.rows) l.leaps.items (record { registers = registers_shown l.registers; place = l.cursor })
+abbrev pub invariant-loop-recorded : goal.invariant-loop-recorded
+invariant-loop-recorded l =
+    Recording (header_shown l.header) (recorder_shown l.recorded) (record { registers = registers_shown l.registers; place = l.cursor })
 
-abbrev pub decreases-loop-leaps : goal.decreases-loop-leaps
-decreases-loop-leaps l = length l.cursor.left
+abbrev pub decreases-loop-recorded : goal.decreases-loop-recorded
+decreases-loop-recorded l = length l.cursor.left
