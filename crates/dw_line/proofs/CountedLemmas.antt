@@ -46,7 +46,7 @@ module _ (lines : Inside) (are : AreRead lines) where
   abbrev pub own : EntryList → ℕ
   own list = length (entries_shown (tables_shown lines.unit.tables) (bases_shown lines.unit.bases) list)
 
-  pub lists-within : own lines.header.directories + own lines.header.files + length lines.header.program.now ≤ 2 * table_size lines.section.now lines.offset
+  pub lists-within : own lines.header.directories + own lines.header.files + 2 * length lines.header.program.now ≤ 2 * table_size lines.section.now lines.offset
   lists-within =
       let tables = tables_shown lines.unit.tables in
       let bases = bases_shown lines.unit.bases in
@@ -54,7 +54,7 @@ module _ (lines : Inside) (are : AreRead lines) where
       header-within lines.section.now lines.offset tables bases (lines_in lines).header (header_of tables bases lines.section.now comp_dir lines.offset (lines_in lines) (are.each tables bases comp_dir))
 
   pub count-but-files : (directories : ℕ) → ((tables : Tables) (bases : Bases) → directories ≡ length (entries_shown tables bases lines.header.directories)) → count lines directories 0 ≤ 2 * table_size lines.section.now lines.offset
-  count-but-files directories first = omega (arith, lists-within, are.fits, first (tables_shown lines.unit.tables) (bases_shown lines.unit.bases))
+  count-but-files directories first = omega (arith, lists-within, are.fits, are.leaps.few, first (tables_shown lines.unit.tables) (bases_shown lines.unit.bases))
 
 module _ (lines : Inside) (are : AreRead lines) (directories files : ℕ)
     (first : (tables : Tables) (bases : Bases) → directories ≡ length (entries_shown tables bases lines.header.directories))
@@ -63,10 +63,10 @@ module _ (lines : Inside) (are : AreRead lines) (directories files : ℕ)
   as_many_sequences = as_many (header_shown lines.header) lines.checkpoints.items (length lines.checkpoints.items) lines.sequences.items (used_sequences (matrix_of (header_shown lines.header))) are.kept.each
 
   pub count-bytes : count lines directories files ≤ 2 * table_size lines.section.now lines.offset
-  count-bytes = omega (arith, lists-within lines are, are.fits, first (tables_shown lines.unit.tables) (bases_shown lines.unit.bases), second (tables_shown lines.unit.tables) (bases_shown lines.unit.bases))
+  count-bytes = omega (arith, lists-within lines are, are.fits, are.leaps.few, first (tables_shown lines.unit.tables) (bases_shown lines.unit.bases), second (tables_shown lines.unit.tables) (bases_shown lines.unit.bases))
 
   pub count-bound : count lines directories files ≤ most_kept (lines_in lines)
-  count-bound = omega (arith, are.kept.few, are.few, as_many_sequences, first (tables_shown lines.unit.tables) (bases_shown lines.unit.bases), second (tables_shown lines.unit.tables) (bases_shown lines.unit.bases))
+  count-bound = omega (arith, are.kept.few, are.leaps.few, as_many_sequences, first (tables_shown lines.unit.tables) (bases_shown lines.unit.bases), second (tables_shown lines.unit.tables) (bases_shown lines.unit.bases))
 
   pub count-least : spelled (lines_in lines) ≤ 64 * count lines directories files
   count-least = omega (arith, are.kept.enough, as_many_sequences, first (tables_shown lines.unit.tables) (bases_shown lines.unit.bases), second (tables_shown lines.unit.tables) (bases_shown lines.unit.bases))

@@ -1,15 +1,17 @@
 -- Long ways of a program, kept and found again.
-use Rattle.std.proofs.Common.{◌≡◌, ℕ, ◌+◌, ◌*◌, ◌<◌, ◌≤◌, Bool, true, false, cond, List, [], ◌∷◌, ◌++◌, length, drop, refl, sym, subst, length-append, arith}
+use Rattle.std.proofs.Common.{◌≡◌, ℕ, Bool, true, false, List, [], ◌∷◌, ◌++◌, length, drop, refl, sym, subst, length-append, arith}
 use Rattle.std.specs.Prelude.{◌&&◌, ◌==◌, nat_lt, ◌-◌, not}
 use Rattle.std.proofs.lemmas.Bool.{and_parts, eqb-true, ltb-true}
-use Rattle.std.proofs.lemmas.List.Elements.{All-push}
+use Rattle.std.proofs.lemmas.List.Elements.{All-nil, All-push}
 use Rattle.dw_model.specs.LineHeader.{LineHeader}
-use Rattle.dw_model.specs.Reading.{Place}
+use Rattle.dw_model.specs.Reading.{Place, start}
 use Rattle.dw_line.specs.declared.checkpoints.Checkpoint.{Checkpoint}
 use Rattle.dw_line.specs.declared.leaps.Leap.{Leap}
 use Rattle.dw_line.specs.declared.machine.Appended.{Appended}
 use Rattle.dw_line.specs.declared.registers.Registers.{Registers}
-use Rattle.dw_line.specs.Leaps.{IsLeap, AreLeaps, with_leap}
+use Rattle.dw_line.specs.Leaps.{IsLeap, FewLeaps}
+use Rattle.dw_line.proofs.MachineLemmas.{Passes, passes, passes_more, passes_none}
+use Rattle.dw_line.proofs.ProgramLemmas.{place_is}
 use Rattle.dw_line.specs.Machine.{IsIn, IsNext, state_at}
 
 -- what the code's test of two checkpoints says
@@ -51,19 +53,28 @@ is_leap header registers old new next from to is = record {
   next = subst (λ (p : Place). IsNext header (state_at registers p) next (record { at = new.at; left = drop new.at header.program })) (sym from.0) (subst (λ (p : Place). IsNext header (state_at registers old) next p) (sym to.0) is);
 }
 
--- With one way more each way stands, and there is no more than one for 64 bytes, and one byte for
--- the row.
-pub record Grows (header : LineHeader) (leaps grown : List Leap) (bytes : ℕ) : Type 0 where
-  pub are : AreLeaps header grown
-  pub few : 64 * length grown ≤ 64 * length leaps + bytes
-  pub fits : length grown + 1 ≤ length leaps + bytes
+-- What is known while a program is run: the place is in it, and the long ways up to there.
+pub record Leaping (header : LineHeader) (leaps : List Leap) (p : Place) : Type 0 where
+  pub place : Passes (start header.program) p
+  pub few : FewLeaps header p.at leaps
 
-pub grows : (header : LineHeader) (leaps : List Leap) (leap : Leap) (bytes : ℕ) → AreLeaps header leaps → IsLeap header leap → leap.place ≡ leap.from.place + bytes → 0 < bytes → Grows header leaps (with_leap leap leaps) bytes
-grows header leaps leap bytes are is passed some = by (nat_lt 64 (leap.place - leap.from.place)) refl
-  where
-    by : (long : Bool) → nat_lt 64 (leap.place - leap.from.place) ≡ long → Grows header leaps (cond long (leaps ++ leap ∷ []) leaps) bytes
-    by true e =
-        let more = ltb-true 64 (leap.place - leap.from.place) e in
-        let size = length-append leaps (leap ∷ []) in
-        record { are = All-push (IsLeap header) leaps leap are is; few = omega (arith, more, size, passed); fits = omega (arith, more, size, passed) }
-    by false e = record { are = are; few = omega arith; fits = omega (arith, some) }
+pub begins : (header : LineHeader) (leaps : List Leap) (p : Place) → leaps ≡ [] → p ≡ start header.program → Leaping header leaps p
+begins header leaps p none first = rw (none, first) (record { place = passes_none (start header.program); few = record { are = All-nil (IsLeap header); few = omega arith } })
+
+pub ends : (header : LineHeader) (leaps : List Leap) (p : Place) → Leaping header leaps p → FewLeaps header (length header.program) leaps
+ends header leaps p is = record { are = is.few.are; few = omega (arith, is.few.few, (place_is header.program p is.place).1) }
+
+-- a row later, behind a long way or a short one
+module _ (header : LineHeader) (leaps : List Leap) (registers : Registers) (old new : Place) (next : Appended) (is : Leaping header leaps old) (row : IsNext header (state_at registers old) next new) where
+  place : Passes (start header.program) new
+  place = passes (start header.program) new (passes_more (start header.program) old new is.place row.spans)
+
+  pub goes_on : Leaping header leaps new
+  goes_on = record { place = place; few = record { are = is.few.are; few = omega (arith, is.few.few, row.spans.1.1) } }
+
+  pub leaps_on : (from to : ℕ) → from ≡ old.at → to ≡ new.at → nat_lt 64 (to - from) ≡ true → Leaping header (leaps ++ way registers from next to ∷ []) new
+  leaps_on from to e f long =
+      let one = is_leap header registers old new next (place_is header.program old is.place) (place_is header.program new place) row in
+      let leap = way registers old.at next new.at in
+      let same : way registers from next to ≡ leap = cc in
+      rw same (record { place = place; few = record { are = All-push (IsLeap header) leaps leap is.few.are one; few = omega (arith, is.few.few, ltb-true 64 (to - from) long, e, f, length-append leaps (leap ∷ [])) } })

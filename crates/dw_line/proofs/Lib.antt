@@ -4,8 +4,8 @@ pub mod OperandLemmas
 pub mod MachineLemmas
 pub mod KeptLemmas
 pub mod RecorderLemmas
-pub mod LeapLemmas
 pub mod ProgramLemmas
+pub mod LeapLemmas
 pub mod RunLemmas
 pub mod SearchLemmas
 pub mod SequenceLemmas

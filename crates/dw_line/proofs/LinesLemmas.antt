@@ -11,7 +11,7 @@ use Rattle.dw_model.specs.Instruction.{Instruction, instructions}
 use Rattle.dw_model.specs.Matrix.{Row, matrix, row_in, row_of, is_used, first_address, last_address}
 use Rattle.dw_line.specs.declared.checkpoints.Checkpoint.{Checkpoint}
 use Rattle.dw_line.specs.declared.checkpoints.Sequence.{Sequence}
-use Rattle.dw_line.specs.declared.program.Recorded.{Recorded}
+use Rattle.dw_line.specs.declared.checkpoints.Checkpoints.{Checkpoints}
 use Rattle.dw_line.specs.declared.search.Reached.{Reached}
 use Rattle.dw_line.specs.declared.search.Last.{Last}
 use Rattle.dw_line.specs.Search.{row_told}
@@ -39,12 +39,12 @@ run_bad tables bases section comp_dir offset header e f =
     rw (e, program) refl
 
 -- the rows that were recorded are those of the matrix
-pub matrix_is : (header : LineHeader) (recorded : Recorded) → (is : IsRecorded header recorded) → is.rows ≡ matrix_of header
+pub matrix_is : (header : LineHeader) (recorded : Checkpoints) → (is : IsRecorded header recorded) → is.rows ≡ matrix_of header
 matrix_is header recorded is =
     let whole = matrix_rows header is.rows is.run in
     whole.2 ∙ sym (ap (λ (program : Result (List Instruction) Bad). matrix header (result_unwrap_or program [])) whole.1)
 
-pub lines_are : (tables : Tables) (bases : Bases) (section : List ℕ) (comp_dir : Option (List ℕ)) (offset : ℕ) (header : LineHeader) (recorded : Recorded) → line_header tables bases section offset ≡ Ok header → IsRecorded (without_lists header) recorded
+pub lines_are : (tables : Tables) (bases : Bases) (section : List ℕ) (comp_dir : Option (List ℕ)) (offset : ℕ) (header : LineHeader) (recorded : Checkpoints) → line_header tables bases section offset ≡ Ok header → IsRecorded (without_lists header) recorded
     → lines_of tables bases section comp_dir offset ≡ Ok (record { section = section; offset = offset; header = header; rows = matrix_of (without_lists header); comp_dir = comp_dir })
 unfolding lines_of
 lines_are tables bases section comp_dir offset header recorded e is =
@@ -52,9 +52,9 @@ lines_are tables bases section comp_dir offset header recorded e is =
     let program : instructions header ≡ Ok whole.0 = same-instructions header ∙ whole.1 in
     rw (e, program, whole.1) (λ i. Ok (record { section = section; offset = offset; header = header; rows = same-matrix header whole.0 i; comp_dir = comp_dir }))
 
-pub kept_of : (header : LineHeader) (recorded : Recorded) → IsRecorded header recorded → AreKept header recorded.rows.checkpoints.items recorded.rows.sequences.items (used_sequences (matrix_of header))
+pub kept_of : (header : LineHeader) (recorded : Checkpoints) → IsRecorded header recorded → AreKept header recorded.checkpoints.items recorded.sequences.items (used_sequences (matrix_of header))
 kept_of header recorded is =
-    subst (λ (rows : List Row). AreKept header recorded.rows.checkpoints.items recorded.rows.sequences.items (used_sequences rows)) (matrix_is header recorded is) is.kept
+    subst (λ (rows : List Row). AreKept header recorded.checkpoints.items recorded.sequences.items (used_sequences rows)) (matrix_is header recorded is) is.kept
 
 -- the number by the bounds that are kept is that by the rows
 pub number_is : (header : LineHeader) (checkpoints : List Checkpoint) (kept : List Sequence) (used : List (List Row)) (a : ℕ) → AreKept header checkpoints kept used → number_of kept a ≡ number_among used a

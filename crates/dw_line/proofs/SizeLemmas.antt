@@ -122,18 +122,18 @@ module _ (tables : Tables) (bases : Bases) (size : ℕ) where
       let few = both_lists (length p.left) (length a.1.left) (length b.1.left) (length c.1.left) (length d.1.left) (length f.1.left) (length g.1.left) (length h.1.left) (length h.0) (length directories.1.left) (length directories.0) (length files.0) (number-onward 1 p bad a ea) (number-onward 1 a.1 bad b eb) (number-onward 1 b.1 bad c ec) (number-onward 1 c.1 bad d ed) (number-onward 1 d.1 bad f ef) (number-onward 1 f.1 bad g eg) left first.0 first.1 second.0 in
       subst (Fit program p) (ok_is _ x e) (few, refl))) x (past_refusal (f.0 == 0 || g.0 == 0) _ x (past_refusal (not (b.0 == 1)) _ x e))))))))) x e
 
-  all_parts : (p a b c d size header left lists program : ℕ) → a + 2 ≡ p → b + 1 ≡ a → c + 1 ≡ b → d + size ≡ c → d ≡ header + left → lists ≤ 2 * header → program ≡ left → lists + program ≤ 2 * p
+  all_parts : (p a b c d size header left lists program : ℕ) → a + 2 ≡ p → b + 1 ≡ a → c + 1 ≡ b → d + size ≡ c → d ≡ header + left → lists ≤ 2 * header → program ≡ left → lists + 2 * program ≤ 2 * p
   all_parts p a b c d size header left lists program e f g h i j k = omega (arith, e, f, g, h, i, j, k)
 
   -- and the header and the program in the table
-  table-on : (p : Place) (x : LineHeader) → table_behind tables bases size p ≡ Ok x → length x.directories + length x.files + length x.program ≤ 2 * length p.left
+  table-on : (p : Place) (x : LineHeader) → table_behind tables bases size p ≡ Ok x → length x.directories + length x.files + 2 * length x.program ≤ 2 * length p.left
   unfolding table_behind
   table-on p x e =
-      behind (ok_or (number_at 2 p) bad) _ (λ x. length x.directories + length x.files + length x.program ≤ 2 * length p.left) (λ version ev.
-      behind (ok_or (number_at 1 version.1) bad) _ (λ x. length x.directories + length x.files + length x.program ≤ 2 * length p.left) (λ address ea.
-      behind (ok_or (number_at 1 address.1) bad) _ (λ x. length x.directories + length x.files + length x.program ≤ 2 * length p.left) (λ segment es.
-      behind (ok_or (number_at size segment.1) bad) _ (λ x. length x.directories + length x.files + length x.program ≤ 2 * length p.left) (λ long el.
-      behind (ok_or (bytes_at long.0 long.1) bad) _ (λ x. length x.directories + length x.files + length x.program ≤ 2 * length p.left) (λ header eh x e.
+      behind (ok_or (number_at 2 p) bad) _ (λ x. length x.directories + length x.files + 2 * length x.program ≤ 2 * length p.left) (λ version ev.
+      behind (ok_or (number_at 1 version.1) bad) _ (λ x. length x.directories + length x.files + 2 * length x.program ≤ 2 * length p.left) (λ address ea.
+      behind (ok_or (number_at 1 address.1) bad) _ (λ x. length x.directories + length x.files + 2 * length x.program ≤ 2 * length p.left) (λ segment es.
+      behind (ok_or (number_at size segment.1) bad) _ (λ x. length x.directories + length x.files + 2 * length x.program ≤ 2 * length p.left) (λ long el.
+      behind (ok_or (bytes_at long.0 long.1) bad) _ (λ x. length x.directories + length x.files + 2 * length x.program ≤ 2 * length p.left) (λ header eh x e.
       let fields = fields-on header.1.left (start header.0) x (past_refusal (not (address.0 == ADDRESS_SIZE)) _ x (past_refusal (not (version.0 == DWARF_VERSION)) _ x e)) in
       let lengths = bytes_at-between long.0 long.1 header (ok_or-ok (bytes_at long.0 long.1) bad header eh) in
       all_parts (length p.left) (length version.1.left) (length address.1.left) (length segment.1.left) (length long.1.left) size (length header.0) (length header.1.left) (length x.directories + length x.files) (length x.program)
@@ -165,11 +165,11 @@ module _ (section : List ℕ) (offset : ℕ) where
       by (Some table) e = table_within table e
       by None e = omega arith
 
-  -- The things in the lists of a table, and the bytes of its program, are at most twice the bytes
-  -- of the table.
-  pub header-within : (tables : Tables) (bases : Bases) (header : LineHeader) → line_header tables bases section offset ≡ Ok header → length header.directories + length header.files + length header.program ≤ 2 * table_size section offset
+  -- The things in the lists of a table, and twice the bytes of its program, are at most twice the
+  -- bytes of the table.
+  pub header-within : (tables : Tables) (bases : Bases) (header : LineHeader) → line_header tables bases section offset ≡ Ok header → length header.directories + length header.files + 2 * length header.program ≤ 2 * table_size section offset
   header-within tables bases header e = by (table_at section offset) (sym (header_behind tables bases section offset) ∙ e)
     where
-      by : (table : Option (List ℕ × ℕ)) → ◌>>=◌ {A = List ℕ × ℕ} {B = LineHeader} (ok_or table bad) (λ table. table_behind tables bases table.1 (start table.0)) ≡ Ok header → length header.directories + length header.files + length header.program ≤ 2 * option_map_or (λ (table : List ℕ × ℕ). length table.0) table 0
+      by : (table : Option (List ℕ × ℕ)) → ◌>>=◌ {A = List ℕ × ℕ} {B = LineHeader} (ok_or table bad) (λ table. table_behind tables bases table.1 (start table.0)) ≡ Ok header → length header.directories + length header.files + 2 * length header.program ≤ 2 * option_map_or (λ (table : List ℕ × ℕ). length table.0) table 0
       by (Some table) e = table-on tables bases table.1 (start table.0) header e
       by None e = absurd cc

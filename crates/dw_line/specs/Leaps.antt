@@ -1,5 +1,5 @@
 -- Long ways of a program without a row.
-use Rattle.std.specs.Prelude.{◌≤◌, ◌-◌, List, [], ◌∷◌, ◌++◌, length, drop, nat_lt, if◌then◌else◌}
+use Rattle.std.specs.Prelude.{◌≤◌, ◌*◌, ℕ, List, length, drop}
 use Rattle.std.specs.List.{All}
 use Rattle.dw_model.specs.LineHeader.{LineHeader}
 use Rattle.dw_model.specs.Reading.{Place}
@@ -21,6 +21,7 @@ pub record IsLeap (header : LineHeader) (leap : Leap) : Type 0 where
 abbrev pub AreLeaps : LineHeader → List Leap → Type 0
 AreLeaps header leaps = All (IsLeap header) leaps
 
--- one more, if it is of more than 64 bytes
-abbrev pub with_leap : Leap → List Leap → List Leap
-with_leap leap leaps = if nat_lt 64 (leap.place - leap.from.place) then leaps ++ leap ∷ [] else leaps
+-- Each is one, and there is at most one for 64 of so many bytes.
+pub record FewLeaps (header : LineHeader) (bytes : ℕ) (leaps : List Leap) : Type 0 where
+  pub are : AreLeaps header leaps
+  pub few : 64 * length leaps ≤ bytes

@@ -1,12 +1,12 @@
 -- What a line table that was read is seen as.
-use Rattle.std.specs.Prelude.{◌≡◌, ◌≤◌, ◌+◌, ◌*◌, ℕ, List, length, Option, Ok, option_map}
+use Rattle.std.specs.Prelude.{◌≡◌, ◌≤◌, ◌+◌, ℕ, List, length, Option, Ok, option_map}
 use Rattle.dw_model.specs.Matrix.{Row}
 use Rattle.dw_model.specs.Text.{Tables, Bases}
 use Rattle.dw_index.specs.Segments.{owner_at}
 use Rattle.dw_forms.specs.Tables.{tables_shown, bases_shown}
 use Rattle.dw_line.specs.declared.lines.Lines.TheInside.{Inside}
 use Rattle.dw_line.specs.Header.{header_in, header_shown}
-use Rattle.dw_line.specs.Leaps.{AreLeaps}
+use Rattle.dw_line.specs.Leaps.{FewLeaps}
 use Rattle.dw_line.specs.Lines.{Table, lines_of, matrix_of}
 use Rattle.dw_line.specs.Reached.{IsLast}
 use Rattle.dw_line.specs.Sequences.{used_sequences, number_among, AreKept}
@@ -37,9 +37,7 @@ pub record AreRead (lines : Inside) : Type 0 where
   pub each : (tables : Tables) (bases : Bases) (comp_dir : Option (List ℕ))
       → lines_of tables bases lines.section.now comp_dir lines.offset ≡ Ok (table_in lines tables bases comp_dir)
   pub kept : AreKept (header_shown lines.header) lines.checkpoints.items lines.sequences.items (used_in lines)
-  pub leaps : AreLeaps (header_shown lines.header) lines.leaps.items
-  pub few : 64 * length lines.leaps.items ≤ length lines.header.program.now
-  pub fits : length lines.checkpoints.items + length lines.sequences.items + length lines.leaps.items
-      ≤ length lines.header.program.now
+  pub fits : length lines.checkpoints.items + length lines.sequences.items ≤ length lines.header.program.now
+  pub leaps : FewLeaps (header_shown lines.header) (length lines.header.program.now) lines.leaps.items
   pub found : (a : ℕ) → owner_at lines.index a ≡ number_among (used_in lines) a
   pub last : IsLast (header_shown lines.header) (used_in lines) lines.last

@@ -19,4 +19,5 @@ pub record IsRecorded (header : LineHeader) (recorded : Checkpoints) : Type 0 wh
 -- what a call returns that runs a header's program, unless it reports that it is out of memory
 abbrev pub RecordsProgram : LineHeader → Result Checkpoints LineFault → Type 0
 RecordsProgram header (Ok recorded) = IsRecorded header recorded
-RecordsProgram header (Err e) = MatchOption (line_fault e) (Unit {0}) (λ fault. rows_on header (beginning header) ≡ Err fault)
+RecordsProgram header (Err e) =
+    MatchOption (line_fault e) (Unit {0}) (λ fault. rows_on header (beginning header) ≡ Err fault)

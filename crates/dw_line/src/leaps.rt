@@ -1,16 +1,17 @@
 //! Long ways of a line program without a row, which are run once alone.
 
-ghost use Rattle.std.specs.Prelude.{◌≡◌, ◌≤◌, Some, IfSome, OnOk, drop, length, nat_lt};
+ghost use Rattle.std.specs.Prelude.{◌≡◌, ◌≤◌, ◌-◌, Some, IfSome, IfOk, drop, length, nat_lt};
 ghost use Rattle.dw_line.specs.Header.{header_shown};
-ghost use Rattle.dw_line.specs.Leaps.{AreLeaps, LeadsTo, with_leap};
+ghost use Rattle.dw_line.specs.Leaps.{AreLeaps, FewLeaps, LeadsTo};
 
 use crate::checkpoints::Checkpoint;
 use crate::header::Header;
-use crate::machine::Appended;
+use crate::machine::{Appended, next_row};
+use crate::registers::Registers;
 use dw_bytes::Cursor;
-use std::alloc::AllocError;
+use std::alloc::{AllocError, Global};
 
-/// How many bytes lie at most between two rows that are run again.
+/// How many bytes of the program lie at most between two rows that are run again.
 const BYTES_APART: usize = 64;
 
 /// A way of the machine to the next row: where it begins, the row, and how many bytes of the
@@ -22,16 +23,39 @@ pub(crate) struct Leap {
     pub(crate) place: usize,
 }
 
-impl Leap {
-    /// Keeps the way, where it is long.
-    #[inline(always)]
-    pub(crate) fn keep(self, leaps: &mut Vec<Leap>) -> Result<(), AllocError>
-        ensures { OnOk result (leaps.new.items ≡ with_leap self leaps.old.items) }
-    {
-        if self.place.saturating_sub(self.from.place) > BYTES_APART {
-            leaps.push(self)?;
+/// Whether a way from one place to another is long.
+#[inline(always)]
+pub(crate) fn is_long(from: usize, to: usize) -> bool
+    ensures { result ≡ nat_lt 64 (to - from) }
+{
+    to.saturating_sub(from) > BYTES_APART
+}
+
+/// The long ways of a header's program, if they are wanted.
+pub(crate) fn long_ways(
+    alloc: Global,
+    header: &Header<'_>,
+    wanted: bool,
+) -> Result<Vec<Leap>, AllocError>
+    ensures { IfOk result (λ leaps. FewLeaps (header_shown header.now) (length header.now.program.now) leaps.items) }
+{
+    let mut leaps = Vec::new(alloc);
+    if !wanted {
+        return Ok(leaps);
+    }
+    let mut cursor = Cursor::new(header.program);
+    let mut registers = Registers::initial();
+    loop {
+        let place = cursor.at();
+        let from = Checkpoint { registers, place };
+        let Ok(Some(next)) = next_row(&mut cursor, header, registers) else {
+            return Ok(leaps);
+        };
+        let place = cursor.at();
+        if is_long(from.place, place) {
+            leaps.push(Leap { from, next, place })?;
         }
-        Ok(())
+        registers = next.registers_behind();
     }
 }
 

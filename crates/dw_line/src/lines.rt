@@ -19,9 +19,9 @@ ghost use Rattle.dw_line.specs.TableAt.{table_size};
 use crate::checkpoints::{Checkpoint, Checkpoints, Sequence};
 use crate::fault::LineFault;
 use crate::header::{Header, header_at};
-use crate::leaps::Leap;
+use crate::leaps::{Leap, long_ways};
 use crate::path::{AskingUnit, join, join_some};
-use crate::program::{Recorded, run_program};
+use crate::program::run_program;
 use crate::rows::Row;
 use crate::search::{Last, last_in, row_onward};
 use crate::sequences::{Owner, index_of, own_checkpoints};
@@ -105,12 +105,12 @@ impl<'a> Lines<'a> {
     {
         let header = header_at(alloc, line_section, offset)?;
         let recorded = run_program(alloc, &header)?;
-        let Recorded { rows, leaps } = recorded;
+        let leaps = long_ways(alloc, &header, recorded.has_long_way)?;
         let Checkpoints {
             checkpoints,
             sequences,
             ..
-        } = rows;
+        } = recorded;
         let index = index_of(alloc, &sequences)?;
         Ok(Lines {
             header,

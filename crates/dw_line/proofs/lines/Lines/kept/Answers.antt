@@ -7,7 +7,7 @@ use Rattle.dw_line.proofs.CountedLemmas.{lists-within, count-but-files, count-by
 use Rattle.dw_line.proofs.lines.Lines.kept.Goals as goal
 
 pub overflow_add-result-2 : goal.overflow_add-result-2
-overflow_add-result-2 c = record { fits = omega (arith, c.self.invariant.fits, lists-within c.self.inside c.self.invariant, size_within c.self.inside.section.now c.self.inside.offset, c.self.told.0, c.self.told.1, c.len.ensures, c.len-2.ensures, c.len-3.ensures) }
+overflow_add-result-2 c = record { fits = omega (arith, c.self.invariant.fits, c.self.invariant.leaps.few, lists-within c.self.inside c.self.invariant, size_within c.self.inside.section.now c.self.inside.offset, c.self.told.0, c.self.told.1, c.len.ensures, c.len-2.ensures, c.len-3.ensures) }
 
 pub overflow_add-result-3 : goal.overflow_add-result-3
 overflow_add-result-3 c = record { fits = omega (arith, count-but-files c.self.inside c.self.invariant c.len-4.result c.len-4.ensures, size_within c.self.inside.section.now c.self.inside.offset, c.self.told.0, c.self.told.1, c.len.ensures, c.len-2.ensures, c.len-3.ensures) }

@@ -54,10 +54,9 @@ invariant_of-result c =
     record {
       each = λ tables bases comp_dir. lines_are tables bases c.args.line_section.now comp_dir c.args.offset (header_in tables bases c.in_ok-header.header) recorded (c.in_ok-header.ensures tables bases) c.in_ok-recorded.ensures;
       kept = kept;
-      leaps = c.in_ok-recorded.ensures.leaps;
-      few = c.in_ok-recorded.ensures.few;
+      leaps = c.in_ok-leaps.ensures;
       fits = c.in_ok-recorded.ensures.fits;
-      found = λ a. c.in_ok-index.ensures a ∙ ap (λ (sequences : List Sequence). number_of sequences a) c.deref.ensures.value ∙ number_is header recorded.rows.checkpoints.items recorded.rows.sequences.items (used_sequences (matrix_of header)) a kept;
+      found = λ a. c.in_ok-index.ensures a ∙ ap (λ (sequences : List Sequence). number_of sequences a) c.deref.ensures.value ∙ number_is header recorded.checkpoints.items recorded.sequences.items (used_sequences (matrix_of header)) a kept;
       last = tt;
     }
 
