@@ -1,7 +1,7 @@
 -- Long ways of a program, kept and found again.
-use Rattle.std.proofs.Common.{◌≡◌, ℕ, Bool, true, false, List, [], ◌∷◌, ◌++◌, length, drop, refl, sym, subst, length-append, arith}
-use Rattle.std.specs.Prelude.{◌&&◌, ◌==◌, nat_lt, ◌-◌, not}
-use Rattle.std.proofs.lemmas.Bool.{and_parts, eqb-true, ltb-true}
+use Rattle.std.proofs.Common.{◌≡◌, ℕ, ◌+◌, ◌<◌, Bool, true, false, List, [], ◌∷◌, ◌++◌, length, drop, refl, sym, subst, length-append, arith}
+use Rattle.std.specs.Prelude.{◌&&◌, ◌==◌, not}
+use Rattle.std.proofs.lemmas.Bool.{and_parts, eqb-true}
 use Rattle.std.proofs.lemmas.List.Elements.{All-nil, All-push}
 use Rattle.dw_model.specs.LineHeader.{LineHeader}
 use Rattle.dw_model.specs.Reading.{Place, start}
@@ -72,9 +72,9 @@ module _ (header : LineHeader) (leaps : List Leap) (registers : Registers) (old 
   pub goes_on : Leaping header leaps new
   goes_on = record { place = place; few = record { are = is.few.are; few = omega (arith, is.few.few, row.spans.1.1) } }
 
-  pub leaps_on : (from to : ℕ) → from ≡ old.at → to ≡ new.at → nat_lt 64 (to - from) ≡ true → Leaping header (leaps ++ way registers from next to ∷ []) new
+  pub leaps_on : (from to : ℕ) → from ≡ old.at → to ≡ new.at → from + 64 < to → Leaping header (leaps ++ way registers from next to ∷ []) new
   leaps_on from to e f long =
       let one = is_leap header registers old new next (place_is header.program old is.place) (place_is header.program new place) row in
       let leap = way registers old.at next new.at in
       let same : way registers from next to ≡ leap = cc in
-      rw same (record { place = place; few = record { are = All-push (IsLeap header) leaps leap is.few.are one; few = omega (arith, is.few.few, ltb-true 64 (to - from) long, e, f, length-append leaps (leap ∷ [])) } })
+      rw same (record { place = place; few = record { are = All-push (IsLeap header) leaps leap is.few.are one; few = omega (arith, is.few.few, long, e, f, length-append leaps (leap ∷ [])) } })

@@ -48,8 +48,6 @@ pub(crate) struct Checkpoints {
     pub(crate) checkpoints: Vec<Checkpoint>,
     pub(crate) sequences: Vec<Sequence>,
     pub(crate) pending: Pending,
-    /// Some way to a row was long.
-    pub(crate) has_long_way: bool,
 }
 
 impl Pending {
@@ -93,7 +91,6 @@ impl Checkpoints {
             checkpoints: Vec::new(alloc),
             sequences: Vec::new(alloc),
             pending: Pending::none(0),
-            has_long_way: false,
         }
     }
 

@@ -1,10 +1,10 @@
 //! Long ways of a line program without a row, which are run once alone.
 
-ghost use Rattle.std.specs.Prelude.{◌≡◌, ◌≤◌, ◌-◌, Some, IfSome, IfOk, drop, length, nat_lt};
+ghost use Rattle.std.specs.Prelude.{◌≡◌, ◌≤◌, Some, IfSome, IfOk, drop, length, nat_lt};
 ghost use Rattle.dw_line.specs.Header.{header_shown};
 ghost use Rattle.dw_line.specs.Leaps.{AreLeaps, FewLeaps, LeadsTo};
 
-use crate::checkpoints::Checkpoint;
+use crate::checkpoints::{Checkpoint, ROWS_APART};
 use crate::header::Header;
 use crate::machine::{Appended, next_row};
 use crate::registers::Registers;
@@ -23,24 +23,29 @@ pub(crate) struct Leap {
     pub(crate) place: usize,
 }
 
-/// Whether a way from one place to another is long.
-#[inline(always)]
-pub(crate) fn is_long(from: usize, to: usize) -> bool
-    ensures { result ≡ nat_lt 64 (to - from) }
-{
-    to.saturating_sub(from) > BYTES_APART
+/// Whether there are so many bytes from a checkpoint to the next, or to the program's end, that
+/// some way is long.
+fn have_long_way(checkpoints: &[Checkpoint], end: usize) -> bool {
+    let mut last = 0;
+    for checkpoint in checkpoints {
+        if checkpoint.place.saturating_sub(last) > ROWS_APART * BYTES_APART {
+            return true;
+        }
+        last = checkpoint.place;
+    }
+    end.saturating_sub(last) > ROWS_APART * BYTES_APART
 }
 
-/// The long ways of a header's program, if they are wanted.
+/// The long ways of a header's program, if its checkpoints lie far apart: else none is needed.
 pub(crate) fn long_ways(
     alloc: Global,
     header: &Header<'_>,
-    wanted: bool,
+    checkpoints: &[Checkpoint],
 ) -> Result<Vec<Leap>, AllocError>
     ensures { IfOk result (λ leaps. FewLeaps (header_shown header.now) (length header.now.program.now) leaps.items) }
 {
     let mut leaps = Vec::new(alloc);
-    if !wanted {
+    if !have_long_way(checkpoints, header.program.len()) {
         return Ok(leaps);
     }
     let mut cursor = Cursor::new(header.program);
@@ -52,7 +57,7 @@ pub(crate) fn long_ways(
             return Ok(leaps);
         };
         let place = cursor.at();
-        if is_long(from.place, place) {
+        if place.saturating_sub(from.place) > BYTES_APART {
             leaps.push(Leap { from, next, place })?;
         }
         registers = next.registers_behind();

@@ -105,7 +105,7 @@ impl<'a> Lines<'a> {
     {
         let header = header_at(alloc, line_section, offset)?;
         let recorded = run_program(alloc, &header)?;
-        let leaps = long_ways(alloc, &header, recorded.has_long_way)?;
+        let leaps = long_ways(alloc, &header, &recorded.checkpoints)?;
         let Checkpoints {
             checkpoints,
             sequences,

@@ -7,7 +7,6 @@ ghost use Rattle.dw_line.specs.Program.{RecordsProgram};
 use crate::checkpoints::Checkpoints;
 use crate::fault::LineFault;
 use crate::header::Header;
-use crate::leaps::is_long;
 use crate::machine::next_row;
 use crate::registers::Registers;
 use dw_bytes::Cursor;
@@ -22,13 +21,11 @@ pub(crate) fn run_program(alloc: Global, header: &Header<'_>) -> Result<Checkpoi
     let mut cursor = Cursor::new(header.program);
     let mut registers = Registers::initial();
     loop {
-        let before = cursor.at();
         let Some(appended) = next_row(&mut cursor, header, registers)? else {
             recorded.finish();
             return Ok(recorded);
         };
         recorded.record(appended, cursor.at())?;
-        recorded.has_long_way |= is_long(before, cursor.at());
         registers = appended.registers_behind();
     }
 }

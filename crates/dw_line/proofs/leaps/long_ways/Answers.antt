@@ -1,10 +1,10 @@
-use Rattle.std.proofs.Common.{sym}
+use Rattle.std.proofs.Common.{arith}
 use Rattle.dw_line.specs.Header.{header_shown}
 use Rattle.dw_line.specs.Machine.{state_at}
 use Rattle.dw_line.proofs.LeapLemmas.{begins, goes_on, leaps_on}
 use Rattle.dw_line.proofs.MachineLemmas.{shorter}
 use Rattle.dw_line.proofs.ProgramLemmas.{one_more}
-use Rattle.dw_line.proofs.leaps.long_ways.Goals.{then-is_long+in_ok-push, else-is_long}
+use Rattle.dw_line.proofs.leaps.long_ways.Goals.{then-saturating_sub-gt-BYTES_APART+in_ok-push, else-saturating_sub-gt-BYTES_APART}
 use Rattle.dw_line.proofs.leaps.long_ways.Goals as goal
 
 pub loop-next-init : goal.loop-next-init
@@ -23,10 +23,10 @@ loop-next-preserved c =
     let old = c.loop-next.cursor in
     let new = c.next_row.new.cursor in
     let row = one_more header (state_at registers old) c.in-Ok-Some.field-0 c.in-Ok-Some.next new c.in-Ok-Some.field-0-is c.in-Ok-Some.ensures in
-    elim c.if-is_long.branch [
-      | then-is_long+in_ok-push w ↦
+    elim c.if-saturating_sub-gt-BYTES_APART.branch [
+      | then-saturating_sub-gt-BYTES_APART+in_ok-push w ↦
           rw (w.leaps-is, w.in_ok-push.ensures.items)
-          (leaps_on header c.loop-next.leaps.items registers old new c.in-Ok-Some.next c.loop-next.invariant row c.at-place.result c.at-place-in-loop-next.result c.at-place.ensures c.at-place-in-loop-next.ensures (sym w.if-is_long.ensures))
-      | else-is_long w ↦
+          (leaps_on header c.loop-next.leaps.items registers old new c.in-Ok-Some.next c.loop-next.invariant row c.at-place.result c.at-place-in-loop-next.result c.at-place.ensures c.at-place-in-loop-next.ensures (omega arith))
+      | else-saturating_sub-gt-BYTES_APART w ↦
           rw (w.leaps-is) (goes_on header c.loop-next.leaps.items registers old new c.in-Ok-Some.next c.loop-next.invariant row)
     ]

@@ -56,7 +56,7 @@ invariant_of-result c =
       kept = kept;
       leaps = c.in_ok-leaps.ensures;
       fits = c.in_ok-recorded.ensures.fits;
-      found = λ a. c.in_ok-index.ensures a ∙ ap (λ (sequences : List Sequence). number_of sequences a) c.deref.ensures.value ∙ number_is header recorded.checkpoints.items recorded.sequences.items (used_sequences (matrix_of header)) a kept;
+      found = λ a. c.in_ok-index.ensures a ∙ ap (λ (sequences : List Sequence). number_of sequences a) c.deref-2.ensures.value ∙ number_is header recorded.checkpoints.items recorded.sequences.items (used_sequences (matrix_of header)) a kept;
       last = tt;
     }
 
