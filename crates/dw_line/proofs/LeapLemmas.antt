@@ -1,7 +1,7 @@
 -- Long ways of a program, kept and found again.
-use Rattle.std.proofs.Common.{◌≡◌, ℕ, ◌+◌, ◌<◌, Bool, true, false, List, [], ◌∷◌, ◌++◌, length, drop, refl, sym, subst, length-append, arith}
+use Rattle.std.proofs.Common.{◌≡◌, ℕ, ◌+◌, ◌<◌, Bool, false, List, [], ◌∷◌, ◌++◌, length, drop, sym, subst, length-append, arith}
 use Rattle.std.specs.Prelude.{◌&&◌, ◌==◌, not}
-use Rattle.std.proofs.lemmas.Bool.{and_parts, eqb-true}
+use Rattle.std.proofs.lemmas.Bool.Decides.{nat_tests}
 use Rattle.std.proofs.lemmas.List.Elements.{All-nil, All-push}
 use Rattle.dw_model.specs.LineHeader.{LineHeader}
 use Rattle.dw_model.specs.Reading.{Place, start}
@@ -25,21 +25,13 @@ made address file line column place =
 
 pub are_same : (a b : Checkpoint) → false ≡ not (same_checkpoint a b) → a ≡ b
 are_same a b e =
-    let all = and_parts ((a.registers.address == b.registers.address) && ((a.registers.file == b.registers.file) && ((a.registers.line == b.registers.line) && (a.registers.column == b.registers.column)))) (a.place == b.place) (holds (same_checkpoint a b) e) in
-    let first = and_parts (a.registers.address == b.registers.address) ((a.registers.file == b.registers.file) && ((a.registers.line == b.registers.line) && (a.registers.column == b.registers.column))) all.0 in
-    let second = and_parts (a.registers.file == b.registers.file) ((a.registers.line == b.registers.line) && (a.registers.column == b.registers.column)) first.1 in
-    let third = and_parts (a.registers.line == b.registers.line) (a.registers.column == b.registers.column) second.1 in
-    let address = eqb-true a.registers.address b.registers.address first.0 in
-    let file = eqb-true a.registers.file b.registers.file second.0 in
-    let line = eqb-true a.registers.line b.registers.line third.0 in
-    let column = eqb-true a.registers.column b.registers.column third.1 in
-    let place = eqb-true a.place b.place all.1 in
+    let address : a.registers.address ≡ b.registers.address = grind (arith, nat_tests, e) in
+    let file : a.registers.file ≡ b.registers.file = grind (arith, nat_tests, e) in
+    let line : a.registers.line ≡ b.registers.line = grind (arith, nat_tests, e) in
+    let column : a.registers.column ≡ b.registers.column = grind (arith, nat_tests, e) in
+    let place : a.place ≡ b.place = grind (arith, nat_tests, e) in
     let same : made a.registers.address a.registers.file a.registers.line a.registers.column a.place ≡ made b.registers.address b.registers.file b.registers.line b.registers.column b.place = cc in
     same
-  where
-    holds : (b : Bool) → false ≡ not b → b ≡ true
-    holds true e = refl
-    holds false e = absurd cc
 
 -- the way to a row from a place of the program to another
 abbrev pub way : Registers → ℕ → Appended → ℕ → Leap

@@ -15,7 +15,7 @@ use Rattle.dw_line.specs.declared.checkpoints.Checkpoints.{Checkpoints}
 use Rattle.dw_line.specs.declared.search.Reached.{Reached}
 use Rattle.dw_line.specs.declared.search.Last.{Last}
 use Rattle.dw_line.specs.Search.{row_told}
-use Rattle.dw_line.specs.Reached.{told_of, last_in, IsReached, IsLast, FindsIn, FindsRow, Stays, IsRowOf}
+use Rattle.dw_line.specs.Reached.{told_of, last_in, IsReached, IsLast, FindsIn, IsRowOf}
 use Rattle.dw_line.specs.Machine.{beginning, rows_on}
 use Rattle.dw_line.specs.Header.{without_lists}
 use Rattle.dw_line.specs.Lines.{lines_of, matrix_of}
@@ -107,13 +107,6 @@ last_is header used k rows (Some last) there is = by (last.number == k) refl
     by true e = subst (λ (found : Option (List Row)). IfSome found (λ rows. IsReached header rows last.reached)) (ap (slice_get used) (eqb-true last.number k e) ∙ there) is
     by false e = tt
 
--- what is found in the sequence of an address is found in the matrix
-finds_row : (header : LineHeader) (all rows : List Row) (a k : ℕ) (reached : Reached) → slice_get (used_sequences all) k ≡ Some rows → row_of all a ≡ row_in a rows → FindsIn header rows a (Some reached) → FindsRow header all a (Some (record { number = k; reached = reached }))
-finds_row header all rows a k reached there row found = (
-  found.0 ∙ sym (ap (option_map row_told) row),
-  subst (λ (read : Option (List Row)). IfSome read (λ rows. IsReached header rows reached)) (sym there) found.1,
-)
-
 -- an address of a used sequence has a row
 pub finds_one : (header : LineHeader) (rows : List Row) (a : ℕ) (found : Option Reached) → found ≡ None → is_used rows ≡ true → first_address rows ≤ a → a < last_address rows → FindsIn header rows a found → ⊥
 finds_one header rows a found none used from below finds =
@@ -123,18 +116,19 @@ finds_one header rows a found none used from below finds =
     by None e told = has_row a rows (never_falls_used rows used) from below e
     by (Some row) e told = cc
 
--- The row that was found is that of the addresses after it too, up to the next row.
-stays : (header : LineHeader) (all rows : List Row) (a k : ℕ) (reached : Reached) → slice_get (used_sequences all) k ≡ Some rows → is_used rows ≡ true → FindsIn header rows a (Some reached) → Stays all k a (record { number = k; reached = reached })
-stays header all rows a k reached there used found = record {
-  above = found.2.1;
-  same = λ c from before number.
-      ap (option_map row_told) (is-there all c k rows number there ∙ row_on header rows c reached (never_falls_used rows used) found.1 (omega (arith, found.2.0, from)) before);
-}
-
+-- What is found in the sequence of an address is found in the matrix, and is the row of the addresses
+-- after it too, up to the next row.
 pub row_found : (header : LineHeader) (all rows : List Row) (a k : ℕ) (reached : Reached) → slice_get (used_sequences all) k ≡ Some rows → row_of all a ≡ row_in a rows → is_used rows ≡ true → FindsIn header rows a (Some reached)
     → IsRowOf header all k a (record { number = k; reached = reached })
 row_found header all rows a k reached there row used found = record {
-  row = finds_row header all rows a k reached there row found;
+  row = (
+    found.0 ∙ sym (ap (option_map row_told) row),
+    subst (λ (read : Option (List Row)). IfSome read (λ rows. IsReached header rows reached)) (sym there) found.1,
+  );
   named = refl;
-  stays = stays header all rows a k reached there used found;
+  stays = record {
+    above = found.2.1;
+    same = λ c from before number.
+        ap (option_map row_told) (is-there all c k rows number there ∙ row_on header rows c reached (never_falls_used rows used) found.1 (omega (arith, found.2.0, from)) before);
+  };
 }

@@ -101,10 +101,7 @@ pub one_more : (header : LineHeader) (old : State) (found : Option Appended) (ne
 one_more header old found next new some is = subst (λ (found : Option Appended). RunsToNext header old (Ok found) new) some is
 
 pub begins_as : (header : LineHeader) (r : Recorder) (registers : model.Registers) (p : Place) → r ≡ empty → registers ≡ model.initial → p ≡ start header.program → Recording header r (record { registers = registers; place = p })
-begins_as header r registers p e f g =
-    subst (λ (p : Place). Recording header r (record { registers = registers; place = p })) (sym g)
-    (subst (λ (registers : model.Registers). Recording header r (record { registers = registers; place = start header.program })) (sym f)
-    (subst (λ (r : Recorder). Recording header r (beginning header)) (sym e) (begins header)))
+begins_as header r registers p e f g = rw (e, f, g) (begins header)
 
 pub finishes : (header : LineHeader) (r : Recorder) (state : State) (kept : Checkpoints) → recorder_shown kept ≡ finished r → rows_on header state ≡ Ok [] → Recording header r state → IsRecorded header kept
 finishes header r state kept same none so_far =

@@ -24,7 +24,7 @@ pub(crate) struct Leap {
 }
 
 /// Whether there are so many bytes from a checkpoint to the next, or to the program's end, that
-/// some way is long.
+/// some way may be long.
 fn have_long_way(checkpoints: &[Checkpoint], end: usize) -> bool {
     let mut last = 0;
     for checkpoint in checkpoints {
