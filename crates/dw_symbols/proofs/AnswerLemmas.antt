@@ -1,32 +1,95 @@
--- What the unit of an address answers, with its functions, is what the address means.
-use Rattle.std.proofs.Common.{◌≡◌, ◌∙◌, ℕ, ◌<◌, List, length, Some, None, Result, Ok, Err, refl, sym, ap}
-use Rattle.std.specs.Prelude.{IfOk, IfSome, slice_get}
+-- What the unit of an address answers is what the address means.
+use Rattle.std.proofs.Common.{◌≡◌, ◌∙◌, ℕ, List, [], ◌∷◌, map, Option, Some, None, Result, Ok, Err, refl, sym, ap, subst, false}
+use Rattle.dw_model.specs.Results.{◌>>=◌, with_code}
 use Rattle.dw_model.specs.Section.{Sections, sections}
-use Rattle.dw_model.specs.Unit.{units}
-use Rattle.dw_model.specs.Answer.{Answer, not_covered, unit_of, as_answer, unit_answer, answer_in}
+use Rattle.dw_model.specs.Unit.{DwarfUnit, is_skipped}
+use Rattle.dw_model.specs.Entry.{Entry}
+use Rattle.dw_model.specs.Tree.{Node, tree, chain}
+use Rattle.dw_model.specs.Name.{name}
+use Rattle.dw_model.specs.Answer.{Answer, Frame, Location, Lines, Code, not_covered, fault, line_fault, unit_of, as_answer, unit_answer, lines, frames, frames_from, row_at, row_location, answer_in, location_in}
 use Rattle.dw_model.specs.Answer as model
-use Rattle.dw_symbols.proofs.CoverLemmas.{some-at, known}
+use Rattle.dw_frames.specs.declared.function.Described.{Described}
+use Rattle.dw_frames.specs.Told.{Told, described_shown, told_of}
+use Rattle.dw_frames.specs.Tree.{nodes_of}
+use Rattle.dw_symbols.specs.declared.answer.UnitFault.{UnitFault}
+use Rattle.dw_symbols.specs.Answer.{code_shown}
+use Rattle.dw_symbols.specs.Frames.{called_at, frames_on, frames_told, unit_told, answer_told}
+use Rattle.dw_symbols.specs.UnitParts.{AreFunctionsAt, HasTreeFault}
+use Rattle.dw_symbols.proofs.TreeLemmas.{answering-kept}
 
-pub answer-none : (file seen : List ℕ) (a : ℕ) → file ≡ seen → None ≡ unit_of (sections file) a → not_covered ≡ model.answer seen a
+-- ---- no unit covers the address
+
+answer-none-in : (s : Sections) (a : ℕ) → None ≡ unit_of s a → not_covered ≡ answer_in s a
 unfolding answer_in
-answer-none file seen a same none =
-    let here : not_covered ≡ model.answer file a = rw (sym none) refl in
-    here ∙ ap (λ file. model.answer file a) same
+answer-none-in s a none = rw (sym none) refl
 
--- an answer by the unit at a place
-abbrev pub IsAnswer : Sections → ℕ → ℕ → Answer → Type 0
-IsAnswer s i a answer = IfSome (slice_get (units s.info) i) (λ unit. answer ≡ as_answer unit.offset (unit_answer s unit a))
+location-none-in : (s : Sections) (a : ℕ) → None ≡ unit_of s a → not_covered ≡ location_in s a
+unfolding location_in
+location-none-in s a none = rw (sym none) refl
 
-pub answer-some : (file seen : List ℕ) (i a : ℕ) (answer : Answer) → file ≡ seen → slice_get (units (sections file).info) i ≡ unit_of (sections file) a → i < length (units (sections file).info) → IsAnswer (sections file) i a answer → answer ≡ model.answer seen a
+-- ---- one does
+
+location-told-in : (s : Sections) (unit : DwarfUnit) (a : ℕ) → Some unit ≡ unit_of s a → answer_told s unit [] a ≡ location_in s a
+unfolding location_in
+location-told-in s unit a is = rw (sym is) refl
+
+abbrev named : Sections → DwarfUnit → Entry → Option (List ℕ)
+named s unit entry = name s (record { unit = unit; entry = entry })
+
+-- what is told of functions
+abbrev told : Sections → DwarfUnit → List Node → List Told
+told s unit nodes = map (λ (node : Node). told_of s unit node.entry) nodes
+
+frames-on : (s : Sections) (unit : DwarfUnit) (lines : Option Lines) (here : Location) (nodes : List Node) → frames_on lines here (told s unit nodes) ≡ frames_from (named s unit) lines here nodes
+unfolding frames_from
+frames-on s unit lines here [] = refl
+frames-on s unit lines here (node ∷ nodes) =
+    let function = told_of s unit node.entry in
+    ap (λ (rest : List Frame). record { name = function.name; location = here } ∷ rest) (frames-on s unit lines (called_at lines function.call) nodes)
+
+frames-told : (s : Sections) (unit : DwarfUnit) (lines : Option Lines) (here : Location) (nodes : List Node) → frames_told lines here (told s unit nodes) ≡ frames (named s unit) lines here nodes
+unfolding frames
+frames-told s unit lines here [] = refl
+frames-told s unit lines here (node ∷ nodes) = frames-on s unit lines here (node ∷ nodes)
+
+by_lines : (s : Sections) (unit : DwarfUnit) (a : ℕ) (nodes : List Node) (read : Result (Option Lines) Code)
+    → (read >>= λ table. Ok (frames_told table (row_location table (row_at table a)) (told s unit nodes))) ≡ (read >>= λ table. Ok (frames (named s unit) table (row_location table (row_at table a)) nodes))
+by_lines s unit a nodes (Err code) = refl
+by_lines s unit a nodes (Ok table) = ap Ok (frames-told s unit table (row_location table (row_at table a)) nodes)
+
+by_tree : (s : Sections) (unit : DwarfUnit) (a : ℕ) (nodes : List Node) → tree s unit ≡ Ok nodes → unit_told s unit (told s unit (chain s unit nodes a)) a ≡ unit_answer s unit a
+by_tree s unit a nodes read = rw read (by_lines s unit a (chain s unit nodes a) (with_code (λ _. line_fault) (lines s unit)))
+
+answer-told-in : (s : Sections) (unit : DwarfUnit) (a : ℕ) (functions : List Told) → Some unit ≡ unit_of s a → tree s unit ≡ Ok (nodes_of s unit) → functions ≡ told s unit (chain s unit (nodes_of s unit) a) → answer_told s unit functions a ≡ answer_in s a
 unfolding answer_in
-answer-some file seen i a answer same here within is =
-    let s = sections file in
-    let unit = some-at (units s.info) i within in
-    let answered = known (λ unit. answer ≡ as_answer unit.offset (unit_answer s unit a)) (slice_get (units s.info) i) unit.0 unit.1 is in
-    let found : unit_of s a ≡ Some unit.0 = sym here ∙ unit.1 in
-    let told : as_answer unit.0.offset (unit_answer s unit.0 a) ≡ model.answer file a = rw found refl in
-    answered ∙ told ∙ ap (λ file. model.answer file a) same
+answer-told-in s unit a functions is read are =
+    rw (sym is) (ap (as_answer unit.offset) (ap (λ (functions : List Told). unit_told s unit functions a) are ∙ by_tree s unit a (nodes_of s unit) read))
 
-pub answer-ok : {A E : Type 0} (shown : A → Answer) (result : Result A E) (file seen : List ℕ) (i a : ℕ) → file ≡ seen → slice_get (units (sections file).info) i ≡ unit_of (sections file) a → i < length (units (sections file).info) → IfOk result (λ answer. IsAnswer (sections file) i a (shown answer)) → IfOk result (λ answer. shown answer ≡ model.answer seen a)
-answer-ok shown (Ok answer) file seen i a same here within is = answer-some file seen i a (shown answer) same here within is
-answer-ok shown (Err e) file seen i a same here within is = tt
+answer-fault-in : (s : Sections) (unit : DwarfUnit) (a : ℕ) (code : UnitFault) → Some unit ≡ unit_of s a → HasTreeFault s unit code → fault unit.offset (code_shown code) ≡ answer_in s a
+unfolding answer_in
+answer-fault-in s unit a code is faults = rw (sym is, faults) refl
+
+-- ---- as the code has them: the unit's file, the image's and the context's are the same
+
+module _ (seen file : List ℕ) (a : ℕ) (same : seen ≡ file) where
+  pub answer-none : None ≡ unit_of (sections seen) a → not_covered ≡ model.answer file a
+  answer-none none = answer-none-in (sections seen) a none ∙ ap (λ file. model.answer file a) same
+
+  pub location-none : None ≡ unit_of (sections seen) a → not_covered ≡ model.location file a
+  location-none none = location-none-in (sections seen) a none ∙ ap (λ file. model.location file a) same
+
+module _ (here seen file : List ℕ) (unit : DwarfUnit) (a : ℕ) (found : here ≡ seen) (same : seen ≡ file) (is : Some unit ≡ unit_of (sections seen) a) where
+  its : Some unit ≡ unit_of (sections here) a
+  its = subst (λ (file : List ℕ). Some unit ≡ unit_of (sections file) a) (sym found) is
+
+  pub answers-kind : is_skipped unit.kind ≡ false
+  answers-kind = answering-kept (sections seen) a unit (sym is)
+
+  pub location-told : answer_told (sections here) unit [] a ≡ model.location file a
+  location-told = location-told-in (sections here) unit a its ∙ ap (λ file. model.location file a) (found ∙ same)
+
+  pub answer-told : (functions : List Described) → AreFunctionsAt (sections here) unit a functions → answer_told (sections here) unit (map described_shown functions) a ≡ model.answer file a
+  answer-told functions are = answer-told-in (sections here) unit a (map described_shown functions) its are.read are.told ∙ ap (λ file. model.answer file a) (found ∙ same)
+
+  pub answer-fault : (code : UnitFault) (offset : ℕ) → offset ≡ unit.offset → HasTreeFault (sections here) unit code → fault offset (code_shown code) ≡ model.answer file a
+  answer-fault code offset begins faults = ap (λ (offset : ℕ). fault offset (code_shown code)) begins ∙ answer-fault-in (sections here) unit a code its faults ∙ ap (λ file. model.answer file a) (found ∙ same)

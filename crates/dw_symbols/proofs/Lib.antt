@@ -5,8 +5,8 @@ pub mod PairsLemmas
 pub mod OwnerLemmas
 pub mod ImageLemmas
 pub mod KeptLemmas
+pub mod TableLemmas
 pub mod LineLemmas
-pub mod LocationLemmas
 pub mod FrameLemmas
 pub mod TreeLemmas
 pub mod AnswerLemmas

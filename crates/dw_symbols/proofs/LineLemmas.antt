@@ -1,6 +1,6 @@
 -- The line table that a unit names, as the unit sees it.
-use Rattle.std.proofs.Common.{◌≡◌, ◌∙◌, ℕ, ◌<◌, List, length, Option, Some, None, Result, Ok, Err, refl, sym, subst}
-use Rattle.std.specs.Prelude.{IfSome, slice_get, option_and_then}
+use Rattle.std.proofs.Common.{◌≡◌, ◌∙◌, ℕ, List, Option, Some, None, Result, Ok, Err, refl, subst}
+use Rattle.std.specs.Prelude.{option_and_then}
 use Rattle.std.specs.Option.{option_map_or}
 use Rattle.dw_model.specs.declared.dwarf.TheConstants.{DW_AT_stmt_list, DW_AT_comp_dir}
 use Rattle.dw_model.specs.Results.{◌>>=◌}
@@ -10,7 +10,7 @@ use Rattle.dw_model.specs.LineHeader.{LineHeader, line_header}
 use Rattle.dw_model.specs.Instruction.{Instruction, instructions}
 use Rattle.dw_model.specs.Matrix.{matrix}
 use Rattle.dw_model.specs.Section.{Sections}
-use Rattle.dw_model.specs.Unit.{DwarfUnit, units}
+use Rattle.dw_model.specs.Unit.{DwarfUnit}
 use Rattle.dw_model.specs.Entry.{Entry, attribute, as_section_offset}
 use Rattle.dw_model.specs.Root.{root, bases}
 use Rattle.dw_model.specs.Answer.{Lines, lines, lines_at}
@@ -20,7 +20,6 @@ use Rattle.dw_line.specs.Lines.{Table, lines_shown, lines_of, TellsEach}
 use Rattle.dw_symbols.specs.declared.answer.UnitFault.{UnitFault}
 use Rattle.dw_symbols.specs.declared.answer.UnitFault.TheVariants.{Line}
 use Rattle.dw_symbols.specs.UnitParts.{named_table, directory_of, IsTableAt, IsTableOf, IsNamed, AreTurned, HasLines}
-use Rattle.dw_symbols.proofs.CoverLemmas.{some-at, known}
 
 -- ---- the table at an offset
 
@@ -85,59 +84,42 @@ unfolding lines
 lines-unnamed s unit e = unnamed-in s unit (root s unit) e
 
 -- a table that can't be read
-pub bad-table : (s : Sections) (section : List ℕ) (offset : ℕ) (e : LineFault) → section ≡ s.line → e ≡ Bad → TellsEach section offset e → IsTableAt s offset (Err Line)
-bad-table s section offset e same is each =
-    let told = subst (λ (e : LineFault). TellsEach section offset e) is each in
-    (refl, subst (λ (section : List ℕ). TellsEach section offset Bad) same told)
+pub bad-table : (line : List ℕ) (offset : ℕ) (e : LineFault) → e ≡ Bad → TellsEach line offset e → IsTableAt line offset (Err Line)
+bad-table line offset e is each = (refl, subst (λ (e : LineFault). TellsEach line offset e) is each)
 
 -- ---- turned to a unit
 
-pub fault-turned : (s : Sections) (found : Option DwarfUnit) (code : UnitFault) → IfSome found (λ unit. IsNamed s unit (Err code)) → IfSome found (λ unit. HasLines s unit (Err code))
-fault-turned s None code is = tt
-fault-turned s (Some unit) code is = by (named_table s unit) refl is
-  where
-    by : (named : Option ℕ) → named_table s unit ≡ named → IsTableOf s named (Err code) → HasLines s unit (Err code)
-    by None e is = absurd cc
-    by (Some offset) e is =
-        let none : lines s unit ≡ Err bad = lines-named s unit offset e ∙ rw (is.1 s.tables (bases s unit) (directory_of s unit)) refl in
-        rw (none, is.0) refl
+module _ (s : Sections) (unit : DwarfUnit) where
+  pub fault-turned : (code : UnitFault) → IsNamed s unit (Err code) → HasLines s unit (Err code)
+  fault-turned code is = by (named_table s unit) refl is
+    where
+      by : (named : Option ℕ) → named_table s unit ≡ named → IsTableOf s.line named (Err code) → HasLines s unit (Err code)
+      by None e is = absurd cc
+      by (Some offset) e is =
+          let none : lines s unit ≡ Err bad = lines-named s unit offset e ∙ rw (is.1 s.tables (bases s unit) (directory_of s unit)) refl in
+          rw (none, is.0) refl
 
-pub table-turned : (s : Sections) (found : Option DwarfUnit) (old new : Option Table) → IfSome found (λ unit. IsNamed s unit (Ok old)) → IfSome found (λ unit. AreTurned s unit old new) → IfSome found (λ unit. HasLines s unit (Ok new))
-table-turned s None old new is turned = tt
-table-turned s (Some unit) old new is turned = by (named_table s unit) old new refl is turned
-  where
-    by : (named : Option ℕ) (old new : Option Table) → named_table s unit ≡ named → IsTableOf s named (Ok old) → AreTurned s unit old new → HasLines s unit (Ok new)
-    by None None None e is turned = rw (lines-unnamed s unit e) refl
-    by None None (Some new) e is turned = absurd turned
-    by None (Some old) new e is turned = absurd cc
-    by (Some offset) None new e is turned = absurd is
-    by (Some offset) (Some old) None e is turned = absurd turned
-    by (Some offset) (Some old) (Some new) e is turned =
-        let placed = subst (λ (n : ℕ). lines_of s.tables (bases s unit) old.section (directory_of s unit) n ≡ Ok new) is.1 turned.lines in
-        let here = subst (λ (line : List ℕ). lines_of s.tables (bases s unit) line (directory_of s unit) offset ≡ Ok new) is.0 placed in
-        rw (lines-named s unit offset e, here) refl
+  pub table-turned : (old new : Option Table) → IsNamed s unit (Ok old) → AreTurned s unit old new → HasLines s unit (Ok new)
+  table-turned old new is turned = by (named_table s unit) old new refl is turned
+    where
+      by : (named : Option ℕ) (old new : Option Table) → named_table s unit ≡ named → IsTableOf s.line named (Ok old) → AreTurned s unit old new → HasLines s unit (Ok new)
+      by None None None e is turned = rw (lines-unnamed s unit e) refl
+      by None None (Some new) e is turned = absurd turned
+      by None (Some old) new e is turned = absurd cc
+      by (Some offset) None new e is turned = absurd is
+      by (Some offset) (Some old) None e is turned = absurd turned
+      by (Some offset) (Some old) (Some new) e is turned =
+          let placed = subst (λ (n : ℕ). lines_of s.tables (bases s unit) old.section (directory_of s unit) n ≡ Ok new) is.1 turned.lines in
+          let here = subst (λ (line : List ℕ). lines_of s.tables (bases s unit) line (directory_of s unit) offset ≡ Ok new) is.0 placed in
+          rw (lines-named s unit offset e, here) refl
 
-pub named-turned : (s : Sections) (found : Option DwarfUnit) (old new : Option Table) → IfSome found (λ unit. IsNamed s unit (Ok old)) → IfSome found (λ unit. AreTurned s unit old new) → IfSome found (λ unit. IsNamed s unit (Ok new))
-named-turned s None old new is turned = tt
-named-turned s (Some unit) old new is turned = by (named_table s unit) old new is turned
-  where
-    by : (named : Option ℕ) (old new : Option Table) → IsTableOf s named (Ok old) → AreTurned s unit old new → IsTableOf s named (Ok new)
-    by None None None is turned = refl
-    by None None (Some new) is turned = absurd turned
-    by None (Some old) new is turned = absurd cc
-    by (Some n) None new is turned = absurd is
-    by (Some n) (Some old) None is turned = absurd turned
-    by (Some n) (Some old) (Some new) is turned = (turned.section ∙ is.0, turned.offset ∙ is.1)
-
--- ---- the table at the offset that a unit names
-
-pub named-at : (s : Sections) (found : Option DwarfUnit) (offset : ℕ) (read : Result (Option Table) UnitFault) → IfSome found (λ unit. Some offset ≡ named_table s unit) → IsTableAt s offset read → IfSome found (λ unit. IsNamed s unit read)
-named-at s None offset read names is = tt
-named-at s (Some unit) offset read names is = subst (λ (named : Option ℕ). IsTableOf s named read) names is
-
-pub at-named : (s : Sections) (i offset : ℕ) (read : Result (Option Table) UnitFault) → i < length (units s.info) → IfSome (slice_get (units s.info) i) (λ unit. Some offset ≡ named_table s unit) → IfSome (slice_get (units s.info) i) (λ unit. IsNamed s unit read) → IsTableAt s offset read
-at-named s i offset read within names is =
-    let unit = some-at (units s.info) i within in
-    let name = known (λ unit. Some offset ≡ named_table s unit) (slice_get (units s.info) i) unit.0 unit.1 names in
-    let named = known (λ unit. IsNamed s unit read) (slice_get (units s.info) i) unit.0 unit.1 is in
-    subst (λ (named : Option ℕ). IsTableOf s named read) (sym name) named
+  pub named-turned : (old new : Option Table) → IsNamed s unit (Ok old) → AreTurned s unit old new → IsNamed s unit (Ok new)
+  named-turned old new is turned = by (named_table s unit) old new is turned
+    where
+      by : (named : Option ℕ) (old new : Option Table) → IsTableOf s.line named (Ok old) → AreTurned s unit old new → IsTableOf s.line named (Ok new)
+      by None None None is turned = refl
+      by None None (Some new) is turned = absurd turned
+      by None (Some old) new is turned = absurd cc
+      by (Some n) None new is turned = absurd is
+      by (Some n) (Some old) None is turned = absurd turned
+      by (Some n) (Some old) (Some new) is turned = (turned.section ∙ is.0, turned.offset ∙ is.1)

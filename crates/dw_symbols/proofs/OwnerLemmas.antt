@@ -6,7 +6,7 @@ use Rattle.std.specs.Result.{result_unwrap_or}
 use Rattle.std.proofs.lemmas.Bool.{ltb-true, ltb-false}
 use Rattle.std.proofs.lemmas.List.{length-map}
 use Rattle.std.proofs.lemmas.List.Folds.{find_at}
-use Rattle.std.proofs.lemmas.Option.{slice_get_past}
+use Rattle.std.proofs.lemmas.Option.{slice_get_past, slice_get-get_or}
 use Rattle.dw_model.specs.Results.{◌>>=◌, or_fault}
 use Rattle.dw_model.specs.Faults.{Refusal, Bad, root_ranges}
 use Rattle.dw_model.specs.Section.{Sections}
@@ -18,6 +18,7 @@ use Rattle.dw_model.specs.Refusal.{unit_ranges}
 use Rattle.dw_model.specs.Answer.{unit_of}
 use Rattle.dw_model.proofs.StepLemmas.{bind_ok, bind_err, ok_is}
 use Rattle.dw_model.proofs.InstructionLemmas.{or_fault-ok}
+use Rattle.dw_units.specs.UnitAt.{absent, unit_at}
 use Rattle.dw_index.specs.Owners.{least_owner, numbered}
 use Rattle.dw_symbols.specs.Cover.{ranges_in, checked_ranges, pairs_from}
 use Rattle.dw_symbols.specs.Held.{CoverState, first_unit}
@@ -135,10 +136,15 @@ pub told-bad : (s : Sections) (n : ℕ) (units : List DwarfUnit) (told : Option 
 told-bad s n units None e = tt
 told-bad s n units (Some fault) e = first-bad s n units fault e
 
+unit-found : (s : Sections) (found : Option ℕ) (unit : Option DwarfUnit) → IfSome found (λ i. i < length (model.units s.info)) → option_and_then (slice_get (model.units s.info)) found ≡ unit → option_map (unit_at s) found ≡ unit
+unit-found s None unit within is = is
+unit-found s (Some i) unit within is = sym (slice_get-get_or (model.units s.info) i absent within) ∙ is
+
 -- the same of the unit that is found, where ranges are kept and units are held
 pub cover-unit : (s seen : Sections) (cover : CoverState) (pairs : List (Range × ℕ)) (a : ℕ) → s ≡ seen → FirstIsLeast → pairs_from s 0 (model.units s.info) ≡ Ok pairs → first_unit s.tables cover a ≡ least_owner pairs a
-    → (option_and_then (slice_get (model.units seen.info)) (first_unit seen.tables cover a) ≡ unit_of seen a) × IfSome (first_unit seen.tables cover a) (λ i. i < length (model.units seen.info))
+    → (option_map (unit_at seen) (first_unit seen.tables cover a) ≡ unit_of seen a) × IfSome (first_unit seen.tables cover a) (λ i. i < length (model.units seen.info))
 cover-unit s seen cover pairs a same law e is =
-    let found : option_and_then (slice_get (model.units s.info)) (first_unit s.tables cover a) ≡ unit_of s a = ap (λ (owner : Option ℕ). option_and_then (slice_get (model.units s.info)) owner) is ∙ owner-unit s pairs a law e in
-    let within : IfSome (first_unit s.tables cover a) (λ i. i < length (model.units s.info)) = subst (λ owner. IfSome owner (λ i. i < length (model.units s.info))) (sym is) (owner-within s pairs a law e) in
-    subst (λ (s : Sections). (option_and_then (slice_get (model.units s.info)) (first_unit s.tables cover a) ≡ unit_of s a) × IfSome (first_unit s.tables cover a) (λ i. i < length (model.units s.info))) same (found, within)
+    let within = owner-within s pairs a law e in
+    let found = unit-found s (least_owner pairs a) (unit_of s a) within (owner-unit s pairs a law e) in
+    let owned : (option_map (unit_at s) (first_unit s.tables cover a) ≡ unit_of s a) × IfSome (first_unit s.tables cover a) (λ i. i < length (model.units s.info)) = rw is (found, within) in
+    subst (λ (s : Sections). (option_map (unit_at s) (first_unit s.tables cover a) ≡ unit_of s a) × IfSome (first_unit s.tables cover a) (λ i. i < length (model.units s.info))) same owned

@@ -1,6 +1,6 @@
 -- The pieces of a span by line tables.
 use Rattle.std.proofs.Common.{◌≡◌, ◌≤◌, ◌<◌, ℕ, zero, suc, List, [], ◌∷◌, ◌++◌, get_or, map, Option, Some, None, Bool, true, false, Result, Ok, Err, length, ◌-◌, ◌+◌, refl, sym, subst, ap, ◌∙◌, arith}
-use Rattle.std.specs.Prelude.{IfSome, slice_get, slice_set, ◌↔◌, option_map, ◌==◌}
+use Rattle.std.specs.Prelude.{slice_set, ◌↔◌, option_map, ◌==◌}
 use Rattle.dw_model.specs.Answer as model
 use Rattle.dw_model.specs.Answer.{Lines, Code, line_fault, unit_of, lines, row_at, row_location}
 use Rattle.dw_model.specs.Pieces.{UnitFault, ArePieces, IsFirstFault, HaveLocation, joins, with_piece, unit_place, place, pieces_from, as_answer, pieces_in}
@@ -16,15 +16,15 @@ use Rattle.dw_model.specs.Results.{◌>>=◌, with_code}
 use Rattle.dw_model.specs.Faults.{Bad}
 use Rattle.dw_model.specs.Matrix.{Row as ModelRow, row_of}
 use Rattle.dw_model.specs.Section.{Sections}
-use Rattle.dw_model.specs.Unit.{DwarfUnit, units}
+use Rattle.dw_model.specs.Unit.{DwarfUnit}
 use Rattle.dw_line.specs.Search.{row_told}
 use Rattle.dw_symbols.specs.declared.answer.UnitFault.{UnitFault as CodeFault}
 use Rattle.dw_symbols.specs.declared.span.Span.{Span}
 use Rattle.dw_symbols.specs.Answer.{code_shown}
 use Rattle.dw_line.specs.Lines.{Table, lines_shown}
 use Rattle.dw_symbols.specs.UnitParts.{HasLines}
-use Rattle.dw_symbols.specs.Span.{IsUnitOf, AddsUnit, AddsSpan}
-use Rattle.dw_symbols.proofs.CoverLemmas.{some-at, known}
+use Rattle.dw_symbols.specs.ImageUnit.{IsUnitOf}
+use Rattle.dw_symbols.specs.Span.{AddsUnit, AddsFirst}
 
 -- ---- one piece more
 
@@ -154,31 +154,38 @@ place_some : (s : Sections) (unit : DwarfUnit) (a : ℕ) → Some unit ≡ unit_
 unfolding place
 place_some s unit a some = rw (sym some) refl
 
-pub span_none : (s : Sections) (span : Span) (old : List model.Piece) → span.low ≤ span.high → IsUnitOf s None span.low span.high → NoneMore → AddsSpan s span None old old
-span_none s span old rises none law = λ from order are.
-    law (place s) from span.low span.high old are rises (λ a above below. place_none s a (none a above below))
+-- the addresses of a span up to an end, before which one unit answers all of them, or none does
+module _ (s : Sections) (span : Span) (end until : ℕ) (some : span.low < end) (within : end ≤ span.high) (ends : end ≤ until) where
+  abbrev pub first : Span
+  first = record { low = span.low; high = end }
 
-pub span_adds : (s : Sections) (i : ℕ) (span : Span) (old new : List model.Piece) → i < length (units s.info) → IsUnitOf s (Some i) span.low span.high → IfSome (slice_get (units s.info) i) (λ unit. AddsUnit s unit span None old new) → AddsSpan s span None old new
-span_adds s i span old new within is adds = λ from order are.
-    let unit = some-at (units s.info) i within in
-    known (λ unit. AddsUnit s unit span None old new) (slice_get (units s.info) i) unit.0 unit.1 adds from order
-    (λ a above below. place_some s unit.0 a (sym unit.1 ∙ is a above below)) are
+  pub first_none : (old : List model.Piece) → IsUnitOf s None span.low until → NoneMore → AddsFirst s span (Ok end) old old
+  first_none old none law = (
+    some,
+    within,
+    λ from order are.
+        law (place s) from span.low end old are (omega (arith, some)) (λ a above below. place_none s a (none a above (omega (arith, below, ends)))),
+  )
 
-pub span_fault : (s : Sections) (i : ℕ) (span : Span) (code : CodeFault) (offset : ℕ) (old new : List model.Piece) → i < length (units s.info) → IsUnitOf s (Some i) span.low span.high → IfSome (slice_get (units s.info) i) (λ unit. AddsUnit s unit span (Some code) old new) → IfSome (slice_get (units s.info) i) (λ unit. offset ≡ unit.offset)
-    → AddsSpan s span (Some (offset, code)) old new
-span_fault s i span code offset old new within is adds told = λ a above below.
-    let unit = some-at (units s.info) i within in
-    let here = known (λ unit. AddsUnit s unit span (Some code) old new) (slice_get (units s.info) i) unit.0 unit.1 adds in
-    let same = known (λ (unit : DwarfUnit). offset ≡ unit.offset) (slice_get (units s.info) i) unit.0 unit.1 told in
-    place_some s unit.0 a (sym unit.1 ∙ is a above below) ∙ here a ∙ ap (λ (n : ℕ). Err (n, code_shown code)) (sym same)
+  pub first_adds : (unit : DwarfUnit) (old new : List model.Piece) → IsUnitOf s (Some unit) span.low until → AddsUnit s unit first None old new → AddsFirst s span (Ok end) old new
+  first_adds unit old new is adds = (
+    some,
+    within,
+    λ from order are.
+        adds from order (λ a above below. place_some s unit a (is a above (omega (arith, below, ends)))) are,
+  )
+
+  pub first_fails : (unit : DwarfUnit) (code : CodeFault) (offset : ℕ) (old new : List model.Piece) → IsUnitOf s (Some unit) span.low until → AddsUnit s unit first (Some code) old new → offset ≡ unit.offset → AddsFirst s span (Err (offset, code)) old new
+  first_fails unit code offset old new is fails same =
+      place_some s unit span.low (is span.low (omega arith) (omega (arith, some, ends))) ∙ fails span.low ∙ ap (λ (n : ℕ). Err (n, code_shown code)) (sym same)
 
 -- ---- the whole
 
-pub all_pieces : (s : Sections) (low high at : ℕ) (found : List model.Piece) → low ≤ high → at ≤ high → high ≤ at → ArePieces (place s) low at found
+pub all_pieces : (s : Sections) (low high at : ℕ) (found : List model.Piece) → low ≤ at → at ≤ low + (high - low) → high ≤ at → ArePieces (place s) low at found
     → ((location : ℕ → Result (Option model.Location) UnitFault) (low count : ℕ) (found : List model.Piece) → (pieces_from location low count ≡ Ok found) ↔ ArePieces location low (low + count) found)
     → model.located found ≡ pieces_in s low high
-all_pieces s low high at found order within ended are law =
-    let end : at ≡ low + (high - low) = omega (arith, order, within, ended) in
+all_pieces s low high at found from within ended are law =
+    let end : at ≡ low + (high - low) = omega (arith, from, within, ended) in
     ap as_answer (sym ((law (place s) low (high - low) found).1 (subst (λ (n : ℕ). ArePieces (place s) low n found) end are)))
 
 pub first_fault : (s : Sections) (low high at : ℕ) (found : List model.Piece) (fault : UnitFault) → low ≤ at → at < high → ArePieces (place s) low at found → place s at ≡ Err fault
@@ -193,9 +200,3 @@ first_fault s low high at found fault from before are is law =
       first = λ a above below. rw (are.each a above below) refl;
     } in
     ap as_answer (sym ((law (place s) low (high - low) fault).1 first))
-
-pub no_span : (s : Sections) (low high : ℕ) → high ≤ low → model.located [] ≡ pieces_in s low high
-unfolding pieces_from
-no_span s low high order =
-    let none : high - low ≡ 0 = omega (arith, order) in
-    rw none refl

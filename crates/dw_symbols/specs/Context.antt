@@ -2,15 +2,13 @@
 use Rattle.dw_model.specs.Section.{sections}
 use Rattle.dw_symbols.specs.declared.context.Context.TheInside.{Inside}
 use Rattle.dw_symbols.specs.ContextState.{ContextState}
-use Rattle.dw_symbols.specs.Kept.{AreTrees, AreTables, IsWithin}
+use Rattle.dw_symbols.specs.Kept.{AreTrees, AreTables}
 use Rattle.dw_symbols.specs.Source.{file_in}
 
 abbrev pub state_of : Inside → ContextState
 state_of context = record { file = file_in context.source; refused = context.refusals.count }
 
--- What is kept of units and of line tables is the file's, and the tables have together no more bytes
--- than .debug_line.
+-- What is kept of units and of line tables is the file's.
 pub record IsKept (context : Inside) : Type 0 where
   pub trees : AreTrees (sections (file_in context.source)) context.trees.entries
-  pub tables : AreTables (sections (file_in context.source)) context.tables.tables.entries
-  pub within : IsWithin (sections (file_in context.source)).line context.tables
+  pub tables : AreTables (sections (file_in context.source)).line context.tables

@@ -1,10 +1,10 @@
 -- What is kept, by keys.
-use Rattle.std.specs.Prelude.{◌≤◌, ◌+◌, ℕ, List, [], ◌∷◌, length, IfSome, Contains, slice_get, Option, Result}
+use Rattle.std.specs.Prelude.{◌≤◌, ◌+◌, ℕ, List, [], ◌∷◌, length, Contains, Option, Result}
 use Rattle.dw_model.specs.Section.{Sections}
-use Rattle.dw_model.specs.Unit.{units}
 use Rattle.dw_line.specs.Lines.{Table}
 use Rattle.dw_line.specs.TableAt.{table_size}
 use Rattle.dw_frames.specs.UnitIn.{UnitIn}
+use Rattle.dw_units.specs.UnitAt.{unit_at}
 use Rattle.dw_symbols.specs.declared.answer.UnitFault.{UnitFault}
 use Rattle.dw_symbols.specs.declared.table_cache.KeptTables.{KeptTables}
 use Rattle.dw_symbols.specs.UnitParts.{HasTree, IsTableAt}
@@ -15,22 +15,20 @@ AreOf {V} Is entries = (k : ℕ) (v : V) → Contains entries (k, v) → Is k v
 
 -- the functions of the unit at a place
 abbrev pub IsTreeAt : Sections → ℕ → Result UnitIn UnitFault → Type 0
-IsTreeAt sections i read = IfSome (slice_get (units sections.info) i) (λ unit. HasTree sections unit read)
+IsTreeAt sections i read = HasTree sections (unit_at sections i) read
 
 -- the functions of units, by their places
 abbrev pub AreTrees : Sections → List (ℕ × Result UnitIn UnitFault) → Type 0
 AreTrees sections entries = AreOf (IsTreeAt sections) entries
-
--- line tables, by their offsets
-abbrev pub AreTables : Sections → List (ℕ × Result (Option Table) UnitFault) → Type 0
-AreTables sections entries = AreOf (IsTableAt sections) entries
 
 -- how many bytes the tables at these offsets have, counted for each of them
 abbrev pub size_together : {V : Type 0} → List ℕ → List (ℕ × V) → ℕ
 size_together line [] = 0
 size_together line (entry ∷ entries) = table_size line entry.0 + size_together line entries
 
--- The tables that are kept have together no more bytes than .debug_line.
-pub record IsWithin (line : List ℕ) (kept : KeptTables) : Type 0 where
+-- The line tables that are kept are those at their offsets, and have together no more bytes than
+-- .debug_line.
+pub record AreTables (line : List ℕ) (kept : KeptTables) : Type 0 where
+  pub each : AreOf (IsTableAt line) kept.tables.entries
   pub counted : size_together line kept.tables.entries ≤ kept.size
   pub within : kept.size ≤ length line

@@ -14,3 +14,5 @@ pub mod Held
 pub mod CoverInside
 pub mod Pairs
 pub mod Image
+pub mod ImageUnit
+pub mod Frames

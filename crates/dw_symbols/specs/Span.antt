@@ -1,5 +1,5 @@
 -- The pieces of a span, as units add them.
-use Rattle.std.specs.Prelude.{◌≡◌, ◌≤◌, ◌<◌, ℕ, List, Option, Some, None, Err, option_and_then, slice_get}
+use Rattle.std.specs.Prelude.{◌≡◌, ◌≤◌, ◌<◌, ℕ, List, Option, Some, None, Result, Ok, Err, slice_get}
 use Rattle.dw_model.specs.Answer.{Piece, unit_of}
 use Rattle.dw_model.specs.Section.{Sections}
 use Rattle.dw_model.specs.Unit.{DwarfUnit, units}
@@ -8,11 +8,6 @@ use Rattle.dw_model.specs.Pieces as model
 use Rattle.dw_symbols.specs.declared.answer.UnitFault.{UnitFault}
 use Rattle.dw_symbols.specs.declared.span.Span.{Span}
 use Rattle.dw_symbols.specs.Answer.{code_shown}
-
--- the unit at a place answers each address from one on and before another; or no unit does
-abbrev pub IsUnitOf : Sections → Option ℕ → (low high : ℕ) → Type 0
-IsUnitOf sections unit low high =
-    (a : ℕ) → low ≤ a → a < high → option_and_then (slice_get (units sections.info)) unit ≡ unit_of sections a
 
 -- no unit answers any of these addresses
 abbrev pub AreUncovered : Sections → (low high : ℕ) → Type 0
@@ -36,8 +31,10 @@ AddsUnit sections unit span None old new =
     → ArePieces (place sections) from span.low old → ArePieces (place sections) from span.high new
 AddsUnit sections unit span (Some code) old new = (a : ℕ) → unit_place sections unit a ≡ Err (fault_shown (unit.offset, code))
 
--- the same of whatever unit answers them, or none
-abbrev pub AddsSpan : Sections → Span → Option (ℕ × UnitFault) → (old new : List Piece) → Type 0
-AddsSpan sections span None old new =
-    (from : ℕ) → from ≤ span.low → ArePieces (place sections) from span.low old → ArePieces (place sections) from span.high new
-AddsSpan sections span (Some fault) old new = (a : ℕ) → span.low ≤ a → a < span.high → place sections a ≡ Err (fault_shown fault)
+-- The pieces of the addresses up to one of a span are added to those before it; or its first
+-- address has the fault.
+abbrev pub AddsFirst : Sections → Span → Result ℕ (ℕ × UnitFault) → (old new : List Piece) → Type 0
+AddsFirst sections span (Ok end) old new =
+    (span.low < end) × (end ≤ span.high)
+    × ((from : ℕ) → from ≤ span.low → ArePieces (place sections) from span.low old → ArePieces (place sections) from end new)
+AddsFirst sections span (Err fault) old new = place sections span.low ≡ Err (fault_shown fault)

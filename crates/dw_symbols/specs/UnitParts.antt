@@ -1,5 +1,5 @@
 -- What is read of a unit.
-use Rattle.std.specs.Prelude.{◌≡◌, ℕ, List, Option, Some, None, option_map, option_and_then, Result, Ok, Err}
+use Rattle.std.specs.Prelude.{◌≡◌, ℕ, List, map, Option, Some, None, option_map, option_and_then, Result, Ok, Err}
 use Rattle.dw_model.specs.declared.dwarf.TheConstants.{DW_AT_stmt_list, DW_AT_comp_dir}
 use Rattle.dw_model.specs.Results.{with_code}
 use Rattle.dw_model.specs.Faults.{bad}
@@ -9,8 +9,10 @@ use Rattle.dw_model.specs.Unit.{DwarfUnit}
 use Rattle.dw_model.specs.Entry.{attribute, as_section_offset}
 use Rattle.dw_model.specs.Root.{root, bases}
 use Rattle.dw_model.specs.Answer.{Lines, Code, tree_fault, line_fault, lines}
-use Rattle.dw_model.specs.Tree.{tree as model_tree}
+use Rattle.dw_model.specs.Tree.{tree as model_tree, chain}
 use Rattle.dw_line.specs.Lines.{Table, lines_shown, lines_of}
+use Rattle.dw_frames.specs.declared.function.Described.{Described}
+use Rattle.dw_frames.specs.Told.{described_shown, told_of}
 use Rattle.dw_frames.specs.Tree.{nodes_of}
 use Rattle.dw_frames.specs.UnitIn.{UnitIn}
 use Rattle.dw_symbols.specs.declared.answer.UnitFault.{UnitFault}
@@ -18,6 +20,10 @@ use Rattle.dw_symbols.specs.declared.answer.UnitFault.TheVariants.{Line}
 use Rattle.dw_symbols.specs.Answer.{code_shown}
 
 -- ---- functions
+
+-- the unit has no functions, for this fault
+abbrev pub HasTreeFault : Sections → DwarfUnit → UnitFault → Type 0
+HasTreeFault sections unit fault = with_code tree_fault (model_tree sections unit) ≡ Err (code_shown fault)
 
 -- the tree is that of a unit, whose entries can be read
 pub record IsTreeOf (sections : Sections) (unit : DwarfUnit) (tree : UnitIn) : Type 0 where
@@ -28,7 +34,13 @@ pub record IsTreeOf (sections : Sections) (unit : DwarfUnit) (tree : UnitIn) : T
 -- the tree is the unit's, or the fault tells why it has none
 abbrev pub HasTree : Sections → DwarfUnit → Result UnitIn UnitFault → Type 0
 HasTree sections unit (Ok tree) = IsTreeOf sections unit tree
-HasTree sections unit (Err fault) = with_code tree_fault (model_tree sections unit) ≡ Err (code_shown fault)
+HasTree sections unit (Err fault) = HasTreeFault sections unit fault
+
+-- the functions are those of the unit that hold an address
+pub record AreFunctionsAt (sections : Sections) (unit : DwarfUnit) (a : ℕ) (functions : List Described) : Type 0 where
+  pub read : model_tree sections unit ≡ Ok (nodes_of sections unit)
+  pub told : map described_shown functions
+      ≡ map (λ node. told_of sections unit node.entry) (chain sections unit (nodes_of sections unit) a)
 
 -- ---- lines
 
@@ -42,21 +54,25 @@ abbrev pub directory_of : Sections → DwarfUnit → Option (List ℕ)
 directory_of sections unit =
     option_and_then (λ first. option_and_then (text sections.tables (bases sections unit)) (attribute DW_AT_comp_dir first)) (root sections unit)
 
+-- whichever unit names a table at an offset, it can't be read
+abbrev pub IsBadTable : List ℕ → ℕ → Type 0
+IsBadTable line offset =
+    (tables : Tables) (bases : Bases) (comp_dir : Option (List ℕ)) → lines_of tables bases line comp_dir offset ≡ Err bad
+
 -- It is the line table at an offset, as any unit sees it; or no unit can read the table there.
-abbrev pub IsTableAt : Sections → ℕ → Result (Option Table) UnitFault → Type 0
-IsTableAt sections offset (Ok (Some table)) = (table.section ≡ sections.line) × (table.offset ≡ offset)
-IsTableAt sections offset (Ok None) = ⊥
-IsTableAt sections offset (Err fault) =
-    (fault ≡ Line) × ((tables : Tables) (bases : Bases) (comp_dir : Option (List ℕ)) → lines_of tables bases sections.line comp_dir offset ≡ Err bad)
+abbrev pub IsTableAt : List ℕ → ℕ → Result (Option Table) UnitFault → Type 0
+IsTableAt line offset (Ok (Some table)) = (table.section ≡ line) × (table.offset ≡ offset)
+IsTableAt line offset (Ok None) = ⊥
+IsTableAt line offset (Err fault) = (fault ≡ Line) × IsBadTable line offset
 
 -- the same where there is an offset, and no table where there is none
-abbrev pub IsTableOf : Sections → Option ℕ → Result (Option Table) UnitFault → Type 0
-IsTableOf sections None read = read ≡ Ok None
-IsTableOf sections (Some offset) read = IsTableAt sections offset read
+abbrev pub IsTableOf : List ℕ → Option ℕ → Result (Option Table) UnitFault → Type 0
+IsTableOf line None read = read ≡ Ok None
+IsTableOf line (Some offset) read = IsTableAt line offset read
 
 -- it is the table that a unit names, as any unit sees it
 abbrev pub IsNamed : Sections → DwarfUnit → Result (Option Table) UnitFault → Type 0
-IsNamed sections unit read = IsTableOf sections (named_table sections unit) read
+IsNamed sections unit read = IsTableOf sections.line (named_table sections unit) read
 
 -- a line table that was turned to a unit
 pub record IsTurned (sections : Sections) (unit : DwarfUnit) (old new : Table) : Type 0 where

@@ -1,26 +1,19 @@
 //! Answers the addresses of a file, and keeps the units and the line tables that were used last.
 
-ghost use Rattle.std.specs.Prelude.{◌≡◌, ◌+◌, ◌<◌, ◌≤◌, ℕ, IfOk, IfSome, IsOk, is_ok, length, map, slice_get};
-ghost use Rattle.std.specs.Prelude.{if◌then◌else◌};
+ghost use Rattle.std.specs.Prelude.{◌≡◌, ◌+◌, ◌≤◌, IfOk, IsOk, is_ok, if◌then◌else◌};
 ghost use Rattle.dw_model.specs.Answer as model;
-ghost use Rattle.dw_model.specs.Section.{sections};
-ghost use Rattle.dw_model.specs.Unit.{units};
 ghost use Rattle.dw_model.specs.Pieces.{pieces};
-ghost use Rattle.dw_symbols.specs.Answer.{answer_shown, piece_shown};
+ghost use Rattle.dw_symbols.specs.Answer.{answer_shown};
 ghost use Rattle.dw_symbols.specs.Source.{file_in};
-ghost use Rattle.dw_symbols.specs.Span.{IsUnitOf, AddsUnit, AddsSpan};
 ghost use Rattle.dw_symbols.specs.Told.{means};
 
-use crate::answer::{Answer, Piece, UnitFault};
+use crate::answer::Answer;
 use crate::image::Image;
 use crate::refusals::Refusals;
 use crate::source::Source;
-use crate::span::{Span, lesser};
-use crate::table_cache::{KeptTables, keep_lines, read_with_room};
-use crate::unit_answers::{location_by, push_pieces_by};
-use crate::unit_cache::{Trees, keep_tree, kept_answer, kept_location, kept_pieces, tree_answer};
-use crate::unit_parts::read_tree;
-use dw_model::laws::{law_of_more_pieces, law_of_pieces};
+use crate::span::Span;
+use crate::table_cache::KeptTables;
+use crate::unit_cache::{Trees, functions_at};
 use lru::LruCache;
 use std::alloc::{AllocError, Global};
 use std::marker::Model;
@@ -53,14 +46,6 @@ impl<'b, 'a> Model for Context<'b, 'a> {
     ghost view = { state_of };
 
     ghost invariant = { IsKept };
-}
-
-/// The offset of the unit at a place in .debug_info.
-fn offset_of(image: &Image<'_>, i: usize) -> u64
-    requires { i < length (units (sections image.now).info) }
-    ensures { IfSome (slice_get (units (sections image.now).info) i) (λ unit. result ≡ unit.offset) }
-{
-    image.units().unit(i).offset
 }
 
 impl<'b, 'a> Context<'b, 'a> {
@@ -131,67 +116,10 @@ impl<'b, 'a> Context<'b, 'a> {
         ensures answer { IfOk result (λ answer. answer_shown answer ≡ model.location self.old.file a) }
         ensures state { self.new ≡ self.old }
     {
-        let (alloc, image) = (self.alloc, self.source.image());
-        let Some(i) = image.unit_at(a) else {
+        let Some(unit) = self.source.image().unit_at(a) else {
             return Ok(Answer::NotCovered);
         };
-        if let Some(answer) = kept_location(&mut self.tables.tables, alloc, image, i, a) {
-            return answer;
-        }
-        let mut lines = read_with_room(&mut self.tables, alloc, image, i)?;
-        let answer = location_by(&mut lines, alloc, image, i, a)?;
-        keep_lines(&mut self.tables, image, i, lines);
-        Ok(answer)
-    }
-
-    /// Adds the pieces of a span, of which the unit at a place answers all addresses; or returns
-    /// why it can't.
-    fn push_unit(
-        &mut self,
-        i: usize,
-        span: Span,
-        pieces: &mut Vec<Piece>,
-    ) -> Result<Option<UnitFault>, AllocError>
-        requires unit { i < length (units (sections self.old.file).info) }
-        requires order { span.low ≤ span.high }
-        ensures pieces { IfOk result (λ fault. IfSome (slice_get (units (sections self.old.file).info) i)
-            (λ unit. AddsUnit (sections self.old.file) unit span fault (map piece_shown pieces.old.items)
-            (map piece_shown pieces.new.items))) }
-        ensures state { self.new ≡ self.old }
-    {
-        let (alloc, image) = (self.alloc, self.source.image());
-        if let Some(added) = kept_pieces(&mut self.tables.tables, alloc, image, i, span, pieces) {
-            return added;
-        }
-        let mut lines = read_with_room(&mut self.tables, alloc, image, i)?;
-        let added = push_pieces_by(&mut lines, alloc, image, i, span, pieces)?;
-        keep_lines(&mut self.tables, image, i, lines);
-        Ok(added)
-    }
-
-    /// Adds the pieces of a span, of which one unit answers all addresses, or none does; or returns
-    /// the unit and why it can't answer them.
-    fn push_pieces(
-        &mut self,
-        unit: Option<usize>,
-        span: Span,
-        pieces: &mut Vec<Piece>,
-    ) -> Result<Option<(u64, UnitFault)>, AllocError>
-        requires unit { IsUnitOf (sections self.old.file) unit span.low span.high }
-        requires within { IfSome unit (λ i. i < length (units (sections self.old.file).info)) }
-        requires order { span.low ≤ span.high }
-        ensures pieces { IfOk result (λ fault. AddsSpan (sections self.old.file) span fault
-            (map piece_shown pieces.old.items) (map piece_shown pieces.new.items)) }
-        ensures state { self.new ≡ self.old }
-    {
-        law_of_more_pieces();
-        let Some(i) = unit else {
-            return Ok(None);
-        };
-        let Some(code) = self.push_unit(i, span, pieces)? else {
-            return Ok(None);
-        };
-        Ok(Some((offset_of(self.source.image(), i), code)))
+        self.tables.frames(self.alloc, unit, &[], a)
     }
 
     /// All locations of the addresses from `low` on and below `high`, in pieces, by the rows of the
@@ -203,42 +131,25 @@ impl<'b, 'a> Context<'b, 'a> {
         ensures empty { high ≤ low → IsOk result }
         ensures state { self.new ≡ self.old }
     {
-        law_of_pieces();
-        let mut pieces = Vec::new(self.alloc);
-        if low >= high {
-            return Ok(Answer::Pieces(pieces));
-        }
-        let mut at = low;
-        while at < high {
-            let owner = self.source.image().unit_from(at);
-            let span = Span {
-                low: at,
-                high: lesser(owner.until, high),
-            };
-            if let Some((unit, code)) = self.push_pieces(owner.unit, span, &mut pieces)? {
-                return Ok(Answer::Fault { unit, code });
-            }
-            at = span.high;
-        }
-        Ok(Answer::Pieces(pieces))
+        let image = self.source.image();
+        self.tables.pieces(self.alloc, image, Span { low, high })
     }
 
-    /// What an address means, by the units that are kept or by one that is read now.
+    /// What an address means.
     fn look_up(&mut self, a: u64) -> Result<Answer<'a>, AllocError>
         ensures answer { IfOk result (λ answer. answer_shown answer ≡ model.answer self.old.file a) }
         ensures state { self.new ≡ self.old }
     {
-        let (alloc, image) = (self.alloc, self.source.image());
-        let Some(i) = image.unit_at(a) else {
+        let Some(unit) = self.source.image().unit_at(a) else {
             return Ok(Answer::NotCovered);
         };
-        if let Some(answer) = kept_answer(&mut self.trees, &mut self.tables, alloc, image, i, a) {
-            return answer;
+        match functions_at(&mut self.trees, self.alloc, unit, a)? {
+            Ok(functions) => self.tables.frames(self.alloc, unit, &functions, a),
+            Err(code) => Ok(Answer::Fault {
+                unit: unit.offset(),
+                code,
+            }),
         }
-        let mut tree = read_tree(alloc, image, i)?;
-        let answer = tree_answer(&mut self.tables, &mut tree, alloc, image, i, a)?;
-        keep_tree(&mut self.trees, i, tree);
-        Ok(answer)
     }
 
     /// What a query means.

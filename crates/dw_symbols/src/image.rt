@@ -1,17 +1,15 @@
 //! A file that is open: its units, and which of them answers an address.
 
-ghost use Rattle.std.specs.Prelude.{◌≡◌, ◌≤◌, ◌<◌, false, None, OnOk, IfOk, IfErr, IfSome, length, option_and_then};
-ghost use Rattle.std.specs.Prelude.{slice_get};
+ghost use Rattle.std.specs.Prelude.{◌≡◌, ◌≤◌, ◌<◌, None, OnOk, IfOk, IfErr, IfSome, option_map};
 ghost use Rattle.dw_model.specs.Section.{sections, elf_refusal};
-ghost use Rattle.dw_model.specs.Unit.{is_skipped, units};
 ghost use Rattle.dw_model.specs.Answer.{unit_of};
 ghost use Rattle.dw_model.specs.Steady.{last_address};
 ghost use Rattle.dw_symbols.specs.Held.{most_ranges};
-ghost use Rattle.dw_symbols.specs.Span.{IsUnitOf};
 ghost use Rattle.dw_model.specs.Refusal.{refusal};
 ghost use Rattle.dw_elf.specs.OpenFault.{RefusesUnlessMemory, HidesNoRefusal};
 
 use crate::cover::{Cover, Owner};
+use crate::image_unit::{Covered, ImageUnit};
 use crate::unit_ranges::unit_ranges;
 use dw_elf::{Elf, Name, OpenFault};
 use dw_ranges::law_of_least_owner;
@@ -47,6 +45,8 @@ impl<'a> Model for Image<'a> {
 }
 
 impl<'a> Image<'a> {
+    ghost use Rattle.dw_symbols.specs.ImageUnit.{IsUnitOf, unit_in};
+
     /// Opens a file: tests its sections, cuts it into units, reads their first entries and the
     /// ranges of these. Nothing of the file is copied.
     ///
@@ -94,26 +94,29 @@ impl<'a> Image<'a> {
         self.line
     }
 
-    /// The place of the unit that answers an address: of those that cover it, the first.
-    pub(crate) fn unit_at(&self, a: u64) -> Option<usize>
-        ensures unit { option_and_then (slice_get (units (sections self.now).info)) result
-            ≡ unit_of (sections self.now) a }
-        ensures within { IfSome result (λ i. i < length (units (sections self.now).info)) }
-        ensures answers { IfSome result (λ i. IfSome (slice_get (units (sections self.now).info) i)
-            (λ unit. is_skipped unit.kind ≡ false)) }
+    /// The unit that answers an address: of those that cover it, the first.
+    pub(crate) fn unit_at(&self, a: u64) -> Option<ImageUnit<'_, 'a>>
+        ensures unit { option_map unit_in result ≡ unit_of (sections self.now) a }
+        ensures image { IfSome result (λ unit. unit.image.now ≡ self.now) }
     {
-        self.cover.find(self.units.tables(), a)
+        let index = self.cover.find(self.units.tables(), a)?;
+        Some(ImageUnit { image: self, index })
     }
 
     /// The unit that answers an address, as `unit_at` finds it, and up to where it answers all
     /// addresses, or none does.
-    pub(crate) fn unit_from(&self, a: u64) -> Owner
+    pub(crate) fn unit_from(&self, a: u64) -> Covered<'_, 'a>
         requires { a < last_address }
         ensures after { a < result.until }
-        ensures unit { IsUnitOf (sections self.now) result.unit a result.until }
-        ensures within { IfSome result.unit (λ i. i < length (units (sections self.now).info)) }
+        ensures unit { IsUnitOf (sections self.now) (option_map unit_in result.unit) a result.until }
+        ensures image { IfSome result.unit (λ unit. unit.image.now ≡ self.now) }
     {
-        self.cover.find_from(self.units.tables(), a)
+        let Owner { unit, until } = self.cover.find_from(self.units.tables(), a);
+        let unit = match unit {
+            Some(index) => Some(ImageUnit { image: self, index }),
+            None => None,
+        };
+        Covered { unit, until }
     }
 
     /// How many ranges are kept to find the unit of an address: of lists at most a third of the

@@ -1,127 +1,156 @@
 //! The line tables that were used last: together no longer than .debug_line.
 
-ghost use Rattle.std.specs.Prelude.{◌≡◌, ◌≤◌, ◌<◌, ◌+◌, IfOk, IfSome, length, slice_get};
-ghost use Rattle.dw_model.specs.Section.{Sections, sections};
-ghost use Rattle.dw_model.specs.Unit.{units};
-ghost use Rattle.dw_symbols.specs.Kept.{AreTables, IsWithin};
-ghost use Rattle.dw_symbols.specs.UnitParts.{IsNamed, IsTableAt};
+ghost use Rattle.std.specs.Prelude.{◌≡◌, ◌≤◌, ◌+◌, List, ℕ, false, IfOk, length, map};
+ghost use Rattle.dw_line.specs.TableAt.{table_size};
+ghost use Rattle.dw_frames.specs.Told.{described_shown};
+ghost use Rattle.dw_symbols.specs.Answer.{answer_shown, piece_shown};
+ghost use Rattle.dw_symbols.specs.Frames.{answer_told};
+ghost use Rattle.dw_symbols.specs.ImageUnit.{sections_in, unit_in};
+ghost use Rattle.dw_symbols.specs.Span.{AddsUnit};
 
-use crate::image::Image;
-use crate::unit_parts::{UnitLines, read_lines, table_offset};
+use crate::answer::{Answer, Piece, UnitFault};
+use crate::image_unit::ImageUnit;
+use crate::span::Span;
+use crate::unit_answers::{frames_by, push_pieces_by};
+use crate::unit_parts::{UnitLines, read_table, table_offset};
+use dw_frames::Described;
 use dw_line::table_size;
 use lru::LruCache;
 use std::alloc::{AllocError, Global};
 use std::num::NonZeroUsize;
-
-/// Line tables by their offsets in .debug_line, the last used first.
-pub(crate) type Tables<'a> = LruCache<u64, UnitLines<'a>>;
 
 /// The line tables that are kept. Those of an honest file lie side by side, so all of them may be
 /// kept; of tables that have bytes in common, which would each keep its own copy of what the file
 /// has once, only so many are that together they are no longer than .debug_line.
 #[derive(Drop)]
 pub(crate) struct KeptTables<'a> {
-    pub(crate) tables: Tables<'a>,
+    /// By their offsets in .debug_line, the last used first.
+    tables: LruCache<u64, UnitLines<'a>>,
     /// The bytes of .debug_line that they have, at most, counted for each of them.
-    pub(crate) size: usize,
+    size: usize,
 }
 
 impl<'a> KeptTables<'a> {
+    ghost use Rattle.dw_symbols.specs.Kept.{AreTables};
+    ghost use Rattle.dw_symbols.specs.UnitParts.{IsTableAt};
+
     /// No table is kept yet, and at most so many will be.
     pub(crate) fn new(alloc: Global, capacity: NonZeroUsize) -> Result<Self, AllocError>
-        ensures tables { (s : Sections) → IfOk result (λ kept. AreTables s kept.tables.entries) }
-        ensures within { (s : Sections) → IfOk result (λ kept. IsWithin s.line kept) }
+        ensures { (line : List ℕ) → IfOk result (AreTables line) }
     {
         let tables = LruCache::sparse(alloc, capacity)?;
         Ok(KeptTables { tables, size: 0 })
     }
-}
 
-/// Lets the tables go that were used longest ago, until one more of so many bytes may be kept.
-fn make_room(kept: &mut KeptTables<'_>, line: &[u8], size: usize)
-    requires size { size ≤ length line.now }
-    requires within { IsWithin line.now kept.old }
-    ensures room { kept.new.size + size ≤ length line.now }
-    ensures within { IsWithin line.now kept.new }
-    ensures tables { (s : Sections) → AreTables s kept.old.tables.entries → AreTables s kept.new.tables.entries }
-{
-    let most = line.len() - size;
-    while kept.size > most || kept.tables.len() >= kept.tables.cap().get() {
-        let Some((offset, _table)) = kept.tables.pop_lru() else {
-            kept.size = 0;
-            return;
+    /// No table more may be kept, or those that are kept have more bytes than so many.
+    fn is_full(&self, most: usize) -> bool
+        ensures { result ≡ false → self.now.size ≤ most }
+    {
+        self.size > most || self.tables.len() >= self.tables.cap().get()
+    }
+
+    /// Lets the tables go that were used longest ago, until the one at an offset may be kept too.
+    fn make_room(&mut self, line: &[u8], offset: u64)
+        requires kept { AreTables line.now self.old }
+        ensures kept { AreTables line.now self.new }
+        ensures room { self.new.size + table_size line.now offset ≤ length line.now }
+    {
+        let most = line.len() - table_size(line, offset);
+        while self.is_full(most) {
+            let Some((oldest, _table)) = self.tables.pop_lru() else {
+                self.size = 0;
+                return;
+            };
+            self.size = self.size.saturating_sub(table_size(line, oldest));
+        }
+    }
+
+    /// Keeps a line table, for which room was made.
+    fn put(&mut self, line: &[u8], offset: u64, lines: UnitLines<'a>) -> Result<(), AllocError>
+        requires kept { AreTables line.now self.old }
+        requires room { self.old.size + table_size line.now offset ≤ length line.now }
+        requires table { IsTableAt line.now offset lines }
+        ensures { AreTables line.now self.new }
+    {
+        match self.tables.put(offset, lines) {
+            Ok(_) => {
+                self.size += table_size(line, offset);
+                Ok(())
+            }
+            Err(_) => Err(AllocError),
+        }
+    }
+
+    /// Keeps the line table at an offset, which is read where it isn't kept. Room is made first, so
+    /// what is read and what is kept are never longer together than .debug_line.
+    fn hold(
+        &mut self,
+        alloc: Global,
+        unit: ImageUnit<'_, 'a>,
+        offset: u64,
+    ) -> Result<(), AllocError>
+        requires { AreTables (sections_in unit).line self.old }
+        ensures { AreTables (sections_in unit.entry).line self.new }
+    {
+        if self.tables.contains(&offset) {
+            return Ok(());
+        }
+        let line = unit.line();
+        self.make_room(line, offset);
+        let lines = read_table(alloc, line, unit.open(), offset)?;
+        self.put(line, offset, lines)
+    }
+
+    /// What an address of a unit means, by the functions at it and by the line table that the unit
+    /// names.
+    pub(crate) fn frames(
+        &mut self,
+        alloc: Global,
+        unit: ImageUnit<'_, 'a>,
+        functions: &[Described<'a>],
+        a: u64,
+    ) -> Result<Answer<'a>, AllocError>
+        requires kept { AreTables (sections_in unit).line self.old }
+        ensures kept { AreTables (sections_in unit.entry).line self.new }
+        ensures answer { IfOk result (λ answer. answer_shown answer
+            ≡ answer_told (sections_in unit.entry) (unit_in unit.entry) (map described_shown functions.now) a) }
+    {
+        let here = unit.open();
+        let Some(offset) = table_offset(here) else {
+            let mut none = Ok(None);
+            return frames_by(&mut none, alloc, here, functions, a);
         };
-        kept.size = kept.size.saturating_sub(table_size(line, offset));
+        self.hold(alloc, unit, offset)?;
+        match self.tables.get_mut(&offset) {
+            Some(lines) => frames_by(lines, alloc, here, functions, a),
+            None => Err(AllocError),
+        }
     }
-}
 
-/// Keeps a line table. One for which there is no memory is read again when it is asked for.
-fn put_table<'a>(kept: &mut KeptTables<'a>, line: &[u8], offset: u64, lines: UnitLines<'a>)
-    requires within { IsWithin line.now kept.old }
-    ensures within { IsWithin line.now kept.new }
-    ensures tables { (s : Sections) → AreTables s kept.old.tables.entries → IsTableAt s offset lines.entry
-        → AreTables s kept.new.tables.entries }
-{
-    let size = table_size(line, offset);
-    make_room(kept, line, size);
-    match kept.tables.put(offset, lines) {
-        Ok(_) => kept.size += size,
-        Err(_) => {}
+    /// Adds the pieces of a span, of which a unit answers all addresses, by the line table that the
+    /// unit names; or returns why that can't be read.
+    pub(crate) fn push_pieces(
+        &mut self,
+        alloc: Global,
+        unit: ImageUnit<'_, 'a>,
+        span: Span,
+        pieces: &mut Vec<Piece>,
+    ) -> Result<Option<UnitFault>, AllocError>
+        requires kept { AreTables (sections_in unit).line self.old }
+        requires order { span.low ≤ span.high }
+        ensures kept { AreTables (sections_in unit.entry).line self.new }
+        ensures pieces { IfOk result (λ fault. AddsUnit (sections_in unit.entry) (unit_in unit.entry) span fault
+            (map piece_shown pieces.old.items) (map piece_shown pieces.new.items)) }
+    {
+        let here = unit.open();
+        let Some(offset) = table_offset(here) else {
+            let mut none = Ok(None);
+            return push_pieces_by(&mut none, alloc, here, span, pieces);
+        };
+        self.hold(alloc, unit, offset)?;
+        match self.tables.get_mut(&offset) {
+            Some(lines) => push_pieces_by(lines, alloc, here, span, pieces),
+            None => Err(AllocError),
+        }
     }
-}
-
-/// Keeps the line table that a unit names.
-pub(crate) fn keep_lines<'a>(
-    kept: &mut KeptTables<'a>,
-    image: &Image<'a>,
-    i: usize,
-    lines: UnitLines<'a>,
-)
-    requires unit { i < length (units (sections image.now).info) }
-    requires named { IfSome (slice_get (units (sections image.now).info) i)
-        (λ unit. IsNamed (sections image.now) unit lines) }
-    requires kept { AreTables (sections image.now) kept.old.tables.entries }
-    requires within { IsWithin (sections image.now).line kept.old }
-    ensures kept { AreTables (sections image.now) kept.new.tables.entries }
-    ensures within { IsWithin (sections image.now).line kept.new }
-{
-    let Some(offset) = table_offset(image.units(), i) else {
-        return;
-    };
-    put_table(kept, image.line(), offset, lines);
-}
-
-/// Makes room for the line table that a unit names, so that what is read and what is kept are never
-/// longer together than .debug_line.
-fn make_room_for(kept: &mut KeptTables<'_>, image: &Image<'_>, i: usize)
-    requires unit { i < length (units (sections image.now).info) }
-    requires kept { AreTables (sections image.now) kept.old.tables.entries }
-    requires within { IsWithin (sections image.now).line kept.old }
-    ensures kept { AreTables (sections image.now) kept.new.tables.entries }
-    ensures within { IsWithin (sections image.now).line kept.new }
-{
-    let Some(offset) = table_offset(image.units(), i) else {
-        return;
-    };
-    let size = table_size(image.line(), offset);
-    make_room(kept, image.line(), size);
-}
-
-/// The line table that a unit names, as some unit that names it sees it, for which room was made.
-pub(crate) fn read_with_room<'a>(
-    kept: &mut KeptTables<'a>,
-    alloc: Global,
-    image: &Image<'a>,
-    i: usize,
-) -> Result<UnitLines<'a>, AllocError>
-    requires unit { i < length (units (sections image.now).info) }
-    requires kept { AreTables (sections image.now) kept.old.tables.entries }
-    requires within { IsWithin (sections image.now).line kept.old }
-    ensures named { IfOk result (λ read. IfSome (slice_get (units (sections image.now).info) i)
-        (λ unit. IsNamed (sections image.now) unit read)) }
-    ensures kept { AreTables (sections image.now) kept.new.tables.entries }
-    ensures within { IsWithin (sections image.now).line kept.new }
-{
-    make_room_for(kept, image, i);
-    read_lines(alloc, image, i)
 }

@@ -1,84 +1,48 @@
-//! What a unit answers, by its functions and by the line table that it names.
+//! What a unit answers, by the line table that it names.
 
-ghost use Rattle.std.specs.Prelude.{◌≡◌, ◌<◌, ◌≤◌, map, IfOk, IfSome, length, slice_get};
-ghost use Rattle.dw_model.specs.Section.{Sections, sections};
-ghost use Rattle.dw_model.specs.Unit.{DwarfUnit, units};
-ghost use Rattle.dw_model.specs.Answer.{as_answer, unit_answer, unit_location};
+ghost use Rattle.std.specs.Prelude.{◌≡◌, ◌≤◌, map, IfOk};
+ghost use Rattle.dw_model.specs.Section.{Sections};
+ghost use Rattle.dw_model.specs.Unit.{DwarfUnit};
+ghost use Rattle.dw_frames.specs.Told.{described_shown};
+ghost use Rattle.dw_units.specs.OpenUnit.{sections_of, unit_of};
 ghost use Rattle.dw_symbols.specs.Answer.{answer_shown, piece_shown};
-ghost use Rattle.dw_symbols.specs.UnitParts.{HasLines, IsNamed, IsTreeOf};
+ghost use Rattle.dw_symbols.specs.Frames.{answer_told};
+ghost use Rattle.dw_symbols.specs.UnitParts.{HasLines, IsNamed};
 ghost use Rattle.dw_symbols.specs.Span.{AddsUnit};
 
-use crate::answer::{Answer, Frame, Piece, UnitFault};
-use crate::frames::answer_of;
-use crate::image::Image;
+use crate::answer::{Answer, Piece, UnitFault};
+use crate::frames::frames_of;
 use crate::location::row_location;
 use crate::pieces::push_rows;
 use crate::span::Span;
 use crate::unit_parts::{UnitLines, turn};
-use dw_frames::Tree;
+use dw_frames::Described;
 use dw_model::laws::law_of_more_pieces;
+use dw_units::OpenUnit;
 use std::alloc::{AllocError, Global};
 
-/// Where an address comes from, by the line table alone: one frame without a name.
-pub(crate) fn location_by<'a>(
-    lines: &mut UnitLines<'a>,
-    alloc: Global,
-    image: &Image<'a>,
-    i: usize,
-    a: u64,
-) -> Result<Answer<'a>, AllocError>
-    requires unit { i < length (units (sections image.now).info) }
-    requires named { IfSome (slice_get (units (sections image.now).info) i)
-        (λ unit. IsNamed (sections image.now) unit lines.old) }
-    ensures named { IfSome (slice_get (units (sections image.now).info) i)
-        (λ unit. IsNamed (sections image.now) unit lines.new) }
-    ensures answer { IfOk result (λ answer. IfSome (slice_get (units (sections image.now).info) i)
-        (λ unit. answer_shown answer ≡ as_answer unit.offset (unit_location (sections image.now) unit a))) }
-{
-    turn(lines, image, i);
-    let unit = image.units().unit(i).offset;
-    let location = match lines {
-        Ok(table) => row_location(alloc, table, a)?,
-        Err(code) => return Ok(Answer::Fault { unit, code: *code }),
-    };
-    let frames = vec![in alloc;
-        Frame {
-            name: None,
-            location
-        },
-    ]?;
-    Ok(Answer::Found { unit, frames })
-}
-
-/// What an address means, by the functions of its unit and the line table.
+/// What an address means, by the functions at it and the line table of its unit.
 pub(crate) fn frames_by<'a>(
     lines: &mut UnitLines<'a>,
-    tree: &mut Tree<'a>,
     alloc: Global,
-    image: &Image<'a>,
-    i: usize,
+    unit: OpenUnit<'_, 'a>,
+    functions: &[Described<'a>],
     a: u64,
 ) -> Result<Answer<'a>, AllocError>
-    requires unit { i < length (units (sections image.now).info) }
-    requires tree { IfSome (slice_get (units (sections image.now).info) i)
-        (λ unit. IsTreeOf (sections image.now) unit tree.old) }
-    requires named { IfSome (slice_get (units (sections image.now).info) i)
-        (λ unit. IsNamed (sections image.now) unit lines.old) }
-    ensures tree { tree.new ≡ tree.old }
-    ensures named { IfSome (slice_get (units (sections image.now).info) i)
-        (λ unit. IsNamed (sections image.now) unit lines.new) }
-    ensures answer { IfOk result (λ answer. IfSome (slice_get (units (sections image.now).info) i)
-        (λ unit. answer_shown answer ≡ as_answer unit.offset (unit_answer (sections image.now) unit a))) }
+    requires named { IsNamed (sections_of unit) (unit_of unit) lines.old }
+    ensures named { IsNamed (sections_of unit.entry) (unit_of unit.entry) lines.new }
+    ensures answer { IfOk result (λ answer. answer_shown answer
+        ≡ answer_told (sections_of unit.entry) (unit_of unit.entry) (map described_shown functions.now) a) }
 {
-    turn(lines, image, i);
-    let unit = image.units().unit(i).offset;
-    match lines {
-        Ok(table) => {
-            let location = row_location(alloc, table, a)?;
-            answer_of(alloc, unit, tree, table, location, a)
-        }
-        Err(code) => Ok(Answer::Fault { unit, code: *code }),
-    }
+    turn(lines, unit);
+    let unit = unit.unit().offset;
+    let table = match lines {
+        Ok(table) => table,
+        Err(code) => return Ok(Answer::Fault { unit, code: *code }),
+    };
+    let location = row_location(alloc, table, a)?;
+    let frames = frames_of(alloc, table, functions, location)?;
+    Ok(Answer::Found { unit, frames })
 }
 
 /// Adds the pieces of a span by the line table of the unit that answers all of its addresses; or
@@ -105,26 +69,20 @@ fn push_lines(
     Ok(None)
 }
 
-/// Adds the pieces of a span, of which the unit answers all addresses; or returns why it can't
-/// answer them.
+/// The same, by the line table as any unit sees it.
 pub(crate) fn push_pieces_by<'a>(
     lines: &mut UnitLines<'a>,
     alloc: Global,
-    image: &Image<'a>,
-    i: usize,
+    unit: OpenUnit<'_, 'a>,
     span: Span,
     pieces: &mut Vec<Piece>,
 ) -> Result<Option<UnitFault>, AllocError>
-    requires unit { i < length (units (sections image.now).info) }
     requires order { span.low ≤ span.high }
-    requires named { IfSome (slice_get (units (sections image.now).info) i)
-        (λ unit. IsNamed (sections image.now) unit lines.old) }
-    ensures named { IfSome (slice_get (units (sections image.now).info) i)
-        (λ unit. IsNamed (sections image.now) unit lines.new) }
-    ensures pieces { IfOk result (λ fault. IfSome (slice_get (units (sections image.now).info) i)
-        (λ unit. AddsUnit (sections image.now) unit span fault (map piece_shown pieces.old.items)
-        (map piece_shown pieces.new.items))) }
+    requires named { IsNamed (sections_of unit) (unit_of unit) lines.old }
+    ensures named { IsNamed (sections_of unit.entry) (unit_of unit.entry) lines.new }
+    ensures pieces { IfOk result (λ fault. AddsUnit (sections_of unit.entry) (unit_of unit.entry) span fault
+        (map piece_shown pieces.old.items) (map piece_shown pieces.new.items)) }
 {
-    turn(lines, image, i);
+    turn(lines, unit);
     push_lines(alloc, lines, span, pieces)
 }

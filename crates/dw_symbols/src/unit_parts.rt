@@ -1,40 +1,39 @@
 //! What is read of a unit: its functions, and the line table that it names.
 
-ghost use Rattle.std.specs.Prelude.{◌≡◌, ◌<◌, false, Some, Ok, IfOk, IfSome, length, slice_get, option_map};
-ghost use Rattle.dw_model.specs.Section.{sections};
-ghost use Rattle.dw_model.specs.Unit.{DwarfUnit, is_skipped};
-ghost use Rattle.dw_model.specs.Unit as model;
-ghost use Rattle.dw_symbols.specs.UnitParts.{HasTree, HasLines, IsNamed, IsTurned, AreTurned};
+ghost use Rattle.std.specs.Prelude.{◌≡◌, ◌<◌, false, IfOk, length, option_map};
+ghost use Rattle.dw_model.specs.Unit.{is_skipped, units};
+ghost use Rattle.dw_units.specs.OpenUnit.{sections_of, unit_of};
+ghost use Rattle.dw_units.specs.UnitAt.{unit_at};
+ghost use Rattle.dw_symbols.specs.UnitParts.{HasTree, HasLines, IsNamed, IsTableAt, IsTurned, AreTurned};
 ghost use Rattle.dw_symbols.specs.UnitParts.{named_table, directory_of};
 
 use crate::answer::UnitFault;
-use crate::image::Image;
 use dw_forms::Value;
 use dw_frames::{Tree, TreeFault};
 use dw_line::{LineFault, Lines};
 use dw_model::dwarf::{DW_AT_comp_dir, DW_AT_stmt_list};
-use dw_units::Units;
+use dw_units::{OpenUnit, Units};
 use std::alloc::{AllocError, Global};
+use std::sync::Arc;
 
 /// The functions of a unit, or why they can't be read.
-pub(crate) type UnitTree<'a> = Result<Tree<'a>, UnitFault>;
+pub type UnitTree<'a> = Result<Tree<'a>, UnitFault>;
 
 /// The line table of a unit, where the unit names one, or why it can't be read.
-pub(crate) type UnitLines<'a> = Result<Option<Lines<'a>>, UnitFault>;
+pub type UnitLines<'a> = Result<Option<Lines<'a>>, UnitFault>;
 
-/// The functions of a unit that isn't skipped, or why they can't be read.
-pub(crate) fn read_tree<'a>(
+/// The functions of the unit at an index, which isn't skipped, or why they can't be read. The error
+/// comes only where an allocation was refused.
+pub fn read_tree<'a>(
     alloc: Global,
-    image: &Image<'a>,
-    i: usize,
+    shared: &Arc<Units<'a>>,
+    index: usize,
 ) -> Result<UnitTree<'a>, AllocError>
-    requires unit { i < length (model.units (sections image.now).info) }
-    requires answers { IfSome (slice_get (model.units (sections image.now).info) i)
-        (λ unit. is_skipped unit.kind ≡ false) }
-    ensures { IfOk result (λ read. (unit : DwarfUnit)
-        → slice_get (model.units (sections image.now).info) i ≡ Some unit → HasTree (sections image.now) unit read) }
+    requires within { index < length (units shared.now.value.info) }
+    requires kind { is_skipped (unit_at shared.now.value index).kind ≡ false }
+    ensures { IfOk result (HasTree shared.now.value (unit_at shared.now.value index)) }
 {
-    match Tree::read(alloc, image.shared_units(), i) {
+    match Tree::read(alloc, shared, index) {
         Ok(tree) => Ok(Ok(tree)),
         Err(TreeFault::Entry) => Ok(Err(UnitFault::Entry)),
         Err(TreeFault::Depth) => Ok(Err(UnitFault::Depth)),
@@ -43,12 +42,12 @@ pub(crate) fn read_tree<'a>(
     }
 }
 
-/// Where the line table begins in .debug_line that a unit's first entry names, if it names one.
-pub(crate) fn table_offset(units: &Units<'_>, i: usize) -> Option<u64>
-    requires { i < length (model.units units.now.info) }
-    ensures { IfSome (slice_get (model.units units.now.info) i) (λ unit. result ≡ named_table units.now unit) }
+/// Where the line table begins in .debug_line that a unit's first entry names (DWARF 5, section
+/// 3.1.1); `None` where it names none.
+pub fn table_offset(unit: OpenUnit<'_, '_>) -> Option<u64>
+    ensures { result ≡ named_table (sections_of unit.entry) (unit_of unit.entry) }
 {
-    let Some(root) = &units.unit(i).root else {
+    let Some(root) = &unit.unit().root else {
         return None;
     };
     match root.attr(DW_AT_stmt_list) {
@@ -58,37 +57,31 @@ pub(crate) fn table_offset(units: &Units<'_>, i: usize) -> Option<u64>
 }
 
 /// The directory in which a unit was compiled, where its first entry tells it.
-fn directory<'a>(units: &Units<'a>, i: usize) -> Option<&'a [u8]>
-    requires { i < length (model.units units.now.info) }
-    ensures { IfSome (slice_get (model.units units.now.info) i)
-        (λ unit. option_map (λ text. text.now) result ≡ directory_of units.now unit) }
+fn directory<'a>(unit: OpenUnit<'_, 'a>) -> Option<&'a [u8]>
+    ensures { option_map (λ text. text.now) result ≡ directory_of (sections_of unit.entry) (unit_of unit.entry) }
 {
-    let unit = units.unit(i);
-    let Some(root) = &unit.root else {
+    let Some(root) = &unit.unit().root else {
         return None;
     };
     match root.attr(DW_AT_comp_dir) {
-        Some(value) => units.tables().text(value, &unit.bases),
+        Some(value) => unit.text(value),
         None => None,
     }
 }
 
-/// The line table that a unit names, as some unit that names it sees it.
-pub(crate) fn read_lines<'a>(
+/// The line table at an offset of a .debug_line, as a unit that names it sees it but for the
+/// directory in which the unit was compiled; or that no unit can read it. The error comes only
+/// where an allocation was refused.
+pub fn read_table<'a>(
     alloc: Global,
-    image: &Image<'a>,
-    i: usize,
+    line: &'a [u8],
+    unit: OpenUnit<'_, 'a>,
+    offset: u64,
 ) -> Result<UnitLines<'a>, AllocError>
-    requires { i < length (model.units (sections image.now).info) }
-    ensures { IfOk result (λ read. IfSome (slice_get (model.units (sections image.now).info) i)
-        (λ unit. IsNamed (sections image.now) unit read)) }
+    ensures { IfOk result (IsTableAt line.now offset) }
 {
-    let units = image.units();
-    let Some(offset) = table_offset(units, i) else {
-        return Ok(Ok(None));
-    };
-    let bases = &units.unit(i).bases;
-    match Lines::read(alloc, image.line(), units.tables(), bases, None, offset) {
+    let tables = unit.units().tables();
+    match Lines::read(alloc, line, tables, &unit.unit().bases, None, offset) {
         Ok(lines) => Ok(Ok(Some(lines))),
         Err(LineFault::Bad) => Ok(Err(UnitFault::Line)),
         Err(LineFault::Memory) => Err(AllocError),
@@ -96,39 +89,30 @@ pub(crate) fn read_lines<'a>(
 }
 
 /// Turns a line table to a unit.
-fn turn_lines<'a>(lines: &mut Lines<'a>, units: &Units<'a>, i: usize)
-    requires { i < length (model.units units.now.info) }
-    ensures { IfSome (slice_get (model.units units.now.info) i)
-        (λ unit. IsTurned units.now unit lines.old lines.new) }
+fn turn_lines<'a>(lines: &mut Lines<'a>, unit: OpenUnit<'_, 'a>)
+    ensures { IsTurned (sections_of unit.entry) (unit_of unit.entry) lines.old lines.new }
 {
-    let directory = directory(units, i);
-    lines.turn_to(units.tables(), &units.unit(i).bases, directory);
+    lines.turn_to(unit.units().tables(), &unit.unit().bases, directory(unit));
 }
 
 /// The same where there is one.
-fn turn_table<'a>(table: &mut Option<Lines<'a>>, units: &Units<'a>, i: usize)
-    requires { i < length (model.units units.now.info) }
-    ensures { IfSome (slice_get (model.units units.now.info) i)
-        (λ unit. AreTurned units.now unit table.old table.new) }
+fn turn_table<'a>(table: &mut Option<Lines<'a>>, unit: OpenUnit<'_, 'a>)
+    ensures { AreTurned (sections_of unit.entry) (unit_of unit.entry) table.old table.new }
 {
     match table {
-        Some(lines) => turn_lines(lines, units, i),
+        Some(lines) => turn_lines(lines, unit),
         None => {}
     }
 }
 
 /// Turns the line table that a unit names to that unit, which sees its paths in its own way.
-pub(crate) fn turn<'a>(read: &mut UnitLines<'a>, image: &Image<'a>, i: usize)
-    requires unit { i < length (model.units (sections image.now).info) }
-    requires named { IfSome (slice_get (model.units (sections image.now).info) i)
-        (λ unit. IsNamed (sections image.now) unit read.old) }
-    ensures named { IfSome (slice_get (model.units (sections image.now).info) i)
-        (λ unit. IsNamed (sections image.now) unit read.new) }
-    ensures lines { IfSome (slice_get (model.units (sections image.now).info) i)
-        (λ unit. HasLines (sections image.now) unit read.new) }
+pub(crate) fn turn<'a>(read: &mut UnitLines<'a>, unit: OpenUnit<'_, 'a>)
+    requires named { IsNamed (sections_of unit) (unit_of unit) read.old }
+    ensures named { IsNamed (sections_of unit.entry) (unit_of unit.entry) read.new }
+    ensures lines { HasLines (sections_of unit.entry) (unit_of unit.entry) read.new }
 {
     match read {
-        Ok(table) => turn_table(table, image.units(), i),
+        Ok(table) => turn_table(table, unit),
         Err(_) => {}
     }
 }

@@ -1,12 +1,14 @@
 //! Which unit answers an address, as far as the index tells it.
 
-ghost use Rattle.std.specs.Prelude.{◌≡◌, ◌-◌, ◌<◌, IfSome, length, option_and_then, option_map, slice_get};
+ghost use Rattle.std.specs.Prelude.{◌≡◌, ◌-◌, ◌<◌, Some, IfSome, length, option_and_then, option_map, slice_get};
 ghost use Rattle.dw_model.specs.Section.{sections};
 ghost use Rattle.dw_model.specs.Unit.{units};
 ghost use Rattle.dw_model.specs.Answer.{unit_of};
+ghost use Rattle.dw_symbols.specs.ImageUnit.{sections_in, unit_in};
 ghost use Rattle.dw_symbols.specs.Span.{IsFirstUnit};
 
 use crate::image::Image;
+use crate::image_unit::ImageUnit;
 
 /// A unit that answers an address.
 #[derive(Clone, Copy, Debug, PartialEq, Eq)]
@@ -17,24 +19,25 @@ pub struct UnitPlace {
     pub size: u64,
 }
 
+/// The place of a unit.
+fn place_of(unit: ImageUnit<'_, '_>) -> UnitPlace
+    ensures place { result.place < length (units (sections_in unit.entry).info) }
+    ensures unit { slice_get (units (sections_in unit.entry).info) result.place ≡ Some (unit_in unit.entry) }
+    ensures size { result.size ≡ (unit_in unit.entry).end - (unit_in unit.entry).offset }
+{
+    let here = unit.open().unit();
+    UnitPlace {
+        place: unit.index,
+        size: here.end.saturating_sub(here.offset),
+    }
+}
+
 impl<'a> Image<'a> {
     /// How many units the file has.
     pub fn unit_count(&self) -> usize
         ensures { result ≡ length (units (sections self.now).info) }
     {
         self.units().len()
-    }
-
-    /// A unit by its place.
-    fn place_of(&self, place: usize) -> UnitPlace
-        requires { place < length (units (sections self.now).info) }
-        ensures place { result.place ≡ place }
-        ensures size { IfSome (slice_get (units (sections self.now).info) place)
-            (λ unit. result.size ≡ unit.end - unit.offset) }
-    {
-        let unit = self.units().unit(place);
-        let size = unit.end.saturating_sub(unit.offset);
-        UnitPlace { place, size }
     }
 
     /// The unit that answers an address: of those that cover it, the first. `None` where no unit
@@ -46,8 +49,8 @@ impl<'a> Image<'a> {
         ensures size { IfSome result (λ found. IfSome (slice_get (units (sections self.now).info) found.place)
             (λ unit. found.size ≡ unit.end - unit.offset)) }
     {
-        let place = self.unit_at(a)?;
-        Some(self.place_of(place))
+        let unit = self.unit_at(a)?;
+        Some(place_of(unit))
     }
 
     /// The unit that answers the first address of a span that a unit covers. `None` where no
@@ -61,8 +64,8 @@ impl<'a> Image<'a> {
         let mut at = low;
         while at < high {
             let owner = self.unit_from(at);
-            if let Some(place) = owner.unit {
-                return Some(self.place_of(place));
+            if let Some(unit) = owner.unit {
+                return Some(place_of(unit));
             }
             at = owner.until;
         }

@@ -7,7 +7,8 @@ use Rattle.dw_frames.specs.declared.function.Described.{Described}
 use Rattle.dw_frames.specs.Told.{described_shown}
 use Rattle.dw_symbols.specs.declared.answer.Frame.{Frame}
 use Rattle.dw_symbols.specs.Answer.{location_shown, frame_shown}
-use Rattle.dw_symbols.proofs.FrameLemmas.{called_at, goes_on, ends, no-frames}
+use Rattle.dw_symbols.specs.Frames.{called_at}
+use Rattle.dw_symbols.proofs.FrameLemmas.{goes_on, ends, no-frames}
 use Rattle.dw_symbols.proofs.frames.frames_of.Goals as goal
 
 -- what is after the last function
@@ -15,9 +16,9 @@ abbrev none : Described
 none = record { name = None; call = record { file = None; line = None; column = None } }
 
 pub returns-then-functions-eq0 : goal.returns-then-functions-eq0
-returns-then-functions-eq0 c s unit nodes e =
+returns-then-functions-eq0 c =
     let size = length-map c.args.functions.now described_shown in
-    ap (λ frames. map frame_shown frames) c.in_ok-frames.ensures.items ∙ no-frames (option_map lines_shown c.args.lines.now) (map described_shown c.args.functions.now) (location_shown c.args.location) (omega (arith, size, c.if-functions-eq0.true)) s unit nodes e
+    ap (λ frames. map frame_shown frames) c.in_ok-frames.ensures.items ∙ no-frames (option_map lines_shown c.args.lines.now) (map described_shown c.args.functions.now) (location_shown c.args.location) (omega (arith, size, c.if-functions-eq0.true))
 
 pub loop-function-preserved : goal.loop-function-preserved
 loop-function-preserved c =
@@ -32,6 +33,6 @@ loop-function-preserved c =
     rw (pushed, here) (goes_on (option_map lines_shown c.args.lines.now) (map described_shown functions) k (described_shown function) (map frame_shown c.loop-function.frames.items) (location_shown c.loop-function.location) (location_shown c.args.location) (location_shown c.replace.new.dest) there next c.loop-function.invariant)
 
 pub returns : goal.returns
-returns c s unit nodes e =
+returns c =
     let size = length-map c.args.functions.now described_shown in
-    ends (option_map lines_shown c.args.lines.now) (map described_shown c.args.functions.now) c.loop-function.function-index (map frame_shown c.loop-function.frames.items) (location_shown c.loop-function.location) (location_shown c.args.location) (omega (arith, size, c.if-functions-eq0.false)) (omega (arith, size, c.loop-function-test.false)) c.loop-function.invariant s unit nodes e
+    ends (option_map lines_shown c.args.lines.now) (map described_shown c.args.functions.now) c.loop-function.function-index (map frame_shown c.loop-function.frames.items) (location_shown c.loop-function.location) (location_shown c.args.location) (omega (arith, size, c.if-functions-eq0.false)) (omega (arith, size, c.loop-function-test.false)) c.loop-function.invariant

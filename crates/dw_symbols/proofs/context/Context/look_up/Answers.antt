@@ -1,35 +1,42 @@
-use Rattle.std.proofs.Common.{◌≡◌, ◌∙◌, ℕ, List, Option, Some, None, refl, ap, subst}
-use Rattle.std.specs.Prelude.{IfSome, slice_get}
+use Rattle.std.proofs.Common.{◌≡◌, ◌∙◌, List, map, ap, subst}
+use Rattle.std.specs.Prelude.{IfOk, MatchResult}
+use Rattle.dw_model.specs.Answer as model
 use Rattle.dw_model.specs.Section.{sections}
-use Rattle.dw_model.specs.Unit.{units}
+use Rattle.dw_frames.specs.declared.function.Described.{Described}
+use Rattle.dw_frames.specs.Told.{described_shown}
+use Rattle.dw_symbols.specs.Frames.{answer_told}
+use Rattle.dw_symbols.specs.UnitParts.{AreFunctionsAt, HasTreeFault}
 use Rattle.dw_symbols.specs.ContextState.{ContextState}
 use Rattle.dw_symbols.specs.Answer.{answer_shown}
-use Rattle.dw_symbols.specs.Kept.{AreTrees, AreTables, IsWithin}
-use Rattle.dw_symbols.specs.UnitParts.{HasTree}
-use Rattle.dw_symbols.proofs.AnswerLemmas.{answer-none, answer-some, answer-ok}
+use Rattle.dw_symbols.specs.ImageUnit.{unit_in}
+use Rattle.dw_symbols.proofs.AnswerLemmas.{answer-none, answer-told, answer-fault, answers-kind}
 use Rattle.dw_symbols.proofs.context.Context.look_up.Goals as goal
 
 pub returns-in_default-clause-answer : goal.returns-in_default-clause-answer
-returns-in_default-clause-answer c = answer-none c.image-image.result.now c.args.self.now.file c.args.a (c.image-image.ensures ∙ ap (λ (state : ContextState). state.file) c.self.view_is) c.in_default.ensures.unit
+returns-in_default-clause-answer c =
+    let file = c.image.ensures ∙ ap (λ (state : ContextState). state.file) c.self.view_is in
+    answer-none c.image.result.now c.args.self.now.file c.args.a file c.in_default.ensures.unit
 
-pub returns-in-Some-kept_answer-clause-answer : goal.returns-in-Some-kept_answer-clause-answer
-returns-in-Some-kept_answer-clause-answer c =
-    answer-ok answer_shown c.in-Some-kept_answer.answer c.image-image.result.now c.args.self.now.file c.in-Some.i c.args.a (c.image-image.ensures ∙ ap (λ (state : ContextState). state.file) c.self.view_is) c.in-Some.ensures.unit c.in-Some.ensures.within c.in-Some-kept_answer.ensures.answer
+pub functions_at-requires-clause-kind : goal.functions_at-requires-clause-kind
+functions_at-requires-clause-kind c =
+    let unit = c.in-Some.unit in
+    let file = c.image.ensures ∙ ap (λ (state : ContextState). state.file) c.self.view_is in
+    answers-kind unit.image.now c.image.result.now c.args.self.now.file (unit_in unit) c.args.a c.in-Some.ensures.image file c.in-Some.ensures.unit
 
-pub returns-clause-answer : goal.returns-clause-answer
-returns-clause-answer c =
-    answer-some c.image-image.result.now c.args.self.now.file c.in-Some.i c.args.a (answer_shown c.in_ok-answer.answer) (c.image-image.ensures ∙ ap (λ (state : ContextState). state.file) c.self.view_is) c.in-Some.ensures.unit c.in-Some.ensures.within c.in_ok-answer.ensures.answer
+pub returns-in-Ok-clause-answer : goal.returns-in-Ok-clause-answer
+returns-in-Ok-clause-answer c =
+    let here = c.in-Some.unit.image.now in
+    let unit = unit_in c.in-Some.unit in
+    let file = c.image.ensures ∙ ap (λ (state : ContextState). state.file) c.self.view_is in
+    let are = subst (λ found. MatchResult found (λ functions. AreFunctionsAt (sections here) unit c.args.a functions.items) (HasTreeFault (sections here) unit)) c.in-Ok.is c.in_ok-functions.ensures.functions in
+    let told = answer-told here c.image.result.now c.args.self.now.file unit c.args.a c.in-Some.ensures.image file c.in-Some.ensures.unit c.in-Ok.functions.items are in
+    let items = ap (λ (items : List Described). answer_told (sections here) unit (map described_shown items) c.args.a) c.deref.ensures.value in
+    subst (λ (told : model.Answer). IfOk c.frames.result (λ answer. answer_shown answer ≡ told)) (items ∙ told) c.frames.ensures.answer
 
-each-some : {X : Type 0} (o : Option X) (P : X → Type 0) → ((x : X) → o ≡ Some x → P x) → IfSome o P
-each-some None P h = tt
-each-some (Some x) P h = h x refl
-
-pub invariant_of-self-2 : goal.invariant_of-self-2
-invariant_of-self-2 c =
-    let s = sections c.image-image.result.now in
-    record {
-      trees = subst (λ (file : List ℕ). AreTrees (sections file) c.keep_tree.new.kept.entries) c.image-image.ensures
-          (c.keep_tree.ensures s c.in_default-kept_answer.ensures.trees (each-some (slice_get (units s.info) c.in-Some.i) (λ unit. HasTree s unit c.tree_answer.new.tree) (rw (c.tree_answer.ensures.tree) c.in_ok-tree.ensures)));
-      tables = subst (λ (file : List ℕ). AreTables (sections file) c.tree_answer.new.tables.tables.entries) c.image-image.ensures c.tree_answer.ensures.kept;
-      within = subst (λ (file : List ℕ). IsWithin (sections file).line c.tree_answer.new.tables) c.image-image.ensures c.tree_answer.ensures.within;
-    }
+pub returns-in-Err-clause-answer : goal.returns-in-Err-clause-answer
+returns-in-Err-clause-answer c =
+    let here = c.in-Some.unit.image.now in
+    let unit = unit_in c.in-Some.unit in
+    let file = c.image.ensures ∙ ap (λ (state : ContextState). state.file) c.self.view_is in
+    let fails = subst (λ found. MatchResult found (λ functions. AreFunctionsAt (sections here) unit c.args.a functions.items) (HasTreeFault (sections here) unit)) c.in-Err.is c.in_ok-functions.ensures.functions in
+    answer-fault here c.image.result.now c.args.self.now.file unit c.args.a c.in-Some.ensures.image file c.in-Some.ensures.unit c.in-Err.code c.offset.result c.offset.ensures fails

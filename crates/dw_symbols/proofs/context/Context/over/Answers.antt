@@ -10,6 +10,5 @@ invariant_of-result c =
     let s = sections (file_in c.args.source) in
     record {
       trees = subst (λ cache. AreTrees s cache.entries) (sym c.in_ok-trees.ensures) (λ k v h. absurd (Contains-nil (k, v) h));
-      tables = c.in_ok-tables.ensures.tables s;
-      within = c.in_ok-tables.ensures.within s;
+      tables = c.in_ok-tables.ensures s.line;
     }

@@ -1,0 +1,54 @@
+-- The line tables that are kept, after one more, one fewer or one that was turned.
+use Rattle.std.proofs.Common.{◌≡◌, ◌≤◌, ℕ, ◌+◌, ◌-◌, List, length, take, Option, Some, Result, sym, ap, subst, arith}
+use Rattle.std.specs.Prelude.{nat_eq, slice_get}
+use Rattle.std.specs.Map.{lookup, set_value}
+use Rattle.lru.specs.LruCache.{LruCache, lru_cache, promoted, put_entries}
+use Rattle.dw_model.specs.Section.{Sections}
+use Rattle.dw_model.specs.Unit.{DwarfUnit}
+use Rattle.dw_line.specs.Lines.{Table}
+use Rattle.dw_line.specs.TableAt.{table_size}
+use Rattle.dw_symbols.specs.declared.answer.UnitFault.{UnitFault}
+use Rattle.dw_symbols.specs.declared.table_cache.KeptTables.{KeptTables}
+use Rattle.dw_symbols.specs.Kept.{AreTables, size_together}
+use Rattle.dw_symbols.specs.UnitParts.{IsNamed, IsTableAt, IsTableOf, named_table}
+use Rattle.dw_symbols.proofs.KeptLemmas.{after-same, after-put, after-set, looked-up, oldest-gone, size-put, size-after-set}
+
+abbrev Read : Type 0
+Read = Result (Option Table) UnitFault
+
+abbrev pub tables_of : LruCache ℕ Read → ℕ → KeptTables
+tables_of tables size = record { tables = tables; size = size }
+
+module _ (line : List ℕ) (old : KeptTables) (are : AreTables line old) where
+  pub oldest-let-go : (new : LruCache ℕ Read) (size left : ℕ) (oldest : ℕ × Read) → Some oldest ≡ slice_get old.tables.entries (length old.tables.entries - 1) → new ≡ lru_cache (take (length old.tables.entries - 1) old.tables.entries) old.tables.cap → size ≡ table_size line oldest.0 → left ≡ old.size - size → AreTables line (tables_of new left)
+  oldest-let-go new size left oldest there same is rest = record {
+    each = after-same (IsTableAt line) new (length old.tables.entries - 1) old.tables.entries old.tables.cap same are.each;
+    counted = oldest-gone line old.tables.entries new old.tables.cap old.size left oldest there same are.counted (omega (arith, is, rest));
+    within = omega (arith, rest, are.within);
+  }
+
+  pub table-put : (new : LruCache ℕ Read) (offset : ℕ) (read : Read) (size : ℕ) → new ≡ lru_cache (put_entries nat_eq old.tables offset read) old.tables.cap → IsTableAt line offset read → size ≡ old.size + table_size line offset → size ≤ length line → AreTables line (tables_of new size)
+  table-put new offset read size same own is room = record {
+    each = after-put (IsTableAt line) old.tables new offset read same are.each own;
+    counted = omega (arith, ap (λ (cache : LruCache ℕ Read). size_together line cache.entries) same, size-put line old.tables offset read, are.counted, is);
+    within = room;
+  }
+
+  -- a table that was used, and may have been turned
+  pub table-used : (offset : ℕ) (named : Option ℕ) (read : Read) → Some offset ≡ named → IsTableOf line named read → AreTables line (tables_of (lru_cache (set_value (nat_eq offset) (promoted (nat_eq offset) old.tables.entries) read) old.tables.cap) old.size)
+  table-used offset named read names own = record {
+    each = after-set (IsTableAt line) old.tables.entries offset read are.each (subst (λ (named : Option ℕ). IsTableOf line named read) (sym names) own);
+    counted = omega (arith, size-after-set line old.tables.entries offset read, are.counted);
+    within = are.within;
+  }
+
+  pub table-found : (offset : ℕ) (named : Option ℕ) (read : Read) → Some offset ≡ named → Some read ≡ lookup (nat_eq offset) old.tables.entries → IsTableOf line named read
+  table-found offset named read names found = subst (λ (named : Option ℕ). IsTableOf line named read) names (looked-up (IsTableAt line) old.tables.entries offset read are.each found)
+
+-- the table that a unit names, among those of the file
+module _ (s seen : Sections) (unit : DwarfUnit) (old : KeptTables) (same : s ≡ seen) (are : AreTables seen.line old) (offset : ℕ) (read : Read) (names : Some offset ≡ named_table s unit) where
+  pub named-found : Some read ≡ lookup (nat_eq offset) old.tables.entries → IsNamed s unit read
+  named-found found = table-found s.line old (subst (λ (s : Sections). AreTables s.line old) (sym same) are) offset (named_table s unit) read names found
+
+  pub named-used : IsNamed s unit read → AreTables seen.line (tables_of (lru_cache (set_value (nat_eq offset) (promoted (nat_eq offset) old.tables.entries) read) old.tables.cap) old.size)
+  named-used own = table-used seen.line old are offset (named_table s unit) read names (subst (λ (seen : Sections). IsTableOf seen.line (named_table s unit) read) same own)

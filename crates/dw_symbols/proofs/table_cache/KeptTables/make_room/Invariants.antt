@@ -1,0 +1,9 @@
+use Rattle.std.proofs.Common.{length}
+use Rattle.dw_symbols.specs.Kept.{AreTables}
+use Rattle.dw_symbols.proofs.table_cache.KeptTables.make_room.Given as goal
+
+abbrev pub invariant-loop-self : goal.invariant-loop-self
+invariant-loop-self l = AreTables l.line l.self
+
+abbrev pub decreases-loop-self : goal.decreases-loop-self
+decreases-loop-self l = length l.self.tables.entries

@@ -1,0 +1,19 @@
+use Rattle.std.proofs.Common.{ℕ, map, Result, subst}
+use Rattle.dw_model.specs.Section.{sections}
+use Rattle.dw_symbols.specs.declared.answer.UnitFault.{UnitFault}
+use Rattle.dw_symbols.specs.Answer.{piece_shown}
+use Rattle.dw_symbols.specs.Span.{AddsFirst, fault_shown}
+use Rattle.dw_symbols.proofs.SpanLemmas.{all_pieces, first_fault}
+use Rattle.dw_symbols.proofs.table_cache.KeptTables.pieces.Goals as goal
+
+pub returns-in-Err-clause-answer : goal.returns-in-Err-clause-answer
+returns-in-Err-clause-answer c =
+    let s = sections c.args.image.now in
+    let at = c.loop-at.at in
+    let found = map piece_shown c.loop-at.pieces.items in
+    let fails = subst (λ (end : Result ℕ (ℕ × UnitFault)). AddsFirst s (record { low = at; high = c.args.span.high }) end found (map piece_shown c.push_first.new.pieces.items)) c.in-Err.is c.in_ok-end.ensures.pieces in
+    first_fault s c.args.span.low c.args.span.high at found (fault_shown (c.in-Err.unit, c.in-Err.code)) c.loop-at.invariant.from c.loop-at-test.true c.loop-at.invariant.are fails c.law_of_pieces.ensures.fault
+
+pub returns-clause-answer : goal.returns-clause-answer
+returns-clause-answer c =
+    all_pieces (sections c.args.image.now) c.args.span.low c.args.span.high c.loop-at.at (map piece_shown c.loop-at.pieces.items) c.loop-at.invariant.from c.loop-at.invariant.within c.loop-at-test.false c.loop-at.invariant.are c.law_of_pieces.ensures.pieces
