@@ -1,7 +1,8 @@
 -- The ranges of units that answer, read unit by unit.
 use Rattle.std.proofs.Common.{◌≡◌, ◌∙◌, ℕ, zero, suc, ◌+◌, ◌<◌, ◌≤◌, List, [], ◌∷◌, ◌++◌, length, drop, map, Option, Some, None, Result, Ok, Err, refl, sym, ap, subst, append_assoc, arith}
-use Rattle.std.specs.Prelude.{IfSome, MatchOption, slice_get}
+use Rattle.std.specs.Prelude.{MatchOption, slice_get}
 use Rattle.std.proofs.lemmas.List.{append-nil, drop_all}
+use Rattle.std.proofs.lemmas.Option.{slice_get-get_or}
 use Rattle.dw_model.specs.Results.{◌>>=◌}
 use Rattle.dw_model.specs.Faults.{Refusal}
 use Rattle.dw_model.specs.Section.{Sections}
@@ -10,6 +11,9 @@ use Rattle.dw_model.specs.Unit as model
 use Rattle.dw_model.specs.Ranges.{Range}
 use Rattle.dw_index.specs.declared.range.Range.{Range as CodeRange}
 use Rattle.dw_index.specs.Range.{range_shown, pair_shown}
+use Rattle.dw_units.specs.declared.open_unit.OpenUnit.{OpenUnit}
+use Rattle.dw_units.specs.OpenUnit.{unit_of}
+use Rattle.dw_units.specs.UnitAt.{absent, unit_at}
 use Rattle.dw_symbols.specs.Cover.{checked_ranges, pairs_from}
 
 abbrev Pairs : Type 0
@@ -63,13 +67,8 @@ ends s front i past so_far = sym so_far ∙ rw (drop_all i (model.units s.info) 
 
 -- ---- as the code has them
 
-pub some-at : {X : Type 0} (xs : List X) (i : ℕ) → i < length xs → (x : X) × (slice_get xs i ≡ Some x)
-some-at [] i within = absurd (omega (arith, within))
-some-at (x ∷ xs) zero within = (x, refl)
-some-at (x ∷ xs) (suc i) within = some-at xs i (omega (arith, within))
-
-pub known : {X : Type 0} (P : X → Type 0) (found : Option X) (x : X) → found ≡ Some x → IfSome found P → P x
-known P found x e h = subst (λ found. IfSome found P) e h
+pub opened-at : (s : Sections) (i : ℕ) (here : OpenUnit) → i < length (model.units s.info) → unit_of here ≡ unit_at s i → slice_get (model.units s.info) i ≡ Some (unit_of here)
+opened-at s i here within is = slice_get-get_or (model.units s.info) i absent within ∙ ap Some (sym is)
 
 owned : (ranges : List CodeRange) (i : ℕ) → map pair_shown (map (λ range. (range, i)) ranges) ≡ map (λ range. (range, i)) (map range_shown ranges)
 owned [] i = refl

@@ -1,15 +1,14 @@
 -- Which condition a file fails first.
-use Rattle.std.proofs.Common.{◌≡◌, ◌∙◌, ◌<◌, ℕ, List, length, Option, Some, None, sym, ap, subst}
-use Rattle.std.specs.Prelude.{IfSome, MatchOption, option_map}
+use Rattle.std.proofs.Common.{◌≡◌, ◌∙◌, ℕ, List, Option, Some, None, sym, ap, subst}
+use Rattle.std.specs.Prelude.{MatchOption, option_map}
 use Rattle.dw_model.specs.Faults.{Refusal}
 use Rattle.dw_model.specs.Section.{Sections, sections, elf_refusal}
 use Rattle.dw_model.specs.Root.{unit_refusal}
 use Rattle.dw_model.specs.Refusal.{ranges_refusal, refusal}
 use Rattle.dw_model.specs.Answer.{unit_of}
 use Rattle.dw_model.specs.Text.{Tables}
-use Rattle.dw_model.specs.Unit.{units}
 use Rattle.dw_units.specs.UnitAt.{unit_at}
-use Rattle.dw_symbols.specs.Held.{CoverState, first_unit}
+use Rattle.dw_symbols.specs.Held.{CoverState, FindsUnits, first_unit}
 
 pub by-ranges : (file : List ℕ) (s : Sections) (told : Option Refusal) → s ≡ sections file → elf_refusal file ≡ None → unit_refusal s ≡ None → ranges_refusal s ≡ told → refusal file ≡ told
 unfolding refusal
@@ -24,17 +23,9 @@ told-by-ranges file s (Some fault) same elf units ranges = by-ranges file s (Som
 
 -- ---- the unit of an address
 
-module _ (file seen : List ℕ) (tables : Tables) (cover : CoverState) (view : file ≡ seen) (same : tables ≡ (sections file).tables)
-    (of_address : (a : ℕ) → option_map (unit_at (sections file)) (first_unit (sections file).tables cover a) ≡ unit_of (sections file) a)
-    (within : (a : ℕ) → IfSome (first_unit (sections file).tables cover a) (λ i. i < length (units (sections file).info))) where
-  pub found-unit : (found : Option ℕ) (a : ℕ) → found ≡ first_unit tables cover a → option_map (unit_at (sections seen)) found ≡ unit_of (sections seen) a
-  found-unit found a is =
-      let first : found ≡ first_unit (sections file).tables cover a = is ∙ ap (λ (tables : Tables). first_unit tables cover a) same in
-      subst (λ (file : List ℕ). option_map (unit_at (sections file)) found ≡ unit_of (sections file) a) view
-      (ap (λ (owner : Option ℕ). option_map (unit_at (sections file)) owner) first ∙ of_address a)
-
-  pub found-within : (found : Option ℕ) (a : ℕ) → found ≡ first_unit tables cover a → IfSome found (λ i. i < length (units (sections seen).info))
-  found-within found a is =
-      let first : found ≡ first_unit (sections file).tables cover a = is ∙ ap (λ (tables : Tables). first_unit tables cover a) same in
-      subst (λ (file : List ℕ). IfSome found (λ i. i < length (units (sections file).info))) view
-      (subst (λ (owner : Option ℕ). IfSome owner (λ i. i < length (units (sections file).info))) (sym first) (within a))
+pub found-unit : (file seen : List ℕ) (tables : Tables) (cover : CoverState) → file ≡ seen → tables ≡ (sections file).tables → FindsUnits (sections file) cover
+    → (found : Option ℕ) (a : ℕ) → found ≡ first_unit tables cover a → option_map (unit_at (sections seen)) found ≡ unit_of (sections seen) a
+found-unit file seen tables cover view same finds found a is =
+    let first : found ≡ first_unit (sections file).tables cover a = is ∙ ap (λ (tables : Tables). first_unit tables cover a) same in
+    subst (λ (file : List ℕ). option_map (unit_at (sections file)) found ≡ unit_of (sections file) a) view
+    (ap (λ (owner : Option ℕ). option_map (unit_at (sections file)) owner) first ∙ finds a)

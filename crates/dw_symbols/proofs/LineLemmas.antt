@@ -19,7 +19,7 @@ use Rattle.dw_line.specs.declared.fault.LineFault.TheVariants.{Bad}
 use Rattle.dw_line.specs.Lines.{Table, lines_shown, lines_of, TellsEach}
 use Rattle.dw_symbols.specs.declared.answer.UnitFault.{UnitFault}
 use Rattle.dw_symbols.specs.declared.answer.UnitFault.TheVariants.{Line}
-use Rattle.dw_symbols.specs.UnitParts.{named_table, directory_of, IsTableAt, IsTableOf, IsNamed, AreTurned, HasLines}
+use Rattle.dw_symbols.specs.UnitParts.{named_table, directory_of, lines_seen, IsTableAt, IsTableOf, IsNamed, AreTurned, HasLines}
 
 -- ---- the table at an offset
 
@@ -109,8 +109,8 @@ module _ (s : Sections) (unit : DwarfUnit) where
       by (Some offset) None new e is turned = absurd is
       by (Some offset) (Some old) None e is turned = absurd turned
       by (Some offset) (Some old) (Some new) e is turned =
-          let placed = subst (λ (n : ℕ). lines_of s.tables (bases s unit) old.section (directory_of s unit) n ≡ Ok new) is.1 turned.lines in
-          let here = subst (λ (line : List ℕ). lines_of s.tables (bases s unit) line (directory_of s unit) offset ≡ Ok new) is.0 placed in
+          let placed = subst (λ (n : ℕ). lines_seen s unit old.section n ≡ Ok new) is.1 turned.lines in
+          let here = subst (λ (line : List ℕ). lines_seen s unit line offset ≡ Ok new) is.0 placed in
           rw (lines-named s unit offset e, here) refl
 
   pub named-turned : (old new : Option Table) → IsNamed s unit (Ok old) → AreTurned s unit old new → IsNamed s unit (Ok new)

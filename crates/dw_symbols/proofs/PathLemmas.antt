@@ -1,34 +1,30 @@
 -- Paths that are known.
-use Rattle.std.proofs.Common.{◌≡◌, ◌∙◌, ◌<◌, ◌≤◌, ℕ, zero, suc, List, [], ◌∷◌, ◌++◌, get_or, length, Option, Some, None, option_map, refl, ap, subst, arith}
+use Rattle.std.proofs.Common.{◌≡◌, ◌∙◌, ◌<◌, ◌≤◌, ℕ, zero, suc, List, [], ◌∷◌, ◌++◌, get_or, length, Option, Some, None, refl, ap, subst, arith}
 use Rattle.std.specs.Prelude.{option_and_then, slice_get, slice_set}
 use Rattle.std.proofs.lemmas.List.{length-set, length-append}
 use Rattle.std.proofs.lemmas.Option.{same_Some, get_or_from_slice_get, slice_get_read}
 use Rattle.dw_model.specs.Answer.{Lines}
 use Rattle.dw_symbols.specs.declared.paths.KnownPath.{KnownPath}
-use Rattle.dw_symbols.specs.Paths.{file_path, path_in, ArePathsOf}
+use Rattle.dw_symbols.specs.Paths.{file_path, path_in, path_shown, AreOfFiles, ArePathsOf}
 
--- each path that is known is that of its file
-abbrev pub Each : Lines → List (Option KnownPath) → Type 0
-Each table paths = (place : ℕ) (known : KnownPath) → slice_get paths place ≡ Some (Some known) → option_map (λ path. path.items) known.path ≡ file_path table known.number
-
-each-with : (table : Lines) (paths : List (Option KnownPath)) (place : ℕ) (one : KnownPath) → Each table paths → option_map (λ path. path.items) one.path ≡ file_path table one.number → Each table (slice_set paths place (Some one))
+each-with : (table : Lines) (paths : List (Option KnownPath)) (place : ℕ) (one : KnownPath) → AreOfFiles table paths → path_shown one ≡ file_path table one.number → AreOfFiles table (slice_set paths place (Some one))
 each-with table [] place one are is k known there = absurd cc
 each-with table (x ∷ paths) zero one are is zero known there =
     let same = same_Some one known (same_Some (Some one) (Some known) there) in
-    subst (λ (known : KnownPath). option_map (λ path. path.items) known.path ≡ file_path table known.number) same is
+    subst (λ (known : KnownPath). path_shown known ≡ file_path table known.number) same is
 each-with table (x ∷ paths) zero one are is (suc k) known there = are (suc k) known there
 each-with table (x ∷ paths) (suc place) one are is zero known there = are 0 known there
 each-with table (x ∷ paths) (suc place) one are is (suc k) known there =
     each-with table paths place one (λ k. are (suc k)) is k known there
 
 -- one more is known
-pub known-more : (table : Lines) (paths : List (Option KnownPath)) (place : ℕ) (one : KnownPath) → ArePathsOf table paths → option_map (λ path. path.items) one.path ≡ file_path table one.number → ArePathsOf table (slice_set paths place (Some one))
+pub known-more : (table : Lines) (paths : List (Option KnownPath)) (place : ℕ) (one : KnownPath) → ArePathsOf table paths → path_shown one ≡ file_path table one.number → ArePathsOf table (slice_set paths place (Some one))
 known-more table paths place one are is = record {
   few = omega (arith, length-set paths place (Some one), are.few);
   each = each-with table paths place one are.each is;
 }
 
-each-none : (table : Lines) (paths : List (Option KnownPath)) → Each table paths → Each table (paths ++ None ∷ [])
+each-none : (table : Lines) (paths : List (Option KnownPath)) → AreOfFiles table paths → AreOfFiles table (paths ++ None ∷ [])
 each-none table [] are zero known there = absurd cc
 each-none table [] are (suc k) known there = absurd cc
 each-none table (x ∷ paths) are zero known there = are 0 known there
@@ -46,6 +42,6 @@ pub known-at : (table : Lines) (paths : List (Option KnownPath)) (place number :
     → path_in paths place ≡ file_path table number
 known-at table paths place number slot known are within is some same =
     let there = slice_get_read paths (length paths) place slot refl within is in
-    ap (λ (slot : Option KnownPath). option_and_then (λ known. option_map (λ path. path.items) known.path) slot) (get_or_from_slice_get paths place slot None there ∙ some)
+    ap (λ (slot : Option KnownPath). option_and_then path_shown slot) (get_or_from_slice_get paths place slot None there ∙ some)
     ∙ are.each place known (there ∙ ap Some some)
     ∙ ap (file_path table) same

@@ -133,12 +133,12 @@ same_place table None = refl
 same_place table (Some row) = refl
 
 pub unit_adds : (s : Sections) (unit : DwarfUnit) (span : Span) (table : Table) (old new : List model.Piece) → HasLines s unit (Ok (Some table)) → AddsRows (lines_shown table) span.low span.high old new → AddsUnit s unit span None old new
-unit_adds s unit span table old new has adds = λ from order same are.
+unit_adds s unit span table old new has adds = λ same from order are.
     adds (place s) from order are
     (λ a above below. same a above below ∙ place_ok s unit (Some (lines_shown table)) a has ∙ ap Ok (sym (same_place (lines_shown table) (row_of table.rows a))))
 
 pub unit_adds_none : (s : Sections) (unit : DwarfUnit) (span : Span) (old : List model.Piece) → span.low ≤ span.high → HasLines s unit (Ok None) → NoneMore → AddsUnit s unit span None old old
-unit_adds_none s unit span old rises has law = λ from order same are.
+unit_adds_none s unit span old rises has law = λ same from order are.
     law (place s) from span.low span.high old are rises (λ a above below. same a above below ∙ place_ok s unit None a has)
 
 pub unit_fault : (s : Sections) (unit : DwarfUnit) (span : Span) (code : CodeFault) (old new : List model.Piece) → HasLines s unit (Err code) → AddsUnit s unit span (Some code) old new
@@ -168,12 +168,7 @@ module _ (s : Sections) (span : Span) (end until : ℕ) (some : span.low < end) 
   )
 
   pub first_adds : (unit : DwarfUnit) (old new : List model.Piece) → IsUnitOf s (Some unit) span.low until → AddsUnit s unit first None old new → AddsFirst s span (Ok end) old new
-  first_adds unit old new is adds = (
-    some,
-    within,
-    λ from order are.
-        adds from order (λ a above below. place_some s unit a (is a above (omega (arith, below, ends)))) are,
-  )
+  first_adds unit old new is adds = (some, within, adds (λ a above below. place_some s unit a (is a above (omega (arith, below, ends)))))
 
   pub first_fails : (unit : DwarfUnit) (code : CodeFault) (offset : ℕ) (old new : List model.Piece) → IsUnitOf s (Some unit) span.low until → AddsUnit s unit first (Some code) old new → offset ≡ unit.offset → AddsFirst s span (Err (offset, code)) old new
   first_fails unit code offset old new is fails same =

@@ -4,14 +4,18 @@ use mathlib.Core.Logic.{inl, inr}
 use base.Stored.{coded_unit}
 use Rattle.std.specs.Coded.{Coded, code_by, coded×, coded⊎, coded_ℕ, coded_list, coded_option}
 use Rattle.dw_model.specs.Faults.{entry_fault, depth_fault, ranges_fault}
-use Rattle.dw_model.specs.Answer.{Location, Frame, Piece, Code, tree_fault, line_fault, Answer, not_covered, fault, found, located}
+use Rattle.dw_model.specs.Answer.{Location, Frame, Piece, Code, tree_fault, line_fault}
+use Rattle.dw_model.specs.Answer.{Answer, not_covered, fault, found, located}
 
 abbrev pub bytes_code : Coded (Option (List ℕ))
 bytes_code = coded_option (coded_list coded_ℕ)
 
+abbrev pub number_code : Coded (Option ℕ)
+number_code = coded_option coded_ℕ
+
 abbrev pub location_code : Coded Location
 location_code =
-    code_by (Option (List ℕ) × (Option ℕ × Option ℕ)) (coded× bytes_code (coded× (coded_option coded_ℕ) (coded_option coded_ℕ)))
+    code_by (Option (List ℕ) × (Option ℕ × Option ℕ)) (coded× bytes_code (coded× number_code number_code))
     (λ location. (location.path, (location.line, location.column)))
     (λ p. record { path = p.0; line = p.1.0; column = p.1.1 }) (λ _. refl)
 
@@ -22,13 +26,16 @@ frame_code =
     (λ p. record { name = p.0; location = p.1 }) (λ _. refl)
 
 -- the faults of a unit, in order of their numbers
-abbrev pub fault_parts : Code → Unit {0} ⊎ (Unit {0} ⊎ (Unit {0} ⊎ Unit {0}))
+abbrev pub FaultParts : Type 0
+FaultParts = Unit {0} ⊎ (Unit {0} ⊎ (Unit {0} ⊎ Unit {0}))
+
+abbrev pub fault_parts : Code → FaultParts
 fault_parts (tree_fault entry_fault) = inl tt
 fault_parts (tree_fault depth_fault) = inr (inl tt)
 fault_parts (tree_fault ranges_fault) = inr (inr (inl tt))
 fault_parts line_fault = inr (inr (inr tt))
 
-abbrev pub fault_from : Unit {0} ⊎ (Unit {0} ⊎ (Unit {0} ⊎ Unit {0})) → Code
+abbrev pub fault_from : FaultParts → Code
 fault_from (inl _) = tree_fault entry_fault
 fault_from (inr (inl _)) = tree_fault depth_fault
 fault_from (inr (inr (inl _))) = tree_fault ranges_fault
@@ -42,8 +49,7 @@ fault_back line_fault = refl
 
 abbrev pub fault_code : Coded Code
 fault_code =
-    code_by (Unit {0} ⊎ (Unit {0} ⊎ (Unit {0} ⊎ Unit {0}))) (coded⊎ coded_unit (coded⊎ coded_unit (coded⊎ coded_unit coded_unit)))
-    fault_parts fault_from fault_back
+    code_by FaultParts (coded⊎ coded_unit (coded⊎ coded_unit (coded⊎ coded_unit coded_unit))) fault_parts fault_from fault_back
 
 abbrev pub piece_code : Coded Piece
 piece_code =
@@ -73,7 +79,10 @@ answer_back (fault unit code) = refl
 answer_back (found unit frames) = refl
 answer_back (located pieces) = refl
 
+abbrev pub parts_code : Coded AnswerParts
+parts_code =
+    coded⊎ coded_unit (coded⊎ (coded× coded_ℕ fault_code)
+    (coded⊎ (coded× coded_ℕ (coded_list frame_code)) (coded_list piece_code)))
+
 abbrev pub answer_code : Coded Answer
-answer_code =
-    code_by AnswerParts (coded⊎ coded_unit (coded⊎ (coded× coded_ℕ fault_code) (coded⊎ (coded× coded_ℕ (coded_list frame_code)) (coded_list piece_code))))
-    answer_parts answer_from answer_back
+answer_code = code_by AnswerParts parts_code answer_parts answer_from answer_back

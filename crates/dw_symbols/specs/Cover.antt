@@ -1,22 +1,18 @@
 -- The ranges of all units that answer addresses, each with the place of its unit.
-use Rattle.std.specs.Prelude.{ℕ, ◌+◌, List, [], ◌∷◌, ◌++◌, map, Option, Result, Ok, if◌then◌else◌}
+use Rattle.std.specs.Prelude.{ℕ, ◌+◌, List, [], ◌∷◌, ◌++◌, map, Result, Ok, if◌then◌else◌}
 use Rattle.std.specs.Option.{option_map_or}
 use Rattle.dw_model.specs.Results.{◌>>=◌, or_fault}
 use Rattle.dw_model.specs.Faults.{Refusal, Bad, root_ranges}
-use Rattle.dw_model.specs.Entry.{Entry}
-use Rattle.dw_model.specs.Text.{Tables, Bases}
 use Rattle.dw_model.specs.Section.{Sections}
-use Rattle.dw_model.specs.Unit.{Kind, DwarfUnit}
+use Rattle.dw_model.specs.Unit.{DwarfUnit}
 use Rattle.dw_model.specs.Root.{root, bases, answers}
 use Rattle.dw_model.specs.Ranges.{Range, ranges_of}
 
 -- the ranges of a unit's first entry, where the unit answers; none where it doesn't
-abbrev pub answering_ranges : Tables → Bases → Option Entry → Kind → Result (List Range) Bad
-answering_ranges tables bases root kind =
-    if answers kind then option_map_or (ranges_of tables bases root) root (Ok []) else Ok []
-
 abbrev pub ranges_in : Sections → DwarfUnit → Result (List Range) Bad
-ranges_in sections unit = answering_ranges sections.tables (bases sections unit) (root sections unit) unit.kind
+ranges_in sections unit =
+    if answers unit.kind then
+    option_map_or (ranges_of sections.tables (bases sections unit) (root sections unit)) (root sections unit) (Ok []) else Ok []
 
 -- those of a unit, or that they are bad, with the unit
 abbrev pub checked_ranges : Sections → DwarfUnit → Result (List Range) Refusal

@@ -3,7 +3,8 @@ use Rattle.std.specs.Prelude.{ℕ, List, [], ◌∷◌, Option, None, Result, Ok
 use Rattle.dw_model.specs.Results.{◌>>=◌, with_code}
 use Rattle.dw_model.specs.Section.{Sections}
 use Rattle.dw_model.specs.Unit.{DwarfUnit}
-use Rattle.dw_model.specs.Answer.{Location, Frame, Lines, Code, Answer, line_fault, file_path, lines, location_at, row_at, row_location, as_answer}
+use Rattle.dw_model.specs.Answer.{Location, Frame, Lines, Code, Answer, line_fault, as_answer}
+use Rattle.dw_model.specs.Answer.{file_path, lines, location_at, row_at, row_location}
 use Rattle.dw_frames.specs.declared.function.Call.{Call}
 use Rattle.dw_frames.specs.Told.{Told}
 

@@ -1,10 +1,12 @@
 -- Units whose ranges aren't kept, each with the list that has them.
-use Rattle.std.specs.Prelude.{◌≡◌, ◌≤◌, ◌<◌, ℕ, ◌+◌, ◌/◌, List, [], ◌∷◌, ◌++◌, length, map, Option}
+use Rattle.std.specs.Prelude.{◌≡◌, ◌≤◌, ◌<◌, ℕ, ◌+◌, ◌*◌, ◌/◌, List, [], ◌∷◌, ◌++◌, length, map, Option, option_map}
 use Rattle.dw_model.specs.Ranges.{Range}
 use Rattle.dw_model.specs.Section.{Sections}
 use Rattle.dw_model.specs.Steady.{last_address}
 use Rattle.dw_model.specs.Text.{Tables}
 use Rattle.dw_model.specs.Unit.{units}
+use Rattle.dw_model.specs.Answer.{unit_of}
+use Rattle.dw_units.specs.UnitAt.{unit_at}
 use Rattle.dw_index.specs.declared.segment.Segment.{Segment}
 use Rattle.dw_index.specs.Owners.{least, least_owner}
 use Rattle.dw_index.specs.Segments.{owner_at}
@@ -39,6 +41,15 @@ pub record CoverState : Type 0 where
 -- the first unit that has an address, of all
 abbrev pub first_unit : Tables → CoverState → ℕ → Option ℕ
 first_unit tables cover a = least (owner_at cover.index a) (held_at tables cover.held a)
+
+-- it is the unit that answers an address, for each address
+abbrev pub FindsUnits : Sections → CoverState → Type 0
+FindsUnits sections cover = (a : ℕ) → option_map (unit_at sections) (first_unit sections.tables cover a) ≡ unit_of sections a
+
+-- So many ranges are enough: the unit of each address is found by an index of them, or else by a
+-- list that is held.
+abbrev pub AreEnough : Sections → ℕ → Type 0
+AreEnough sections ranges = (cover : CoverState) × FindsUnits sections cover × (length cover.index ≤ 2 * ranges)
 
 -- Of the unit that the index has and the units that are held, the first that has an address is
 -- found, and up to where it is that, if the index has no other there.

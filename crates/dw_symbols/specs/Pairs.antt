@@ -1,5 +1,6 @@
 -- The ranges of units that are kept, as far as they own addresses.
-use Rattle.std.specs.Prelude.{◌≡◌, ◌⊎◌, ◌+◌, ℕ, List, [], ◌∷◌, ◌++◌, map, length, Option, Some, is_some, Result, Ok, Err, MatchOption, if◌then◌else◌}
+use Rattle.std.specs.Prelude.{◌≡◌, ◌⊎◌, ◌+◌, ℕ, List, [], ◌∷◌, ◌++◌, map, length, if◌then◌else◌}
+use Rattle.std.specs.Prelude.{Option, Some, is_some, Result, Ok, Err, MatchOption}
 use Rattle.dw_model.specs.Faults.{Refusal}
 use Rattle.dw_model.specs.Ranges.{Range}
 use Rattle.dw_model.specs.Text.{Tables}

@@ -29,7 +29,8 @@ Adds here begin end old new =
 
 -- the addresses of a stretch are added, with the location of its row
 abbrev pub AddsStretch : Lines → Stretch → (old new : List model.Piece) → Type 0
-AddsStretch table stretch old new = stretch.begin < stretch.end → Adds (λ _. option_map (row_place table) stretch.row) stretch.begin stretch.end old new
+AddsStretch table stretch old new =
+    stretch.begin < stretch.end → Adds (λ _. option_map (row_place table) stretch.row) stretch.begin stretch.end old new
 
 -- the addresses of a span are added, each with the location of its row
 abbrev pub AddsRows : Lines → (low high : ℕ) → (old new : List model.Piece) → Type 0

@@ -13,28 +13,38 @@ use Rattle.dw_symbols.specs.Answer.{code_shown}
 abbrev pub AreUncovered : Sections → (low high : ℕ) → Type 0
 AreUncovered sections low high = (a : ℕ) → low ≤ a → a < high → unit_of sections a ≡ None
 
+abbrev pub IsUnitAt : Sections → ℕ → ℕ → Type 0
+IsUnitAt sections unit a = slice_get (units sections.info) unit ≡ unit_of sections a
+
 -- the unit at a place answers the first address that is covered, of those from one on and before
 -- another; or none is covered
 abbrev pub IsFirstUnit : Sections → (low high : ℕ) → Option ℕ → Type 0
 IsFirstUnit sections low high None = AreUncovered sections low high
 IsFirstUnit sections low high (Some unit) =
-    (a : ℕ) × (low ≤ a) × (a < high) × AreUncovered sections low a × (slice_get (units sections.info) unit ≡ unit_of sections a)
+    (a : ℕ) × (low ≤ a) × (a < high) × AreUncovered sections low a × IsUnitAt sections unit a
 
 abbrev pub fault_shown : ℕ × UnitFault → model.UnitFault
 fault_shown fault = (fault.0, code_shown fault.1)
 
+-- the pieces of the addresses up to one, added to those of the addresses up to another before it
+abbrev pub AddsUpTo : Sections → (low high : ℕ) → (old new : List Piece) → Type 0
+AddsUpTo sections low high old new =
+    (from : ℕ) → from ≤ low → ArePieces (place sections) from low old → ArePieces (place sections) from high new
+
+-- the unit answers all addresses of a span
+abbrev pub IsOfUnit : Sections → DwarfUnit → Span → Type 0
+IsOfUnit sections unit span = (a : ℕ) → span.low ≤ a → a < span.high → place sections a ≡ unit_place sections unit a
+
 -- The pieces of the addresses of a span are added to those before it, where the unit answers them
 -- all; or each has the fault.
 abbrev pub AddsUnit : Sections → DwarfUnit → Span → Option UnitFault → (old new : List Piece) → Type 0
-AddsUnit sections unit span None old new =
-    (from : ℕ) → from ≤ span.low → ((a : ℕ) → span.low ≤ a → a < span.high → place sections a ≡ unit_place sections unit a)
-    → ArePieces (place sections) from span.low old → ArePieces (place sections) from span.high new
-AddsUnit sections unit span (Some code) old new = (a : ℕ) → unit_place sections unit a ≡ Err (fault_shown (unit.offset, code))
+AddsUnit sections unit span None old new = IsOfUnit sections unit span → AddsUpTo sections span.low span.high old new
+AddsUnit sections unit span (Some code) old new =
+    (a : ℕ) → unit_place sections unit a ≡ Err (fault_shown (unit.offset, code))
 
 -- The pieces of the addresses up to one of a span are added to those before it; or its first
 -- address has the fault.
 abbrev pub AddsFirst : Sections → Span → Result ℕ (ℕ × UnitFault) → (old new : List Piece) → Type 0
 AddsFirst sections span (Ok end) old new =
-    (span.low < end) × (end ≤ span.high)
-    × ((from : ℕ) → from ≤ span.low → ArePieces (place sections) from span.low old → ArePieces (place sections) from end new)
+    (span.low < end) × (end ≤ span.high) × AddsUpTo sections span.low end old new
 AddsFirst sections span (Err fault) old new = place sections span.low ≡ Err (fault_shown fault)

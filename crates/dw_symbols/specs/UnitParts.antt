@@ -2,7 +2,7 @@
 use Rattle.std.specs.Prelude.{◌≡◌, ℕ, List, map, Option, Some, None, option_map, option_and_then, Result, Ok, Err}
 use Rattle.dw_model.specs.declared.dwarf.TheConstants.{DW_AT_stmt_list, DW_AT_comp_dir}
 use Rattle.dw_model.specs.Results.{with_code}
-use Rattle.dw_model.specs.Faults.{bad}
+use Rattle.dw_model.specs.Faults.{Bad, bad}
 use Rattle.dw_model.specs.Text.{Tables, Bases, text}
 use Rattle.dw_model.specs.Section.{Sections}
 use Rattle.dw_model.specs.Unit.{DwarfUnit}
@@ -52,12 +52,13 @@ named_table sections unit =
 -- the directory in which a unit was compiled
 abbrev pub directory_of : Sections → DwarfUnit → Option (List ℕ)
 directory_of sections unit =
-    option_and_then (λ first. option_and_then (text sections.tables (bases sections unit)) (attribute DW_AT_comp_dir first)) (root sections unit)
+    option_and_then (λ first. option_and_then (text sections.tables (bases sections unit))
+    (attribute DW_AT_comp_dir first)) (root sections unit)
 
 -- whichever unit names a table at an offset, it can't be read
 abbrev pub IsBadTable : List ℕ → ℕ → Type 0
 IsBadTable line offset =
-    (tables : Tables) (bases : Bases) (comp_dir : Option (List ℕ)) → lines_of tables bases line comp_dir offset ≡ Err bad
+    (tables : Tables) (bases : Bases) (top : Option (List ℕ)) → lines_of tables bases line top offset ≡ Err bad
 
 -- It is the line table at an offset, as any unit sees it; or no unit can read the table there.
 abbrev pub IsTableAt : List ℕ → ℕ → Result (Option Table) UnitFault → Type 0
@@ -74,9 +75,14 @@ IsTableOf line (Some offset) read = IsTableAt line offset read
 abbrev pub IsNamed : Sections → DwarfUnit → Result (Option Table) UnitFault → Type 0
 IsNamed sections unit read = IsTableOf sections.line (named_table sections unit) read
 
+-- the line table at an offset of a section, as a unit sees it
+abbrev pub lines_seen : Sections → DwarfUnit → (section : List ℕ) → (offset : ℕ) → Result Table Bad
+lines_seen sections unit section offset =
+    lines_of sections.tables (bases sections unit) section (directory_of sections unit) offset
+
 -- a line table that was turned to a unit
 pub record IsTurned (sections : Sections) (unit : DwarfUnit) (old new : Table) : Type 0 where
-  pub lines : lines_of sections.tables (bases sections unit) old.section (directory_of sections unit) old.offset ≡ Ok new
+  pub lines : lines_seen sections unit old.section old.offset ≡ Ok new
   pub section : new.section ≡ old.section
   pub offset : new.offset ≡ old.offset
 

@@ -1,6 +1,6 @@
 //! Which unit answers an address: by an index of ranges, and by lists that are read anew.
 
-ghost use Rattle.std.specs.Prelude.{◌≡◌, ◌≤◌, ◌<◌, ℕ, IfOk, false, length, nat_le};
+ghost use Rattle.std.specs.Prelude.{◌≡◌, ◌≤◌, ◌<◌, ◌*◌, ℕ, IfOk, false, length, nat_le};
 ghost use Rattle.std.specs.Option.{option_map_or};
 ghost use Rattle.dw_model.specs.Steady.{last_address};
 ghost use Rattle.dw_model.specs.Text.{Tables as ModelTables};
@@ -136,7 +136,8 @@ impl Cover {
 
     /// How many ranges of units are kept.
     pub(crate) fn ranges(&self) -> usize
-        ensures { result ≡ self.now.ranges }
+        ensures ranges { result ≡ self.now.ranges }
+        ensures size { length self.now.index ≤ 2 * result }
     {
         self.ranges
     }

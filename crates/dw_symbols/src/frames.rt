@@ -22,7 +22,8 @@ pub(crate) fn frames_of<'a>(
     location: Location,
 ) -> Result<Vec<Frame<'a>>, AllocError>
     ensures { IfOk result (λ frames. map frame_shown frames.items
-        ≡ frames_told (option_map lines_shown lines.now) (location_shown location) (map described_shown functions.now)) }
+        ≡ frames_told (option_map lines_shown lines.now) (location_shown location)
+        (map described_shown functions.now)) }
 {
     if functions.len() == 0 {
         let frames = vec![in alloc;

@@ -4,7 +4,7 @@ ghost use Rattle.std.specs.Prelude.{◌≡◌, ◌≤◌, ◌<◌, None, OnOk, I
 ghost use Rattle.dw_model.specs.Section.{sections, elf_refusal};
 ghost use Rattle.dw_model.specs.Answer.{unit_of};
 ghost use Rattle.dw_model.specs.Steady.{last_address};
-ghost use Rattle.dw_symbols.specs.Held.{most_ranges};
+ghost use Rattle.dw_symbols.specs.Held.{AreEnough, most_ranges};
 ghost use Rattle.dw_model.specs.Refusal.{refusal};
 ghost use Rattle.dw_elf.specs.OpenFault.{RefusesUnlessMemory, HidesNoRefusal};
 
@@ -121,9 +121,11 @@ impl<'a> Image<'a> {
 
     /// How many ranges are kept to find the unit of an address: of lists at most a third of the
     /// bytes of .debug_rnglists, and one of each other unit. So memory stays in proportion to the
-    /// file, however many units name one list.
+    /// file, however many units name one list. They are enough to find each unit that no list that
+    /// is held leads to.
     pub fn kept(&self) -> usize
-        ensures { result ≤ most_ranges (sections self.now) }
+        ensures few { result ≤ most_ranges (sections self.now) }
+        ensures enough { AreEnough (sections self.now) result }
     {
         self.cover.ranges()
     }

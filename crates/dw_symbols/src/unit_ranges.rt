@@ -1,27 +1,23 @@
 //! The ranges of all units that answer addresses.
 
-ghost use Rattle.std.specs.Prelude.{◌≡◌, ◌≤◌, ◌++◌, ◌<◌, ◌⊎◌, ℕ, true, map, length};
+ghost use Rattle.std.specs.Prelude.{◌≡◌, ◌≤◌, ◌++◌, ◌⊎◌, ℕ, true, map, length};
 ghost use Rattle.std.specs.Prelude.{OnOk, IfOk, IfErr, IfSome, IsSome, MatchOption};
-ghost use Rattle.std.specs.Prelude.{option_map, option_to_list, slice_get};
+ghost use Rattle.std.specs.Prelude.{option_to_list};
 ghost use Rattle.dw_model.specs.Unit as model;
 ghost use Rattle.dw_model.specs.Answers.{GivesUnlessMemory};
 ghost use Rattle.dw_elf.specs.OpenFault.{refusal_of};
-ghost use Rattle.dw_forms.specs.Tables.{tables_shown, bases_shown};
-ghost use Rattle.dw_units.specs.Header.{kind_shown};
-ghost use Rattle.dw_units.specs.Entry.{entry_shown};
-ghost use Rattle.dw_ranges.specs.Fault.{range_fault};
+ghost use Rattle.dw_units.specs.OpenUnit.{sections_of, unit_of};
 ghost use Rattle.dw_ranges.specs.Lists.{IsOneAtMost, ranges_of_list};
 ghost use Rattle.dw_ranges.specs.ReadLists.{Has};
 ghost use Rattle.dw_index.specs.Range.{range_shown};
 ghost use Rattle.dw_symbols.specs.Held.{AreInOrder, most_ranges};
 ghost use Rattle.dw_symbols.specs.Pairs.{Adds, IsFromZero, Owns, Refuses, WasHeld, all_pairs};
-ghost use Rattle.dw_symbols.specs.Cover.{answering_ranges, checked_ranges, pairs_from, ranges_in};
+ghost use Rattle.dw_symbols.specs.Cover.{checked_ranges, pairs_from, ranges_in};
 
 use crate::cover::HeldUnit;
 use dw_elf::OpenFault;
-use dw_forms::Tables;
 use dw_ranges::{Range, RangeFault, RangeList, ReadLists, list_of, read_ranges};
-use dw_units::{Unit, Units};
+use dw_units::{OpenUnit, Units};
 use std::alloc::{AllocError, Global};
 
 /// The ranges of units, each with the place of its unit, and the units whose ranges are more than
@@ -35,25 +31,24 @@ pub(crate) struct UnitRanges {
 }
 
 /// Reads the ranges of a unit's first entry, where the unit answers addresses, in place of those
-/// that were kept; none where it doesn't.
-fn read_answering<'a>(
-    ranges: &mut Vec<Range>,
-    unit: &Unit<'a>,
-    tables: &Tables<'a>,
-) -> Result<(), RangeFault>
-    ensures { GivesUnlessMemory (λ _. map range_shown ranges.new.items) range_fault result
-        (answering_ranges (tables_shown tables.now) (bases_shown unit.now.bases)
-        (option_map entry_shown unit.now.root) (kind_shown unit.now.kind)) }
+/// that were kept; none where it doesn't. The error tells the unit.
+fn read_answering(ranges: &mut Vec<Range>, unit: OpenUnit<'_, '_>) -> Result<(), OpenFault>
+    ensures { GivesUnlessMemory (λ _. map range_shown ranges.new.items) refusal_of result
+        (checked_ranges (sections_of unit.entry) (unit_of unit.entry)) }
 {
     ranges.clear();
-    let answers = unit.kind.answers();
-    if !answers {
+    let here = unit.unit();
+    if !here.kind.answers() {
         return Ok(());
     }
-    let Some(root) = &unit.root else {
+    let Some(root) = &here.root else {
         return Ok(());
     };
-    read_ranges(ranges, &root.named_ranges(), unit, tables)
+    match read_ranges(ranges, &root.named_ranges(), here, unit.units().tables()) {
+        Ok(()) => Ok(()),
+        Err(RangeFault::Bad) => Err(OpenFault::RootRanges(here.offset)),
+        Err(RangeFault::Memory) => Err(OpenFault::Memory),
+    }
 }
 
 /// Adds ranges that have one owner.
@@ -70,50 +65,22 @@ fn push_ranges(
     Ok(())
 }
 
-/// Reads the ranges of the unit at a place, where it answers addresses, in place of those that were
-/// kept. The error tells the unit.
-fn read_at(ranges: &mut Vec<Range>, units: &Units<'_>, i: usize) -> Result<(), OpenFault>
-    requires { i < length (model.units units.now.info) }
-    ensures { IfSome (slice_get (model.units units.now.info) i)
-        (λ unit. GivesUnlessMemory (λ _. map range_shown ranges.new.items) refusal_of result
-        (checked_ranges units.now unit)) }
-{
-    let unit = units.unit(i);
-    match read_answering(ranges, unit, units.tables()) {
-        Ok(()) => Ok(()),
-        Err(RangeFault::Bad) => Err(OpenFault::RootRanges(unit.offset)),
-        Err(RangeFault::Memory) => Err(OpenFault::Memory),
-    }
-}
-
 /// The list that a unit's first entry names, where the unit answers addresses; `None` where it has
 /// one range at most, or they can't be read.
-fn answering_list<'a>(unit: &Unit<'a>, tables: &Tables<'a>) -> Option<RangeList>
+fn answering_list(unit: OpenUnit<'_, '_>) -> Option<RangeList>
     ensures { MatchOption result
-        (IsOneAtMost (answering_ranges (tables_shown tables.now) (bases_shown unit.now.bases)
-        (option_map entry_shown unit.now.root) (kind_shown unit.now.kind)))
-        (λ list. answering_ranges (tables_shown tables.now) (bases_shown unit.now.bases)
-        (option_map entry_shown unit.now.root) (kind_shown unit.now.kind)
-        ≡ ranges_of_list (tables_shown tables.now) list) }
+        (IsOneAtMost (ranges_in (sections_of unit.entry) (unit_of unit.entry)))
+        (λ list. ranges_in (sections_of unit.entry) (unit_of unit.entry)
+        ≡ ranges_of_list (sections_of unit.entry).tables list) }
 {
-    if !unit.kind.answers() {
+    let here = unit.unit();
+    if !here.kind.answers() {
         return None;
     }
-    let Some(root) = &unit.root else {
+    let Some(root) = &here.root else {
         return None;
     };
-    list_of(&root.named_ranges(), unit, tables)
-}
-
-/// The list that the first entry of the unit at a place names, where the unit answers addresses;
-/// `None` where it has one range at most, or they can't be read.
-fn unit_list(units: &Units<'_>, i: usize) -> Option<RangeList>
-    requires { i < length (model.units units.now.info) }
-    ensures { IfSome (slice_get (model.units units.now.info) i)
-        (λ unit. MatchOption result (IsOneAtMost (ranges_in units.now unit))
-        (λ list. ranges_in units.now unit ≡ ranges_of_list units.now.tables list)) }
-{
-    answering_list(units.unit(i), units.tables())
+    list_of(&root.named_ranges(), here, unit.units().tables())
 }
 
 /// The list is one that was read for an earlier unit.
@@ -247,7 +214,8 @@ pub(crate) fn unit_ranges(alloc: Global, units: &Units<'_>) -> Result<UnitRanges
     let mut good = ReadLists::new(alloc);
     let mut ranges = Vec::new(alloc);
     for i in 0..units.len() {
-        let list = unit_list(units, i);
+        let unit = units.at(i);
+        let list = answering_list(unit);
         if was_read(&read, list) {
             continue;
         }
@@ -256,7 +224,7 @@ pub(crate) fn unit_ranges(alloc: Global, units: &Units<'_>) -> Result<UnitRanges
             note(&mut read, list)?;
             continue;
         }
-        read_at(&mut ranges, units, i)?;
+        read_answering(&mut ranges, unit)?;
         keep(&mut kept, &ranges, list, i)?;
         note(&mut read, list)?;
         note_held(&mut good, &kept.held, list, i)?;

@@ -1,9 +1,10 @@
 use Rattle.std.proofs.Common.{◌≡◌, ℕ, length, List, map, arith, ap, subst, Ok, Err}
 use Rattle.std.specs.Prelude.{MatchOption, ◌/◌}
 use Rattle.std.proofs.lemmas.Result.{err_from_is_err_and}
+use Rattle.dw_model.specs.Section.{Sections}
 use Rattle.dw_model.specs.Text.{Tables}
-use Rattle.dw_model.specs.Unit as model
 use Rattle.dw_elf.specs.OpenFault.{refusal_of}
+use Rattle.dw_units.specs.OpenUnit.{unit_of}
 use Rattle.dw_index.specs.declared.range.Range.{Range}
 use Rattle.dw_index.specs.Range.{range_shown}
 use Rattle.dw_ranges.specs.declared.range_list.RangeList.{RangeList}
@@ -11,7 +12,7 @@ use Rattle.dw_ranges.specs.Lists.{IsOneAtMost, ranges_of_list}
 use Rattle.dw_ranges.specs.ReadLists.{Has}
 use Rattle.dw_symbols.specs.Cover.{checked_ranges, ranges_in}
 use Rattle.dw_symbols.specs.Pairs.{Adds}
-use Rattle.dw_symbols.proofs.CoverLemmas.{some-at, known}
+use Rattle.dw_symbols.proofs.CoverLemmas.{opened-at}
 use Rattle.dw_symbols.proofs.PairsLemmas.{none-kept, again-some, read-on, held-again, fault-told, all-kept}
 use Rattle.dw_symbols.proofs.unit_ranges.unit_ranges.Goals as goal
 
@@ -25,10 +26,11 @@ pub loop-i-preserved-then-was_read : goal.loop-i-preserved-then-was_read
 loop-i-preserved-then-was_read c =
     let s = c.args.units.now in
     let most = length s.tables.rnglists / 3 in
-    let unit = some-at (model.units s.info) c.loop-i.i (omega (arith, c.loop-i-test.true, c.len-i-end.ensures)) in
-    let list = known (λ unit. MatchOption c.unit_list-list.result (IsOneAtMost (ranges_in s unit)) (λ list. ranges_in s unit ≡ ranges_of_list s.tables list)) _ unit.0 unit.1 c.unit_list-list.ensures in
+    let at = opened-at s c.loop-i.i c.at-unit.result (omega (arith, c.loop-i-test.true, c.len-i-end.ensures)) c.at-unit.ensures.unit in
+    let unit = unit_of c.at-unit.result in
+    let list = subst (λ (s : Sections). MatchOption c.answering_list-list.result (IsOneAtMost (ranges_in s unit)) (λ list. ranges_in s unit ≡ ranges_of_list s.tables list)) c.at-unit.ensures.sections c.answering_list-list.ensures in
     record {
-      kept_is = again-some s most c.loop-i.kept c.loop-i.read c.loop-i.i unit.0 unit.1 c.loop-i.invariant.kept_is c.unit_list-list.result list (c.was_read.ensures c.if-was_read.true);
+      kept_is = again-some s most c.loop-i.kept c.loop-i.read c.loop-i.i unit at c.loop-i.invariant.kept_is c.answering_list-list.result list (c.was_read.ensures c.if-was_read.true);
       good_is = c.loop-i.invariant.good_is;
     }
 
@@ -36,29 +38,32 @@ pub loop-i-preserved-then-was_held : goal.loop-i-preserved-then-was_held
 loop-i-preserved-then-was_held c =
     let s = c.args.units.now in
     let most = length s.tables.rnglists / 3 in
-    let unit = some-at (model.units s.info) c.loop-i.i (omega (arith, c.loop-i-test.true, c.len-i-end.ensures)) in
-    let list = known (λ unit. MatchOption c.unit_list-list.result (IsOneAtMost (ranges_in s unit)) (λ list. ranges_in s unit ≡ ranges_of_list s.tables list)) _ unit.0 unit.1 c.unit_list-list.ensures in
-    held-again s most c.loop-i.kept c.hold.new.kept c.loop-i.read c.note.new.read c.loop-i.good c.loop-i.i unit.0 unit.1 c.loop-i.invariant c.unit_list-list.result list (c.was_held.ensures c.if-was_held.true) c.in_ok-note.ensures c.in_ok-hold.ensures
+    let at = opened-at s c.loop-i.i c.at-unit.result (omega (arith, c.loop-i-test.true, c.len-i-end.ensures)) c.at-unit.ensures.unit in
+    let unit = unit_of c.at-unit.result in
+    let list = subst (λ (s : Sections). MatchOption c.answering_list-list.result (IsOneAtMost (ranges_in s unit)) (λ list. ranges_in s unit ≡ ranges_of_list s.tables list)) c.at-unit.ensures.sections c.answering_list-list.ensures in
+    held-again s most c.loop-i.kept c.hold.new.kept c.loop-i.read c.note.new.read c.loop-i.good c.loop-i.i unit at c.loop-i.invariant c.answering_list-list.result list (c.was_held.ensures c.if-was_held.true) c.in_ok-note.ensures c.in_ok-hold.ensures
 
-pub returns-in_err-read_at-clause-refused : goal.returns-in_err-read_at-clause-refused
-returns-in_err-read_at-clause-refused c =
+pub returns-in_err-read_answering-clause-refused : goal.returns-in_err-read_answering-clause-refused
+returns-in_err-read_answering-clause-refused c =
     let s = c.args.units.now in
     let most = length s.tables.rnglists / 3 in
-    let unit = some-at (model.units s.info) c.loop-i.i (omega (arith, c.loop-i-test.true, c.len-i-end.ensures)) in
-    let fault = known (λ unit. MatchOption (refusal_of c.in_err-read_at.field-0.0) (Unit {0}) (λ told. checked_ranges s unit ≡ Err told)) _ unit.0 unit.1 c.in_err-read_at.ensures in
-    let told = fault-told s most c.loop-i.kept c.loop-i.read c.loop-i.i unit.0 unit.1 c.loop-i.invariant.kept_is (refusal_of c.in_err-read_at.field-0.0) fault in
-    let p = err_from_is_err_and c.from_residual-in_err-read_at.result c.from_residual-in_err-read_at.ensures.1 in
+    let at = opened-at s c.loop-i.i c.at-unit.result (omega (arith, c.loop-i-test.true, c.len-i-end.ensures)) c.at-unit.ensures.unit in
+    let unit = unit_of c.at-unit.result in
+    let fault = subst (λ (s : Sections). MatchOption (refusal_of c.in_err-read_answering.field-0.0) (Unit {0}) (λ told. checked_ranges s unit ≡ Err told)) c.at-unit.ensures.sections c.in_err-read_answering.ensures in
+    let told = fault-told s most c.loop-i.kept c.loop-i.read c.loop-i.i unit at c.loop-i.invariant.kept_is (refusal_of c.in_err-read_answering.field-0.0) fault in
+    let p = err_from_is_err_and c.from_residual-in_err-read_answering.result c.from_residual-in_err-read_answering.ensures.1 in
     rw (p.1, p.2) told
 
 pub loop-i-preserved : goal.loop-i-preserved
 loop-i-preserved c =
     let s = c.args.units.now in
     let most = length s.tables.rnglists / 3 in
-    let unit = some-at (model.units s.info) c.loop-i.i (omega (arith, c.loop-i-test.true, c.len-i-end.ensures)) in
-    let list = known (λ unit. MatchOption c.unit_list-list.result (IsOneAtMost (ranges_in s unit)) (λ list. ranges_in s unit ≡ ranges_of_list s.tables list)) _ unit.0 unit.1 c.unit_list-list.ensures in
-    let read = known (λ unit. checked_ranges s unit ≡ Ok (map range_shown c.read_at.new.ranges.items)) _ unit.0 unit.1 c.in_ok-read_at.ensures in
-    let adds = subst (λ (ranges : List Range). Adds c.unit_list-list.result ranges c.loop-i.i c.loop-i.kept c.keep.new.kept) c.deref.ensures.value c.in_ok-keep.ensures in
-    read-on s most c.loop-i.kept c.keep.new.kept c.loop-i.read c.note-in-loop-i.new.read c.loop-i.good c.note_held.new.good c.loop-i.i unit.0 unit.1 c.loop-i.invariant c.unit_list-list.result c.read_at.new.ranges.items list read c.in_ok-note-2.ensures c.in_ok-note_held.ensures adds
+    let at = opened-at s c.loop-i.i c.at-unit.result (omega (arith, c.loop-i-test.true, c.len-i-end.ensures)) c.at-unit.ensures.unit in
+    let unit = unit_of c.at-unit.result in
+    let list = subst (λ (s : Sections). MatchOption c.answering_list-list.result (IsOneAtMost (ranges_in s unit)) (λ list. ranges_in s unit ≡ ranges_of_list s.tables list)) c.at-unit.ensures.sections c.answering_list-list.ensures in
+    let read = subst (λ (s : Sections). checked_ranges s unit ≡ Ok (map range_shown c.read_answering.new.ranges.items)) c.at-unit.ensures.sections c.in_ok-read_answering.ensures in
+    let adds = subst (λ (ranges : List Range). Adds c.answering_list-list.result ranges c.loop-i.i c.loop-i.kept c.keep.new.kept) c.deref.ensures.value c.in_ok-keep.ensures in
+    read-on s most c.loop-i.kept c.keep.new.kept c.loop-i.read c.note-in-loop-i.new.read c.loop-i.good c.note_held.new.good c.loop-i.i unit at c.loop-i.invariant c.answering_list-list.result c.read_answering.new.ranges.items list read c.in_ok-note-2.ensures c.in_ok-note_held.ensures adds
 
 pub returns-clause-owns : goal.returns-clause-owns
 returns-clause-owns c =

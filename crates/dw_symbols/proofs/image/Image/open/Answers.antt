@@ -31,7 +31,7 @@ invariant_of-result c =
     record {
       units = c.in_ok-shared.ensures.ok ∙ same;
       line = c.section.ensures ∙ ap (λ file. (sections file).line) c.in_ok-elf.ensures.file;
-      unit_at = λ a. (owner a).0;
+      finds = λ a. (owner a).0;
       within = λ a. (owner a).1;
       few = subst (λ (s : Sections). cover.ranges ≤ most_ranges s) same (subst (λ (n : ℕ). n ≤ most_ranges s) (sym c.in_ok-cover.ensures.ranges) c.in_ok-kept.ensures.few);
     }
