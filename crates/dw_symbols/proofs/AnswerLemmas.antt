@@ -19,19 +19,16 @@ use Rattle.dw_symbols.proofs.TreeLemmas.{answering-kept}
 
 -- ---- no unit covers the address
 
-answer-none-in : (s : Sections) (a : ℕ) → None ≡ unit_of s a → not_covered ≡ answer_in s a
-unfolding answer_in
-answer-none-in s a none = rw (sym none) refl
+module _ (seen file : List ℕ) (a : ℕ) (same : seen ≡ file) (none : None ≡ unit_of (sections seen) a) where
+  pub answer-none : not_covered ≡ model.answer file a
+  unfolding answer_in
+  answer-none = rw (sym same, sym none) refl
 
-location-none-in : (s : Sections) (a : ℕ) → None ≡ unit_of s a → not_covered ≡ location_in s a
-unfolding location_in
-location-none-in s a none = rw (sym none) refl
+  pub location-none : not_covered ≡ model.location file a
+  unfolding location_in
+  location-none = rw (sym same, sym none) refl
 
--- ---- one does
-
-location-told-in : (s : Sections) (unit : DwarfUnit) (a : ℕ) → Some unit ≡ unit_of s a → answer_told s unit [] a ≡ location_in s a
-unfolding location_in
-location-told-in s unit a is = rw (sym is) refl
+-- ---- the frames of functions
 
 abbrev named : Sections → DwarfUnit → Entry → Option (List ℕ)
 named s unit entry = name s (record { unit = unit; entry = entry })
@@ -60,36 +57,25 @@ by_lines s unit a nodes (Ok table) = ap Ok (frames-told s unit table (row_locati
 by_tree : (s : Sections) (unit : DwarfUnit) (a : ℕ) (nodes : List Node) → tree s unit ≡ Ok nodes → unit_told s unit (told s unit (chain s unit nodes a)) a ≡ unit_answer s unit a
 by_tree s unit a nodes read = rw read (by_lines s unit a (chain s unit nodes a) (with_code (λ _. line_fault) (lines s unit)))
 
-answer-told-in : (s : Sections) (unit : DwarfUnit) (a : ℕ) (functions : List Told) → Some unit ≡ unit_of s a → tree s unit ≡ Ok (nodes_of s unit) → functions ≡ told s unit (chain s unit (nodes_of s unit) a) → answer_told s unit functions a ≡ answer_in s a
-unfolding answer_in
-answer-told-in s unit a functions is read are =
-    rw (sym is) (ap (as_answer unit.offset) (ap (λ (functions : List Told). unit_told s unit functions a) are ∙ by_tree s unit a (nodes_of s unit) read))
-
-answer-fault-in : (s : Sections) (unit : DwarfUnit) (a : ℕ) (code : UnitFault) → Some unit ≡ unit_of s a → HasTreeFault s unit code → fault unit.offset (code_shown code) ≡ answer_in s a
-unfolding answer_in
-answer-fault-in s unit a code is faults = rw (sym is, faults) refl
-
--- ---- as the code has them: the unit's file, the image's and the context's are the same
-
-module _ (seen file : List ℕ) (a : ℕ) (same : seen ≡ file) where
-  pub answer-none : None ≡ unit_of (sections seen) a → not_covered ≡ model.answer file a
-  answer-none none = answer-none-in (sections seen) a none ∙ ap (λ file. model.answer file a) same
-
-  pub location-none : None ≡ unit_of (sections seen) a → not_covered ≡ model.location file a
-  location-none none = location-none-in (sections seen) a none ∙ ap (λ file. model.location file a) same
+-- ---- a unit does; the unit's file, the image's and the context's are the same
 
 module _ (here seen file : List ℕ) (unit : DwarfUnit) (a : ℕ) (found : here ≡ seen) (same : seen ≡ file) (is : Some unit ≡ unit_of (sections seen) a) where
-  its : Some unit ≡ unit_of (sections here) a
-  its = subst (λ (file : List ℕ). Some unit ≡ unit_of (sections file) a) (sym found) is
-
   pub answers-kind : is_skipped unit.kind ≡ false
   answers-kind = answering-kept (sections seen) a unit (sym is)
 
   pub location-told : answer_told (sections here) unit [] a ≡ model.location file a
-  location-told = location-told-in (sections here) unit a its ∙ ap (λ file. model.location file a) (found ∙ same)
+  unfolding location_in
+  location-told = rw (found, sym same, sym is) refl
 
   pub answer-told : (functions : List Described) → AreFunctionsAt (sections here) unit a functions → answer_told (sections here) unit (map described_shown functions) a ≡ model.answer file a
-  answer-told functions are = answer-told-in (sections here) unit a (map described_shown functions) its are.read are.told ∙ ap (λ file. model.answer file a) (found ∙ same)
+  unfolding answer_in
+  answer-told functions are =
+      let at = subst (λ (file : List ℕ). AreFunctionsAt (sections file) unit a functions) found are in
+      rw (found, sym same, sym is) (ap (as_answer unit.offset)
+      (ap (λ (told : List Told). unit_told (sections seen) unit told a) at.told ∙ by_tree (sections seen) unit a (nodes_of (sections seen) unit) at.read))
 
   pub answer-fault : (code : UnitFault) (offset : ℕ) → offset ≡ unit.offset → HasTreeFault (sections here) unit code → fault offset (code_shown code) ≡ model.answer file a
-  answer-fault code offset begins faults = ap (λ (offset : ℕ). fault offset (code_shown code)) begins ∙ answer-fault-in (sections here) unit a code its faults ∙ ap (λ file. model.answer file a) (found ∙ same)
+  unfolding answer_in
+  answer-fault code offset begins faults =
+      let at = subst (λ (file : List ℕ). HasTreeFault (sections file) unit code) found faults in
+      rw (begins, sym same, sym is, at) refl

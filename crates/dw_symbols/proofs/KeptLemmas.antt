@@ -1,5 +1,5 @@
 -- What is kept stays at its key.
-use Rattle.std.proofs.Common.{◌≡◌, ◌⊎◌, inl, inr, ℕ, zero, suc, ◌+◌, ◌-◌, ◌<◌, ◌≤◌, Bool, true, false, cond, List, [], ◌∷◌, Contains, take, length, length-take, Option, Some, None, refl, sym, ap, ◌∙◌, subst, arith}
+use Rattle.std.proofs.Common.{◌≡◌, ◌⊎◌, inl, inr, ℕ, zero, suc, ◌+◌, ◌-◌, ◌≤◌, Bool, true, false, cond, List, [], ◌∷◌, Contains, take, length, Option, Some, None, refl, sym, ap, ◌∙◌, subst, arith}
 use Rattle.std.specs.Prelude.{nat_eq, slice_get}
 use Rattle.std.specs.Option.{option_map_or}
 use Rattle.std.specs.Map.{lookup, lookup_entry, remove_entry, set_value}
@@ -66,9 +66,6 @@ module _ {V : Type 0} (Is : ℕ → V → Type 0) where
 
 -- ---- the bytes of tables
 
-less-one : (n : ℕ) → suc n - 1 ≡ n
-less-one n = omega arith
-
 module _ {V : Type 0} (line : List ℕ) where
   -- an entry that is taken out
   size-without : (test : ℕ → Bool) (es : List (ℕ × V)) (e : ℕ × V) → lookup_entry test es ≡ Some e → table_size line e.0 + size_together line (remove_entry test es) ≡ size_together line es
@@ -108,20 +105,6 @@ module _ {V : Type 0} (line : List ℕ) where
       let same : f ≡ e = same_Some f e h in
       omega (arith, ap (λ (g : ℕ × V). table_size line g.0) same)
   size-before (suc n) (f ∷ es) e h = omega (arith, size-before n es e h)
-
-  last-there : (f : ℕ × V) (es : List (ℕ × V)) → slice_get (f ∷ es) (length es) ≡ None → ⊥
-  last-there f [] h = absurd cc
-  last-there f (g ∷ es) h = last-there g es h
-
-  -- none is left where there is no last one
-  pub size-none : (es : List (ℕ × V)) → slice_get es (length es - 1) ≡ None → size_together line (take (length es - 1) es) ≡ 0
-  size-none [] h = refl
-  size-none (f ∷ es) h = absurd (last-there f es (ap (slice_get (f ∷ es)) (sym (less-one (length es))) ∙ h))
-
-  -- one fewer is left
-  pub fewer : (es : List (ℕ × V)) (e : ℕ × V) → slice_get es (length es - 1) ≡ Some e → length (take (length es - 1) es) < length es
-  fewer [] e h = absurd cc
-  fewer (f ∷ es) e h = omega (arith, length-take (length (f ∷ es) - 1) (f ∷ es))
 
   -- what is left where the last one is taken out
   pub oldest-gone : (es : List (ℕ × V)) (new : LruCache ℕ V) (cap size left : ℕ) (e : ℕ × V) → Some e ≡ slice_get es (length es - 1) → new ≡ lru_cache (take (length es - 1) es) cap → size_together line es ≤ size → left ≡ size - table_size line e.0 → size_together line new.entries ≤ left

@@ -1,6 +1,6 @@
 -- Paths that are known.
-use Rattle.std.proofs.Common.{◌≡◌, ◌∙◌, ◌<◌, ◌≤◌, ℕ, zero, suc, List, [], ◌∷◌, ◌++◌, get_or, length, Option, Some, None, refl, ap, subst, arith}
-use Rattle.std.specs.Prelude.{option_and_then, slice_get, slice_set}
+use Rattle.std.proofs.Common.{◌≡◌, ◌∙◌, ◌<◌, ℕ, zero, suc, List, [], ◌∷◌, ◌++◌, get_or, length, Option, Some, None, refl, ap, subst, arith}
+use Rattle.std.specs.Prelude.{option_and_then, slice_set}
 use Rattle.std.proofs.lemmas.List.{length-set, length-append}
 use Rattle.std.proofs.lemmas.Option.{same_Some, get_or_from_slice_get, slice_get_read}
 use Rattle.dw_model.specs.Answer.{Lines}

@@ -141,9 +141,6 @@ pub unit_adds_none : (s : Sections) (unit : DwarfUnit) (span : Span) (old : List
 unit_adds_none s unit span old rises has law = λ same from order are.
     law (place s) from span.low span.high old are rises (λ a above below. same a above below ∙ place_ok s unit None a has)
 
-pub unit_fault : (s : Sections) (unit : DwarfUnit) (span : Span) (code : CodeFault) (old new : List model.Piece) → HasLines s unit (Err code) → AddsUnit s unit span (Some code) old new
-unit_fault s unit span code old new has = λ a. place_fault s unit code a has
-
 -- ---- the addresses of a span
 
 place_none : (s : Sections) (a : ℕ) → None ≡ unit_of s a → place s a ≡ Ok None

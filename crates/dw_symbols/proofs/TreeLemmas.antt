@@ -1,16 +1,10 @@
 -- The faults of a unit's functions, and which units have some.
-use Rattle.std.proofs.Common.{◌≡◌, ◌∙◌, ℕ, Bool, true, false, cond, List, [], ◌∷◌, Option, Some, Err, refl, ap, subst}
-use Rattle.std.specs.Prelude.{MatchOption, find, ◌&&◌}
-use Rattle.dw_model.specs.Results.{with_code}
+use Rattle.std.proofs.Common.{◌≡◌, ℕ, Bool, true, false, cond, List, [], ◌∷◌, Some, refl, subst}
+use Rattle.std.specs.Prelude.{find, ◌&&◌}
 use Rattle.dw_model.specs.Section.{Sections}
 use Rattle.dw_model.specs.Unit.{Kind, compile, partial, skeleton, skipped, DwarfUnit, is_skipped, units}
 use Rattle.dw_model.specs.Root.{answers}
-use Rattle.dw_model.specs.Faults.{TreeFault}
-use Rattle.dw_model.specs.Tree.{tree}
-use Rattle.dw_model.specs.Answer.{tree_fault, unit_of}
-
-pub told-tree : (s : Sections) (unit : DwarfUnit) (told : Option TreeFault) (f : TreeFault) → told ≡ Some f → MatchOption told (Unit {0}) (λ f. tree s unit ≡ Err f) → with_code tree_fault (tree s unit) ≡ Err (tree_fault f)
-told-tree s unit told f is faults = ap (with_code tree_fault) (subst (λ told. MatchOption told (Unit {0}) (λ f. tree s unit ≡ Err f)) is faults)
+use Rattle.dw_model.specs.Answer.{unit_of}
 
 -- ---- a unit that answers isn't skipped
 

@@ -49,7 +49,8 @@ fault_back line_fault = refl
 
 abbrev pub fault_code : Coded Code
 fault_code =
-    code_by FaultParts (coded⊎ coded_unit (coded⊎ coded_unit (coded⊎ coded_unit coded_unit))) fault_parts fault_from fault_back
+    code_by FaultParts (coded⊎ coded_unit (coded⊎ coded_unit (coded⊎ coded_unit coded_unit)))
+    fault_parts fault_from fault_back
 
 abbrev pub piece_code : Coded Piece
 piece_code =

@@ -12,7 +12,8 @@ use Rattle.dw_model.specs.Ranges.{Range, ranges_of}
 abbrev pub ranges_in : Sections → DwarfUnit → Result (List Range) Bad
 ranges_in sections unit =
     if answers unit.kind then
-    option_map_or (ranges_of sections.tables (bases sections unit) (root sections unit)) (root sections unit) (Ok []) else Ok []
+    option_map_or (ranges_of sections.tables (bases sections unit) (root sections unit)) (root sections unit) (Ok [])
+    else Ok []
 
 -- those of a unit, or that they are bad, with the unit
 abbrev pub checked_ranges : Sections → DwarfUnit → Result (List Range) Refusal

@@ -44,7 +44,8 @@ first_unit tables cover a = least (owner_at cover.index a) (held_at tables cover
 
 -- it is the unit that answers an address, for each address
 abbrev pub FindsUnits : Sections → CoverState → Type 0
-FindsUnits sections cover = (a : ℕ) → option_map (unit_at sections) (first_unit sections.tables cover a) ≡ unit_of sections a
+FindsUnits sections cover =
+    (a : ℕ) → option_map (unit_at sections) (first_unit sections.tables cover a) ≡ unit_of sections a
 
 -- So many ranges are enough: the unit of each address is found by an index of them, or else by a
 -- list that is held.

@@ -1,7 +1,6 @@
 -- What is kept, by keys.
-use Rattle.std.specs.Prelude.{◌≤◌, ◌+◌, ℕ, List, [], ◌∷◌, length, Contains, Option, Result}
+use Rattle.std.specs.Prelude.{◌≤◌, ◌+◌, ℕ, List, [], ◌∷◌, length, Contains, Result}
 use Rattle.dw_model.specs.Section.{Sections}
-use Rattle.dw_line.specs.Lines.{Table}
 use Rattle.dw_line.specs.TableAt.{table_size}
 use Rattle.dw_frames.specs.UnitIn.{UnitIn}
 use Rattle.dw_units.specs.UnitAt.{unit_at}

@@ -20,7 +20,8 @@ path_in paths place = option_and_then path_shown (slice_index_or paths place Non
 -- each path that is known is that of its file
 abbrev pub AreOfFiles : Lines → List (Option KnownPath) → Type 0
 AreOfFiles table paths =
-    (place : ℕ) (known : KnownPath) → slice_get paths place ≡ Some (Some known) → path_shown known ≡ file_path table known.number
+    (place : ℕ) (known : KnownPath) → slice_get paths place ≡ Some (Some known)
+    → path_shown known ≡ file_path table known.number
 
 -- There are at most 64 places, and each path that is known is that of its file.
 pub record ArePathsOf (table : Lines) (paths : List (Option KnownPath)) : Type 0 where

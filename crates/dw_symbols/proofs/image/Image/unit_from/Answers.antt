@@ -1,4 +1,4 @@
-use Rattle.std.proofs.Common.{◌∙◌, sym, ap, arith}
+use Rattle.std.proofs.Common.{◌∙◌, sym, ap}
 use Rattle.std.specs.Prelude.{option_map}
 use Rattle.dw_model.specs.Section.{Sections, sections}
 use Rattle.dw_forms.specs.Tables.{tables_shown}
