@@ -6,9 +6,8 @@ ghost use Rattle.a2l.specs.Fault.{FailsOver, IsRefused};
 ghost use Rattle.a2l_lines.specs.Symbolize.{Answers, AnswersBeginning};
 
 use crate::fault::Fault;
-use a2l_lines::{Options, Sink, Source, Status, symbolize};
+use a2l_lines::{Options, Resources, Sink, Source, Status, symbolize};
 use dw_symbols::Image;
-use std::alloc::Global;
 use std::sync::Wait;
 use std::thread::Threads;
 use ticket_board::Gate;
@@ -25,8 +24,7 @@ impl Gate for Open {
 /// text was written, after a read that failed or a refused file nothing; the reader is read only
 /// where there are no words.
 pub fn symbolize_file<T: Threads + Wait + Sync, R: Source, W: Sink>(
-    rt: &T,
-    alloc: Global,
+    on: &Resources<'_, T>,
     reader: &mut R,
     writer: &mut W,
     file: &[u8],
@@ -45,7 +43,7 @@ pub fn symbolize_file<T: Threads + Wait + Sync, R: Source, W: Sink>(
         (R.failures reader.old < R.failures reader.new) (W.failures writer.old < W.failures writer.new)) }
     ensures refused { IfErr result (λ fault. IsRefused fault → writer.new ≡ writer.old) }
 {
-    let image = Image::open(alloc, file)?;
-    let status = symbolize(rt, alloc, reader, writer, &image, options, &Open)?;
+    let image = Image::open(on.alloc, file)?;
+    let status = symbolize(on, reader, writer, &image, options, &Open)?;
     Ok(status)
 }

@@ -5,7 +5,7 @@ ghost use Rattle.std.specs.Prelude.{◌≡◌, ◌<◌, ◌≤◌, length, None,
 use crate::fault::{Fault, report};
 use crate::load::Load;
 use crate::run::run;
-use a2l_lines::{Failed, LoadFault, Sink, Source, process_words, read_file};
+use a2l_lines::{Failed, LoadFault, Resources, Sink, Source, process_words, read_file};
 use dw_bytes::Steps;
 use std::alloc::AllocError;
 use std::io::{self, ErrorKind, Lock, Read, Write};
@@ -130,9 +130,12 @@ fn served<T: Threads + Wait + Sync, I: Ledger, O: Ledger, E: Ledger>(
         Err(AllocError) => return report(rt.alloc(), &mut errors, Fault::Memory),
     };
     let mut disk = Disk { rt };
-    run(
+    let on = Resources {
         threads,
-        rt.alloc(),
+        alloc: rt.alloc(),
+    };
+    run(
+        &on,
         words.as_slice(),
         &mut disk,
         &mut reader,

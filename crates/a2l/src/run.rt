@@ -12,8 +12,7 @@ use crate::command::{USAGE, parse};
 use crate::fault::{Fault, report};
 use crate::listing::list_file;
 use crate::load::Load;
-use a2l_lines::{Failed, Sink, Source, Status, write_all};
-use std::alloc::Global;
+use a2l_lines::{Failed, Resources, Sink, Source, Status, write_all};
 use std::convert::AsStr;
 use std::sync::Wait;
 use std::thread::Threads;
@@ -23,8 +22,7 @@ use std::thread::Threads;
 /// where the command line or the file is refused, and 3 where reading or writing failed, or it was
 /// out of memory. The first fault decides.
 pub fn run<T: Threads + Wait + Sync, S: AsStr, L: Load, R: Source, W: Sink, E: Sink>(
-    rt: &T,
-    alloc: Global,
+    on: &Resources<'_, T>,
     words: &[S],
     loader: &mut L,
     reader: &mut R,
@@ -40,17 +38,16 @@ pub fn run<T: Threads + Wait + Sync, S: AsStr, L: Load, R: Source, W: Sink, E: S
         (R.failures reader.old < R.failures reader.new) (W.failures writer.old < W.failures writer.new)) result
         (E.told errors.old) (E.told errors.new) (E.failures errors.old) (E.failures errors.new) }
 {
-    match answer(rt, alloc, words, loader, reader, writer) {
+    match answer(on, words, loader, reader, writer) {
         Ok(Status::Clean) => 0,
         Ok(Status::Faults) => 1,
-        Err(fault) => report(alloc, errors, fault),
+        Err(fault) => report(on.alloc, errors, fault),
     }
 }
 
 /// Does what the command line asks for. The first fault decides.
 fn answer<T: Threads + Wait + Sync, S: AsStr, L: Load, R: Source, W: Sink>(
-    rt: &T,
-    alloc: Global,
+    on: &Resources<'_, T>,
     words: &[S],
     loader: &mut L,
     reader: &mut R,
@@ -69,11 +66,11 @@ fn answer<T: Threads + Wait + Sync, S: AsStr, L: Load, R: Source, W: Sink>(
             Err(Failed) => Err(Fault::Write),
         };
     }
-    let job = parse(alloc, words)?;
+    let job = parse(on.alloc, words)?;
     let file = loader.load(job.file)?;
     if !job.units {
-        return symbolize_file(rt, alloc, reader, writer, &file, &job.options);
+        return symbolize_file(on, reader, writer, &file, &job.options);
     }
-    list_file(alloc, writer, &file)?;
+    list_file(on.alloc, writer, &file)?;
     Ok(Status::Clean)
 }

@@ -11,6 +11,7 @@ mod spans;
 ghost use Rattle.std.specs.Prelude.{◌≡◌, ◌<◌};
 
 use crate::run::run;
+use a2l_lines::Resources;
 use dw_bytes::Steps;
 use fakes::{Kept, Lines, OneFile};
 use std::alloc::Global;
@@ -55,8 +56,7 @@ impl Setting<'static> {
 }
 
 fn run_counted<T: Threads + Wait + Sync, I: Ledger, O: Ledger, E: Ledger>(
-    rt: &T,
-    alloc: Global,
+    on: &Resources<'_, T>,
     setting: Setting<'_>,
     words: &[&str],
     input: Blank,
@@ -67,6 +67,7 @@ fn run_counted<T: Threads + Wait + Sync, I: Ledger, O: Ledger, E: Ledger>(
     requires output { (output.name ≡ O.name) × (output.parts ≡ O.parts) × (0 < O.parts) }
     requires errors { (errors.name ≡ E.name) × (errors.parts ≡ E.parts) × (0 < E.parts) }
 {
+    let alloc = on.alloc;
     let mut loader = OneFile(setting.file, alloc);
     let mut reader: Lines<'_, I> = Lines {
         left: setting.input,
@@ -89,15 +90,7 @@ fn run_counted<T: Threads + Wait + Sync, I: Ledger, O: Ledger, E: Ledger>(
         calls: 0,
         failures: Steps::new(errors),
     };
-    let status = run(
-        rt,
-        alloc,
-        words,
-        &mut loader,
-        &mut reader,
-        &mut writer,
-        &mut told,
-    );
+    let status = run(on, words, &mut loader, &mut reader, &mut writer, &mut told);
     let Kept { bytes: output, .. } = writer;
     let Kept { bytes: errors, .. } = told;
     Outcome {
@@ -113,9 +106,9 @@ fn run_in<T: Threads + Wait + Sync>(
     setting: Setting<'_>,
     words: &[&str],
 ) -> Outcome {
+    let on = Resources { threads: rt, alloc };
     run_counted::<T, Brand, Brand, Brand>(
-        rt,
-        alloc,
+        &on,
         setting,
         words,
         Blank::new(1),

@@ -16,6 +16,7 @@ use crate::input_bytes::read_all;
 use crate::options::Options;
 use crate::pieces::pieces_of;
 use crate::pool::answers_of;
+use crate::resources::Resources;
 use crate::shares::sharing_of;
 use crate::streams::{Failed, Sink, Source};
 use dw_symbols::{Answer, Image};
@@ -118,8 +119,7 @@ fn shape_of(options: &Options<'_>, queries: usize) -> Shape
 /// The errors: `Read`, after which nothing was written; `Write`; `Memory`. After each a beginning
 /// of the text was written. The reader is read only where there are no words.
 pub fn symbolize<'a, T: Threads + Wait + Sync, R: Source, W: Sink, G: Gate + Sync>(
-    rt: &T,
-    alloc: Global,
+    on: &Resources<'_, T>,
     reader: &mut R,
     writer: &mut W,
     image: &Image<'a>,
@@ -138,10 +138,11 @@ pub fn symbolize<'a, T: Threads + Wait + Sync, R: Source, W: Sink, G: Gate + Syn
     ensures memory { IsErrOf result RunFault.Memory → writer.new ≡ writer.old }
     ensures words { options.now.words.items ≢ [] → reader.new ≡ reader.old }
 {
+    let alloc = on.alloc;
     let inputs = inputs_of(alloc, reader, &options.words)?;
     let sharing = sharing_of(alloc, &inputs)?;
     let shape = shape_of(options, sharing.asked.len());
-    let answers = answers_of(rt, alloc, image, shape, &sharing.asked, gate)?;
+    let answers = answers_of(on.threads, alloc, image, shape, &sharing.asked, gate)?;
     let status = outcome(&inputs, &answers);
     let pieces = pieces_of(alloc, options, &sharing.asked, answers)?;
     let mut block = Vec::with_capacity(alloc, BLOCK)?;

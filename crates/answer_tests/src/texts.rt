@@ -3,7 +3,7 @@
 ghost use Rattle.std.specs.Prelude.{◌≡◌, None, IfOk};
 
 use crate::contexts::image_of;
-use a2l_lines::{Failed, Options, RunFault, Sink, Source, Status, list_units, symbolize};
+use a2l_lines::{Failed, Options, Resources, RunFault, Sink, Source, Status, list_units, symbolize};
 use dw_elf::{Elf, OpenFault};
 use dw_symbols::Image;
 use dw_units::Units;
@@ -129,7 +129,8 @@ fn status_in<T: Threads + Wait + Sync, G: Gate + Sync>(
 ) -> Result<Option<Status>, RunFault> {
     let options = options(alloc, asked)?;
     let mut lines = Compared::new(asked.text);
-    let status = symbolize(rt, alloc, &mut Nothing, &mut lines, image, &options, gate)?;
+    let on = Resources { threads: rt, alloc };
+    let status = symbolize(&on, &mut Nothing, &mut lines, image, &options, gate)?;
     Ok(lines.is_whole().then_some(status))
 }
 
@@ -178,7 +179,8 @@ fn answer<T: Threads + Wait + Sync>(
     requires workers { options.now.workers ≡ 2 }
     requires senders { options.now.senders ≡ 1 }
 {
-    symbolize(rt, alloc, &mut Nothing, lines, image, options, &Open)
+    let on = Resources { threads: rt, alloc };
+    symbolize(&on, &mut Nothing, lines, image, options, &Open)
 }
 
 /// Answers what is asked for, once more where an allocation or a thread was refused, and writes all
