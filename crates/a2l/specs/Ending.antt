@@ -1,5 +1,6 @@
 -- What is wrong first with a run that ends early.
-use Rattle.std.specs.Prelude.{◌≡◌, ◌≢◌, ◌⊎◌, ℕ, false, List, [], Option, None, IfSome, option_and_then, codes, if◌then◌else◌}
+use Rattle.std.specs.Prelude.{◌≡◌, ◌≢◌, ◌⊎◌, if◌then◌else◌, ℕ, false, List, []}
+use Rattle.std.specs.Prelude.{Option, None, IfSome, option_and_then, codes}
 use Rattle.clap.specs.Words.{Row, Text, first_of}
 use Rattle.dw_model.specs.Faults.{Refusal}
 use Rattle.dw_model.specs.Refusal.{refusal, listing_refusal}
@@ -36,6 +37,7 @@ IsFirst known words reader_failed writer_failed faults.File =
     NameJob words × IfSome (named_in known (found_in words)) (λ there. there ≡ None)
 IsFirst known words reader_failed writer_failed (faults.Refused fault) =
     NameJob words × OfFile (named_in known (found_in words)) (λ file. Refuses fault (refusal_by (found_in words) file))
-IsFirst known words reader_failed writer_failed faults.Read = Begins known words × ReadsInput (found_in words) × reader_failed
+IsFirst known words reader_failed writer_failed faults.Read =
+    Begins known words × ReadsInput (found_in words) × reader_failed
 IsFirst known words reader_failed writer_failed faults.Write = ((words ≡ []) ⊎ Begins known words) × writer_failed
 IsFirst known words reader_failed writer_failed faults.Memory = Unit {0}

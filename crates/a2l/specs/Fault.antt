@@ -4,7 +4,8 @@ use Rattle.std.specs.Io.KnownBytes.{append_known}
 use Rattle.dw_model.specs.Faults.{Refusal}
 use Rattle.dw_model.specs.Output.{hexadecimal}
 use Rattle.dw_elf.specs.declared.fault.OpenFault.{OpenFault}
-use Rattle.dw_elf.specs.declared.fault.OpenFault.TheVariants.{NotElf, NotElf64Little, Relocatable, SectionTable, SectionRange, Compressed, UnitHeader, AddressSize, Root, RootRanges, Memory}
+use Rattle.dw_elf.specs.declared.fault.OpenFault.TheVariants.{NotElf, NotElf64Little, Relocatable, SectionTable, SectionRange}
+use Rattle.dw_elf.specs.declared.fault.OpenFault.TheVariants.{Compressed, UnitHeader, AddressSize, Root, RootRanges, Memory}
 use Rattle.dw_elf.specs.OpenFault.{Refuses, number_of, name_of}
 use Rattle.dw_elf.specs.Name.{text_of}
 use Rattle.a2l.specs.declared.fault.Fault.{Fault}
@@ -32,10 +33,13 @@ subject_of (Root offset) = at_offset offset
 subject_of (RootRanges offset) = at_offset offset
 subject_of Memory = []
 
+-- why a file is refused: the reason's number and name, and of what it speaks
+abbrev reason_of : OpenFault → List ℕ
+reason_of fault = decimal (number_of fault) ++ (codes " " ++ (name_of fault ++ (subject_of fault ++ codes "\n")))
+
 -- the line that reports a refused file
 abbrev pub refusal_line : OpenFault → List ℕ
-refusal_line fault =
-    codes "a2l: file refused: " ++ (decimal (number_of fault) ++ (codes " " ++ (name_of fault ++ (subject_of fault ++ codes "\n"))))
+refusal_line fault = codes "a2l: file refused: " ++ reason_of fault
 
 -- the line that reports a fault
 abbrev pub line_of : Fault → List ℕ

@@ -7,4 +7,5 @@ use Rattle.a2l.specs.Known.{Known, OfFile}
 
 -- the file at a path is accepted, and its listing was written
 abbrev pub ListsAt : (List ℕ → Known) → List ℕ → (old new : Option (List ℕ)) → Type 0
-ListsAt known path old new = OfFile (known path) (λ file. (listing_refusal file ≡ None) × (new ≡ append_known old (listing file)))
+ListsAt known path old new =
+    OfFile (known path) (λ file. (listing_refusal file ≡ None) × (new ≡ append_known old (listing file)))

@@ -17,7 +17,8 @@ number_of Clean = 0
 number_of Faults = 1
 
 -- the file at a path is accepted, and what some words or the reader ask for was answered by it
-abbrev pub SymbolizesAt : (List ℕ → Known) → (path : List ℕ) → Options → (words : List Text) → (left old new : Option (List ℕ)) → Status → Type 0
+abbrev pub SymbolizesAt : (List ℕ → Known) → (path : List ℕ) → Options → (words : List Text)
+    → (left old new : Option (List ℕ)) → Status → Type 0
 SymbolizesAt known path options words left old new ended =
     OfFile (known path) (λ file. (refusal file ≡ None) × Symbolizes options file words left old new ended)
 

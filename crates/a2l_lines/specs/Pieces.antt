@@ -1,5 +1,6 @@
 -- The lines of each query that is asked, kept once, and the text that inputs pick of them.
-use Rattle.std.specs.Prelude.{◌≡◌, ℕ, ◌+◌, ◌≤◌, List, [], ◌∷◌, ◌++◌, length, map, take, drop, flat_map, Option, slice_index_or}
+use Rattle.std.specs.Prelude.{◌≡◌, ◌≤◌, ◌+◌, ℕ, List, [], ◌∷◌, ◌++◌, length, map, take, drop, flat_map}
+use Rattle.std.specs.Prelude.{Option, slice_index_or}
 use Rattle.dw_model.specs.Answer.{Answer}
 use Rattle.dw_model.specs.Output as model
 use Rattle.dw_symbols.specs.declared.answer.Answer.{Answer as Found}

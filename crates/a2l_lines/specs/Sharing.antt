@@ -1,5 +1,6 @@
 -- What is asked for some inputs: each query once, and for each input which answer is its own.
-use Rattle.std.specs.Prelude.{◌≡◌, ◌==◌, ◌&&◌, if◌then◌else◌, nat_lt, ◌+◌, ◌-◌, ◌<◌, ◌≤◌, ℕ, zero, suc, Bool, List, [], ◌∷◌, ◌++◌, length, map, get_or, Option, Some, None}
+use Rattle.std.specs.Prelude.{◌≡◌, ◌<◌, ◌≤◌, ◌==◌, ◌&&◌, if◌then◌else◌, nat_lt, ◌+◌, ◌-◌, ℕ, zero, suc, Bool}
+use Rattle.std.specs.Prelude.{List, [], ◌∷◌, ◌++◌, length, map, get_or, Option, Some, None}
 use Rattle.std.specs.List.{All, Contains}
 use Rattle.ticket_core.specs.declared.query.Query.{Query}
 use Rattle.ticket_core.specs.declared.query.QueryKind.TheVariants.{Address}
@@ -49,10 +50,13 @@ AreInOrder pairs = (k : ℕ) → k + 1 < length pairs → IsUpTo (pair_at pairs 
 abbrev pub last_of : List Query → Query
 last_of asked = query_at asked (length asked - 1)
 
+-- two queries have the same words
+abbrev pub has_words_of : Query → Query → Bool
+has_words_of query other = first_word other == first_word query && second_word other == second_word query
+
 -- it is the last of them
 abbrev pub is_last : Query → List Query → Bool
-is_last query asked =
-    nat_lt 0 (length asked) && (first_word (last_of asked) == first_word query && second_word (last_of asked) == second_word query)
+is_last query asked = nat_lt 0 (length asked) && has_words_of query (last_of asked)
 
 -- a query after those asked, where it isn't the last of them already
 abbrev pub added : Query → List Query → List Query

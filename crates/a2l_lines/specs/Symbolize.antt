@@ -27,14 +27,16 @@ abbrev pub status_for : Bool → Status
 status_for faults = if faults then Faults else Clean
 
 -- all of the text was written, and the status says whether it has a bad address or a fault
-pub record Symbolizes (options : model.Options) (file : List ℕ) (words : List (List ℕ)) (left old new : Option (List ℕ)) (ended : Status) : Type 0 where
+pub record Symbolizes (options : model.Options) (file : List ℕ) (words : List (List ℕ))
+    (left old new : Option (List ℕ)) (ended : Status) : Type 0 where
   pub bytes : List ℕ
   pub input : IsInput left bytes
   pub written : new ≡ append_known old (model.text options file (model.inputs words bytes))
   pub status : ended ≡ status_for (model.has_faults file (model.inputs words bytes))
 
 -- a beginning of the text was written
-pub record SymbolizesBeginning (options : model.Options) (file : List ℕ) (words : List (List ℕ)) (left old new : Option (List ℕ)) : Type 0 where
+pub record SymbolizesBeginning (options : model.Options) (file : List ℕ) (words : List (List ℕ))
+    (left old new : Option (List ℕ)) : Type 0 where
   pub bytes : List ℕ
   pub input : IsInput left bytes
   pub written : WritesBeginning old new (model.text options file (model.inputs words bytes))

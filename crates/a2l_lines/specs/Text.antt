@@ -1,5 +1,6 @@
 -- The text of inputs whose answers are known.
-use Rattle.std.specs.Prelude.{ℕ, Bool, true, false, ◌||◌, List, [], ◌++◌, Option, Some, None, option_map, unwrap_or, map, flat_map, codes, decimal, if◌then◌else◌}
+use Rattle.std.specs.Prelude.{ℕ, Bool, true, false, ◌||◌, if◌then◌else◌, List, [], ◌++◌, map, flat_map, codes, decimal}
+use Rattle.std.specs.Prelude.{Option, Some, None, option_map, unwrap_or}
 use denote.Ref.{Bor}
 use Rattle.std.specs.List.{list_any}
 use Rattle.dw_model.specs.Answer as model_answer
@@ -50,7 +51,8 @@ abbrev pub line_end : Location → List ℕ
 line_end location = line_text (location_shown location).path (location_shown location).line ++ model.newline
 
 abbrev pub location_line : Location → List ℕ
-location_line location = model.location_text (location_shown location).path (location_shown location).line ++ model.newline
+location_line location =
+    model.location_text (location_shown location).path (location_shown location).line ++ model.newline
 
 abbrev pub name_line : Option (Bor (List ℕ)) → List ℕ
 name_line name = model.name_text (name_shown name) ++ model.newline
