@@ -11,7 +11,7 @@ use crate::note::{Allocated, Note};
 use crate::notes::notes_of;
 use crate::overlaps::{Overlap, Owned, both, overlap_of, subprograms_of};
 use crate::reasons::{unit_header, uses_supplementary};
-use crate::scene::{Scene, ranges_in, read_lines, read_tree};
+use crate::scene::{Scene, ranges_in, read_functions, read_lines};
 use dw_elf::OpenFault;
 use dw_symbols::{Image, UnitFault};
 use dw_units::{Kind, OpenUnit};
@@ -125,17 +125,24 @@ impl Survey {
         for range in ranges.as_slice() {
             self.ranges.push((*range, here.unit().offset as usize))?;
         }
-        let (tree, tree_fault) = read_tree(scene, index)?;
-        let (lines, line_fault) = read_lines(scene, here)?;
+        let (has_functions, tree_fault) = match read_functions(scene, index)? {
+            Some(Ok(_)) => (true, None),
+            Some(Err(fault)) => (false, Some(fault)),
+            None => (false, None),
+        };
+        let (has_rows, line_fault) = match read_lines(scene, here)? {
+            Ok(Some(lines)) => (lines.has_rows(), None),
+            Ok(None) => (false, None),
+            Err(fault) => (false, Some(fault)),
+        };
         if let Some(fault) = tree_fault.or(line_fault) {
             self.count(Matter::Faulty(fault), here.index())?;
         }
         let functions = subprograms_of(scene.alloc, here)?;
-        let has_rows = lines.is_some_and(|lines| lines.has_rows());
         if ranges.is_empty() && (has_rows || !functions.is_empty()) {
             self.count(Matter::WithoutRanges, here.index())?;
         }
-        if tree.is_some() {
+        if has_functions {
             let found = overlap_of(scene, &functions)?;
             self.functions_over = both(self.functions_over, found);
         }

@@ -4,7 +4,7 @@ ghost use Rattle.std.specs.Prelude.{◌<◌};
 ghost use Rattle.dw_model.specs.Steady.{last_address};
 
 use crate::note::{Allocated, Fact, Note};
-use crate::scene::{Scene, read_tree, tell_unit};
+use crate::scene::{Scene, read_functions, tell_unit};
 use dw_frames::EntryId;
 use dw_index::Index;
 use dw_model::dwarf::DW_TAG_subprogram;
@@ -106,7 +106,7 @@ pub(crate) fn tell_owner<'a>(note: &mut Note<'a>, scene: &Scene<'a>, owner: u64)
     };
     if owner != here.unit().offset {
         note.place("function ", "function", owner)?;
-        if let (Some(tree), _) = read_tree(scene, here.index())? {
+        if let Some(Ok(tree)) = read_functions(scene, here.index())? {
             let (unit, offset) = (here.index(), owner);
             let id = EntryId { unit, offset };
             note.tell(" ", "function_name", Fact::text(tree.name(id)))?;

@@ -12,12 +12,12 @@ mod reason;
 mod unit;
 
 use crate::note::Allocated;
-use crate::scene::{Scene, table_offset};
+use crate::scene::Scene;
 use dw_elf::{Elf, OpenFault};
 use dw_forms::FormFault;
 use dw_model::dwarf::{DW_TAG_inlined_subroutine, DW_TAG_subprogram};
 use dw_ranges::{RangeFault, ranges_of};
-use dw_symbols::UnitFault;
+use dw_symbols::{UnitFault, table_offset};
 use dw_units::{Entry, OpenUnit, Sections, Units};
 pub use entry::{push_attributes, uses_supplementary};
 use entry::{abbrevs_reason, root_reason};

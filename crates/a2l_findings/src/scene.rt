@@ -9,11 +9,9 @@ use crate::reasons::{Stop, UnitHeader, push_attributes, unit_header};
 use crate::section_headers::SectionHeaders;
 use dw_elf::Elf;
 use dw_forms::{Bases, Value};
-use dw_frames::{Tree, TreeFault};
-use dw_line::{LineFault, Lines};
-use dw_model::dwarf::{ADDRESS_SIZE, DW_AT_name, DW_AT_stmt_list, DW_AT_str_offsets_base};
+use dw_model::dwarf::{ADDRESS_SIZE, DW_AT_name, DW_AT_str_offsets_base};
 use dw_ranges::{Range, RangeFault, ranges_of};
-use dw_symbols::UnitFault;
+use dw_symbols::{UnitLines, UnitTree, read_table, read_tree, table_offset};
 use dw_units::{Attribute, Entry, OpenUnit, Sections, Units};
 use std::alloc::{AllocError, Global};
 use std::sync::Arc;
@@ -75,51 +73,26 @@ pub(crate) fn holding(ranges: &[Range], address: u64) -> Option<Range> {
     ranges.find(|range| range.begin <= address && address < range.end)
 }
 
-/// Where the line table of a unit begins in .debug_line, where it names one.
-pub(crate) fn table_offset(here: OpenUnit<'_, '_>) -> Option<u64> {
-    let root = here.unit().root.as_ref()?;
-    match root.attr(DW_AT_stmt_list)? {
-        Value::SectionOffset(offset) => Some(*offset),
-        _ => None,
-    }
-}
-
-/// The line table of a unit, where it names one that can be read; and its fault.
+/// The line table of a unit, where it names one, or why it can't be read.
 pub(crate) fn read_lines<'a>(
     scene: &Scene<'a>,
     here: OpenUnit<'_, 'a>,
-) -> Allocated<(Option<Lines<'a>>, Option<UnitFault>)> {
-    let Some(offset) = table_offset(here) else {
-        return Ok((None, None));
-    };
-    let tables = here.units().tables();
-    let bases = &here.unit().bases;
-    let section = scene.sections.line;
-    match Lines::read(scene.alloc, section, tables, bases, None, offset) {
-        Ok(lines) => Ok((Some(lines), None)),
-        Err(LineFault::Bad) => Ok((None, Some(UnitFault::Line))),
-        Err(LineFault::Memory) => Err(AllocError),
+) -> Allocated<UnitLines<'a>> {
+    match table_offset(here) {
+        Some(offset) => read_table(scene.alloc, scene.sections.line, here, offset),
+        None => Ok(Ok(None)),
     }
 }
 
-/// The functions of the unit at an index that answers, where they can be read; and their fault.
-pub(crate) fn read_tree<'a>(
-    scene: &Scene<'a>,
-    index: usize,
-) -> Allocated<(Option<Tree<'a>>, Option<UnitFault>)>
+/// The functions of the unit at an index, or why they can't be read; `None` where it is skipped.
+pub(crate) fn read_functions<'a>(scene: &Scene<'a>, index: usize) -> Allocated<Option<UnitTree<'a>>>
     requires { index < length (cut.units scene.now.units.value.info) }
 {
     if scene.units.unit(index).kind.is_skipped() {
-        return Ok((None, None));
+        return Ok(None);
     }
-    let fault = match Tree::read(scene.alloc, &scene.units, index) {
-        Ok(tree) => return Ok((Some(tree), None)),
-        Err(TreeFault::Entry) => UnitFault::Entry,
-        Err(TreeFault::Depth) => UnitFault::Depth,
-        Err(TreeFault::Ranges) => UnitFault::Ranges,
-        Err(TreeFault::Memory) => return Err(AllocError),
-    };
-    Ok((None, Some(fault)))
+    let tree = read_tree(scene.alloc, &scene.units, index)?;
+    Ok(Some(tree))
 }
 
 /// What made the unit (DWARF 5, section 7.5.4, table 7.5).

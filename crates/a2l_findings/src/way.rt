@@ -12,9 +12,9 @@ mod uncovered;
 
 use crate::note::{Allocated, Note};
 use crate::reasons::fault_reason;
-use crate::scene::{Scene, holding, ranges_in, read_lines, read_tree, table_offset, tell_unit};
+use crate::scene::{Scene, holding, ranges_in, read_functions, read_lines, tell_unit};
 use dw_ranges::Range;
-use dw_symbols::{Image, UnitFault};
+use dw_symbols::{Image, UnitFault, table_offset};
 use dw_units::OpenUnit;
 use uncovered::uncovered_note;
 
@@ -84,14 +84,12 @@ impl<'b, 'a> Visit<'b, 'a> {
             steps.push(Note::of(self.scene.alloc, "no_table", words)?)?;
             return Ok(());
         };
-        let (lines, fault) = read_lines(self.scene, self.here)?;
-        if let Some(fault) = fault {
-            steps.push(self.fault_note(fault)?)?;
+        match read_lines(self.scene, self.here)? {
+            Ok(Some(lines)) => self.push_row(steps, offset, &lines)?,
+            Ok(None) => {}
+            Err(fault) => steps.push(self.fault_note(fault)?)?,
         }
-        match lines {
-            Some(lines) => self.push_row(steps, offset, &lines),
-            None => Ok(()),
-        }
+        Ok(())
     }
 }
 
@@ -115,13 +113,13 @@ fn steps_through<'a>(scene: &Scene<'a>, index: usize, address: u64) -> Allocated
         let here = scene.units.at(other);
         Visit { here, ..visit }.push_other(&mut steps)?;
     }
-    let (tree, fault) = read_tree(scene, index)?;
-    if let Some(fault) = fault {
-        steps.push(visit.fault_note(fault)?)?;
-        return Ok(steps);
-    }
-    if let Some(tree) = &tree {
-        visit.push_chain(&mut steps, tree)?;
+    match read_functions(scene, index)? {
+        Some(Ok(tree)) => visit.push_chain(&mut steps, &tree)?,
+        Some(Err(fault)) => {
+            steps.push(visit.fault_note(fault)?)?;
+            return Ok(steps);
+        }
+        None => {}
     }
     visit.push_lines(&mut steps)?;
     Ok(steps)
