@@ -9,7 +9,7 @@ ghost use Rattle.dw_frames.specs.Inlined.{all_in, inlined_in};
 
 use crate::held::HeldList;
 use dw_forms::Tables;
-use dw_ranges::list_at;
+use dw_ranges::list_holds;
 use std::alloc::{AllocError, Global};
 
 /// The functions of a unit whose range lists are held by name. Whoever asks for one passes the
@@ -27,7 +27,7 @@ pub(crate) struct HeldLists {
 fn owner_of(held: &HeldList, tables: &Tables<'_>, a: u64) -> Option<usize>
     ensures { result ≡ least_owner (pairs_held (tables_shown tables.now) held.now) a }
 {
-    if list_at(held.list, tables, a).holds {
+    if list_holds(held.list, tables, a) {
         return Some(held.number);
     }
     None
@@ -44,7 +44,7 @@ fn least_of(held: &HeldList, tables: &Tables<'_>, a: u64, found: Option<usize>) 
     if other <= held.number {
         return found;
     }
-    if list_at(held.list, tables, a).holds {
+    if list_holds(held.list, tables, a) {
         return Some(held.number);
     }
     found

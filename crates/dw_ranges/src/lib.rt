@@ -13,7 +13,7 @@ mod ranges;
 mod read_lists;
 mod step;
 
-pub use at_address::{Held, list_at};
+pub use at_address::list_holds;
 pub use dw_index::{Index, Range, law_of_least_owner};
 pub use fault::RangeFault;
 pub use new_ranges::read_new;

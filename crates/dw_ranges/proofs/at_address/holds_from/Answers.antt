@@ -11,7 +11,7 @@ use Rattle.dw_ranges.specs.Step.{ranges_from}
 use Rattle.dw_ranges.specs.OutcomeShown.{base_shown, outcome_shown}
 use Rattle.dw_ranges.proofs.ListLemmas.{outcomes_advance, goes_on, ends, stops}
 use Rattle.dw_ranges.proofs.HeldLemmas.{held-on, told-whole}
-use Rattle.dw_ranges.proofs.at_address.held_from.Goals as goal
+use Rattle.dw_ranges.proofs.at_address.holds_from.Goals as goal
 
 pub returns-in_err-outcome : goal.returns-in_err-outcome
 returns-in_err-outcome c =
@@ -51,6 +51,6 @@ loop-outcome-preserved c =
     let base = base_shown c.loop-outcome.base in
     let all = ranges_from tables bases (base_shown c.args.first) c.args.cursor.now in
     let read = smaller outcome_shown (next_outcome tables bases base) (λ p. p.left) (outcomes_advance tables bases base) c.in_ok-outcome.field-0 c.in-Some.outcome c.loop-outcome.cursor c.next_outcome.new.cursor c.in-Some.is c.in_ok-outcome.ensures in
-    held-on tables bases c.args.a c.loop-outcome.held c.with_range-held.result base (base_shown c.in-Some.outcome.base) c.loop-outcome.cursor c.next_outcome.new.cursor all c.in-Some.outcome.range so_far
+    held-on tables bases c.args.a c.loop-outcome.holds c.with_range-holds.result base (base_shown c.in-Some.outcome.base) c.loop-outcome.cursor c.next_outcome.new.cursor all c.in-Some.outcome.range so_far
     (goes_on tables bases so_far.found base c.loop-outcome.cursor all so_far.so_far c.next_outcome.new.cursor (base_shown c.in-Some.outcome.base) c.in-Some.outcome.range read)
-    c.with_range-held.ensures
+    c.with_range-holds.ensures
