@@ -43,20 +43,29 @@ fn count(loads: &mut [Load], unit: UnitPlace) {
 
 /// The unit with which a query goes: the one that answers its address, or the first covered address
 /// of its span.
-fn unit_of(image: &Image<'_>, query: Query) -> Option<UnitPlace> {
+fn unit_of(
+    alloc: Global,
+    image: &Image<'_>,
+    query: Query,
+) -> Result<Option<UnitPlace>, AllocError> {
     match query.kind() {
-        QueryKind::Address(a) => image.unit_place(a),
-        QueryKind::Span(low, high) => image.first_unit_place(low, high),
+        QueryKind::Address(a) => Ok(image.unit_place(a)),
+        QueryKind::Span(low, high) => image.first_unit_place(alloc, low, high),
     }
 }
 
 /// The index of the unit of a query, which is counted.
-fn counted(image: &Image<'_>, loads: &mut [Load], query: Query) -> usize {
-    let Some(unit) = unit_of(image, query) else {
-        return usize::MAX;
+fn counted(
+    alloc: Global,
+    image: &Image<'_>,
+    loads: &mut [Load],
+    query: Query,
+) -> Result<usize, AllocError> {
+    let Some(unit) = unit_of(alloc, image, query)? else {
+        return Ok(usize::MAX);
     };
     count(loads, unit);
-    unit.place
+    Ok(unit.place)
 }
 
 /// The units of some queries, by the index of a file.
@@ -68,7 +77,8 @@ pub fn survey_of(
     let mut loads = vec![in alloc; Load { size: 0, count: 0 }; image.unit_count()]?;
     let mut units = Vec::new(alloc);
     for query in queries {
-        units.push(counted(image, &mut loads, *query))?;
+        let unit = counted(alloc, image, &mut loads, *query)?;
+        units.push(unit)?;
     }
     Ok(Survey { units, loads })
 }

@@ -57,8 +57,14 @@ fn place_of(image: &Image<'_>, a: u64) -> Option<usize> {
 }
 
 /// The index of the first unit of a span, in the same way.
-fn first_place_of(image: &Image<'_>, low: u64, high: u64) -> Option<usize> {
-    image.first_unit_place(low, high).map(|found| found.place)
+fn first_place_of(
+    alloc: Global,
+    image: &Image<'_>,
+    low: u64,
+    high: u64,
+) -> Result<Option<usize>, AllocError> {
+    let found = image.first_unit_place(alloc, low, high)?;
+    Ok(found.map(|found| found.place))
 }
 
 /// How many ranges are kept, in the same way.
@@ -125,19 +131,20 @@ static HELD_SPANS: [(u64, u64, Option<usize>); 4] = [
 ];
 
 /// The units are held, and answer addresses and spans.
-fn expect_held<A: Abort>(rt: &A, image: &Image<'_>) {
+fn expect_held<A: Abort>(rt: &A, alloc: Global, image: &Image<'_>) -> Result<(), AllocError> {
     expect(rt, "ranges", &kept_in(image), &3);
     expect_places(rt, image, &HELD_PLACES);
     for (low, high, wanted) in &HELD_SPANS {
-        expect(rt, low, &first_place_of(image, *low, *high), wanted);
+        expect(rt, low, &first_place_of(alloc, image, *low, *high)?, wanted);
     }
+    Ok(())
 }
 
 #[test]
 fn units_held_by_their_lists(rt: HostRuntime) -> Result<(), Fail> {
     let file = file_of(rt.alloc(), HELD, FEW)?;
     let image = image_of(rt.alloc(), &file)?;
-    expect_held(&rt, &image);
+    expect_held(&rt, rt.alloc(), &image)?;
     Ok(())
 }
 

@@ -74,7 +74,7 @@ owned : (ranges : List CodeRange) (i : ℕ) → map pair_shown (map (λ range. (
 owned [] i = refl
 owned (range ∷ ranges) i = ap (λ (pairs : List (Range × ℕ)). (range_shown range, i) ∷ pairs) (owned ranges i)
 
-shown-append : (front back : List (CodeRange × ℕ)) → map pair_shown (front ++ back) ≡ map pair_shown front ++ map pair_shown back
+pub shown-append : (front back : List (CodeRange × ℕ)) → map pair_shown (front ++ back) ≡ map pair_shown front ++ map pair_shown back
 shown-append [] back = refl
 shown-append (pair ∷ front) back = ap (λ (pairs : List (Range × ℕ)). pair_shown pair ∷ pairs) (shown-append front back)
 

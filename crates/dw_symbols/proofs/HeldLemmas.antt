@@ -5,16 +5,13 @@ use Rattle.std.specs.Option.{option_map_or}
 use Rattle.std.proofs.lemmas.Bool.{leb-true, leb-false}
 use Rattle.std.proofs.lemmas.List.{append-nil, drop_all}
 use Rattle.dw_model.specs.Ranges.{Range, covers}
-use Rattle.dw_model.specs.Steady.{last_address}
 use Rattle.dw_model.specs.Text.{Tables}
 use Rattle.dw_index.specs.Owners.{least, least_owner}
 use Rattle.dw_index.proofs.OwnerLemmas.{least_owner-append, least-none}
-use Rattle.dw_ranges.specs.declared.at_address.Held.{Held}
 use Rattle.dw_ranges.specs.Held.{listed}
 use Rattle.dw_ranges.proofs.OwnedLemmas.{owned_by, of-ranges}
 use Rattle.dw_symbols.specs.declared.cover.HeldUnit.{HeldUnit}
-use Rattle.dw_symbols.specs.declared.cover.Owner.{Owner}
-use Rattle.dw_symbols.specs.Held.{held_pairs, held_at, AreBetween, AreInOrder, IsFirst}
+use Rattle.dw_symbols.specs.Held.{held_pairs, held_at, AreBetween, AreInOrder}
 
 -- the first of them has an address, or those behind it
 by-list : (tables : Tables) (one : HeldUnit) (held : List HeldUnit) (a : ℕ) (has : Bool) → covers a (listed tables one.list) ≡ has → held_at tables (one ∷ held) a ≡ least (cond has (Some one.unit) None) (held_at tables held a)
@@ -78,81 +75,48 @@ drop-one held k other within =
     let next : suc k ≡ k + 1 = omega arith in
     drop-suc held k other within ∙ ap (λ (n : ℕ). slice_index_or held k other ∷ drop n held) next
 
--- The lists of the units before a place have no address from one on and below another.
-pub record Passed (tables : Tables) (held : List HeldUnit) (a k first until : ℕ) : Type 0 where
+-- The lists of the units before a place don't have the address.
+pub record Passed (tables : Tables) (held : List HeldUnit) (a k : ℕ) : Type 0 where
   pub bound : ℕ
   pub end : ℕ
   pub order : AreBetween bound end (drop k held)
   pub here : held_at tables held a ≡ held_at tables (drop k held) a
-  pub within : until ≤ first
-  pub above : a < last_address → a < first → a < until
-  pub same : (c : ℕ) → a ≤ c → c < until → held_at tables held c ≡ held_at tables (drop k held) c
 
-pub none-passed : (tables : Tables) (held : List HeldUnit) (a first : ℕ) → AreInOrder held → Passed tables held a 0 first first
-none-passed tables held a first order = record {
-  bound = 0;
-  end = order.0;
-  order = order.1;
-  here = refl;
-  within = omega arith;
-  above = λ last before. before;
-  same = λ c up below. refl;
-}
+pub none-passed : (tables : Tables) (held : List HeldUnit) (a : ℕ) → AreInOrder held → Passed tables held a 0
+none-passed tables held a order = record { bound = 0; end = order.0; order = order.1; here = refl }
 
-module _ (tables : Tables) (held : List HeldUnit) (a k : ℕ) (indexed : Owner) (until : ℕ) (passed : Passed tables held a k indexed.until until) where
-  -- those that are left have none that is before the unit of the index
-  kept-first : ((c : ℕ) → least indexed.unit (held_at tables (drop k held) c) ≡ indexed.unit) → IsFirst tables held a indexed (record { unit = indexed.unit; until = until })
-  kept-first own = record {
-    unit = sym (ap (least indexed.unit) passed.here ∙ own a);
-    within = passed.within;
-    above = passed.above;
-    same = λ c up below. ap (least indexed.unit) (passed.same c up below) ∙ own c;
-  }
-
-  pub all-passed : length held ≤ k → IsFirst tables held a indexed (record { unit = indexed.unit; until = until })
+module _ (tables : Tables) (held : List HeldUnit) (a k : ℕ) (indexed : Option ℕ) (passed : Passed tables held a k) where
+  pub all-passed : length held ≤ k → indexed ≡ least indexed (held_at tables held a)
   all-passed past =
-      kept-first (λ c.
-      ap (least indexed.unit) (ap (λ (held : List HeldUnit). held_at tables held c) (drop_all k held past) ∙ none-held tables c) ∙ least-none indexed.unit)
+      sym (ap (least indexed) (passed.here ∙ ap (λ (held : List HeldUnit). held_at tables held a) (drop_all k held past) ∙ none-held tables a)
+      ∙ least-none indexed)
 
-  pub stopped : (one : HeldUnit) → drop k held ≡ one ∷ drop (k + 1) held → option_map_or (λ i. nat_le i one.unit) indexed.unit false ≡ true → IsFirst tables held a indexed (record { unit = indexed.unit; until = until })
-  stopped one at before =
-      let first = is-before indexed.unit one.unit before in
-      let order : AreBetween passed.bound passed.end (one ∷ drop (k + 1) held) = subst (λ (held : List HeldUnit). AreBetween passed.bound passed.end held) at passed.order in
-      kept-first (λ c.
-      let behind : IfSome (held_at tables (one ∷ drop (k + 1) held) c) (λ k. one.unit ≤ k) = held-behind tables one.unit passed.end (one ∷ drop (k + 1) held) c (omega arith, order.1) in
-      ap (least indexed.unit) (ap (λ (held : List HeldUnit). held_at tables held c) at)
-      ∙ ap (λ (owner : Option ℕ). least owner (held_at tables (one ∷ drop (k + 1) held) c)) first.1
-      ∙ least-low first.0 one.unit (held_at tables (one ∷ drop (k + 1) held) c) first.2 behind ∙ sym first.1)
+  module _ (one : HeldUnit) (at : drop k held ≡ one ∷ drop (k + 1) held) where
+    here : held_at tables held a ≡ held_at tables (one ∷ drop (k + 1) held) a
+    here = passed.here ∙ ap (λ (held : List HeldUnit). held_at tables held a) at
 
-  module _ (one : HeldUnit) (told : Held) (next : ℕ) (at : drop k held ≡ one ∷ drop (k + 1) held) (holds : told.holds ≡ covers a (listed tables one.list)) (beyond : a < last_address → a < told.until)
-      (steady : (c : ℕ) → a ≤ c → c < told.until → covers c (listed tables one.list) ≡ covers a (listed tables one.list)) (low : next ≤ until) (lower : next ≤ told.until) (above : (c : ℕ) → c < until → c < told.until → c < next) where
-    pub found : option_map_or (λ i. nat_le i one.unit) indexed.unit false ≡ false → told.holds ≡ true → IsFirst tables held a indexed (record { unit = Some one.unit; until = next })
+    order : AreBetween passed.bound passed.end (one ∷ drop (k + 1) held)
+    order = subst (λ (held : List HeldUnit). AreBetween passed.bound passed.end held) at passed.order
+
+    pub stopped : option_map_or (λ i. nat_le i one.unit) indexed false ≡ true → indexed ≡ least indexed (held_at tables held a)
+    stopped before =
+        let first = is-before indexed one.unit before in
+        let behind : IfSome (held_at tables (one ∷ drop (k + 1) held) a) (λ k. one.unit ≤ k) = held-behind tables one.unit passed.end (one ∷ drop (k + 1) held) a (omega arith, order.1) in
+        first.1 ∙ sym (ap (least indexed) here
+        ∙ ap (λ (owner : Option ℕ). least owner (held_at tables (one ∷ drop (k + 1) held) a)) first.1
+        ∙ least-low first.0 one.unit (held_at tables (one ∷ drop (k + 1) held) a) first.2 behind)
+
+    pub found : option_map_or (λ i. nat_le i one.unit) indexed false ≡ false → covers a (listed tables one.list) ≡ true → Some one.unit ≡ least indexed (held_at tables held a)
     found behind has =
-        let order : AreBetween passed.bound passed.end (one ∷ drop (k + 1) held) = subst (λ (held : List HeldUnit). AreBetween passed.bound passed.end held) at passed.order in
-        let covered : covers a (listed tables one.list) ≡ true = sym holds ∙ has in
-        let own = λ (c : ℕ) (covered : covers c (listed tables one.list) ≡ true). ap (λ (held : List HeldUnit). held_at tables held c) at ∙ first-held tables passed.bound passed.end one (drop (k + 1) held) c order covered in
-        record {
-          unit = sym (ap (least indexed.unit) (passed.here ∙ own a covered) ∙ is-behind indexed.unit one.unit behind);
-          within = omega (arith, low, passed.within);
-          above = λ last first. above a (passed.above last first) (beyond last);
-          same = λ c up below.
-              ap (least indexed.unit) (passed.same c up (omega (arith, below, low)) ∙ own c (steady c up (omega (arith, below, lower)) ∙ covered)) ∙ is-behind indexed.unit one.unit behind;
-        }
+        sym (ap (least indexed) (here ∙ first-held tables passed.bound passed.end one (drop (k + 1) held) a order has) ∙ is-behind indexed one.unit behind)
 
-    pub goes_on : told.holds ≡ false → Passed tables held a (k + 1) indexed.until next
-    goes_on none =
-        let order : AreBetween passed.bound passed.end (one ∷ drop (k + 1) held) = subst (λ (held : List HeldUnit). AreBetween passed.bound passed.end held) at passed.order in
-        let uncovered : covers a (listed tables one.list) ≡ false = sym holds ∙ none in
-        let own = λ (c : ℕ) (uncovered : covers c (listed tables one.list) ≡ false). ap (λ (held : List HeldUnit). held_at tables held c) at ∙ passed-list tables one (drop (k + 1) held) c uncovered in
-        record {
-          bound = one.unit + 1;
-          end = passed.end;
-          order = order.1;
-          here = passed.here ∙ own a uncovered;
-          within = omega (arith, low, passed.within);
-          above = λ last first. above a (passed.above last first) (beyond last);
-          same = λ c up below. passed.same c up (omega (arith, below, low)) ∙ own c (steady c up (omega (arith, below, lower)) ∙ uncovered);
-        }
+    pub goes_on : covers a (listed tables one.list) ≡ false → Passed tables held a (k + 1)
+    goes_on none = record {
+      bound = one.unit + 1;
+      end = passed.end;
+      order = order.1;
+      here = here ∙ passed-list tables one (drop (k + 1) held) a none;
+    }
 
 -- ---- one held unit more
 

@@ -13,3 +13,4 @@ pub mod AnswerLemmas
 pub mod ToldLemmas
 pub mod PathLemmas
 pub mod SpanLemmas
+pub mod WindowLemmas

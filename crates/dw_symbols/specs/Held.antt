@@ -2,7 +2,6 @@
 use Rattle.std.specs.Prelude.{◌≡◌, ◌≤◌, ◌<◌, ℕ, ◌+◌, ◌*◌, ◌/◌, List, [], ◌∷◌, ◌++◌, length, map, Option, option_map}
 use Rattle.dw_model.specs.Ranges.{Range}
 use Rattle.dw_model.specs.Section.{Sections}
-use Rattle.dw_model.specs.Steady.{last_address}
 use Rattle.dw_model.specs.Text.{Tables}
 use Rattle.dw_model.specs.Unit.{units}
 use Rattle.dw_model.specs.Answer.{unit_of}
@@ -12,7 +11,6 @@ use Rattle.dw_index.specs.Owners.{least, least_owner}
 use Rattle.dw_index.specs.Segments.{owner_at}
 use Rattle.dw_ranges.specs.Held.{listed}
 use Rattle.dw_symbols.specs.declared.cover.HeldUnit.{HeldUnit}
-use Rattle.dw_symbols.specs.declared.cover.Owner.{Owner}
 
 -- the ranges of the lists, each with the place of its unit
 abbrev pub held_pairs : Tables → List HeldUnit → List (Range × ℕ)
@@ -51,14 +49,6 @@ FindsUnits sections cover =
 -- list that is held.
 abbrev pub AreEnough : Sections → ℕ → Type 0
 AreEnough sections ranges = (cover : CoverState) × FindsUnits sections cover × (length cover.index ≤ 2 * ranges)
-
--- Of the unit that the index has and the units that are held, the first that has an address is
--- found, and up to where it is that, if the index has no other there.
-pub record IsFirst (tables : Tables) (held : List HeldUnit) (a : ℕ) (indexed found : Owner) : Type 0 where
-  pub unit : found.unit ≡ least indexed.unit (held_at tables held a)
-  pub within : found.until ≤ indexed.until
-  pub above : a < last_address → a < indexed.until → a < found.until
-  pub same : (c : ℕ) → a ≤ c → c < found.until → least indexed.unit (held_at tables held c) ≡ found.unit
 
 -- The most ranges that are kept for units: those of lists up to a third of the bytes of
 -- .debug_rnglists, since an entry that makes a range takes three bytes at least, and one for each

@@ -16,3 +16,5 @@ pub mod Pairs
 pub mod Image
 pub mod ImageUnit
 pub mod Frames
+pub mod Window
+pub mod UnitWalk

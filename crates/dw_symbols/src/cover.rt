@@ -5,14 +5,16 @@ ghost use Rattle.std.specs.Option.{option_map_or};
 ghost use Rattle.dw_model.specs.Steady.{last_address};
 ghost use Rattle.dw_model.specs.Text.{Tables as ModelTables};
 ghost use Rattle.dw_forms.specs.Tables.{tables_shown};
-ghost use Rattle.dw_index.specs.Owners.{least_owner};
-ghost use Rattle.dw_symbols.specs.Held.{AreInOrder, IsFirst, first_unit};
+ghost use Rattle.dw_index.specs.Owners.{least, least_owner};
+ghost use Rattle.dw_symbols.specs.Held.{AreInOrder, first_unit, held_at};
 ghost use Rattle.dw_symbols.specs.Pairs.{all_pairs};
+ghost use Rattle.dw_symbols.specs.Window.{IsWindow};
 
 use crate::span::lesser;
 use crate::unit_ranges::UnitRanges;
+use crate::window::Window;
 use dw_forms::Tables;
-use dw_ranges::{Index, RangeList, list_at};
+use dw_ranges::{Index, RangeList, list_holds};
 use std::alloc::{AllocError, Global};
 use std::marker::Model;
 
@@ -53,6 +55,19 @@ impl Model for Cover {
     ghost invariant = { IsCover };
 }
 
+/// The lesser of two places, where there are two.
+fn least(first: Option<usize>, second: Option<usize>) -> Option<usize>
+    ensures { result ≡ least first second }
+{
+    let Some(x) = first else {
+        return second;
+    };
+    let Some(y) = second else {
+        return first;
+    };
+    if x <= y { Some(x) } else { Some(y) }
+}
+
 /// Whether the unit of the index is before another, or that one.
 fn is_before(indexed: Option<usize>, unit: usize) -> bool
     ensures { result ≡ option_map_or (λ i. nat_le i unit) indexed false }
@@ -65,31 +80,19 @@ fn is_before(indexed: Option<usize>, unit: usize) -> bool
 
 /// The first unit that has an address, of the one that the index has and those that are held. Only
 /// the lists of those before it are read, and its own.
-fn first_of(held: &[HeldUnit], tables: &Tables<'_>, a: u64, indexed: Owner) -> Owner
+fn first_of(held: &[HeldUnit], tables: &Tables<'_>, a: u64, indexed: Option<usize>) -> Option<usize>
     requires { AreInOrder held.now }
-    ensures { IsFirst (tables_shown tables.now) held.now a indexed result }
+    ensures { result ≡ least indexed (held_at (tables_shown tables.now) held.now a) }
 {
-    let mut until = indexed.until;
     for one in held {
-        if is_before(indexed.unit, one.unit) {
-            return Owner {
-                unit: indexed.unit,
-                until,
-            };
+        if is_before(indexed, one.unit) {
+            return indexed;
         }
-        let found = list_at(one.list, tables, a);
-        until = lesser(until, found.until);
-        if found.holds {
-            return Owner {
-                unit: Some(one.unit),
-                until,
-            };
+        if list_holds(one.list, tables, a) {
+            return Some(one.unit);
         }
     }
-    Owner {
-        unit: indexed.unit,
-        until,
-    }
+    indexed
 }
 
 impl Cover {
@@ -113,25 +116,31 @@ impl Cover {
     pub(crate) fn find(&self, tables: &Tables<'_>, a: u64) -> Option<usize>
         ensures { result ≡ first_unit (tables_shown tables.now) self.now a }
     {
-        let indexed = Owner {
-            unit: self.index.find(a),
-            until: u64::MAX,
-        };
-        first_of(&self.held, tables, a, indexed).unit
+        first_of(&self.held, tables, a, self.index.find(a))
     }
 
-    /// The same, and up to where it is the first that has all addresses, or none has any.
-    pub(crate) fn find_from(&self, tables: &Tables<'_>, a: u64) -> Owner
-        requires { a < last_address }
-        ensures above { a < result.until }
-        ensures same { (c : ℕ) → a ≤ c → c < result.until
-            → first_unit (tables_shown tables.now) self.now c ≡ result.unit }
+    /// The same, and up to where it is the first that has all addresses, or none has any. The lists
+    /// of units that are held are read once for each window.
+    pub(crate) fn find_from(
+        &self,
+        alloc: Global,
+        tables: &Tables<'_>,
+        window: &mut Window,
+        a: u64,
+    ) -> Result<Owner, AllocError>
+        requires address { a < last_address }
+        requires window { IsWindow (tables_shown tables.now) self.now.held window.old }
+        ensures window { IsWindow (tables_shown tables.now) self.now.held window.new }
+        ensures above { IfOk result (λ owner. a < owner.until) }
+        ensures same { IfOk result (λ owner. (c : ℕ) → a ≤ c → c < owner.until
+            → first_unit (tables_shown tables.now) self.now c ≡ owner.unit) }
     {
-        let indexed = Owner {
-            unit: self.index.find(a),
-            until: self.index.steady(a),
-        };
-        first_of(&self.held, tables, a, indexed)
+        window.turn_to(alloc, &self.held, tables, a)?;
+        let until = lesser(window.index.steady(a), window.until);
+        Ok(Owner {
+            unit: least(self.index.find(a), window.index.find(a)),
+            until: lesser(self.index.steady(a), until),
+        })
     }
 
     /// How many ranges of units are kept.

@@ -1,20 +1,20 @@
 //! A file that is open: its units, and which of them answers an address.
 
-ghost use Rattle.std.specs.Prelude.{◌≡◌, ◌≤◌, ◌<◌, None, OnOk, IfOk, IfErr, IfSome, option_map};
+ghost use Rattle.std.specs.Prelude.{◌≡◌, ◌≤◌, None, OnOk, IfOk, IfErr, IfSome, option_map};
 ghost use Rattle.dw_model.specs.Section.{sections, elf_refusal};
 ghost use Rattle.dw_model.specs.Answer.{unit_of};
-ghost use Rattle.dw_model.specs.Steady.{last_address};
 ghost use Rattle.dw_symbols.specs.Held.{AreEnough, most_ranges};
 ghost use Rattle.dw_model.specs.Refusal.{refusal};
 ghost use Rattle.dw_elf.specs.OpenFault.{RefusesUnlessMemory, HidesNoRefusal};
 
-use crate::cover::{Cover, Owner};
-use crate::image_unit::{Covered, ImageUnit};
+use crate::cover::Cover;
+use crate::image_unit::ImageUnit;
 use crate::unit_ranges::unit_ranges;
+use crate::unit_walk::UnitWalk;
 use dw_elf::{Elf, Name, OpenFault};
 use dw_ranges::law_of_least_owner;
 use dw_units::Units;
-use std::alloc::Global;
+use std::alloc::{AllocError, Global};
 use std::marker::Model;
 use std::sync::Arc;
 
@@ -45,7 +45,7 @@ impl<'a> Model for Image<'a> {
 }
 
 impl<'a> Image<'a> {
-    ghost use Rattle.dw_symbols.specs.ImageUnit.{IsUnitOf, unit_in};
+    ghost use Rattle.dw_symbols.specs.ImageUnit.{unit_in};
 
     /// Opens a file: tests its sections, cuts it into units, reads their first entries and the
     /// ranges of these. Nothing of the file is copied.
@@ -103,20 +103,11 @@ impl<'a> Image<'a> {
         Some(ImageUnit { image: self, index })
     }
 
-    /// The unit that answers an address, as `unit_at` finds it, and up to where it answers all
-    /// addresses, or none does.
-    pub(crate) fn unit_from(&self, a: u64) -> Covered<'_, 'a>
-        requires { a < last_address }
-        ensures after { a < result.until }
-        ensures unit { IsUnitOf (sections self.now) (option_map unit_in result.unit) a result.until }
-        ensures image { IfSome result.unit (λ unit. unit.image.now ≡ self.now) }
+    /// A walk over the units that answer addresses, from one border to the next.
+    pub(crate) fn walk(&self, alloc: Global) -> Result<UnitWalk<'_, 'a>, AllocError>
+        ensures { IfOk result (λ walk. walk ≡ self.now) }
     {
-        let Owner { unit, until } = self.cover.find_from(self.units.tables(), a);
-        let unit = match unit {
-            Some(index) => Some(ImageUnit { image: self, index }),
-            None => None,
-        };
-        Covered { unit, until }
+        UnitWalk::new(alloc, self, &self.cover)
     }
 
     /// How many ranges are kept to find the unit of an address: of lists at most a third of the

@@ -20,6 +20,8 @@ mod unit_cache;
 mod unit_parts;
 mod unit_place;
 mod unit_ranges;
+mod unit_walk;
+mod window;
 
 pub use answer::{Answer, Frame, Location, Piece, UnitFault};
 pub use context::Context;

@@ -7,6 +7,7 @@ ghost use Rattle.dw_model.specs.Pieces.{pieces};
 use crate::answer::{Answer, Piece, UnitFault};
 use crate::image::Image;
 use crate::table_cache::KeptTables;
+use crate::unit_walk::UnitWalk;
 use dw_model::laws::{law_of_more_pieces, law_of_pieces};
 use std::alloc::{AllocError, Global};
 
@@ -36,18 +37,19 @@ impl<'a> KeptTables<'a> {
     fn push_first(
         &mut self,
         alloc: Global,
-        image: &Image<'a>,
+        units: &mut UnitWalk<'_, 'a>,
         span: Span,
         pieces: &mut Vec<Piece>,
     ) -> Result<Result<u64, (u64, UnitFault)>, AllocError>
-        requires kept { AreTables (sections image.now).line self.old }
+        requires kept { AreTables (sections units.old).line self.old }
         requires some { span.low < span.high }
-        ensures kept { AreTables (sections image.now).line self.new }
-        ensures pieces { IfOk result (λ end. AddsFirst (sections image.now) span end
+        ensures file { units.new ≡ units.old }
+        ensures kept { AreTables (sections units.old).line self.new }
+        ensures pieces { IfOk result (λ end. AddsFirst (sections units.old) span end
             (map piece_shown pieces.old.items) (map piece_shown pieces.new.items)) }
     {
         law_of_more_pieces();
-        let owner = image.unit_from(span.low);
+        let owner = units.next(span.low)?;
         let first = Span {
             low: span.low,
             high: lesser(owner.until, span.high),
@@ -77,9 +79,13 @@ impl<'a> KeptTables<'a> {
         law_of_pieces();
         let mut pieces = Vec::new(alloc);
         let Span { low, high } = span;
+        if low >= high {
+            return Ok(Answer::Pieces(pieces));
+        }
+        let mut units = image.walk(alloc)?;
         let mut at = low;
         while at < high {
-            match self.push_first(alloc, image, Span { low: at, high }, &mut pieces)? {
+            match self.push_first(alloc, &mut units, Span { low: at, high }, &mut pieces)? {
                 Ok(end) => at = end,
                 Err((unit, code)) => return Ok(Answer::Fault { unit, code }),
             }

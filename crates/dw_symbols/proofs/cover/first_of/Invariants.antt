@@ -3,4 +3,4 @@ use Rattle.dw_symbols.proofs.HeldLemmas.{Passed}
 use Rattle.dw_symbols.proofs.cover.first_of.Given as goal
 
 abbrev pub invariant-loop-one : goal.invariant-loop-one
-invariant-loop-one l = Passed (tables_shown l.fn.tables) l.fn.held l.a l.one-index l.indexed.until l.until
+invariant-loop-one l = Passed (tables_shown l.fn.tables) l.fn.held l.a l.one-index

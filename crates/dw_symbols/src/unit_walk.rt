@@ -1,0 +1,78 @@
+//! The units that answer the addresses of a span, from one border to the next.
+
+ghost use Rattle.std.specs.Prelude.{◌≡◌, ◌<◌, IfOk, IfSome, option_map};
+ghost use Rattle.dw_model.specs.Section.{sections};
+ghost use Rattle.dw_model.specs.Steady.{last_address};
+ghost use Rattle.dw_symbols.specs.Held.{FindsUnits};
+ghost use Rattle.dw_symbols.specs.Image.{FindsPlaces};
+ghost use Rattle.dw_symbols.specs.ImageUnit.{IsUnitOf, unit_in};
+
+use crate::cover::{Cover, Owner};
+use crate::image::Image;
+use crate::image_unit::{Covered, ImageUnit};
+use crate::window::Window;
+use std::alloc::{AllocError, Global};
+use std::marker::Model;
+
+/// A walk over the units that answer addresses. Contracts see the bytes of the file.
+#[derive(Drop)]
+pub(crate) struct UnitWalk<'b, 'a> {
+    image: &'b Image<'a>,
+    cover: &'b Cover,
+    alloc: Global,
+    /// What was found of the units that are held by their lists.
+    window: Window,
+}
+
+impl<'b, 'a> Model for UnitWalk<'b, 'a> {
+    ghost use Rattle.std.specs.Prelude.{List, ℕ};
+    ghost use Rattle.dw_symbols.specs.UnitWalk.{file_in, IsWalk};
+
+    ghost Value = { List ℕ };
+
+    ghost view = { file_in };
+
+    ghost invariant = { IsWalk };
+}
+
+impl<'b, 'a> UnitWalk<'b, 'a> {
+    /// A walk over the units of a file that is open, which are found by this cover.
+    pub(crate) fn new(
+        alloc: Global,
+        image: &'b Image<'a>,
+        cover: &'b Cover,
+    ) -> Result<Self, AllocError>
+        requires finds { FindsUnits (sections image.now) cover.now }
+        requires within { FindsPlaces (sections image.now) cover.now }
+        ensures { IfOk result (λ walk. walk ≡ image.now) }
+    {
+        let window = Window::none(alloc)?;
+        Ok(UnitWalk {
+            image,
+            cover,
+            alloc,
+            window,
+        })
+    }
+
+    /// The unit that answers an address, and up to where it answers all addresses, or none does.
+    pub(crate) fn next(&mut self, a: u64) -> Result<Covered<'b, 'a>, AllocError>
+        requires { a < last_address }
+        ensures file { self.new ≡ self.old }
+        ensures after { IfOk result (λ found. a < found.until) }
+        ensures unit { IfOk result (λ found. IsUnitOf (sections self.old) (option_map unit_in found.unit)
+            a found.until) }
+        ensures image { IfOk result (λ found. IfSome found.unit (λ unit. unit.image.now ≡ self.old)) }
+    {
+        let (image, tables) = (self.image, self.image.units().tables());
+        let owner = self
+            .cover
+            .find_from(self.alloc, tables, &mut self.window, a)?;
+        let Owner { unit, until } = owner;
+        let unit = match unit {
+            Some(index) => Some(ImageUnit { image, index }),
+            None => None,
+        };
+        Ok(Covered { unit, until })
+    }
+}
