@@ -17,7 +17,7 @@ use Rattle.dw_frames.specs.Inlined.{InlinedRange, inlined_in}
 use Rattle.dw_frames.specs.Drafts.{Drafts, known_ranges, is_idle, is_kept}
 use Rattle.dw_frames.specs.Kept.{most_listed}
 use Rattle.dw_frames.specs.Placed.{Placed, placed, offset_of, Falls, Follows}
-use Rattle.dw_frames.specs.Tree.{id_of, all_inlined, outermost_at, inwards, chain_at, function_at, most_ranges, nodes_of, IsTreeOf}
+use Rattle.dw_frames.specs.Tree.{id_of, all_inlined, outermost_at, inwards, chain_at, function_at, most_ranges, nodes_of, AreCounted, IsTreeOf}
 use Rattle.dw_frames.specs.UnitIn.{UnitIn}
 use Rattle.dw_frames.proofs.GetLemmas.{get-there, get-mapped, get-pushed}
 use Rattle.dw_frames.proofs.PlacedLemmas.{map-reverse, reverse-cons}
@@ -183,5 +183,5 @@ module _ (of : UnitIn) (after : List Node) (drafts : Drafts) (bound : ℕ) (foun
       let functions = ap (λ (offsets : List ℕ). length offsets) follows.functions ∙ length-map (placed keep after) offset_of ∙ count-placed keep after ∙ ap (λ (nodes : List Node). length (filter (λ node. keep node.entry) nodes)) (sym nodes-are) in
       omega (arith, room, functions)
 
-  pub is-tree : IsTreeOf of found
-  is-tree = record { within = rw unit within; read = whole ∙ ap Ok (sym nodes-are); chains = chain-same; few = few-kept }
+  pub is-tree : AreCounted found found.ranges → IsTreeOf of found
+  is-tree counted = record { within = rw unit within; read = whole ∙ ap Ok (sym nodes-are); chains = chain-same; few = few-kept; counted = counted }

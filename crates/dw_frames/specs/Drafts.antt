@@ -1,5 +1,6 @@
 -- What is kept of the functions of a unit while its entries are read.
-use Rattle.std.specs.Prelude.{ℕ, ◌-◌, Bool, cond, not, ◌&&◌, ◌==◌, List, [], ◌∷◌, ◌++◌, length, map, Option, Some, None, option_and_then, slice_get}
+use Rattle.std.specs.Prelude.{ℕ, ◌-◌, Bool, cond, not, ◌&&◌, ◌==◌, List, [], ◌∷◌, ◌++◌, length, map, Option, Some, None}
+use Rattle.std.specs.Prelude.{option_and_then, slice_get}
 use Rattle.std.specs.Result.{result_unwrap_or}
 use Rattle.dw_model.specs.Entry.{Entry}
 use Rattle.dw_model.specs.Section.{Sections}
@@ -11,7 +12,8 @@ use Rattle.dw_frames.specs.UnitIn.{UnitIn}
 
 -- The unit; the offsets of the functions that have ranges, in order; the ranges of all subprograms;
 -- those of all inlined functions, each in the function in which it lies; and the lists of children
--- that are open, the outermost first, each with the number of the function in which its entries lie.
+-- that are open, the outermost first, each with the number of the function in which its entries
+-- lie.
 pub record Drafts : Type 0 where
   pub of : UnitIn
   pub functions : List ℕ
@@ -67,7 +69,15 @@ without_last (x ∷ []) = []
 without_last (x ∷ y ∷ xs) = x ∷ without_last (y ∷ xs)
 
 abbrev pub without_list : Drafts → Drafts
-without_list drafts = record { of = drafts.of; functions = drafts.functions; outermost = drafts.outermost; inlined = drafts.inlined; lists = without_last drafts.lists }
+without_list drafts =
+    record {
+      of = drafts.of;
+      functions = drafts.functions;
+      outermost = drafts.outermost;
+      inlined =
+          drafts.inlined;
+      lists = without_last drafts.lists;
+    }
 
 abbrev pub known_ranges : Sections → DwarfUnit → Entry → List Range
 known_ranges sections unit entry = result_unwrap_or (entry_ranges_in sections unit entry) []
@@ -86,10 +96,13 @@ abbrev pub behind_function : Sections → DwarfUnit → Entry → Drafts → Dra
 behind_function sections unit entry drafts =
     cond (is_idle sections unit entry) (with_list entry.children None drafts)
     (with_list entry.children (Some (length drafts.functions))
-    (with_function entry.offset (with_ranges (is_subprogram entry) (owned (known_ranges sections unit entry) (length drafts.functions)) drafts)))
+    (with_function entry.offset
+    (with_ranges (is_subprogram entry)
+    (owned (known_ranges sections unit entry) (length drafts.functions)) drafts)))
 
 -- the drafts after an entry, or after a null entry, which ends a list of children
 abbrev pub behind : Sections → DwarfUnit → Option Entry → Drafts → Drafts
 behind sections unit None drafts = without_list drafts
 behind sections unit (Some entry) drafts =
-    cond (is_function entry) (behind_function sections unit entry drafts) (with_list entry.children (innermost drafts) drafts)
+    cond (is_function entry) (behind_function sections unit entry drafts)
+    (with_list entry.children (innermost drafts) drafts)

@@ -12,11 +12,13 @@ abbrev pub drafts_of : Inside → Drafts
 drafts_of drafts = record {
   of = unit_in drafts.unit;
   functions = drafts.kept.functions.items;
-  outermost = map pair_shown drafts.kept.outermost.items ++ all_held (sections_of drafts.unit).tables drafts.held.outermost.items;
+  outermost = map pair_shown drafts.kept.outermost.items
+      ++ all_held (sections_of drafts.unit).tables drafts.held.outermost.items;
   inlined = drafts.kept.inlined ++ all_held_in (sections_of drafts.unit).tables drafts.held.inlined.items;
   lists = drafts.lists.items;
 }
 
 -- as many ranges may still be kept as are left of those of lists, and one of each function
 abbrev pub IsWithin : Inside → Type 0
-IsWithin drafts = kept_ranges drafts.kept + drafts.left ≤ most_listed (unit_of drafts.unit) + length drafts.kept.functions.items
+IsWithin drafts =
+    kept_ranges drafts.kept + drafts.left ≤ most_listed (unit_of drafts.unit) + length drafts.kept.functions.items

@@ -12,7 +12,8 @@ inlined_of inlined = inlined.links
 -- each index is that of what was inlined in the function of its number
 abbrev pub AreIndexed : List InlinedRange → List (ℕ × List Segment) → Type 0
 AreIndexed ranges indexes =
-    (k : ℕ) (known : ℕ × List Segment) → slice_get indexes k ≡ Some known → (a : ℕ) → owner_at known.1 a ≡ least_owner (inlined_in known.0 ranges) a
+    (k : ℕ) (known : ℕ × List Segment) → slice_get indexes k ≡ Some known → (a : ℕ)
+    → owner_at known.1 a ≡ least_owner (inlined_in known.0 ranges) a
 
 abbrev pub IsIndexed : Inside → Type 0
 IsIndexed inlined = AreIndexed inlined.links inlined.indexes.items

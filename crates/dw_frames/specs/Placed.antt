@@ -1,5 +1,6 @@
 -- The functions of a tree that are kept, in order, each with the function in which it lies.
-use Rattle.std.specs.Prelude.{◌≡◌, ◌<◌, ◌≤◌, ℕ, suc, ◌+◌, length, min, Bool, cond, List, [], ◌∷◌, ◌++◌, map, Option, Some, None, option_map, slice_get, nat_lt, ◌&&◌}
+use Rattle.std.specs.Prelude.{◌≡◌, ◌<◌, ◌≤◌, ℕ, suc, ◌+◌, length, min, Bool, cond, List, [], ◌∷◌, ◌++◌, map, Option}
+use Rattle.std.specs.Prelude.{Some, None, option_map, slice_get, nat_lt, ◌&&◌}
 use Rattle.dw_model.specs.Entry.{Entry}
 use Rattle.dw_model.specs.Section.{Sections}
 use Rattle.dw_model.specs.Unit.{DwarfUnit}
@@ -44,7 +45,8 @@ lies_in holds offset p = is_inlined p.0.entry && holds p.0.entry && is_at p.1 of
 -- The number is that of the function that was found; where there is none, no function was found
 -- that is kept.
 abbrev pub Names : List Placed → Option ℕ → Option Node → Type 0
-Names all None found = (node : Node) → found ≡ Some node → (k : ℕ) (p : Placed) → slice_get all k ≡ Some p → offset_of p ≡ node.entry.offset → ⊥
+Names all None found = (node : Node) → found ≡ Some node → (k : ℕ) (p : Placed) → slice_get all k ≡ Some p
+    → offset_of p ≡ node.entry.offset → ⊥
 Names all (Some k) found = (p : Placed) × (slice_get all k ≡ Some p) × (found ≡ Some p.0)
 
 -- each node is before the one that was read after it, and all before a bound
@@ -59,8 +61,13 @@ pub record Follows (s : Sections) (unit : DwarfUnit) (before : List Node) (draft
   pub falls : Falls bound before
   pub rises : Rises (map offset_of (placed (is_kept s unit) before))
   pub below : (k : ℕ) (p : Placed) → slice_get (placed (is_kept s unit) before) k ≡ Some p → offset_of p < bound
-  pub around : (k : ℕ) (p : Placed) (e : Node) → slice_get (placed (is_kept s unit) before) k ≡ Some p → p.1 ≡ Some e → e.entry.offset < offset_of p
-  pub outermost : (a : ℕ) → least_owner drafts.outermost a ≡ first (is_outermost (holds_address s unit a)) (placed (is_kept s unit) before)
-  pub inlined : (k a : ℕ) (p : Placed) → slice_get (placed (is_kept s unit) before) k ≡ Some p → least_owner (inlined_in k drafts.inlined) a ≡ first (lies_in (holds_address s unit a) (offset_of p)) (placed (is_kept s unit) before)
+  pub around : (k : ℕ) (p : Placed) (e : Node) → slice_get (placed (is_kept s unit) before) k ≡ Some p
+      → p.1 ≡ Some e → e.entry.offset < offset_of p
+  pub outermost : (a : ℕ)
+      → least_owner drafts.outermost a ≡ first (is_outermost (holds_address s unit a)) (placed (is_kept s unit) before)
+  pub inlined : (k a : ℕ) (p : Placed) → slice_get (placed (is_kept s unit) before) k ≡ Some p
+      → least_owner (inlined_in k drafts.inlined) a ≡ first (lies_in (holds_address s unit a) (offset_of p))
+      (placed (is_kept s unit) before)
   pub unowned : (k : ℕ) → length (placed (is_kept s unit) before) ≤ k → inlined_in k drafts.inlined ≡ []
-  pub lists : (i : ℕ) (number : Option ℕ) → slice_get drafts.lists i ≡ Some number → Names (placed (is_kept s unit) before) number (near (i + 1) before)
+  pub lists : (i : ℕ) (number : Option ℕ) → slice_get drafts.lists i ≡ Some number
+      → Names (placed (is_kept s unit) before) number (near (i + 1) before)

@@ -1,5 +1,6 @@
 -- Entries of a unit, read one after the other, of which the functions are kept.
-use Rattle.std.specs.Prelude.{◌≡◌, ℕ, List, Option, Result, Ok, Err, MatchOption, length, is_err, true, false, ◌++◌, reverse, filter_map}
+use Rattle.std.specs.Prelude.{◌≡◌, ℕ, List, Option, Result, Ok, Err, MatchOption, length, is_err, true, false, ◌++◌}
+use Rattle.std.specs.Prelude.{reverse, filter_map}
 use Rattle.std.specs.Option.{option_map_or}
 use Rattle.dw_model.specs.Faults.{ranges_fault}
 use Rattle.dw_model.specs.Faults as faults
@@ -24,27 +25,33 @@ can_be_used sections unit depth found = option_map_or (checked (entry_ranges_in 
 -- out.
 abbrev pub Keeps : Sections → DwarfUnit → Option Entry → Result (Unit {0}) TreeFault → Drafts → Drafts → Type 0
 Keeps sections unit found (Ok done) drafts new_drafts =
-    (can_be_used sections unit (length drafts.lists) found ≡ Ok tt) × Same (behind sections unit found drafts) new_drafts
+    (can_be_used sections unit (length drafts.lists) found ≡ Ok tt)
+    × Same (behind sections unit found drafts) new_drafts
 Keeps sections unit found (Err fault) drafts new_drafts =
     MatchOption (tree_fault fault) (Unit {0}) (λ told. can_be_used sections unit (length drafts.lists) found ≡ Err told)
 
 -- A function is kept, or its ranges can't be read.
 abbrev pub AddsFunction : Sections → DwarfUnit → Entry → Result (Unit {0}) TreeFault → Drafts → Drafts → Type 0
 AddsFunction sections unit entry (Ok done) drafts new_drafts =
-    (is_err (entry_ranges_in sections unit entry) ≡ false) × Same (behind_function sections unit entry drafts) new_drafts
+    (is_err (entry_ranges_in sections unit entry) ≡ false)
+    × Same (behind_function sections unit entry drafts) new_drafts
 AddsFunction sections unit entry (Err fault) drafts new_drafts =
-    MatchOption (tree_fault fault) (Unit {0}) (λ told. (told ≡ ranges_fault) × (is_err (entry_ranges_in sections unit entry) ≡ true))
+    MatchOption (tree_fault fault) (Unit {0})
+    (λ told. (told ≡ ranges_fault) × (is_err (entry_ranges_in sections unit entry) ≡ true))
 
 -- the nodes from a place on, at a depth
 abbrev pub nodes_on : Sections → DwarfUnit → Walk → ℕ → Result (List Node) faults.TreeFault
 nodes_on sections unit walk depth =
-    items (λ s. s.place.left) (next_node (entry_ranges_in sections unit) walk.offset_size walk.declarations) (record { place = walk.place; depth = depth }) >>= λ found.
+    items (λ s. s.place.left) (next_node (entry_ranges_in sections unit) walk.offset_size walk.declarations)
+    (record { place = walk.place; depth = depth }) >>= λ found.
     Ok (filter_map (λ node. node) found.0)
 
 -- the drafts follow the nodes before and those that were read; or there is a fault
-abbrev pub FollowsOn : Sections → DwarfUnit → List Node → Result (List Node) faults.TreeFault → Result (Unit {0}) TreeFault → Drafts → Type 0
+abbrev pub FollowsOn : Sections → DwarfUnit → List Node → Result (List Node) faults.TreeFault
+    → Result (Unit {0}) TreeFault → Drafts → Type 0
 FollowsOn sections unit before nodes (Ok done) drafts =
-    (found after : List Node) × (bound : ℕ) × (nodes ≡ Ok found) × (reverse after ≡ reverse before ++ found) × Follows sections unit after drafts bound
+    (found after : List Node) × (bound : ℕ) × (nodes ≡ Ok found) × (reverse after ≡ reverse before ++ found)
+    × Follows sections unit after drafts bound
 FollowsOn sections unit before nodes (Err fault) drafts =
     MatchOption (tree_fault fault) (Unit {0}) (λ told. nodes ≡ Err told)
 
@@ -56,6 +63,7 @@ read_into (Err fault) drafts = Err fault
 -- the drafts follow all nodes of the tree; or it has a fault
 abbrev pub FollowsAll : Sections → DwarfUnit → Result Drafts TreeFault → Type 0
 FollowsAll sections unit (Ok drafts) =
-    (after : List Node) × (bound : ℕ) × (tree sections unit ≡ Ok (reverse after)) × Follows sections unit after drafts bound
+    (after : List Node) × (bound : ℕ) × (tree sections unit ≡ Ok (reverse after))
+    × Follows sections unit after drafts bound
 FollowsAll sections unit (Err fault) =
     MatchOption (tree_fault fault) (Unit {0}) (λ told. tree sections unit ≡ Err told)

@@ -15,7 +15,8 @@ pub record Told : Type 0 where
 
 -- what the definitions tell of an entry of a unit
 abbrev pub told_of : Sections → DwarfUnit → Entry → Told
-told_of sections unit entry = record { name = name sections (record { unit = unit; entry = entry }); call = call_of entry }
+told_of sections unit entry =
+    record { name = name sections (record { unit = unit; entry = entry }); call = call_of entry }
 
 -- of no function
 abbrev pub nothing : Told

@@ -1,5 +1,7 @@
 -- What a tree knows of the functions of its unit, and that it is the unit's.
-use Rattle.std.specs.Prelude.{◌≡◌, ◌<◌, ◌≤◌, ◌+◌, ℕ, zero, suc, List, [], ◌∷◌, ◌++◌, length, map, reverse, filter, find, Option, Some, None, Ok, cond, option_and_then, slice_get, ◌==◌, ◌&&◌, if◌then◌else◌}
+use Rattle.std.specs.Prelude.{◌≡◌, ◌<◌, ◌≤◌, ◌+◌, ◌*◌, ℕ, zero, suc, List, [], ◌∷◌, ◌++◌, length, map, reverse, filter}
+use Rattle.std.specs.Prelude.{find}
+use Rattle.std.specs.Prelude.{Option, Some, None, Ok, cond, option_and_then, slice_get, ◌==◌, ◌&&◌, if◌then◌else◌}
 use Rattle.std.specs.Option.{option_map_or}
 use Rattle.std.specs.Result.{result_unwrap_or}
 use Rattle.dw_model.specs.Entry.{Entry}
@@ -29,7 +31,8 @@ id_of chains offset = record { unit = chains.unit; offset = offset }
 
 -- the number of the first subprogram that holds an address
 abbrev pub outermost_at : Tables → Chains → ℕ → Option ℕ
-outermost_at tables chains a = least (owner_at chains.outermost a) (least_owner (all_held tables chains.held.outermost.items) a)
+outermost_at tables chains a =
+    least (owner_at chains.outermost a) (least_owner (all_held tables chains.held.outermost.items) a)
 
 -- the ranges of all inlined functions
 abbrev pub all_inlined : Tables → Chains → List InlinedRange
@@ -40,7 +43,10 @@ unfoldable pub inwards : Tables → Chains → (a most : ℕ) → Option ℕ →
 inwards tables chains a zero number = []
 inwards tables chains a (suc most) None = []
 inwards tables chains a (suc most) (Some number) =
-    option_map_or (λ offset. id_of chains offset ∷ inwards tables chains a most (least_owner (inlined_in number (all_inlined tables chains)) a)) (slice_get chains.functions.items number) []
+    option_map_or
+    (λ offset. id_of chains offset
+    ∷ inwards tables chains a most (least_owner (inlined_in number (all_inlined tables chains)) a))
+    (slice_get chains.functions.items number) []
 
 -- the functions at an address, outermost first
 abbrev pub chain_at : Tables → Chains → ℕ → List EntryId
@@ -59,12 +65,14 @@ chain_in of a = chain of.sections of.unit (nodes_of of.sections of.unit) a
 -- the function of an id, among the nodes of a unit
 abbrev pub function_at : UnitIn → EntryId → Option Node
 function_at of id =
-    if id.unit == of.index then find (λ node. is_function node.entry && node.entry.offset == id.offset) (nodes_of of.sections of.unit) else None
+    if id.unit == of.index then find (λ node. is_function node.entry && node.entry.offset == id.offset)
+    (nodes_of of.sections of.unit) else None
 
 -- the function that is at the offset of an id in a unit, also where it is none of its nodes
 abbrev pub function_of : UnitIn → EntryId → Option Entry
 function_of of id =
-    if id.unit == of.index then option_and_then (λ entry. cond (is_function entry) (Some entry) None) (found_in (root.entry of.sections of.unit id.offset)) else None
+    if id.unit == of.index then option_and_then (λ entry. cond (is_function entry) (Some entry) None)
+    (found_in (root.entry of.sections of.unit id.offset)) else None
 
 -- what is told of it
 abbrev pub told_at : UnitIn → EntryId → Told
@@ -79,10 +87,26 @@ ranged_in of = filter (λ node. is_kept of.sections of.unit node.entry) (nodes_o
 abbrev pub most_ranges : UnitIn → ℕ
 most_ranges of = most_listed of.unit + length (ranged_in of)
 
--- Chains are those of a unit of the file: its entries can be read, the functions at each address are
--- found, and few ranges are kept.
+-- chains find the functions of a unit at each address
+abbrev pub FindsFunctions : UnitIn → Chains → Type 0
+FindsFunctions of found =
+    (a : ℕ) → map (function_at of) (reverse (chain_at of.sections.tables found a)) ≡ map Some (chain_in of a)
+
+-- the ranges of which they are made are as many: each gives two segments at most to the index of
+-- subprograms, or is one of an inlined function
+abbrev pub AreCounted : Chains → ℕ → Type 0
+AreCounted found ranges = length found.outermost + 2 * length found.inlined ≤ 2 * ranges
+
+-- So many ranges are enough: the functions at each address are found by them, and else by lists
+-- that are held by name.
+abbrev pub AreEnough : UnitIn → ℕ → Type 0
+AreEnough of ranges = (found : Chains) × FindsFunctions of found × AreCounted found ranges
+
+-- Chains are those of a unit of the file: its entries can be read, the functions at each address
+-- are found, and few ranges are kept, all of which are counted.
 pub record IsTreeOf (of : UnitIn) (found : Chains) : Type 0 where
   pub within : found.unit < length (cut.units of.sections.info)
   pub read : model.tree of.sections of.unit ≡ Ok (nodes_of of.sections of.unit)
-  pub chains : (a : ℕ) → map (function_at of) (reverse (chain_at of.sections.tables found a)) ≡ map Some (chain_in of a)
+  pub chains : FindsFunctions of found
   pub few : found.ranges ≤ most_ranges of
+  pub counted : AreCounted found found.ranges

@@ -16,6 +16,7 @@ ghost use Rattle.dw_frames.specs.Kept.{most_listed};
 ghost use Rattle.dw_frames.specs.Name.{unit_entry};
 ghost use Rattle.dw_frames.specs.Told.{described_shown, told_of};
 ghost use Rattle.dw_frames.specs.Tree.{chain_in, function_at, function_of, most_ranges, told_at, nodes_of};
+ghost use Rattle.dw_frames.specs.Tree.{AreEnough};
 
 use crate::chains::Chains;
 use crate::descriptions::Descriptions;
@@ -85,6 +86,7 @@ impl<'a> Tree<'a> {
     pub fn kept(&self) -> usize
         ensures functions { result ≤ most_ranges self.now }
         ensures bytes { result ≤ most_listed self.now.unit + (self.now.unit.end - self.now.unit.first_entry) }
+        ensures enough { AreEnough self.now result }
     {
         self.chains.ranges
     }

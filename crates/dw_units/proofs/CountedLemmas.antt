@@ -1,6 +1,6 @@
 -- The attributes of an entry that count, as they are read one by one.
 use Rattle.std.proofs.Common.{◌≡◌, ◌∙◌, ℕ, ◌+◌, ◌≤◌, Bool, true, false, cond, List, [], ◌∷◌, ◌++◌, length, map, Option, Some, None, option_map, refl, sym, ap, subst, arith}
-use Rattle.std.specs.Prelude.{find, is_some, nat_eq, ◌==◌, ◌||◌, option_and_then}
+use Rattle.std.specs.Prelude.{◌<◌, IsSome, find, is_some, nat_eq, ◌==◌, ◌||◌, option_and_then}
 use Rattle.std.specs.Option.{option_map_or}
 use Rattle.std.specs.List.{list_any}
 use Rattle.std.specs.Map.{lookup}
@@ -222,3 +222,8 @@ module _ (before : List Attribute) (attribute : CodeAttribute) (seen : List ℕ)
               ap (λ (here : Bool). either (attribute_in name before) (cond here (Some (attribute_shown attribute).value) None)) e
               ∙ either-none (attribute_in name before)
               ∙ sym (same name (other name e))
+
+-- where an attribute counts, some are kept
+pub some-kept : (all : List Attribute) (kept : List CodeAttribute) (name : ℕ) → first_of name (map attribute_shown kept) ≡ attribute_in name all → IsSome (attribute_in name all) → 0 < length kept
+some-kept all [] name is some = let none : false ≡ true = subst IsSome (sym is) some in absurd cc
+some-kept all (one ∷ kept) name is some = omega arith

@@ -3,7 +3,8 @@ use Rattle.std.specs.Prelude.{Bool, ◌||◌}
 use Rattle.dw_model.specs.Form.{Value}
 use Rattle.dw_model.specs.Entry.{is_section_offset, is_text, is_address, is_constant, is_range_list, is_reference}
 use Rattle.dw_units.specs.declared.class.Class.{Class}
-use Rattle.dw_units.specs.declared.class.Class.TheVariants.{Text, SectionOffset, Address, AddressOrConstant, RangeList, Reference, Constant}
+use Rattle.dw_units.specs.declared.class.Class.TheVariants.{Text, SectionOffset, Address, AddressOrConstant, RangeList}
+use Rattle.dw_units.specs.declared.class.Class.TheVariants.{Reference, Constant}
 
 abbrev pub class_shown : Class → Value → Bool
 class_shown Text = is_text

@@ -1,5 +1,6 @@
 -- The attributes of an entry whose values count.
-use Rattle.std.specs.Prelude.{◌≡◌, ◌≤◌, ◌+◌, ◌==◌, ℕ, Bool, true, false, cond, List, [], ◌∷◌, length, map, Option, option_map, find, is_some, nat_eq}
+use Rattle.std.specs.Prelude.{◌≡◌, ◌≤◌, ◌+◌, ◌==◌, ℕ, Bool, true, false, cond, List, [], ◌∷◌, length, map, Option}
+use Rattle.std.specs.Prelude.{option_map, find, is_some, nat_eq}
 use Rattle.std.specs.List.{list_any}
 use Rattle.std.specs.Map.{lookup}
 use Rattle.dw_model.specs.Form.{Value}
@@ -10,11 +11,14 @@ use Rattle.dw_units.specs.Attribute.{attribute_shown}
 
 -- the value of the first attribute of a name
 abbrev pub first_of : ℕ → List model.Attribute → Option Value
-first_of name attributes = option_map (λ (first : model.Attribute). first.value) (find (λ (first : model.Attribute). first.name == name) attributes)
+first_of name attributes =
+    option_map (λ (first : model.Attribute). first.value)
+    (find (λ (first : model.Attribute). first.name == name) attributes)
 
 -- the same where it counts for the name
 abbrev pub attribute_in : ℕ → List model.Attribute → Option Value
-attribute_in name attributes = attribute name (record { offset = 0; tag = 0; children = false; attributes = attributes })
+attribute_in name attributes =
+    attribute name (record { offset = 0; tag = 0; children = false; attributes = attributes })
 
 -- Of each name, what is kept has just the value of the first attribute, where that counts.
 abbrev pub AreCounted : List model.Attribute → (kept : List Attribute) → Type 0
@@ -28,6 +32,7 @@ unseen seen (class ∷ others) = cond (list_any (λ other. nat_eq other class.0)
 -- The same while they are read. Of the names for which some values count, those were seen of which
 -- there is an attribute.
 pub record AreFirsts (attributes : List model.Attribute) (seen : List ℕ) (kept : List Attribute) : Type 0 where
-  pub names : (name : ℕ) → is_some (lookup (nat_eq name) classes) ≡ true → list_any (λ other. nat_eq other name) seen ≡ is_some (first_of name attributes)
+  pub names : (name : ℕ) → is_some (lookup (nat_eq name) classes) ≡ true
+      → list_any (λ other. nat_eq other name) seen ≡ is_some (first_of name attributes)
   pub counted : AreCounted attributes kept
   pub few : length kept + unseen seen classes ≤ length classes

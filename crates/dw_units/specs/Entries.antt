@@ -39,7 +39,8 @@ declaration_at declarations p = option_and_then (λ code. declared declarations 
 
 -- the entry at a place may have ranges, as its declaration says
 abbrev pub ranged_at : List Declaration → Place → Bool
-ranged_at declarations p = option_map_or (λ declaration. may_have_ranges declaration.specifications) (declaration_at declarations p) false
+ranged_at declarations p =
+    option_map_or (λ declaration. may_have_ranges declaration.specifications) (declaration_at declarations p) false
 
 -- It is a null entry; or a function that may have ranges, as `ranged` says; or a function that
 -- names none, or an entry that is no function, of which only the children are told.
@@ -47,8 +48,10 @@ abbrev pub IsNext : (ranged : Bool) → Next → Option Entry → Type 0
 IsNext ranged Null found = found ≡ None
 IsNext ranged (Function entry) found = (found ≡ Some entry) × (is_function entry ≡ true) × (ranged ≡ true)
 IsNext ranged (Unranged children) found =
-    (entry : Entry) × (found ≡ Some entry) × (is_function entry ≡ true) × (ranged ≡ false) × (names_ranges entry ≡ false) × (children ≡ entry.children)
-IsNext ranged (Passed children) found = (entry : Entry) × (found ≡ Some entry) × (is_function entry ≡ false) × (children ≡ entry.children)
+    (entry : Entry) × (found ≡ Some entry) × (is_function entry ≡ true) × (ranged ≡ false)
+    × (names_ranges entry ≡ false) × (children ≡ entry.children)
+IsNext ranged (Passed children) found = (entry : Entry) × (found ≡ Some entry) × (is_function entry ≡ false)
+    × (children ≡ entry.children)
 
 -- The next entry is read as the definition has it, or its fault is told.
 abbrev pub ReadsNext : (ranged : Bool) → Result Next FormFault → Result (Option Entry × Place) Fault → Place → Type 0

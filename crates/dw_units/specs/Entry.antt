@@ -1,5 +1,6 @@
 -- Entries as the definitions have them.
-use Rattle.std.specs.Prelude.{◌≡◌, Bool, true, false, cond, [], Option, Some, None, option_map, IfSome, MatchOption, Result, Ok, Err}
+use Rattle.std.specs.Prelude.{◌≡◌, Bool, true, false, cond, [], Option, Some, None, option_map, IfSome, MatchOption}
+use Rattle.std.specs.Prelude.{Result, Ok, Err}
 use Rattle.dw_model.specs.Reading.{Place}
 use Rattle.dw_model.specs.Faults.{Fault}
 use Rattle.dw_model.specs.Entry as model
@@ -18,7 +19,8 @@ entry_shown entry = record {
 -- The entry is found as the definition has it, with the offset just past it; out of memory may be
 -- reported instead of it.
 abbrev pub FindsEntry : Result (Option Entry) FormFault → Result (Option model.Entry × Place) Fault → Type 0
-FindsEntry (Ok found) given = (past : Place) × (given ≡ Ok (option_map entry_shown found, past)) × IfSome found (λ entry. entry.next ≡ past.at)
+FindsEntry (Ok found) given = (past : Place) × (given ≡ Ok (option_map entry_shown found, past))
+    × IfSome found (λ entry. entry.next ≡ past.at)
 FindsEntry (Err fault) given = MatchOption (form_fault fault) (Unit {0}) (λ told. given ≡ Err told)
 
 -- The same of an entry that is read instead of another one: none is kept of a null entry.
@@ -38,4 +40,5 @@ unread = record { offset = 0; tag = 0; children = false; attributes = [] }
 -- the entry is where the definition has it, and it isn't null; its end is the offset just past it
 abbrev pub IsFound : Option Entry → Result (Option model.Entry × Place) Fault → Type 0
 IsFound found given =
-    (entry : Entry) × (past : Place) × (found ≡ Some entry) × (given ≡ Ok (Some (entry_shown entry), past)) × (entry.next ≡ past.at)
+    (entry : Entry) × (past : Place) × (found ≡ Some entry) × (given ≡ Ok (Some (entry_shown entry), past))
+    × (entry.next ≡ past.at)

@@ -6,7 +6,16 @@ use Rattle.dw_model.specs.Unit.{DwarfUnit, skipped, is_skipped, units}
 
 -- what is after the last unit: a unit without bytes, which is skipped
 abbrev pub absent : DwarfUnit
-absent = record { offset = 0; end = 0; version = 0; kind = skipped; offset_size = 0; debug_abbrev_offset = 0; first_entry = 0 }
+absent = record {
+  offset = 0;
+  end = 0;
+  version = 0;
+  kind = skipped;
+  offset_size = 0;
+  debug_abbrev_offset =
+      0;
+  first_entry = 0;
+}
 
 abbrev pub unit_at : Sections → ℕ → DwarfUnit
 unit_at sections index = slice_index_or (units sections.info) index absent

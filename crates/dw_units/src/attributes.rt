@@ -1,6 +1,6 @@
 //! The attributes of entries, by section 7.5.3 of DWARF 5.
 
-ghost use Rattle.std.specs.Prelude.{◌≡◌, ◌≤◌, ◌==◌, [], IfErr, IfOk, find, length, map, option_map};
+ghost use Rattle.std.specs.Prelude.{◌≡◌, ◌≤◌, ◌<◌, ◌==◌, ℕ, [], IfErr, IfOk, IsSome, find, length, map, option_map};
 ghost use Rattle.dw_model.specs.Entry.{attributes_at, classes};
 ghost use Rattle.dw_model.specs.Answers.{ReadsUnlessMemory};
 ghost use Rattle.dw_bytes.specs.Width.{size_of};
@@ -99,9 +99,10 @@ impl<'a> Attributes<'a> {
     }
 
     /// How many are kept: at most one for each name of which some values count, whatever is
-    /// declared.
+    /// declared, and some where the value of an attribute counts.
     pub fn kept(&self) -> usize
-        ensures { result ≤ length classes }
+        ensures few { result ≤ length classes }
+        ensures some { (name : ℕ) → IsSome (attribute_in name self.now) → 0 < result }
     {
         self.counted.len()
     }

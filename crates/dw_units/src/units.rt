@@ -14,7 +14,7 @@ ghost use Rattle.dw_forms.specs.Table.{declarations_of};
 ghost use Rattle.dw_forms.specs.Tables.{bases_shown, tables_shown};
 ghost use Rattle.dw_units.specs.Entry.{entry_shown, FindsEntry, ReadsEntry};
 ghost use Rattle.dw_units.specs.Entries.{WalksFrom};
-ghost use Rattle.dw_units.specs.Unit.{unit_shown, HasFirst};
+ghost use Rattle.dw_units.specs.Unit.{unit_shown, HasFirst, TellsAtUnit};
 ghost use Rattle.dw_units.specs.Null.{IsNull, IsPastNull};
 ghost use Rattle.dw_units.specs.UnitAt.{unit_at, HasNoEntry, HasEntriesBy};
 ghost use Rattle.dw_units.specs.Sections.{sections_shown};
@@ -64,12 +64,13 @@ impl<'a> Units<'a> {
     /// is no unit.
     ///
     /// The error is the first condition that fails, unit by unit, or `Memory` where an allocation
-    /// was refused.
+    /// was refused, which hides no fault of the header of the unit for which that was made.
     pub fn read(alloc: Global, elf: &Elf<'a>) -> Result<Self, OpenFault>
         ensures sections { IfOk result (λ units. units ≡ model_sections.sections elf.now) }
         ensures accepted { OnOk result (model.unit_refusal (model_sections.sections elf.now) ≡ None) }
         ensures refused { IfErr result (λ fault. RefusesUnlessMemory fault
             (model.unit_refusal (model_sections.sections elf.now))) }
+        ensures memory { IfErr result (λ fault. TellsAtUnit fault (model_sections.sections elf.now)) }
     {
         let sections = Sections::of(elf);
         let mut abbrevs = AbbrevStore::new(alloc, sections.abbrevs);

@@ -30,7 +30,7 @@ invariant_of-result c =
     let inlined = subst (λ (of : UnitIn). all_inlined of.sections.tables chains ≡ drafts.inlined) same built.inlined in
     let outermost = subst (λ (of : UnitIn). (a : ℕ) → outermost_at of.sections.tables chains a ≡ least_owner drafts.outermost a) same built.outermost in
     let room = subst (λ (of : UnitIn). chains.ranges ≤ most_listed of.unit + length drafts.functions) same built.few in
-    let tree = is-tree of read.0 drafts read.1 chains read.2 read.3 index c.at.result.within built.functions inlined outermost room in
+    let tree = is-tree of read.0 drafts read.1 chains read.2 read.3 index c.at.result.within built.functions inlined outermost room built.counted in
     record {
       chains = of-file c.at.result c.in_ok-units.units.value chains.unit chains (c.at.ensures.sections ∙ c.deref.ensures ∙ sym c.in_ok-units.ensures) (sym index) tree;
       told = none-told _ c.new-told.result.kept.items c.new-told.ensures;
