@@ -1,11 +1,11 @@
 #!/usr/bin/env python3
 """What the prover doesn't look at in the sources.
 
-Each crate uses each crate that crates.txt names for it. No line of an .rt file is longer than 120 columns, but for
-attributes, and no line of a comment longer than 100. The text that an edit of must-fail/ replaces is in its file just
-once, and what it puts there differs; there are no more edits than the gate has time for. Each file that
-docs/ARCHITECTURE.md names in the section of a crate is in that crate, or in the one that it names beside it. The last
-line counts crates and edits; it fails where one is wrong.
+Each crate uses each crate that crates.txt names for it. No line of an .rt file or of a definition is longer than 120
+columns, but for attributes, and no line of a comment longer than 100. The text that an edit of must-fail/ replaces is
+in its file just once, and what it puts there differs; there are no more edits than the gate has time for. Each file
+that docs/ARCHITECTURE.md names in the section of a crate is in that crate, or in the one that it names beside it. The
+last line counts crates and edits; it fails where one is wrong.
 """
 
 import os
@@ -85,9 +85,11 @@ def main():
     if tried > MOST_EDITS:
         wrong.append(f'{tried} edits are more than {MOST_EDITS}: a less telling one goes')
     wrong.extend(missing([name.split()[0] for name, _ in crates]))
-    for path in files(os.path.join(TOP, 'crates'), '.rt'):
+    for path in files(os.path.join(TOP, 'crates'), '.rt', '.antt'):
+        if '/proofs/' in path:
+            continue
         for number, line in enumerate(read(path).split('\n'), 1):
-            most = WIDEST_COMMENT if line.lstrip().startswith('//') else WIDEST
+            most = WIDEST_COMMENT if line.lstrip().startswith(('//', '--')) else WIDEST
             # `rt fmt` leaves an attribute on one line
             if len(line) > most and not line.startswith('#['):
                 wrong.append(f'{os.path.relpath(path, TOP)}:{number}: {len(line)} columns')

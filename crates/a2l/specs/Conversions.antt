@@ -1,6 +1,7 @@
 -- Which fault of a run the fault of a part is.
 use Rattle.dw_elf.specs.declared.fault.OpenFault.{OpenFault}
-use Rattle.dw_elf.specs.declared.fault.OpenFault.TheVariants.{NotElf, NotElf64Little, Relocatable, SectionTable, SectionRange}
+use Rattle.dw_elf.specs.declared.fault.OpenFault.TheVariants.{NotElf, NotElf64Little, Relocatable, SectionTable}
+use Rattle.dw_elf.specs.declared.fault.OpenFault.TheVariants.{SectionRange}
 use Rattle.dw_elf.specs.declared.fault.OpenFault.TheVariants.{Compressed, UnitHeader, AddressSize, Root, RootRanges}
 use Rattle.dw_elf.specs.declared.fault.OpenFault.TheVariants as open_faults
 use Rattle.a2l.specs.declared.command.ParseFault.{ParseFault}

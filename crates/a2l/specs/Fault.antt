@@ -4,8 +4,10 @@ use Rattle.std.specs.Io.KnownBytes.{append_known}
 use Rattle.dw_model.specs.Faults.{Refusal}
 use Rattle.dw_model.specs.Output.{hexadecimal}
 use Rattle.dw_elf.specs.declared.fault.OpenFault.{OpenFault}
-use Rattle.dw_elf.specs.declared.fault.OpenFault.TheVariants.{NotElf, NotElf64Little, Relocatable, SectionTable, SectionRange}
-use Rattle.dw_elf.specs.declared.fault.OpenFault.TheVariants.{Compressed, UnitHeader, AddressSize, Root, RootRanges, Memory}
+use Rattle.dw_elf.specs.declared.fault.OpenFault.TheVariants.{NotElf, NotElf64Little, Relocatable, SectionTable}
+use Rattle.dw_elf.specs.declared.fault.OpenFault.TheVariants.{SectionRange}
+use Rattle.dw_elf.specs.declared.fault.OpenFault.TheVariants.{Compressed, UnitHeader, AddressSize, Root, RootRanges}
+use Rattle.dw_elf.specs.declared.fault.OpenFault.TheVariants.{Memory}
 use Rattle.dw_elf.specs.OpenFault.{Refuses, number_of, name_of}
 use Rattle.dw_elf.specs.Name.{text_of}
 use Rattle.a2l.specs.declared.fault.Fault.{Fault}

@@ -7,8 +7,9 @@ use Rattle.a2l.specs.declared.command.Job.{Job}
 use Rattle.a2l.specs.Command.{AsksFor}
 use Rattle.a2l.specs.CommandLine.{command_line, found_in, is_set, options_in, words_in}
 
--- `clap` accepts the words. Each field of the job is what is found of its argument in the words, and
--- numbers are what the text of their options asks for: 4 workers and 1 sender where there is none.
+-- `clap` accepts the words. Each field of the job is what is found of its argument in the words,
+-- and numbers are what the text of their options asks for: 4 workers and 1 sender where there is
+-- none.
 pub record IsNamed (words : List Text) (job : Job) : Type 0 where
   pub accepted : fault_of command_line words ≡ []
   pub file : first_of (codes "file") (found_in words) ≡ Some job.file.now

@@ -1,13 +1,13 @@
 -- What the structs of the header report.
-use Rattle.std.specs.Prelude.{◌≡◌, ◌<◌, if◌then◌else◌, ℕ, List, [], length, take}
-use Rattle.std.specs.Prelude.{Bool, true, Option, Some, None, MatchOption}
-use Rattle.dw_model.specs.Answer.{Location, Frame, Piece, Code, tree_fault, line_fault}
-use Rattle.dw_model.specs.Answer.{Answer, not_covered, fault, found, located}
+use Rattle.std.specs.Prelude.{◌≡◌, ℕ, List, [], Bool, true, Option, Some, None, if◌then◌else◌, length, take, ◌<◌}
+use Rattle.std.specs.Prelude.{MatchOption}
+use Rattle.dw_model.specs.Answer.{Answer, Location, Frame, Piece, Code, tree_fault, line_fault, not_covered, fault}
+use Rattle.dw_model.specs.Answer.{found, located}
 use Rattle.dw_model.specs.Faults.{entry_fault, depth_fault, ranges_fault}
 use Rattle.dw_elf.specs.declared.fault.OpenFault.{OpenFault}
 use Rattle.dw_elf.specs.declared.fault.OpenFault.TheVariants.{NotElf, NotElf64Little, Relocatable, SectionTable}
-use Rattle.dw_elf.specs.declared.fault.OpenFault.TheVariants.{SectionRange, Compressed, UnitHeader, AddressSize}
-use Rattle.dw_elf.specs.declared.fault.OpenFault.TheVariants.{Root, RootRanges, Memory}
+use Rattle.dw_elf.specs.declared.fault.OpenFault.TheVariants.{SectionRange, Compressed, UnitHeader, AddressSize, Root}
+use Rattle.dw_elf.specs.declared.fault.OpenFault.TheVariants.{RootRanges, Memory}
 use Rattle.dw_elf.specs.OpenFault.{number_of, name_of}
 use Rattle.dw_elf.specs.Name.{text_of}
 use Rattle.a2l_c.specs.declared.structs.CRefusal.{CRefusal}

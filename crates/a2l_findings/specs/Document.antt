@@ -6,7 +6,8 @@ use Rattle.serde_json.specs.Find.{get}
 use Rattle.serde_json.specs.Read.{read, max_depth}
 use Rattle.serde_json.specs.View.{items_of}
 
--- the text is a line that reads as an object of these members, if these aren't too deep for a reader
+-- the text is a line that reads as an object of these members, if these aren't too deep for a
+-- reader
 abbrev pub IsTextOf : Members → (text : List ℕ) → Type 0
 IsTextOf members text =
     (line : List ℕ) × (text ≡ line ++ codes "\n")

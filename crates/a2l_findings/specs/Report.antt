@@ -18,8 +18,8 @@ TellsRefusal Clean refusal = refusal ≡ None
 TellsRefusal Findings refusal = refusal ≡ None
 TellsRefusal (Refused fault) refusal = Refuses fault refusal
 
--- Of a report on texts that have these answers: it is clean exactly where the file isn't refused and
--- each text is answered.
+-- Of a report on texts that have these answers: it is clean exactly where the file isn't refused
+-- and each text is answered.
 abbrev pub IsOutcome : Outcome → Option Refusal → List (Option Answer) → Type 0
 IsOutcome Clean refusal answers = (refusal ≡ None) × (list_all is_answered answers ≡ true)
 IsOutcome Findings refusal answers = (refusal ≡ None) × (list_all is_answered answers ≡ false)

@@ -1,6 +1,6 @@
 -- The report on a text that asks for something.
-use Rattle.std.specs.Prelude.{ℕ, Bool, true, false, List, [], ◌∷◌, slice_get}
-use Rattle.std.specs.Prelude.{Option, Some, None, option_and_then, option_map}
+use Rattle.std.specs.Prelude.{ℕ, Bool, true, false, List, [], ◌∷◌, Option, Some, None, option_and_then, option_map}
+use Rattle.std.specs.Prelude.{slice_get}
 use Rattle.dw_model.specs.Answer.{Answer, not_covered, fault, found, located, unit_of}
 use Rattle.dw_model.specs.Output as model
 use Rattle.dw_model.specs.Query.{Query, address, span, meaning}

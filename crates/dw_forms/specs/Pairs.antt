@@ -17,7 +17,8 @@ specs_at p = specs_in_read (items (λ q. q.left) next_specification p)
 
 -- So many pairs can be read from a place on.
 abbrev pub AreAt : Place → ℕ → Type 0
-AreAt p count = (found : List Specification × Place) × (items (λ q. q.left) next_specification p ≡ Ok found) × (length found.0 ≡ count)
+AreAt p count = (found : List Specification × Place) × (items (λ q. q.left) next_specification p ≡ Ok found)
+    × (length found.0 ≡ count)
 
 -- The first pair was taken away, where there is one.
 abbrev pub TakesFirst : Option Spec → List Specification → List Specification → Type 0

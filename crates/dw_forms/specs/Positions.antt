@@ -1,5 +1,6 @@
 -- Where values are in the entries of a declaration.
-use Rattle.std.specs.Prelude.{◌≡◌, ℕ, ℤ, List, [], Option, Some, None, Result, Ok, Err, find, get_or, take, option_map, ◌==◌}
+use Rattle.std.specs.Prelude.{◌≡◌, ℕ, ℤ, List, [], Option, Some, None, Result, Ok, Err, find, get_or, take, option_map}
+use Rattle.std.specs.Prelude.{◌==◌}
 use Rattle.std.specs.Option.{option_map_or}
 use Rattle.dw_model.specs.declared.dwarf.TheConstants.{OFFSET_SIZE_32, DW_FORM_implicit_const}
 use Rattle.dw_model.specs.Results.{◌>>=◌}
@@ -45,7 +46,8 @@ value_after steps fixed p =
 -- That is the first value of a name, wherever all values can be read.
 abbrev pub IsFirstAfter : List FixedValue → FixedValue → ℕ → List Specification → Type 0
 IsFirstAfter steps fixed name specifications =
-    (p : Place) (found : List Attribute × Place) → attributes_at OFFSET_SIZE_32 specifications p ≡ Ok found → value_named name found.0 ≡ value_after steps fixed p
+    (p : Place) (found : List Attribute × Place) → attributes_at OFFSET_SIZE_32 specifications p ≡ Ok found
+    → value_named name found.0 ≡ value_after steps fixed p
 
 -- The position is that of the first value of a name, where these are the steps.
 abbrev pub IsPosition : List FixedValue → ℕ → Position → List Specification → Type 0
@@ -70,4 +72,5 @@ ArePositions steps positions specifications =
     → (position_in positions.list name ≡ Absent → first_named name specifications ≡ None)
     × ((number : ℤ) → position_in positions.list name ≡ Declared number → IsDeclared number name specifications)
     × ((fixed : FixedValue) → position_in positions.list name ≡ Fixed fixed → IsFirstAfter [] fixed name specifications)
-    × ((count : ℕ) (fixed : FixedValue) → position_in positions.list name ≡ After count fixed → IsFirstAfter (take count steps) fixed name specifications)
+    × ((count : ℕ) (fixed : FixedValue) → position_in positions.list name ≡ After count fixed
+    → IsFirstAfter (take count steps) fixed name specifications)

@@ -11,7 +11,8 @@ use Rattle.dw_model.specs.Entry.{Entry, attribute, attributes_at}
 -- The forms of each class. A form after DW_FORM_indirect isn't known before it is read, so that is
 -- one of each that is asked for.
 abbrev pub may_be_range_list : ℕ → Bool
-may_be_range_list form = list_any (nat_eq form) (constants.DW_FORM_sec_offset ∷ constants.DW_FORM_rnglistx ∷ constants.DW_FORM_indirect ∷ [])
+may_be_range_list form =
+    list_any (nat_eq form) (constants.DW_FORM_sec_offset ∷ constants.DW_FORM_rnglistx ∷ constants.DW_FORM_indirect ∷ [])
 
 abbrev pub may_be_address : ℕ → Bool
 may_be_address form =
@@ -59,4 +60,5 @@ names_ranges entry =
 -- no entry with these attributes names ranges, wherever it is read
 abbrev pub NamesNone : List Specification → Type 0
 NamesNone specifications =
-    (size : ℕ) (p q : Place) (entry : Entry) → attributes_at size specifications p ≡ Ok (entry.attributes, q) → names_ranges entry ≡ false
+    (size : ℕ) (p q : Place) (entry : Entry) → attributes_at size specifications p ≡ Ok (entry.attributes, q)
+    → names_ranges entry ≡ false

@@ -27,11 +27,14 @@ coded_cmp x y = ordering_then (nat_cmp x.0 y.0) (nat_cmp x.1 y.1)
 
 -- The codes and the places of the declarations from one on and below another.
 pub record ArePlaces (from end : ℕ) (declarations : List Decl) (places : set.BTreeSet Coded) : Type 0 where
-  pub sound : (code k : ℕ) → set.contains coded_cmp places (code, k) ≡ true → (from ≤ k) × (k < end) × (code_at declarations k ≡ Some code)
-  pub complete : (code k : ℕ) → from ≤ k → k < end → code_at declarations k ≡ Some code → set.contains coded_cmp places (code, k) ≡ true
+  pub sound : (code k : ℕ) → set.contains coded_cmp places (code, k) ≡ true → (from ≤ k) × (k < end)
+      × (code_at declarations k ≡ Some code)
+  pub complete : (code k : ℕ) → from ≤ k → k < end → code_at declarations k ≡ Some code
+      → set.contains coded_cmp places (code, k) ≡ true
 
 -- Of the places of a code from one on, this is the first, or there is none.
 abbrev pub IsFirstPlace : set.BTreeSet Coded → (from code : ℕ) → Option ℕ → Type 0
 IsFirstPlace places from code None = (k : ℕ) → from ≤ k → set.contains coded_cmp places (code, k) ≡ false
 IsFirstPlace places from code (Some k) =
-    (set.contains coded_cmp places (code, k) ≡ true) × (from ≤ k) × ((j : ℕ) → from ≤ j → set.contains coded_cmp places (code, j) ≡ true → k ≤ j)
+    (set.contains coded_cmp places (code, k) ≡ true) × (from ≤ k)
+    × ((j : ℕ) → from ≤ j → set.contains coded_cmp places (code, j) ≡ true → k ≤ j)

@@ -1,5 +1,6 @@
 -- Values that take as many bytes in every entry (DWARF 5, table 7.6).
-use Rattle.std.specs.Prelude.{◌≡◌, ℕ, ◌+◌, ℤ, List, [], ◌∷◌, Option, Some, None, Result, ok_or, nat_eq, option_map, option_and_then}
+use Rattle.std.specs.Prelude.{◌≡◌, ℕ, ◌+◌, ℤ, List, [], ◌∷◌, Option, Some, None, Result, ok_or, nat_eq, option_map}
+use Rattle.std.specs.Prelude.{option_and_then}
 use Rattle.std.specs.Map.{lookup}
 use Rattle.dw_model.specs.Faults.{Fault, ends_early}
 use Rattle.dw_model.specs.Reading.{Place, made, bytes_at}
@@ -18,7 +19,8 @@ spelling_size size constant _ = None
 
 -- the size of the values of an attribute, where all have the same
 abbrev pub value_size : ℕ → Specification → Option ℕ
-value_size size specification = option_and_then (spelling_size size specification.constant) (lookup (nat_eq specification.form) forms)
+value_size size specification =
+    option_and_then (spelling_size size specification.constant) (lookup (nat_eq specification.form) forms)
 
 -- the size of all values together
 abbrev pub values_size : ℕ → List Specification → Option ℕ

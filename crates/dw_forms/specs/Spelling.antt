@@ -7,7 +7,8 @@ use Rattle.dw_forms.specs.declared.form.Class.TheVariants as class
 use Rattle.dw_forms.specs.declared.form.Size.{Size}
 use Rattle.dw_forms.specs.declared.form.Size.TheVariants as size
 use Rattle.dw_forms.specs.declared.form.Spelling.{Spelling}
-use Rattle.dw_forms.specs.declared.form.Spelling.TheVariants.{Fixed, Offset, Uleb, Sleb, Flag, Block, Counted, UlebCounted, Text, Implicit, Present}
+use Rattle.dw_forms.specs.declared.form.Spelling.TheVariants.{Fixed, Offset, Uleb, Sleb, Flag, Block, Counted}
+use Rattle.dw_forms.specs.declared.form.Spelling.TheVariants.{UlebCounted, Text, Implicit, Present}
 
 -- the value that a number of this class is
 abbrev pub made : Class → ℕ → Value

@@ -28,16 +28,22 @@ AreRising offsets = (j k a b : ℕ) → j < k → slice_get offsets j ≡ Some a
 -- The first so many offsets of a run were added, each with its index, and no others. As many are
 -- there as before and these, so none was lost.
 pub record AreAdded (run count : ℕ) (offsets : List ℕ) (old new : StartList) : Type 0 where
-  pub each : (offset : ℕ) (start : Start) → start_at new offset ≡ Some start → (start_at old offset ≡ Some start) ⊎ ((start.run ≡ run) × (start.index < count) × (slice_get offsets start.index ≡ Some offset))
+  pub each : (offset : ℕ) (start : Start) → start_at new offset ≡ Some start
+      → (start_at old offset ≡ Some start) ⊎
+      ((start.run ≡ run) × (start.index < count) × (slice_get offsets start.index ≡ Some offset))
   pub there : (k offset : ℕ) → k < count → slice_get offsets k ≡ Some offset → IsSome (start_at new offset)
   pub counted : length new ≡ length old + count
 
--- The first so many offsets were taken away, and nothing else was changed. If they rise and all were
--- there, there are as many fewer.
+-- The first so many offsets were taken away, and nothing else was changed. If they rise and all
+-- were there, there are as many fewer.
 pub record AreTaken (count : ℕ) (offsets : List ℕ) (old new : StartList) : Type 0 where
-  pub each : (offset : ℕ) (start : Start) → start_at new offset ≡ Some start → (start_at old offset ≡ Some start) × ((k : ℕ) → k < count → slice_get offsets k ≡ Some offset → ⊥)
-  pub others : (offset : ℕ) → ((k : ℕ) → k < count → slice_get offsets k ≡ Some offset → ⊥) → start_at new offset ≡ start_at old offset
-  pub counted : AreRising offsets → ((k offset : ℕ) → k < count → slice_get offsets k ≡ Some offset → IsSome (start_at old offset)) → length new + count ≡ length old
+  pub each : (offset : ℕ) (start : Start) → start_at new offset ≡ Some start → (start_at old offset ≡ Some start)
+      × ((k : ℕ) → k < count → slice_get offsets k ≡ Some offset → ⊥)
+  pub others : (offset : ℕ) → ((k : ℕ) → k < count → slice_get offsets k ≡ Some offset → ⊥)
+      → start_at new offset ≡ start_at old offset
+  pub counted : AreRising offsets
+      → ((k offset : ℕ) → k < count → slice_get offsets k ≡ Some offset → IsSome (start_at old offset))
+      → length new + count ≡ length old
 
 -- No start was added, and there are as many as before, so none was lost either.
 pub record IsAsBefore (old new : StartList) : Type 0 where

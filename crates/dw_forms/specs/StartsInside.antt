@@ -10,7 +10,8 @@ offsets_in starts = map (λ pair. pair.0) starts
 -- the starts of these offsets of a run, of which the first has this index
 abbrev pub starts_from : (run index : ℕ) → List ℕ → StartList
 starts_from run index [] = []
-starts_from run index (offset ∷ offsets) = (offset, record { run = run; index = index }) ∷ starts_from run (index + 1) offsets
+starts_from run index (offset ∷ offsets) = (offset, record { run = run; index = index })
+    ∷ starts_from run (index + 1) offsets
 
 -- all of them
 abbrev pub starts_in : Inside → StartList

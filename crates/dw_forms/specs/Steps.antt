@@ -40,4 +40,5 @@ PassesBy steps read = (p : Place) → place_behind (read p) ≡ passed_by steps 
 
 -- Steps that are told are those of the values for which specifications ask.
 abbrev pub AreSteps : Option Steps → List Specification → Type 0
-AreSteps told specifications = (steps : Steps) → told ≡ Some steps → PassesBy steps (attributes_at OFFSET_SIZE_32 specifications)
+AreSteps told specifications = (steps : Steps) → told ≡ Some steps
+    → PassesBy steps (attributes_at OFFSET_SIZE_32 specifications)

@@ -28,12 +28,14 @@ IsWithin read start = start.index ≤ size_of_run read start.run
 -- The table that begins here is the one at the offset.
 abbrev pub HasTable : Read → (offset : ℕ) → Start → Type 0
 HasTable read offset start =
-    (start.run < length read.tables) × IsWithin read start × (abbreviations read.section offset ≡ Ok (table_from read start))
+    (start.run < length read.tables) × IsWithin read start
+    × (abbreviations read.section offset ≡ Ok (table_from read start))
 
 -- Each table that was read before begins where it began.
 abbrev pub IsKept : Read → Read → Type 0
 IsKept old new =
-    (start : Start) → start.run < length old.tables → (start.run < length new.tables) × (size_of_run new start.run ≡ size_of_run old start.run) × (table_from new start ≡ table_from old start)
+    (start : Start) → start.run < length old.tables → (start.run < length new.tables)
+    × (size_of_run new start.run ≡ size_of_run old start.run) × (table_from new start ≡ table_from old start)
 
 -- ---- how a run is read
 
@@ -41,7 +43,8 @@ IsKept old new =
 abbrev pub AreChained : Place → List Decl → Place → Type 0
 AreChained p [] q = p ≡ q
 AreChained p (declaration ∷ others) q =
-    (declaration.offset ≡ p.at) × (t : Place) × (next_declaration p ≡ Ok (Some (declaration_shown declaration), t)) × AreChained t others q
+    (declaration.offset ≡ p.at) × (t : Place) × (next_declaration p ≡ Ok (Some (declaration_shown declaration), t))
+    × AreChained t others q
 
 -- A run ends at a place where a table begins that was read before, or where the table ends.
 abbrev pub EndsAt : StartList → Place → Option Start → Type 0

@@ -1,5 +1,6 @@
 -- What the declarations that were read are seen as, and how their tables are found.
-use Rattle.std.specs.Prelude.{◌≡◌, ◌≤◌, ◌<◌, ◌++◌, ℕ, List, [], ◌∷◌, Option, Some, None, IfSome, drop, fold, length, map, slice_get, slice_index_or, sum}
+use Rattle.std.specs.Prelude.{◌≡◌, ◌≤◌, ◌<◌, ◌++◌, ℕ, List, [], ◌∷◌, Option, Some, None, IfSome, drop, fold, length}
+use Rattle.std.specs.Prelude.{map, slice_get, slice_index_or, sum}
 use Rattle.dw_model.specs.Abbrev.{Declaration}
 use Rattle.dw_forms.specs.declared.run.Start.{Start}
 use Rattle.dw_forms.specs.declared.store.AbbrevStore.TheInside.{Inside}
@@ -47,4 +48,5 @@ pub record IsStored (store : Inside) : Type 0 where
   pub tabled : AreTabled store.runs.items
   pub counted : length store.starts ≡ sum (sizes_of store.runs.items)
   pub below : AreBelow (length store.section.now) store.starts
-  pub starts : (offset : ℕ) (start : Start) → start_at store.starts offset ≡ Some start → HasTable (read_in store) offset start
+  pub starts : (offset : ℕ) (start : Start) → start_at store.starts offset ≡ Some start
+      → HasTable (read_in store) offset start

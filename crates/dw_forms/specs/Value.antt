@@ -1,7 +1,9 @@
 -- A value as the definitions have it.
 use Rattle.dw_model.specs.Form as model
 use Rattle.dw_forms.specs.declared.value.Value.{Value}
-use Rattle.dw_forms.specs.declared.value.Value.TheVariants.{Address, Unsigned, Signed, Bytes, Flag, Inline, Str, LineStr, StrIndex, AddressIndex, UnitRef, SectionRef, SectionOffset, RangeIndex, Unused}
+use Rattle.dw_forms.specs.declared.value.Value.TheVariants.{Address, Unsigned, Signed, Bytes, Flag, Inline, Str}
+use Rattle.dw_forms.specs.declared.value.Value.TheVariants.{LineStr, StrIndex, AddressIndex, UnitRef, SectionRef}
+use Rattle.dw_forms.specs.declared.value.Value.TheVariants.{SectionOffset, RangeIndex, Unused}
 
 abbrev pub value_shown : Value → model.Value
 value_shown (Address n) = model.address n

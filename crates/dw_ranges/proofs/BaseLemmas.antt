@@ -1,5 +1,5 @@
 -- Whether a list can be read doesn't depend on its base, where it has one.
-use Rattle.std.proofs.Common.{◌≡◌, ◌∙◌, ℕ, ◌+◌, Bool, true, false, List, [], ◌∷◌, Option, Some, Result, Ok, Err, refl, sym, ap}
+use Rattle.std.proofs.Common.{◌≡◌, ◌∙◌, ℕ, ◌+◌, false, List, [], ◌∷◌, Option, Some, Result, Ok, Err, refl, sym, ap}
 use Rattle.std.specs.Prelude.{is_err}
 use Rattle.dw_model.specs.Results.{◌>>=◌}
 use Rattle.dw_model.specs.Reading.{Place}

@@ -1,8 +1,7 @@
 -- The ranges of a list up to where it goes on as one that was read.
 use Rattle.std.proofs.Common.{◌≡◌, ◌∙◌, ◌⊎◌, inl, inr, ℕ, false, List, [], ◌∷◌, ◌++◌, length, map, Option, Some, None, Ok, Err, refl, sym, ap, subst, arith}
 use Rattle.std.proofs.lemmas.Bool.{ne_eqb}
-use Rattle.std.specs.Prelude.{◌==◌, IsSome, option_map, option_to_list}
-use Rattle.dw_model.specs.Results.{◌>>=◌}
+use Rattle.std.specs.Prelude.{◌==◌, IsSome, option_to_list}
 use Rattle.dw_model.specs.Reading.{Place}
 use Rattle.dw_model.specs.Ranges.{Range}
 use Rattle.dw_model.specs.Text.{Tables}

@@ -7,12 +7,12 @@ use Rattle.std.proofs.lemmas.Bool.{le-leb, leb-true}
 use Rattle.std.proofs.lemmas.List.{drop-drop, drop_at}
 use Rattle.std.proofs.lemmas.Option.{same_Some}
 use Rattle.dw_model.specs.declared.dwarf.TheConstants as constants
-use Rattle.dw_model.specs.Results.{◌>>=◌, or_fault}
+use Rattle.dw_model.specs.Results.{◌>>=◌}
 use Rattle.dw_model.specs.Reading.{Place, Between, number_at}
 use Rattle.dw_model.specs.Leb.{uleb_at}
 use Rattle.dw_model.specs.Faults.{Bad, bad}
 use Rattle.dw_model.specs.Text.{Tables, Bases}
-use Rattle.dw_model.specs.Ranges.{Range, RangeEntry, base_addressx, startx_endx, startx_length, offset_pair, base_address, start_end, start_length, Operand, leb, eight_bytes, one, two, operands, next_range_entry}
+use Rattle.dw_model.specs.Ranges.{RangeEntry, base_addressx, startx_endx, startx_length, offset_pair, base_address, start_end, start_length, Operand, leb, eight_bytes, one, two, operands, next_range_entry}
 use Rattle.dw_model.proofs.StepLemmas.{bind_ok, ok_or-ok, ok_is}
 use Rattle.dw_model.proofs.AdvanceLemmas.{ends_at, either, past_none}
 use Rattle.dw_model.proofs.InstructionLemmas.{or_fault-ok}

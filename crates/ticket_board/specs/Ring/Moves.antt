@@ -1,5 +1,5 @@
--- The moves by which a ring is made, each by the seat that makes it: the seats that are cut off, and
--- the steps of senders and workers. A list of moves has the newest first.
+-- The moves by which a ring is made, each by the seat that makes it: the seats that are cut off,
+-- and the steps of senders and workers. A list of moves has the newest first.
 use Rattle.std.specs.Prelude.{◌≡◌, ℕ, suc, ◌+◌, ◌<◌, List, [], ◌∷◌, ◌++◌, length, Option, Some, None, slice_index_or}
 use Rattle.std.specs.Prelude.{slice_set}
 use Rattle.ticket_core.specs.declared.shape.Shape.{Shape}

@@ -1,4 +1,4 @@
-use Rattle.std.proofs.Common.{Option, Ok, ap, ◌∙◌, sym}
+use Rattle.std.proofs.Common.{Option, Ok, ap, ◌∙◌}
 use Rattle.std.specs.Prelude.{option_map}
 use Rattle.std.proofs.lemmas.Result.{err_from_is_err_and}
 use Rattle.dw_model.proofs.LoopLemmas.{smaller}
