@@ -12,7 +12,7 @@ cat > measure.py <<'END'
 import math, os, resource, signal, subprocess, sys, time
 a2l, hostile, *sizes = sys.argv[1:]
 SIZES = [int(size) for size in sizes] or [100_000, 1_000_000, 10_000_000]
-SMALL = {'third': [10_000, 20_000], 'fourth': [3_000, 6_000]}
+SMALL = {'third': [10_000, 20_000]}
 SLOPE, MOST = math.log2(2.6), 900
 
 

@@ -83,11 +83,10 @@ static const struct known {
     {{[OPEN] = true}, values_of_units, 10000,
      "first entries may have many values that take no bytes, and tables of declarations may begin in one another"},
     {{[OPEN] = true}, ranges_of_units, 20000, "units may have the tails of one list, and each tail is read whole"},
-    {{[PIECES] = true}, ranges_of_units, 300, "each border of a span is found by reading all lists of units again"},
+    {{[PIECES] = true}, ranges_of_units, 300, "a span reads the lists of units again for each window of addresses"},
     {{[PIECES] = true, [FRAMES] = true, [LOCATIONS] = true}, lines_of_units, 10000,
      "line tables may lead to one list of files, of which each has a copy"},
-    {{[PIECES] = true}, lines_of_units, 1500,
-     "one program is run again for each table of it, and a stretch without a row behind each hole"},
+    {{[PIECES] = true}, lines_of_units, 1500, "one program is run again for each table of it"},
 };
 enum { KNOWN = sizeof known / sizeof *known };
 static unsigned long known_seen[KNOWN];
