@@ -3,7 +3,9 @@
 ghost use Rattle.std.specs.Prelude.{◌≡◌, None, IfOk};
 
 use crate::contexts::image_of;
-use a2l_lines::{Failed, Options, Resources, RunFault, Sink, Source, Status, list_units, symbolize};
+use a2l_lines::{
+    Failed, Options, Resources, RunFault, Sink, Source, Status, list_units, symbolize,
+};
 use dw_elf::{Elf, OpenFault};
 use dw_symbols::Image;
 use dw_units::Units;
