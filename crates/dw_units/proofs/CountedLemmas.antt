@@ -1,9 +1,13 @@
 -- The attributes of an entry that count, as they are read one by one.
 use Rattle.std.proofs.Common.{◌≡◌, ◌∙◌, ℕ, ◌+◌, ◌≤◌, Bool, true, false, cond, List, [], ◌∷◌, ◌++◌, length, map, Option, Some, None, option_map, refl, sym, ap, subst, arith}
-use Rattle.std.specs.Prelude.{◌<◌, IsSome, find, is_some, nat_eq, ◌==◌, ◌||◌, option_and_then}
+use Rattle.std.specs.Prelude.{IsSome, find, is_some, nat_eq, ◌==◌, ◌||◌, option_and_then}
 use Rattle.std.specs.Option.{option_map_or}
 use Rattle.std.specs.List.{list_any}
 use Rattle.std.specs.Map.{lookup}
+use Rattle.std.specs.Set.{is_member}
+use Rattle.std.proofs.lemmas.Cmp.{nat_eq_equiv}
+use Rattle.std.proofs.lemmas.List.{length-map}
+use Rattle.std.proofs.lemmas.Map.Made.{length-le_from_is_member}
 use Rattle.std.proofs.lemmas.Bool.{eqb-true, eq-eqb}
 use Rattle.std.proofs.lemmas.List.{length_push, map_push}
 use Rattle.std.proofs.lemmas.List.Folds.{list_any-append}
@@ -11,7 +15,7 @@ use Rattle.dw_model.specs.Form.{Value}
 use Rattle.dw_model.specs.Entry.{Attribute, classes}
 use Rattle.dw_units.specs.declared.attributes.Attribute.{Attribute as CodeAttribute}
 use Rattle.dw_units.specs.Attribute.{attribute_shown}
-use Rattle.dw_units.specs.Counted.{attribute_in, first_of, unseen, AreFirsts}
+use Rattle.dw_units.specs.Counted.{attribute_in, first_of, unseen, AllCount, AreCounted, AreFirsts}
 use Rattle.dw_units.proofs.AttrLemmas.{Counts, given, told}
 
 -- the first value, where there is one, else the second
@@ -223,7 +227,21 @@ module _ (before : List Attribute) (attribute : CodeAttribute) (seen : List ℕ)
               ∙ either-none (attribute_in name before)
               ∙ sym (same name (other name e))
 
--- where an attribute counts, some are kept
-pub some-kept : (all : List Attribute) (kept : List CodeAttribute) (name : ℕ) → first_of name (map attribute_shown kept) ≡ attribute_in name all → IsSome (attribute_in name all) → 0 < length kept
-some-kept all [] name is some = let none : false ≡ true = subst IsSome (sym is) some in absurd cc
-some-kept all (one ∷ kept) name is some = omega arith
+or-later : (first : Bool) {second : Bool} → second ≡ true → (first || second) ≡ true
+or-later true e = refl
+or-later false e = e
+
+-- one is kept of a name of which there is a first one
+named : (kept : List CodeAttribute) (name : ℕ) → IsSome (first_of name (map attribute_shown kept)) → is_member nat_eq (map (λ one. one.name) kept) name ≡ true
+named [] name some = absurd cc
+named (one ∷ kept) name some = by (one.name == name) refl (named kept name)
+  where
+    by : (test : Bool) → (one.name == name) ≡ test → (IsSome (first_of name (map attribute_shown kept)) → is_member nat_eq (map (λ one. one.name) kept) name ≡ true) → is_member nat_eq (map (λ one. one.name) (one ∷ kept)) name ≡ true
+    by true e later = let same = eqb-true one.name name e in rw (eq-eqb name one.name (sym same)) refl
+    by false e later = or-later (nat_eq name one.name) (later (subst IsSome (rw e refl) some))
+
+-- one at least is kept for each name of which an attribute counts
+pub each-kept : (all : List Attribute) (kept : List CodeAttribute) (names : List ℕ) → AreCounted all kept → AllCount all names → length names ≤ length kept
+each-kept all kept names counted count =
+    let within = λ (name : ℕ) (member : is_member nat_eq names name ≡ true). named kept name (subst IsSome (sym (counted name)) (count.each name member)) in
+    subst (λ (n : ℕ). length names ≤ n) (length-map kept (λ one. one.name)) (length-le_from_is_member nat_eq_equiv names (map (λ one. one.name) kept) count.distinct within)

@@ -1,7 +1,8 @@
 -- The attributes of an entry whose values count.
 use Rattle.std.specs.Prelude.{◌≡◌, ◌≤◌, ◌+◌, ◌==◌, ℕ, Bool, true, false, cond, List, [], ◌∷◌, length, map, Option}
-use Rattle.std.specs.Prelude.{option_map, find, is_some, nat_eq}
-use Rattle.std.specs.List.{list_any}
+use Rattle.std.specs.Prelude.{option_map, find, is_some, nat_eq, IsSome}
+use Rattle.std.specs.List.{list_any, IsDistinct}
+use Rattle.std.specs.Set.{is_member}
 use Rattle.std.specs.Map.{lookup}
 use Rattle.dw_model.specs.Form.{Value}
 use Rattle.dw_model.specs.Entry as model
@@ -36,3 +37,8 @@ pub record AreFirsts (attributes : List model.Attribute) (seen : List ℕ) (kept
       → list_any (λ other. nat_eq other name) seen ≡ is_some (first_of name attributes)
   pub counted : AreCounted attributes kept
   pub few : length kept + unseen seen classes ≤ length classes
+
+-- names, no two of which are equal, of each of which an attribute counts
+pub record AllCount (attributes : List model.Attribute) (names : List ℕ) : Type 0 where
+  pub distinct : IsDistinct nat_eq names
+  pub each : (name : ℕ) → is_member nat_eq names name ≡ true → IsSome (attribute_in name attributes)

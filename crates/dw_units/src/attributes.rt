@@ -1,13 +1,13 @@
 //! The attributes of entries, by section 7.5.3 of DWARF 5.
 
-ghost use Rattle.std.specs.Prelude.{◌≡◌, ◌≤◌, ◌<◌, ◌==◌, ℕ, [], IfErr, IfOk, IsSome, find, length, map, option_map};
+ghost use Rattle.std.specs.Prelude.{◌≡◌, ◌≤◌, ◌==◌, ℕ, List, [], IfErr, IfOk, find, length, map, option_map};
 ghost use Rattle.dw_model.specs.Entry.{attributes_at, classes};
 ghost use Rattle.dw_model.specs.Answers.{ReadsUnlessMemory};
 ghost use Rattle.dw_bytes.specs.Width.{size_of};
 ghost use Rattle.dw_forms.specs.Fault.{form_fault, HidesNoFault};
 ghost use Rattle.dw_forms.specs.Value.{value_shown};
 ghost use Rattle.dw_units.specs.Attribute.{attribute_shown};
-ghost use Rattle.dw_units.specs.Counted.{attribute_in, first_of};
+ghost use Rattle.dw_units.specs.Counted.{attribute_in, first_of, AllCount};
 
 use crate::counted::read_counted;
 use crate::values::pass_values;
@@ -99,10 +99,10 @@ impl<'a> Attributes<'a> {
     }
 
     /// How many are kept: at most one for each name of which some values count, whatever is
-    /// declared, and some where the value of an attribute counts.
+    /// declared, and one at least for each name of which an attribute counts.
     pub fn kept(&self) -> usize
         ensures few { result ≤ length classes }
-        ensures some { (name : ℕ) → IsSome (attribute_in name self.now) → 0 < result }
+        ensures each { (names : List ℕ) → AllCount self.now names → length names ≤ result }
     {
         self.counted.len()
     }
