@@ -90,7 +90,7 @@ Next header here old next new = IsNext header (record { registers = registers_sh
 next_of : (header : LineHeader) (here : Checkpoint) (old new : Place) (next : Appended) → Stands header here old → Next header here old next new → IsNext header (state_of header here) next new
 next_of header here old new next stands is = subst (λ (p : Place). Next header here p next new) stands.is is
 
--- a machine that stands in the program, and what its way to the next row tells
+-- a machine at a place of the program, and what it returns on its way to the next row
 in_program : (header : LineHeader) (here : Checkpoint) (cursor : Place) → Stands header here cursor → IsIn header cursor
 in_program header here cursor stands = subst (IsIn header) (sym stands.is) (refl, stands.within)
 
@@ -167,7 +167,7 @@ begins_at header first cursor next_checkpoint a e = λ rows sought.
     } in
     subst (λ (cursor : Place). Runs header rows (row_at first.registers cursor) cursor a sought.stop (sought.place + 0)) (sym is) start
 
--- what the machine's way to the next row tells, where it stands in the program
+-- what the machine returns on its way to the next row, from a place of the program
 module _ (header : LineHeader) (first here : Checkpoint) (old new : Place) (next : Appended) (next_checkpoint a i : ℕ)
     (told : IsIn header old → Next header here old next new) (given : RunsFrom header first here old next_checkpoint a i)
     (rows : List Row) (sought : IsSought header rows first next_checkpoint a) where
@@ -221,7 +221,7 @@ module _ (header : LineHeader) (first here : Checkpoint) (old new : Place) (next
     (runs.below, above),
   )
 
--- what it tells where there is no next row, or none that can be read
+-- what it returns where there is no next row, or none that can be read
 module _ (header : LineHeader) (first here : Checkpoint) (old : Place) (next_checkpoint a i : ℕ)
     (given : RunsFrom header first here old next_checkpoint a i) (rows : List Row) (sought : IsSought header rows first next_checkpoint a) where
   abbrev read : Result (List Row) Bad

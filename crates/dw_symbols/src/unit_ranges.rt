@@ -31,7 +31,7 @@ pub(crate) struct UnitRanges {
 }
 
 /// Reads the ranges of a unit's first entry, where the unit answers addresses, in place of those
-/// that were kept; none where it doesn't. The error tells the unit.
+/// that were kept; none where it doesn't. The error names the unit.
 fn read_answering(ranges: &mut Vec<Range>, unit: OpenUnit<'_, '_>) -> Result<(), OpenFault>
     ensures { GivesUnlessMemory (λ _. map range_shown ranges.new.items) refusal_of result
         (checked_ranges (sections_of unit.entry) (unit_of unit.entry)) }

@@ -33,7 +33,7 @@ fn most_pieces(held: &[HeldUnit], tables: &Tables<'_>) -> usize {
     of_lists.saturating_add(held.len().saturating_mul(4))
 }
 
-/// Reads the ranges of a list in place of those that were read before: none where it can't be read.
+/// Reads the ranges of a list into `ranges`, reusing its memory: none where the list can't be read.
 fn read_listed(
     ranges: &mut Vec<Range>,
     list: RangeList,

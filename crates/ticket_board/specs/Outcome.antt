@@ -62,6 +62,6 @@ pub record HasTurned {E : Type 0} (shape : Shape) (result : Result Turn E) (old 
   pub returned : MatchResult result (λ _. new.returned ≡ old.returned)
       (λ _. ReturnsOne shape.senders old.returned new.returned)
 
--- how often its solver was out of memory: once more exactly where the turn tells so
+-- how often its solver was out of memory: once more where the turn reports that, and only there
 abbrev pub refused_after : {E : Type 0} → Result Turn E → ℕ → ℕ
 refused_after result refused = if is_ok result then refused else refused + 1
