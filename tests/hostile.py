@@ -354,7 +354,7 @@ KINDS = {
     'tables_of_one_program': SQUARE, 'span_over_tables_of_one_program': SQUARE, 'units_that_take_turns': SQUARE,
     'no_rows_between_holes': LINEAR, 'span_over_no_rows_between_holes': LINEAR,
     'names_without_end': LINEAR, 'functions_of_empty_values': LINEAR,
-    'functions_of_empty_values_after_a_number': LINEAR, 'units_of_empty_values': SQUARE,
+    'functions_of_empty_values_after_a_number': LINEAR, 'units_of_empty_values': LINEAR,
     'references_of_empty_values': LINEAR, 'skipped_units': LINEAR, 'small_units': LINEAR, 'small_declarations': LINEAR,
     'small_functions': LINEAR, 'small_sequences': LINEAR, 'small_files': LINEAR, 'no_rows': LINEAR,
     'frames_of_one_path': LONG,

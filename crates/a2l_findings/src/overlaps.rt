@@ -138,7 +138,7 @@ fn add<'a>(
 /// The ranges of a unit's subprograms, by the offsets of their entries, as far as these are read.
 pub(crate) fn subprograms_of(alloc: Global, here: OpenUnit<'_, '_>) -> Allocated<Vec<Owned>> {
     let mut found = Vec::new(alloc);
-    let Some(mut entries) = here.entries() else {
+    let Some(mut entries) = here.entries(alloc) else {
         return Ok(found);
     };
     let mut ranges = Vec::new(alloc);
@@ -157,7 +157,10 @@ pub(crate) fn subprograms_of(alloc: Global, here: OpenUnit<'_, '_>) -> Allocated
                 false
             }
             Next::Passed { children } | Next::Unranged { children } => children,
-            Next::Function(entry) => {
+            Next::Function => {
+                let Some(entry) = entries.function() else {
+                    return Ok(found);
+                };
                 if entry.tag() == DW_TAG_subprogram {
                     add(&mut found, here, &entry, &mut ranges)?;
                 }

@@ -107,20 +107,19 @@ fn check_entry(alloc: Global, here: OpenUnit<'_, '_>, entry: &Entry<'_>, depth: 
 fn tree_reason(scene: &Scene<'_>, here: OpenUnit<'_, '_>) -> Read<()> {
     let alloc = scene.alloc;
     let sections = &scene.sections;
-    let mut entry = Entry::unread(alloc);
     let mut at = here.unit().first_entry;
     let mut depth = 0u64;
     for _ in here.unit().offset..here.unit().end {
         if at >= here.unit().end {
             return Ok(());
         }
-        match here.read_entry(at, &mut entry) {
-            Ok(true) => {
+        match here.entry(alloc, at) {
+            Ok(Some(entry)) => {
                 check_entry(alloc, here, &entry, depth)?;
                 at = entry.next;
                 depth = depth.saturating_add(u64::from(entry.children));
             }
-            Ok(false) => {
+            Ok(None) => {
                 at = here.past_null(at);
                 depth = depth.saturating_sub(1);
             }

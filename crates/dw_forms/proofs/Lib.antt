@@ -1,14 +1,12 @@
 pub mod IndirectLemmas
 pub mod SizeLemmas
-pub mod StepsLemmas
+pub mod StepLemmas
 pub mod StartLemmas
 pub mod StartsLemmas
 pub mod StoreLemmas
 pub mod TextLemmas
 pub mod FirstValueLemmas
-pub mod PositionLemmas
 pub mod OntoLemmas
-pub mod NumberLemmas
 pub mod PairsLemmas
 pub mod PassLemmas
 pub mod RangedLemmas

@@ -3,8 +3,7 @@ use Rattle.std.proofs.Common.{◌≡◌, ◌∙◌, ◌-◌, ℕ, suc, List, [],
 use Rattle.std.specs.Prelude.{option_map}
 use Rattle.std.proofs.lemmas.List.{length-map}
 use Rattle.dw_model.specs.Faults.{Fault}
-use Rattle.dw_model.specs.Leb.{uleb_at}
-use Rattle.dw_model.specs.Reading.{Place, start, items, AreItems}
+use Rattle.dw_model.specs.Reading.{Place, items, AreItems}
 use Rattle.dw_model.specs.Abbrev.{Specification, next_specification}
 use Rattle.dw_model.specs.Answers.{Tells}
 use Rattle.dw_model.proofs.AdvanceLemmas.{specifications_advance}
@@ -90,20 +89,3 @@ counted specs p q e = ((map spec_shown specs, q), e, length-map specs spec_shown
 
 pub those : (specs : List Spec) (p q : Place) → all_at p ≡ Ok (map spec_shown specs, q) → specs_at p ≡ map spec_shown specs
 those specs p q e = ap specs_in_read e
-
--- ---- no pair
-
--- the pair 0, 0 by itself
-abbrev ended : Place
-ended = start (0 ∷ 0 ∷ [])
-
-at-end : next_specification ended ≡ Ok (None, record { at = 2; left = [] })
-unfolding next_specification uleb_at
-at-end = refl
-
-pub none-at : (p : Place) → p ≡ ended → AreAt p 0
-none-at p e =
-    subst (λ (p : Place). AreAt p 0) (sym e) (([], record { at = 2; left = [] }), are-read next_specification (λ p. p.left) specifications_advance [] ended (record { at = 2; left = [] }) at-end, refl)
-
-pub none-there : (p : Place) → p ≡ ended → specs_at p ≡ []
-none-there p e = none-left p 0 refl (none-at p e)

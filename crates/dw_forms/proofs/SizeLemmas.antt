@@ -144,12 +144,12 @@ module _ (w : ℕ) where
   value-skips one n h = of-form one.form one.constant (lookup (nat_eq one.form) forms) n refl h
 
   -- the two parts of a sum
-  summed : (first others : Option ℕ) (n : ℕ) → option_and_then (λ m. option_map (λ n. m + n) others) first ≡ Some n → (m k : ℕ) × (first ≡ Some m) × (others ≡ Some k) × (m + k ≡ n)
+  pub summed : (first others : Option ℕ) (n : ℕ) → option_and_then (λ m. option_map (λ n. m + n) others) first ≡ Some n → (m k : ℕ) × (first ≡ Some m) × (others ≡ Some k) × (m + k ≡ n)
   summed None others n e = absurd cc
   summed (Some m) None n e = absurd cc
   summed (Some m) (Some k) n e = (m, k, refl, refl, same_Some (m + k) n e)
 
-  values-skip : (specifications : List Specification) (n : ℕ) → values_size w specifications ≡ Some n → Skips n (attributes_at w specifications)
+  pub values-skip : (specifications : List Specification) (n : ℕ) → values_size w specifications ≡ Some n → Skips n (attributes_at w specifications)
   values-skip [] n e = subst (λ n. Skips n (attributes_at w [])) (same_Some 0 n e) skips-none
   values-skip (one ∷ others) n e =
       let s = summed (value_size w one) (values_size w others) n e in

@@ -84,6 +84,7 @@ module _ (run : ℕ) (offsets : List ℕ) (first : StartList) where
   added-none = record {
     each = λ offset start e. inl e;
     there = λ k offset less e. absurd (omega (arith, less));
+    kept = λ offset start e. e;
     counted = omega arith;
   }
 
@@ -103,9 +104,16 @@ module _ (run : ℕ) (offsets : List ℕ) (first : StartList) where
   added-one i key start was old new apart rise added at of_run of_index u found count = record {
     each = λ offset s e. each offset s (key == offset) refl e;
     there = λ k offset less e. there k offset less e (key == offset) refl;
+    kept = λ offset s e. kept offset s (key == offset) refl (added.kept offset s e);
     counted = counted;
   }
     where
+      kept : (offset : ℕ) (s : Start) (same : Bool) → (key == offset) ≡ same → start_at old offset ≡ Some s → start_at new offset ≡ Some s
+      kept offset s true same e =
+          let none : Some s ≡ None = sym e ∙ ap (start_at old) (sym (eqb-true key offset same)) ∙ none-yet i key old apart rise added at in
+          absurd cc
+      kept offset s false same e = written old new key (Some start) u offset false same ∙ e
+
       counted : length new ≡ length first + (i + 1)
       counted =
           let one : length new ≡ length old + 1 = count ∙ ap (λ (was : Option Start). length old + (if is_some was then 0 else 1)) (found ∙ none-yet i key old apart rise added at) in
@@ -133,9 +141,10 @@ module _ (run : ℕ) (offsets : List ℕ) (first : StartList) where
   pub added-same : (i : ℕ) (old new : StartList) → new ≡ old → AreAdded run i offsets first old → AreAdded run i offsets first new
   added-same i old new same added = subst (AreAdded run i offsets first) (sym same) added
 
-  pub undone : (i : ℕ) (old new : StartList) → AreRising offsets → AreAdded run i offsets first old → AreTaken i offsets old new → IsAsBefore first new
-  undone i old new rise added taken = record {
+  pub undone : (i : ℕ) (old new : StartList) → AreApart first offsets → AreRising offsets → AreAdded run i offsets first old → AreTaken i offsets old new → IsAsBefore first new
+  undone i old new apart rise added taken = record {
     each = each;
+    kept = λ offset s e. taken.others offset (λ k less at. let none : Some s ≡ None = sym e ∙ apart k offset at in absurd cc) ∙ added.kept offset s e;
     counted = let count = taken.counted rise added.there in omega (arith, count, added.counted);
   }
     where

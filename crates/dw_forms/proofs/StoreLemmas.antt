@@ -1,6 +1,6 @@
 -- Declarations that are read once, and the tables that begin among them.
 use Rattle.std.proofs.Common.{◌≡◌, ◌⊎◌, inl, inr, ◌∙◌, ℕ, zero, suc, ◌<◌, ◌≤◌, Bool, true, false, cond, List, [], ◌∷◌, ◌++◌, length, drop, take, get_or, map, Option, Some, None, Result, Ok, Err, refl, sym, ap, subst, arith}
-use Rattle.std.specs.Prelude.{IfErr, IfSome, IsOk, MatchOption, slice_get, nat_le, option_map, sum, ◌==◌}
+use Rattle.std.specs.Prelude.{IfErr, IfSome, IsOk, IsSome, MatchOption, slice_get, nat_le, option_map, sum, ◌==◌}
 use Rattle.std.proofs.lemmas.Bool.{le-leb, leb-true}
 use Rattle.std.proofs.lemmas.List.{drop-append-le, length_push, map_push, length-map}
 use Rattle.std.proofs.lemmas.List.Sums.{fold-append}
@@ -106,7 +106,7 @@ apart-more starts ds d q apart same none k offset e =
 -- ---- a run is added to others
 
 abbrev pub shown : List ℕ → List ReadRun → Read
-shown section runs = record { section = section; sizes = sizes_of runs; tables = tables_of runs }
+shown section runs = record { section = section; sizes = sizes_of runs; tables = tables_of runs; starts = [] }
 
 abbrev pub HaveTables : List ℕ → List ReadRun → StartList → Type 0
 HaveTables section runs starts = (offset : ℕ) (start : Start) → start_at starts offset ≡ Some start → HasTable (shown section runs) offset start
@@ -229,6 +229,21 @@ module _ (section : List ℕ) (runs : List ReadRun) (run : ReadRun) (count : len
       let runs_same = subst (λ (items : List ReadRun). HasTable (shown section items) p.at (record { run = length runs; index = 0 })) (sym same) here in
       let run_same = subst (λ (n : ℕ). HasTable (shown section items) p.at (record { run = n; index = 0 })) (sym last) runs_same in
       subst (λ (offset : ℕ). HasTable (shown section items) offset (record { run = n; index = 0 })) s.1 run_same
+
+  -- what was read of a table is there afterwards, unless the table is empty
+  pub read-there : (items : List ReadRun) (n offset : ℕ) (p q : Place) (ds : List Decl) (rest : Option Start) (offsets : List ℕ) (old new : StartList) → items ≡ runs ++ run ∷ [] → n ≡ length runs → run.declarations ≡ map declaration_shown ds → run.rest ≡ rest → offsets ≡ map (λ (d : Decl). d.offset) ds
+      → p.at ≡ offset → AreChained p ds q → EndsAt old q rest → start_at old offset ≡ None → AreAdded n (length offsets) offsets old new → IsSome (start_at new offset) ⊎ (get_or (tables_of items) n [] ≡ [])
+  read-there items n offset p q [] rest offsets old new same last is on those at h end none added =
+      inr (ap (λ (items : List ReadRun). get_or (tables_of items) n []) same ∙ table-last n last ∙ ap (λ (ds : List Declaration). ds ++ rest_in (tables_of runs) run.rest) is ∙ by rest on end)
+    where
+      by : (rest : Option Start) → run.rest ≡ rest → EndsAt old q rest → rest_in (tables_of runs) run.rest ≡ []
+      by None on end = ap (rest_in (tables_of runs)) on
+      by (Some start) on end =
+          let both : Some start ≡ None = sym end ∙ ap (start_at old) (sym (ap (λ (p : Place). p.at) h) ∙ at) ∙ none in
+          absurd cc
+  read-there items n offset p q (d ∷ ds) rest offsets old new same last is on those at h end none added =
+      let first : slice_get offsets 0 ≡ Some offset = ap (λ (xs : List ℕ). slice_get xs 0) those ∙ ap Some (h.0 ∙ at) in
+      inl (added.there 0 offset (slice_get_within offsets 0 offset first) first)
 
 -- ---- where a run ends
 

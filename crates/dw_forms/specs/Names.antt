@@ -1,8 +1,7 @@
--- The names of attributes whose values describe a function.
-use Rattle.std.specs.Prelude.{ℕ, Option, nat_eq}
-use Rattle.std.specs.List.{position}
+-- The names of attributes that are used.
+use Rattle.std.specs.Prelude.{ℕ, Bool, nat_eq}
+use Rattle.std.specs.List.{list_any}
 use Rattle.dw_forms.specs.declared.names.TheConstants.{NAMES}
 
--- the index of a name among them
-abbrev pub index_of : ℕ → Option ℕ
-index_of name = position (nat_eq name) NAMES
+abbrev pub is_used : ℕ → Bool
+is_used name = list_any (nat_eq name) NAMES

@@ -3,7 +3,10 @@ use Rattle.std.specs.Prelude.{◌≡◌, ℕ, List, [], ◌∷◌, length, Optio
 use Rattle.dw_model.specs.Reading.{Place, items}
 use Rattle.dw_model.specs.Faults.{Fault}
 use Rattle.dw_model.specs.Abbrev.{Specification, next_specification}
+use Rattle.dw_model.specs.Answers.{Tells}
 use Rattle.dw_forms.specs.declared.declaration.Spec.{Spec}
+use Rattle.dw_forms.specs.declared.fault.FormFault.{FormFault}
+use Rattle.dw_forms.specs.Fault.{form_fault}
 use Rattle.dw_forms.specs.Spec.{spec_shown}
 
 -- the pairs that were read; none where they can't be
@@ -24,3 +27,9 @@ AreAt p count = (found : List Specification × Place) × (items (λ q. q.left) n
 abbrev pub TakesFirst : Option Spec → List Specification → List Specification → Type 0
 TakesFirst None old new = (old ≡ []) × (new ≡ old)
 TakesFirst (Some spec) old new = old ≡ spec_shown spec ∷ new
+
+-- The pairs were counted, and the definition reads as many; or its fault is told.
+abbrev pub ReadsCount : Result ℕ FormFault → Result (List Specification × Place) Fault → Place → Type 0
+ReadsCount (Ok count) given new =
+    (found : List Specification) × (given ≡ Ok (found, new)) × (length found ≡ count)
+ReadsCount (Err fault) given new = Tells (form_fault fault) given

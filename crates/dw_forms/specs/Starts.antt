@@ -1,5 +1,5 @@
 -- Where the declarations that were read begin.
-use Rattle.std.specs.Prelude.{◌≡◌, ◌⊎◌, ◌+◌, ◌<◌, ℕ, List, Option, Some, None, IsSome, length, slice_get}
+use Rattle.std.specs.Prelude.{◌≡◌, ◌⊎◌, ◌+◌, ◌<◌, ◌≤◌, ℕ, List, Option, Some, None, IsSome, length, slice_get}
 use Rattle.std.specs.Ordering.{nat_cmp}
 use Rattle.std.specs.BTreeMap.{is_at}
 use Rattle.std.specs.Map.{lookup}
@@ -17,6 +17,10 @@ start_at starts offset = lookup (is_at (nat_cmp offset)) starts
 abbrev pub AreBelow : (end : ℕ) → StartList → Type 0
 AreBelow end starts = (offset : ℕ) (start : Start) → start_at starts offset ≡ Some start → offset < end
 
+-- All offsets that have a start are the last or below it.
+abbrev pub AreUpTo : (last : ℕ) → StartList → Type 0
+AreUpTo last starts = (offset : ℕ) (start : Start) → start_at starts offset ≡ Some start → offset ≤ last
+
 -- None of these offsets has a start.
 abbrev pub AreApart : StartList → List ℕ → Type 0
 AreApart starts offsets = (k offset : ℕ) → slice_get offsets k ≡ Some offset → start_at starts offset ≡ None
@@ -25,13 +29,13 @@ AreApart starts offsets = (k offset : ℕ) → slice_get offsets k ≡ Some offs
 abbrev pub AreRising : List ℕ → Type 0
 AreRising offsets = (j k a b : ℕ) → j < k → slice_get offsets j ≡ Some a → slice_get offsets k ≡ Some b → a < b
 
--- The first so many offsets of a run were added, each with its index, and no others. As many are
--- there as before and these, so none was lost.
+-- The first so many offsets of a run were added, each with its index, and no others; none was lost.
 pub record AreAdded (run count : ℕ) (offsets : List ℕ) (old new : StartList) : Type 0 where
   pub each : (offset : ℕ) (start : Start) → start_at new offset ≡ Some start
       → (start_at old offset ≡ Some start) ⊎
       ((start.run ≡ run) × (start.index < count) × (slice_get offsets start.index ≡ Some offset))
   pub there : (k offset : ℕ) → k < count → slice_get offsets k ≡ Some offset → IsSome (start_at new offset)
+  pub kept : (offset : ℕ) (start : Start) → start_at old offset ≡ Some start → start_at new offset ≡ Some start
   pub counted : length new ≡ length old + count
 
 -- The first so many offsets were taken away, and nothing else was changed. If they rise and all
@@ -45,7 +49,8 @@ pub record AreTaken (count : ℕ) (offsets : List ℕ) (old new : StartList) : T
       → ((k offset : ℕ) → k < count → slice_get offsets k ≡ Some offset → IsSome (start_at old offset))
       → length new + count ≡ length old
 
--- No start was added, and there are as many as before, so none was lost either.
+-- No start was added, and none was lost.
 pub record IsAsBefore (old new : StartList) : Type 0 where
   pub each : (offset : ℕ) (start : Start) → start_at new offset ≡ Some start → start_at old offset ≡ Some start
+  pub kept : (offset : ℕ) (start : Start) → start_at old offset ≡ Some start → start_at new offset ≡ Some start
   pub counted : length new ≡ length old

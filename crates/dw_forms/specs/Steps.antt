@@ -1,44 +1,55 @@
--- Passing over values of which some have no fixed size, in units of the 32-bit format.
-use Rattle.std.specs.Prelude.{◌≡◌, ℕ, List, [], ◌∷◌, Option, Some, None, Result, ok_or, take}
-use Rattle.dw_model.specs.declared.dwarf.TheConstants.{OFFSET_SIZE_32}
+-- Where values are in the entries of a declaration, in units of the 32-bit format.
+use Rattle.std.specs.Prelude.{◌≡◌, ◌≤◌, ◌==◌, ◌++◌, ◌∷◌, [], ℕ, List, Option, Some, None, Result, MatchOption}
+use Rattle.std.specs.Prelude.{find, length, ok_or, take, true}
+use Rattle.dw_model.specs.declared.dwarf.TheConstants.{DW_AT_high_pc, DW_AT_low_pc, DW_AT_ranges, OFFSET_SIZE_32}
 use Rattle.dw_model.specs.Results.{◌>>=◌}
 use Rattle.dw_model.specs.Faults.{Fault, ends_early}
-use Rattle.dw_model.specs.Reading.{Place, bytes_at}
-use Rattle.dw_model.specs.Form.{value_at}
+use Rattle.dw_model.specs.Reading as reading
+use Rattle.dw_model.specs.Reading.{bytes_at}
+use Rattle.dw_model.specs.Form.{Value, value_at}
 use Rattle.dw_model.specs.Abbrev.{Specification}
-use Rattle.dw_model.specs.Entry.{attributes_at}
-use Rattle.dw_forms.specs.Size.{place_behind}
-use Rattle.dw_forms.specs.declared.positions.FixedValue.{FixedValue}
-use Rattle.dw_forms.specs.declared.steps.Steps.{Steps}
+use Rattle.dw_forms.specs.Named.{first_named}
+use Rattle.dw_forms.specs.Names.{is_used}
+use Rattle.dw_forms.specs.Size.{values_size}
+use Rattle.dw_forms.specs.Spec.{spec_shown}
+use Rattle.dw_forms.specs.declared.steps.Step.{Step}
+use Rattle.dw_forms.specs.declared.places.Place.{Place}
+use Rattle.dw_forms.specs.declared.places.Places.{Places}
 
--- where passing goes, and its fault
-abbrev pub Passed : Type 0
-Passed = Result (Unit {0} × Place) Fault
+-- the value of a step: as many bytes are passed, and then it is read
+abbrev pub step_value : Step → reading.Place → Result (Value × reading.Place) Fault
+step_value step p =
+    ok_or (bytes_at step.before p) ends_early >>= λ passed.
+    value_at OFFSET_SIZE_32 step.spec.form step.spec.implicit passed.1
 
--- the next n bytes
-abbrev pub bytes_passed : ℕ → Place → Passed
-bytes_passed n p = place_behind (ok_or (bytes_at n p) ends_early)
+-- Each step is one of the values for which specifications ask; those between them, and those after
+-- the last, take as many bytes in every entry.
+abbrev pub AreSteps : List Step → (rest : ℕ) → List Specification → Type 0
+AreSteps [] rest specifications = values_size OFFSET_SIZE_32 specifications ≡ Some rest
+AreSteps (step ∷ steps) rest specifications =
+    (before after : List Specification) × (specifications ≡ before ++ spec_shown step.spec ∷ after)
+    × (values_size OFFSET_SIZE_32 before ≡ Some step.before) × AreSteps steps rest after
 
--- so many bytes, and then a value of a form
-abbrev pub step_passed : FixedValue → Place → Passed
-step_passed step p = bytes_passed step.offset p >>= λ q. place_behind (value_at OFFSET_SIZE_32 step.form None q.1)
+-- The first attribute of a name is there: after as many steps, and as many bytes more.
+abbrev pub IsPlaced : List Step → (name : ℕ) → Place → List Specification → Type 0
+IsPlaced steps name place specifications =
+    (front back : List Specification) × (specifications ≡ front ++ spec_shown place.spec ∷ back)
+    × (place.spec.name ≡ name) × (first_named name front ≡ None)
+    × (place.count ≤ length steps) × AreSteps (take place.count steps) place.offset front
 
--- steps one after the other, and then what is last
-unfoldable pub steps_passed : List FixedValue → (Place → Passed) → Place → Passed
-steps_passed [] last p = last p
-steps_passed (step ∷ steps) last p = step_passed step p >>= λ q. steps_passed steps last q.1
+-- the place of a name among some
+abbrev pub find_place : ℕ → List Place → Option Place
+find_place name places = find (λ place. place.spec.name == name) places
 
-abbrev pub list_of : Steps → List FixedValue
-list_of steps = take steps.count steps.list
+-- Of each name that is used the first attribute has its place, where there is one.
+abbrev pub ArePlaces : List Step → List Place → List Specification → Type 0
+ArePlaces steps places specifications =
+    (name : ℕ) → is_used name ≡ true → MatchOption (find_place name places)
+    (first_named name specifications ≡ None) (λ place. IsPlaced steps name place specifications)
 
-abbrev pub passed_by : Steps → Place → Passed
-passed_by steps p = steps_passed (list_of steps) (bytes_passed steps.rest) p
-
--- Wherever it is read, it goes as far as the steps do, and has no other fault than theirs.
-abbrev pub PassesBy : {A : Type 0} → Steps → (Place → Result (A × Place) Fault) → Type 0
-PassesBy steps read = (p : Place) → place_behind (read p) ≡ passed_by steps p
-
--- Steps that are told are those of the values for which specifications ask.
-abbrev pub AreSteps : Option Steps → List Specification → Type 0
-AreSteps told specifications = (steps : Steps) → told ≡ Some steps
-    → PassesBy steps (attributes_at OFFSET_SIZE_32 specifications)
+-- The places at hand are those of the list.
+abbrev pub AreAtHand : Places → Type 0
+AreAtHand places =
+    (places.bounds.low ≡ find_place DW_AT_low_pc places.list.items)
+    × (places.bounds.high ≡ find_place DW_AT_high_pc places.list.items)
+    × (places.bounds.ranges ≡ find_place DW_AT_ranges places.list.items)

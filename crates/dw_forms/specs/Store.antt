@@ -1,5 +1,6 @@
 -- The declarations that were read of .debug_abbrev, and the tables that begin among them.
-use Rattle.std.specs.Prelude.{◌≡◌, ◌≤◌, ◌<◌, ℕ, List, [], ◌∷◌, Option, Some, None, Ok, drop, length, slice_index_or}
+use Rattle.std.specs.Prelude.{◌≡◌, ◌≤◌, ◌<◌, ℕ, List, [], ◌∷◌, Option, Some, None, Ok, IsSome, drop, length}
+use Rattle.std.specs.Prelude.{slice_index_or}
 use Rattle.dw_model.specs.Reading.{Place}
 use Rattle.dw_model.specs.Abbrev.{Declaration, next_declaration, abbreviations}
 use Rattle.dw_forms.specs.declared.declaration.Decl.{Decl}
@@ -7,11 +8,13 @@ use Rattle.dw_forms.specs.declared.run.Start.{Start}
 use Rattle.dw_forms.specs.Declaration.{declaration_shown}
 use Rattle.dw_forms.specs.Starts.{StartList, start_at}
 
--- The section, how many declarations each run has, and the table that begins with each run.
+-- The section, how many declarations each run has, the table that begins with each run, and where
+-- each declaration begins that was read.
 pub record Read : Type 0 where
   pub section : List ℕ
   pub sizes : List ℕ
   pub tables : List (List Declaration)
+  pub starts : StartList
 
 -- the table that begins here
 abbrev pub table_from : Read → Start → List Declaration
@@ -30,6 +33,10 @@ abbrev pub HasTable : Read → (offset : ℕ) → Start → Type 0
 HasTable read offset start =
     (start.run < length read.tables) × IsWithin read start
     × (abbreviations read.section offset ≡ Ok (table_from read start))
+
+-- A declaration that was read begins at the offset.
+abbrev pub HasRead : Read → (offset : ℕ) → Type 0
+HasRead read offset = IsSome (start_at read.starts offset)
 
 -- Each table that was read before begins where it began.
 abbrev pub IsKept : Read → Read → Type 0

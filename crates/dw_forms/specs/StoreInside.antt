@@ -32,6 +32,7 @@ read_in store = record {
   section = store.section.now;
   sizes = sizes_of store.runs.items;
   tables = tables_of store.runs.items;
+  starts = store.starts;
 }
 
 -- A run leads to an earlier one, so its table is what it has and what the table from there on has.

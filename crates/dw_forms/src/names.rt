@@ -1,46 +1,54 @@
-//! The names of attributes whose values describe a function.
+//! The names of attributes that are used.
 
 ghost use Rattle.std.specs.Prelude.{◌≡◌};
-ghost use Rattle.dw_forms.specs.Names.{index_of};
+ghost use Rattle.dw_forms.specs.Names.{is_used};
 
 use dw_model::dwarf::{
-    DW_AT_abstract_origin, DW_AT_call_column, DW_AT_call_file, DW_AT_call_line, DW_AT_high_pc,
-    DW_AT_linkage_name, DW_AT_low_pc, DW_AT_name, DW_AT_ranges, DW_AT_specification,
+    DW_AT_abstract_origin, DW_AT_addr_base, DW_AT_call_column, DW_AT_call_file, DW_AT_call_line,
+    DW_AT_comp_dir, DW_AT_high_pc, DW_AT_linkage_name, DW_AT_low_pc, DW_AT_name, DW_AT_ranges,
+    DW_AT_rnglists_base, DW_AT_specification, DW_AT_stmt_list, DW_AT_str_offsets_base,
 };
 
-/// How many there are.
-pub(crate) const COUNT: usize = 10;
-
 /// Those names, each once.
-pub(crate) const NAMES: [u64; COUNT] = [
-    DW_AT_ranges,
+pub const NAMES: [u64; 15] = [
+    DW_AT_name,
+    DW_AT_comp_dir,
+    DW_AT_linkage_name,
+    DW_AT_stmt_list,
     DW_AT_low_pc,
     DW_AT_high_pc,
-    DW_AT_call_file,
-    DW_AT_call_line,
-    DW_AT_call_column,
-    DW_AT_linkage_name,
-    DW_AT_name,
+    DW_AT_ranges,
     DW_AT_abstract_origin,
     DW_AT_specification,
+    DW_AT_call_column,
+    DW_AT_call_file,
+    DW_AT_call_line,
+    DW_AT_str_offsets_base,
+    DW_AT_addr_base,
+    DW_AT_rnglists_base,
 ];
 
-/// The index of a name among them.
+/// A name is one of them.
 #[inline(always)]
-pub(crate) fn index_of(name: u64) -> Option<usize>
-    ensures { result ≡ index_of name }
+pub(crate) fn is_used(name: u64) -> bool
+    ensures { result ≡ is_used name }
 {
-    match name {
-        DW_AT_ranges => Some(0),
-        DW_AT_low_pc => Some(1),
-        DW_AT_high_pc => Some(2),
-        DW_AT_call_file => Some(3),
-        DW_AT_call_line => Some(4),
-        DW_AT_call_column => Some(5),
-        DW_AT_linkage_name => Some(6),
-        DW_AT_name => Some(7),
-        DW_AT_abstract_origin => Some(8),
-        DW_AT_specification => Some(9),
-        _ => None,
-    }
+    matches!(
+        name,
+        DW_AT_name
+            | DW_AT_comp_dir
+            | DW_AT_linkage_name
+            | DW_AT_stmt_list
+            | DW_AT_low_pc
+            | DW_AT_high_pc
+            | DW_AT_ranges
+            | DW_AT_abstract_origin
+            | DW_AT_specification
+            | DW_AT_call_column
+            | DW_AT_call_file
+            | DW_AT_call_line
+            | DW_AT_str_offsets_base
+            | DW_AT_addr_base
+            | DW_AT_rnglists_base
+    )
 }

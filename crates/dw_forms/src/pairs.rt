@@ -1,14 +1,11 @@
 //! The attributes of a declaration, decoded in place, by section 7.5.3 of DWARF 5.
 
-ghost use Rattle.std.specs.Prelude.{◌≡◌, [], length};
+ghost use Rattle.std.specs.Prelude.{◌≡◌, length};
 ghost use Rattle.dw_forms.specs.Pairs.{specs_at, AreAt, TakesFirst};
 
 use crate::declaration::{Spec, next_spec};
 use dw_bytes::Cursor;
 use std::marker::Model;
-
-/// The pair that ends the attributes of a declaration.
-const END: &[u8] = &[0, 0];
 
 /// The attributes of a declaration, in order. Each is decoded where it is in .debug_abbrev when it
 /// is asked for; that can't fail, since all of them were read once. Contracts see them as a list.
@@ -39,16 +36,6 @@ impl<'a> Specs<'a> {
         ensures { result ≡ specs_at pairs.entry }
     {
         Specs { pairs, count }
-    }
-
-    /// None.
-    pub fn none() -> Self
-        ensures { result ≡ [] }
-    {
-        Specs {
-            pairs: Cursor::new(END),
-            count: 0,
-        }
     }
 
     /// How many there are.

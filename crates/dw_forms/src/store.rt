@@ -1,24 +1,43 @@
 //! The declarations of .debug_abbrev: each is read once, whichever tables it belongs to.
 
-ghost use Rattle.std.specs.Prelude.{◌≡◌, ◌≤◌, [], Err, IfOk, IfErr, MatchOption, drop, length, map};
-ghost use Rattle.std.specs.Prelude.{option_map, slice_index_or, sum};
+ghost use Rattle.std.specs.Prelude.{◌≡◌, ◌≤◌, ◌⊎◌, ℕ, [], Err, IfOk, IsOk, IfErr, MatchOption, drop, is_some};
+ghost use Rattle.std.specs.Prelude.{length, map, option_map, slice_index_or, sum};
 ghost use Rattle.dw_model.specs.Abbrev.{abbreviations, declared, next_declaration};
-ghost use Rattle.dw_model.specs.Reading.{items};
-ghost use Rattle.dw_forms.specs.Fault.{form_fault, HidesNoFault};
+ghost use Rattle.dw_model.specs.Answers.{ReadsOn};
+ghost use Rattle.dw_model.specs.Reading.{items, made};
+ghost use Rattle.dw_forms.specs.Fault.{form_fault, HidesNoFault, Passes};
 ghost use Rattle.dw_forms.specs.Declaration.{declaration_shown};
 ghost use Rattle.dw_forms.specs.declared.run.Start.{Start};
 ghost use Rattle.dw_forms.specs.StoreInside.{sizes_of, tables_of, AreTabled};
 ghost use Rattle.dw_forms.specs.Starts.{AreApart};
-ghost use Rattle.dw_forms.specs.Store.{table_from, HasTable, IsKept, IsRunAt, IsWithin};
+ghost use Rattle.dw_forms.specs.Store.{table_from, HasRead, HasTable, IsKept, IsRunAt, IsWithin};
 
 use crate::declaration::{Decl, next_decl};
 use crate::fault::FormFault;
-use crate::first_fault::pass_table;
 use crate::run::{Run, Start};
 use crate::starts::Starts;
 use dw_bytes::Cursor;
 use std::alloc::Global;
 use std::marker::Model;
+
+/// Passes over the next declaration of a table; `false` where the table ends.
+fn pass_decl(cursor: &mut Cursor<'_>) -> Result<bool, FormFault>
+    ensures { ReadsOn (λ found. found) form_fault result (made is_some (next_declaration cursor.old)) cursor.new }
+{
+    let found = next_decl(cursor)?;
+    Ok(found.is_some())
+}
+
+/// Passes over a table. This takes no memory.
+fn pass_table(cursor: &mut Cursor<'_>) -> Result<(), FormFault>
+    ensures { Passes result (items (λ p. p.left) next_declaration cursor.old) cursor.new }
+{
+    loop {
+        if !pass_decl(cursor)? {
+            return Ok(());
+        }
+    }
+}
 
 /// Why a table isn't read: its first fault, or `Memory` where it has none.
 fn fault_in_table(cursor: &mut Cursor<'_>) -> FormFault
@@ -38,6 +57,7 @@ fn read_run<'a>(
     alloc: Global,
     cursor: &mut Cursor<'a>,
     starts: &Starts,
+    room: &mut usize,
 ) -> Result<(Vec<Decl<'a>>, Option<Start>), FormFault>
     ensures run { IfOk result (λ found. IsRunAt starts.now cursor.old found.0.items found.1) }
     ensures apart { IfOk result (λ found. AreApart starts.now
@@ -48,10 +68,10 @@ fn read_run<'a>(
         if let Some(start) = starts.get(cursor.at()) {
             return Ok((declarations, Some(start)));
         }
-        let Some(declaration) = next_decl(alloc, cursor)? else {
+        let Some(declaration) = next_decl(cursor)? else {
             return Ok((declarations, None));
         };
-        declarations.push(declaration)?;
+        declarations.push(declaration.laid_out(alloc, room)?)?;
     }
 }
 
@@ -88,6 +108,9 @@ pub struct AbbrevStore<'a> {
     runs: Vec<Run<'a>>,
     /// Where the table begins that is at an offset.
     starts: Starts,
+    /// How many attributes may still be laid out: together as many as .debug_abbrev has room for,
+    /// so that memory stays in proportion where declarations begin inside one another.
+    room: usize,
 }
 
 impl<'a> Model for AbbrevStore<'a> {
@@ -112,6 +135,7 @@ impl<'a> AbbrevStore<'a> {
             section,
             runs: Vec::new(alloc),
             starts: Starts::new(alloc),
+            room: section.len() / 2,
         }
     }
 
@@ -127,12 +151,16 @@ impl<'a> AbbrevStore<'a> {
 
     /// Where the table at an offset begins. What wasn't read of it yet is read, and the tables that
     /// were read before begin where they began. An offset past the section's end is `End`. `Memory`
-    /// comes only where an allocation was refused, and the table can be read.
+    /// comes only where an allocation was refused, the table can be read, and no declaration at the
+    /// offset was read before. A table that has declarations is read once.
     #[tactic(auto, unfolding(dw_model::specs::Abbrev::abbreviations))]
     pub fn start(&mut self, alloc: Global, offset: u64) -> Result<Start, FormFault>
         ensures section { self.new.section ≡ self.old.section }
         ensures kept { IsKept self.old self.new }
         ensures found { IfOk result (λ start. HasTable self.new offset start) }
+        ensures known { HasRead self.old offset → IsOk result }
+        ensures stays { (other : ℕ) → HasRead self.old other → HasRead self.new other }
+        ensures read { IfOk result (λ start. HasRead self.new offset ⊎ (table_from self.new start ≡ [])) }
         ensures fault { IfErr result (λ fault. MatchOption (form_fault fault) (Unit {0})
             (λ told. abbreviations self.old.section offset ≡ Err told)) }
         ensures memory { IfErr result (λ fault. HidesNoFault fault (abbreviations self.old.section offset)) }
@@ -148,7 +176,8 @@ impl<'a> AbbrevStore<'a> {
         let Some(_) = cursor.take(offset) else {
             return Err(FormFault::End);
         };
-        let Ok((declarations, rest)) = read_run(alloc, &mut cursor.fork(), &self.starts) else {
+        let read = read_run(alloc, &mut cursor.fork(), &self.starts, &mut self.room);
+        let Ok((declarations, rest)) = read else {
             return Err(fault_in_table(&mut cursor));
         };
         let run = self.runs.len();

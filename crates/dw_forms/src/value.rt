@@ -176,7 +176,7 @@ pub fn read_value<'a>(
 
 /// The same, but after a refusal the cursor may be anywhere.
 #[inline(always)]
-fn value_ahead<'a>(
+pub(crate) fn value_ahead<'a>(
     cursor: &mut Cursor<'a>,
     form: u64,
     implicit: Option<i64>,

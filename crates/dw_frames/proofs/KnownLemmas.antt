@@ -168,14 +168,8 @@ knows-on reading other drafts new same grows h = record {
   loose = λ known has. still-ranges reading other known.0 same.of (h.loose known (rw (← same.loose) has));
 }
 
-pub knows-null : (reading : Reading) (drafts new : Drafts) → new ≡ without_list drafts → Knows reading drafts → Knows reading new
-knows-null reading drafts new e h = rw e (knows-on reading reading drafts (without_list drafts) (record { of = refl; idle = refl; outermost = refl; inlined = refl; loose = refl }) (grows-null drafts) h)
-
 pub knows-list : (reading other : Reading) (drafts new : Drafts) (children : Bool) (number : Option ℕ) → SameLists reading other → new ≡ with_list children number drafts → Knows reading drafts → Knows other new
 knows-list reading other drafts new children number same e h = rw e (knows-on reading other drafts (with_list children number drafts) same (grows-list drafts children number) h)
-
-pub knows-function : (reading other : Reading) (drafts new : Drafts) (children : Bool) (number : Option ℕ) (offset : ℕ) → SameLists reading other → new ≡ with_list children number (with_function offset drafts) → Knows reading drafts → Knows other new
-knows-function reading other drafts new children number offset same e h = rw e (knows-on reading other drafts (with_list children number (with_function offset drafts)) same (grows-function drafts children number offset) h)
 
 pub knows-kept : (reading other : Reading) (drafts new : Drafts) (children : Bool) (number : Option ℕ) (offset : ℕ) (subprogram : Bool) (pairs : List (Range × ℕ)) → SameLists reading other → Same (with_list children number (with_function offset (with_ranges subprogram pairs drafts))) new → Knows reading drafts → Knows other new
 knows-kept reading other drafts new children number offset subprogram pairs lists same h =

@@ -4,7 +4,7 @@ use Rattle.std.specs.Prelude.{ok_or, ◌==◌}
 use Rattle.std.proofs.lemmas.List.{drop-drop}
 use Rattle.std.proofs.lemmas.Option.{same_Some}
 use Rattle.dw_model.specs.Results.{◌>>=◌}
-use Rattle.dw_model.specs.Reading.{Place, Spans, past}
+use Rattle.dw_model.specs.Reading.{Place, past}
 use Rattle.dw_model.specs.Abbrev.{Specification, Declaration, declared}
 use Rattle.dw_model.specs.Leb.{uleb_at}
 use Rattle.dw_model.specs.Form.{Value, value_at}
@@ -29,9 +29,6 @@ goes : (p q r : Place) → On p q → On q r → On p r
 goes p q r first second =
     let at : p.at + first.0 + second.0 ≡ p.at + (first.0 + second.0) = omega arith in
     (first.0 + second.0, second.1 ∙ ap (past second.0) first.1 ∙ rw (at, drop-drop second.0 first.0 p.left) refl)
-
-spans-on : (Is : List ℕ → Type 0) (p q : Place) → Spans Is p q → On p q
-spans-on Is p q s = (length s.0, sym (past-between p q s.0 (length s.0) refl s.1))
 
 attributes-on : (size : ℕ) (specifications : List Specification) (p : Place) (x : List Attribute × Place) → attributes_at size specifications p ≡ Ok x → On p x.1
 unfolding attributes_at

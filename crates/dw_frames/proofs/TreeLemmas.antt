@@ -27,11 +27,11 @@ use Rattle.dw_frames.specs.UnitIn.{UnitIn}
 use Rattle.dw_frames.proofs.KnownLemmas.{follows-same}
 use Rattle.dw_frames.proofs.WalkLemmas.{next, state, behind-depth, next-ended, follows-entry}
 
-pub found-some : (ranged : Bool) (next : Next) (found : Option Entry) → IsNext ranged next found → (next ≡ Null → ⊥) → (entry : Entry) × (found ≡ Some entry)
-found-some ranged Null found is other = absurd (other refl)
-found-some ranged (Function entry) found is other = (entry, is.0)
-found-some ranged (Unranged children) found is other = (is.0, is.1)
-found-some ranged (Passed children) found is other = (is.0, is.1)
+pub found-some : (ranged : Bool) (next : Next) (found last : Option Entry) → IsNext ranged next found last → (next ≡ Null → ⊥) → (entry : Entry) × (found ≡ Some entry)
+found-some ranged Null found last is other = absurd (other refl)
+found-some ranged Function found last is other = (is.0, is.1)
+found-some ranged (Unranged children) found last is other = (is.0, is.1)
+found-some ranged (Passed children) found last is other = (is.0, is.1)
 
 -- before any entry
 follows-none : (s : Sections) (unit : DwarfUnit) (of : UnitIn) (bound : ℕ) → Follows s unit [] (no_drafts of) bound
@@ -69,17 +69,17 @@ module _ (s : Sections) (unit : DwarfUnit) (walk : Walk) (size : walk.offset_siz
   unused None q told e h = absurd cc
   unused (Some entry) q told e h = rw (e, h) refl
 
-  none-below : (p : Place) → nodes_on s unit (record { declarations = walk.declarations; offset_size = walk.offset_size; place = p }) 0 ≡ Ok []
+  none-below : (p : Place) → nodes_on s unit (record { declarations = walk.declarations; offset_size = walk.offset_size; place = p; last = None }) 0 ≡ Ok []
   none-below p =
       let ended = next-ended s unit walk.offset_size walk.declarations p 0 refl in
       rw (items-turn (next s unit walk.offset_size walk.declarations) (λ s. s.place.left) (nodes_advance (entry_ranges_in s unit) walk.offset_size walk.declarations) (state p 0), ended) refl
 
-  children-below : (children : Bool) (q : Place) → cond children (nodes_below (entry_ranges_in s unit) walk.offset_size walk.declarations q) (Ok []) ≡ nodes_on s unit (record { declarations = walk.declarations; offset_size = walk.offset_size; place = q }) (cond children 1 0)
+  children-below : (children : Bool) (q : Place) → cond children (nodes_below (entry_ranges_in s unit) walk.offset_size walk.declarations q) (Ok []) ≡ nodes_on s unit (record { declarations = walk.declarations; offset_size = walk.offset_size; place = q; last = None }) (cond children 1 0)
   children-below true q = refl
   children-below false q = sym (none-below q)
 
   below : (entry : Entry) (q : Place) → entry_at walk.offset_size walk.declarations walk.place ≡ Ok (Some entry, q) → can_be_used s unit 0 (Some entry) ≡ Ok tt
-      → from_first ≡ (nodes_on s unit (record { declarations = walk.declarations; offset_size = walk.offset_size; place = q }) (depth_behind 0 (Some entry)) >>= λ others. Ok (record { depth = 0; entry = entry } ∷ others))
+      → from_first ≡ (nodes_on s unit (record { declarations = walk.declarations; offset_size = walk.offset_size; place = q; last = None }) (depth_behind 0 (Some entry)) >>= λ others. Ok (record { depth = 0; entry = entry } ∷ others))
   unfolding nodes_from
   below entry q e h = rw (e, h) (ap (λ (nodes : Result (List Node) TreeFault). nodes >>= λ others. Ok (record { depth = 0; entry = entry } ∷ others)) (children-below entry.children q))
 
@@ -111,11 +111,11 @@ module _ (s : Sections) (unit : DwarfUnit) (walk : Walk) (size : walk.offset_siz
       let fits : can_be_used s unit 0 (Some entry) ≡ Ok tt = ap (can_be_used s unit 0) (sym some) ∙ ap (λ (drafts : Drafts). can_be_used s unit (length drafts.lists) found) (sym is) ∙ used in
       let behind_is : Same (behind s unit (Some entry) (no_drafts of)) new_drafts = subst (λ (full : Drafts). Same full new_drafts) (ap (λ (found : Option Entry). behind s unit found drafts) some ∙ ap (behind s unit (Some entry)) is) same in
       let depth : length new_drafts.lists ≡ depth_behind 0 (Some entry) = ap (λ (lists : List (Option ℕ)). length lists) behind_is.lists ∙ behind-depth s unit (Some entry) (no_drafts of) in
-      let at : new ≡ record { declarations = walk.declarations; offset_size = walk.offset_size; place = new.place } =
-      ap (λ (ds : List Declaration). record { declarations = ds; offset_size = new.offset_size; place = new.place }) kept ∙ ap (λ (n : ℕ). record { declarations = walk.declarations; offset_size = n; place = new.place }) sized in
+      let at : record { declarations = new.declarations; offset_size = new.offset_size; place = new.place; last = None } ≡ record { declarations = walk.declarations; offset_size = walk.offset_size; place = new.place; last = None } =
+      ap (λ (ds : List Declaration). record { declarations = ds; offset_size = new.offset_size; place = new.place; last = None }) kept ∙ ap (λ (n : ℕ). record { declarations = walk.declarations; offset_size = n; place = new.place; last = None }) sized in
       record {
         entry = entry;
-        nodes = tree-is ∙ below entry new.place read fits ∙ sym (ap (λ (new : Walk). nodes_on s unit new (length new_drafts.lists) >>= λ others. Ok (record { depth = 0; entry = entry } ∷ others)) at ∙ ap (λ (depth : ℕ). nodes_on s unit (record { declarations = walk.declarations; offset_size = walk.offset_size; place = new.place }) depth >>= λ others. Ok (record { depth = 0; entry = entry } ∷ others)) depth);
+        nodes = tree-is ∙ below entry new.place read fits ∙ sym (ap (λ (new : Walk). nodes_on s unit new (length new_drafts.lists) >>= λ others. Ok (record { depth = 0; entry = entry } ∷ others)) at ∙ ap (λ (depth : ℕ). nodes_on s unit (record { declarations = walk.declarations; offset_size = walk.offset_size; place = new.place; last = None }) depth >>= λ others. Ok (record { depth = 0; entry = entry } ∷ others)) depth);
         follows = follows-same s unit (record { depth = 0; entry = entry } ∷ []) (behind s unit (Some entry) (no_drafts of)) new_drafts new.place.at behind_is (follows-entry s unit [] (no_drafts of) walk.offset_size walk.declarations walk.place (Some entry, new.place) read (follows-none s unit of walk.place.at));
       }
 

@@ -1,4 +1,5 @@
 -- What a tree is seen as.
+use Rattle.dw_units.specs.Layouts.{AreOfUnit}
 use Rattle.dw_units.specs.UnitAt.{unit_at}
 use Rattle.dw_frames.specs.Descriptions.{AreTold}
 use Rattle.dw_frames.specs.Tree.{IsTreeOf}
@@ -12,7 +13,9 @@ unit_of_tree tree = record {
   unit = unit_at tree.units.value tree.chains.unit;
 }
 
--- the chains are those of the unit, and what is kept of its functions is told of them
+-- the chains are those of the unit, the layouts are those of its declarations, and what is kept of
+-- its functions is told of them
 pub record IsTree (tree : Inside) : Type 0 where
   pub chains : IsTreeOf (unit_of_tree tree) tree.chains
-  pub told : AreTold (unit_of_tree tree) tree.told.kept.items
+  pub layouts : AreOfUnit (unit_of_tree tree).sections (unit_of_tree tree).unit tree.layouts
+  pub told : AreTold (unit_of_tree tree) tree.told.list.items

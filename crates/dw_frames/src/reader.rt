@@ -28,7 +28,7 @@ use crate::fault::TreeFault;
 use crate::held::HeldList;
 use dw_model::dwarf::DW_TAG_subprogram;
 use dw_ranges::{Range, RangeList, ReadLists, list_of, read_list, read_new, read_ranges};
-use dw_units::{EntryView, NamedRanges, Next, OpenUnit};
+use dw_units::{Entries, EntryView, NamedRanges, Next, OpenUnit};
 use std::alloc::{AllocError, Global};
 use std::marker::Model;
 
@@ -248,7 +248,7 @@ impl<'b, 'a> Reader<'b, 'a> {
     fn add_read(
         &mut self,
         drafts: &mut Drafts<'b, 'a>,
-        entry: &EntryView<'b, 'a>,
+        entry: &EntryView<'_, 'a>,
         list: RangeList,
     ) -> Result<(), TreeFault>
         ensures same { self.new.of ≡ self.old.of }
@@ -331,7 +331,7 @@ impl<'b, 'a> Reader<'b, 'a> {
     fn add_outermost(
         &mut self,
         drafts: &mut Drafts<'b, 'a>,
-        entry: &EntryView<'b, 'a>,
+        entry: &EntryView<'_, 'a>,
         list: RangeList,
     ) -> Result<(), TreeFault>
         ensures same { self.new.of ≡ self.old.of }
@@ -378,7 +378,7 @@ impl<'b, 'a> Reader<'b, 'a> {
     fn add_listed(
         &mut self,
         drafts: &mut Drafts<'b, 'a>,
-        entry: &EntryView<'b, 'a>,
+        entry: &EntryView<'_, 'a>,
         list: RangeList,
     ) -> Result<(), TreeFault>
         ensures same { self.new.of ≡ self.old.of }
@@ -426,7 +426,7 @@ impl<'b, 'a> Reader<'b, 'a> {
     fn add_bounded(
         &mut self,
         drafts: &mut Drafts<'b, 'a>,
-        entry: &EntryView<'b, 'a>,
+        entry: &EntryView<'_, 'a>,
         named: &NamedRanges<'a>,
     ) -> Result<(), TreeFault>
         requires named { IsNamed named.now entry.now }
@@ -453,7 +453,7 @@ impl<'b, 'a> Reader<'b, 'a> {
     fn add_function(
         &mut self,
         drafts: &mut Drafts<'b, 'a>,
-        entry: &EntryView<'b, 'a>,
+        entry: &EntryView<'_, 'a>,
     ) -> Result<(), TreeFault>
         ensures same { self.new.of ≡ self.old.of }
         ensures function { Knows self.old drafts.old
@@ -468,18 +468,20 @@ impl<'b, 'a> Reader<'b, 'a> {
         self.add_listed(drafts, entry, list)
     }
 
-    /// Keeps the next entry, where it is a function that has ranges. The error is `Depth` where it
-    /// is too deep, `Ranges` where it is a function whose ranges can't be read, or `Memory`.
+    /// Keeps the next entry of a walk, where it is a function that has ranges. The error is `Depth`
+    /// where it is too deep, `Ranges` where it is a function whose ranges can't be read, or
+    /// `Memory`.
     // Most entries are no functions: where this is inlined, they end here without a call.
     #[inline(always)]
     pub(crate) fn keep(
         &mut self,
-        next: Next<'b, 'a>,
+        next: Next,
+        entries: &Entries<'_, 'a>,
         drafts: &mut Drafts<'b, 'a>,
     ) -> Result<(), TreeFault>
         ensures same { self.new.of ≡ self.old.of }
         ensures entry { Knows self.old drafts.old → (ranged : Bool) (found : Option ModelEntry)
-            → IsNext ranged next.entry found
+            → IsNext ranged next found entries.now.last
             → Keeps self.old.of.sections self.old.of.unit found result drafts.old drafts.new }
         ensures known { Knows self.old drafts.old → OnOk result (Knows self.new drafts.new) }
     {
@@ -500,8 +502,11 @@ impl<'b, 'a> Reader<'b, 'a> {
                 drafts.begin_list(children, None)?;
                 Ok(())
             }
-            Next::Function(entry) => {
+            Next::Function => {
                 check_depth(depth)?;
+                let Some(entry) = entries.function() else {
+                    return Err(TreeFault::Entry);
+                };
                 self.add_function(drafts, &entry)?;
                 Ok(())
             }

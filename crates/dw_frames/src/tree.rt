@@ -25,7 +25,7 @@ use crate::function::{Call, Described, EntryId, call_of, no_call};
 use crate::name::{UnitEntry, name_of};
 use crate::walk::read_all;
 use dw_model::dwarf::{DW_TAG_inlined_subroutine, DW_TAG_subprogram};
-use dw_units::Units;
+use dw_units::{Layouts, Units};
 use std::alloc::{AllocError, Global};
 use std::marker::Model;
 use std::sync::Arc;
@@ -36,6 +36,8 @@ use std::sync::Arc;
 pub struct Tree<'a> {
     units: Arc<Units<'a>>,
     chains: Chains,
+    /// The layouts of its declarations.
+    layouts: Layouts<'a>,
     /// What was told of its functions. Contracts don't see it.
     told: Descriptions<'a>,
 }
@@ -68,14 +70,17 @@ impl<'a> Tree<'a> {
         ensures fault { IfErr result (λ fault. MatchOption (tree_fault fault) (Unit {0})
             (λ told. model.tree units.now.value (unit_at units.now.value i) ≡ Err told)) }
     {
-        let drafts = read_all(alloc, units.at(i))?;
+        let unit = units.at(i);
+        let Some(mut entries) = unit.entries(alloc) else {
+            return Err(TreeFault::Entry);
+        };
+        let drafts = read_all(alloc, unit, &mut entries)?;
         let chains = drafts.chains(alloc)?;
-        let units = Arc::try_clone(units)?;
-        let told = Descriptions::new(alloc);
         Ok(Tree {
-            units,
+            units: Arc::try_clone(units)?,
             chains,
-            told,
+            layouts: entries.into_layouts(),
+            told: Descriptions::new(alloc),
         })
     }
 
@@ -118,7 +123,7 @@ impl<'a> Tree<'a> {
             return None;
         }
         let unit = self.units.at(self.chains.unit);
-        let entry = unit.view(id.offset)?;
+        let entry = unit.view_by(&self.layouts, id.offset)?;
         let tag = entry.tag();
         if tag == DW_TAG_subprogram || tag == DW_TAG_inlined_subroutine {
             return Some(UnitEntry { unit, entry });
@@ -137,7 +142,7 @@ impl<'a> Tree<'a> {
             ≡ name self.now.sections (record { unit = self.now.unit; entry = node.entry }) }
     {
         let function = self.function(id)?;
-        name_of(&function)
+        name_of(&function, &self.layouts)
     }
 
     /// Where a function was called, as its entry tells it.
@@ -164,7 +169,7 @@ impl<'a> Tree<'a> {
             };
         };
         Described {
-            name: name_of(&function),
+            name: name_of(&function, &self.layouts),
             call: call_of(&function.entry),
         }
     }

@@ -1,7 +1,6 @@
 //! All entries of a unit, of which the functions are kept.
 
-ghost use Rattle.std.specs.Prelude.{◌≡◌, List, Some, false, OnOk, IfOk, length};
-ghost use Rattle.dw_model.specs.Unit.{is_skipped};
+ghost use Rattle.std.specs.Prelude.{◌≡◌, List, Some, OnOk, IfOk, length};
 ghost use Rattle.dw_model.specs.Tree.{Node};
 ghost use Rattle.dw_units.specs.Entries.{WalksFrom};
 ghost use Rattle.dw_units.specs.OpenUnit.{sections_of, unit_of};
@@ -23,6 +22,7 @@ fn read_below<'b, 'a>(
     entries: &mut Entries<'b, 'a>,
     drafts: &mut Drafts<'b, 'a>,
 ) -> Result<(), TreeFault>
+    ensures declarations { OnOk result (entries.new.declarations ≡ entries.old.declarations) }
     ensures of { Knows reader.old drafts.old → OnOk result (drafts.new.of ≡ reader.old.of) }
     ensures follows { Knows reader.old drafts.old → (before : List Node)
         → Follows reader.old.of.sections reader.old.of.unit before drafts.old entries.old.place.at
@@ -31,7 +31,7 @@ fn read_below<'b, 'a>(
 {
     while drafts.depth() > 0 && !entries.is_done() {
         let next = entries.next_function()?;
-        reader.keep(next, drafts)?;
+        reader.keep(next, entries, drafts)?;
     }
     Ok(())
 }
@@ -42,6 +42,7 @@ fn read_from_first<'b, 'a>(
     entries: &mut Entries<'b, 'a>,
     drafts: &mut Drafts<'b, 'a>,
 ) -> Result<(), TreeFault>
+    ensures declarations { OnOk result (entries.new.declarations ≡ entries.old.declarations) }
     ensures of { Knows reader.old drafts.old → OnOk result (drafts.new.of ≡ reader.old.of) }
     ensures follows { Knows reader.old drafts.old → drafts.old ≡ no_drafts reader.old.of
         → WalksFrom reader.old.of.sections reader.old.of.unit (Some entries.old)
@@ -51,24 +52,23 @@ fn read_from_first<'b, 'a>(
     if let Next::Null = first {
         return Err(TreeFault::Entry);
     }
-    reader.keep(first, drafts)?;
+    reader.keep(first, entries, drafts)?;
     read_below(reader, entries, drafts)
 }
 
-/// Reads the entries of a unit that isn't skipped, and keeps its functions.
+/// Reads the entries of a unit by a walk that begins at its first one, and keeps its functions.
 pub(crate) fn read_all<'b, 'a>(
     alloc: Global,
     unit: OpenUnit<'b, 'a>,
+    entries: &mut Entries<'b, 'a>,
 ) -> Result<Drafts<'b, 'a>, TreeFault>
-    requires { is_skipped (unit_of unit).kind ≡ false }
+    requires { WalksFrom (sections_of unit) (unit_of unit) (Some entries.old) }
+    ensures declarations { OnOk result (entries.new.declarations ≡ entries.old.declarations) }
     ensures of { IfOk result (λ drafts. drafts.of ≡ unit_in unit.entry) }
     ensures follows { FollowsAll (sections_of unit.entry) (unit_of unit.entry) result }
 {
-    let Some(mut entries) = unit.entries() else {
-        return Err(TreeFault::Entry);
-    };
     let mut reader = Reader::new(alloc, unit);
     let mut drafts = Drafts::new(alloc, unit);
-    read_from_first(&mut reader, &mut entries, &mut drafts)?;
+    read_from_first(&mut reader, entries, &mut drafts)?;
     Ok(drafts)
 }

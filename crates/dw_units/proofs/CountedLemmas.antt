@@ -1,6 +1,6 @@
 -- The attributes of an entry that count, as they are read one by one.
-use Rattle.std.proofs.Common.{◌≡◌, ◌∙◌, ℕ, ◌+◌, ◌≤◌, Bool, true, false, cond, List, [], ◌∷◌, ◌++◌, length, map, Option, Some, None, option_map, refl, sym, ap, subst, arith}
-use Rattle.std.specs.Prelude.{IsSome, find, is_some, nat_eq, ◌==◌, ◌||◌, option_and_then}
+use Rattle.std.proofs.Common.{◌≡◌, ◌∙◌, ℕ, ◌≤◌, Bool, true, false, cond, List, [], ◌∷◌, ◌++◌, length, map, Option, Some, None, option_map, refl, sym, ap, subst}
+use Rattle.std.specs.Prelude.{IsSome, find, nat_eq, ◌==◌, ◌||◌, option_and_then}
 use Rattle.std.specs.Option.{option_map_or}
 use Rattle.std.specs.List.{list_any}
 use Rattle.std.specs.Map.{lookup}
@@ -9,14 +9,15 @@ use Rattle.std.proofs.lemmas.Cmp.{nat_eq_equiv}
 use Rattle.std.proofs.lemmas.List.{length-map}
 use Rattle.std.proofs.lemmas.Map.Made.{length-le_from_is_member}
 use Rattle.std.proofs.lemmas.Bool.{eqb-true, eq-eqb}
-use Rattle.std.proofs.lemmas.List.{length_push, map_push}
+use Rattle.std.proofs.lemmas.List.{map_push}
 use Rattle.std.proofs.lemmas.List.Folds.{list_any-append}
 use Rattle.dw_model.specs.Form.{Value}
 use Rattle.dw_model.specs.Entry.{Attribute, classes}
+use Rattle.dw_forms.specs.declared.names.TheConstants.{NAMES}
 use Rattle.dw_units.specs.declared.attributes.Attribute.{Attribute as CodeAttribute}
 use Rattle.dw_units.specs.Attribute.{attribute_shown}
-use Rattle.dw_units.specs.Counted.{attribute_in, first_of, unseen, AllCount, AreCounted, AreFirsts}
-use Rattle.dw_units.proofs.AttrLemmas.{Counts, given, told}
+use Rattle.dw_units.specs.Counted.{attribute_in, first_of, AllCount, AreCounted}
+use Rattle.dw_units.proofs.AttrLemmas.{given, told}
 
 -- the first value, where there is one, else the second
 abbrev either : Option Value → Option Value → Option Value
@@ -27,13 +28,9 @@ either-none : (first : Option Value) → either first None ≡ first
 either-none None = refl
 either-none (Some value) = refl
 
-either-there : (first second : Option Value) → is_some first ≡ true → either first second ≡ first
-either-there None second e = absurd cc
-either-there (Some value) second e = refl
-
-is-none : (value : Option Value) → is_some value ≡ false → value ≡ None
-is-none None e = refl
-is-none (Some value) e = absurd cc
+either-same : (value : Option Value) → either value value ≡ value
+either-same None = refl
+either-same (Some value) = refl
 
 -- the first of a name, among some attributes and one more
 grown : (before : List Attribute) (last : Attribute) (name : ℕ) → first_of name (before ++ last ∷ []) ≡ either (first_of name before) (cond (last.name == name) (Some last.value) None)
@@ -50,182 +47,98 @@ grown (first ∷ before) last name = by (first.name == name) (grown before last 
     by true others = refl
     by false others = others
 
--- a name for which no value counts
-abbrev IsListed : ℕ → Type 0
-IsListed name = is_some (lookup (nat_eq name) classes) ≡ true
+-- ---- name by name
 
-unlisted-given : (name : ℕ) (value : Option Value) → lookup (nat_eq name) classes ≡ None → option_and_then (given name) value ≡ None
-unlisted-given name None none = refl
-unlisted-given name (Some value) none = by (lookup (nat_eq name) classes) none
-  where
-    by : (class : Option (Value → Bool)) → class ≡ None → cond (option_map_or (λ counts. counts value) class false) (Some value) None ≡ None
-    by None e = refl
-    by (Some class) e = absurd cc
+-- a name is among these
+abbrev is_done : ℕ → List ℕ → Bool
+is_done name names = list_any (nat_eq name) names
 
-unlisted-attribute : (name : ℕ) (attributes : List Attribute) → lookup (nat_eq name) classes ≡ None → attribute_in name attributes ≡ None
-unlisted-attribute name attributes none = told name attributes ∙ unlisted-given name (first_of name attributes) none
+-- Of these names, what is kept has just the value that counts; and nothing of other names.
+abbrev pub AreFilled : List Attribute → List ℕ → List CodeAttribute → Type 0
+AreFilled all names kept =
+    (name : ℕ) → first_of name (map attribute_shown kept) ≡ cond (is_done name names) (attribute_in name all) None
 
-given-by : (name : ℕ) (value : Value) (counts : Bool) → Counts name value ≡ counts → given name value ≡ cond counts (Some value) None
-given-by name value counts e = ap (λ (counts : Bool). cond counts (Some value) None) e
+pub none-filled : (all : List Attribute) (kept : List CodeAttribute) → kept ≡ [] → AreFilled all [] kept
+none-filled all kept empty name = ap (λ (kept : List CodeAttribute). first_of name (map attribute_shown kept)) empty
 
--- ---- how many names weren't seen
-
-unseen-one : (m name : ℕ) (seen : List ℕ) → cond (list_any (λ other. nat_eq other name) (seen ++ m ∷ [])) 0 1 ≤ cond (list_any (λ other. nat_eq other name) seen) 0 1
-unseen-one m name seen =
-    subst (λ (there : Bool). cond there 0 1 ≤ cond (list_any (λ other. nat_eq other name) seen) 0 1) (sym (list_any-append (λ other. nat_eq other name) seen (m ∷ []))) (by (list_any (λ other. nat_eq other name) seen) (nat_eq m name || false))
-  where
-    by : (first second : Bool) → cond (first || second) 0 1 ≤ cond first 0 1
-    by true second = omega arith
-    by false true = omega arith
-    by false false = omega arith
-
-unseen-all : (m : ℕ) (seen : List ℕ) (some : List (ℕ × (Value → Bool))) → unseen (seen ++ m ∷ []) some ≤ unseen seen some
-unseen-all m seen [] = omega arith
-unseen-all m seen (class ∷ some) = omega (arith, unseen-one m class.0 seen, unseen-all m seen some)
-
--- one fewer after a name that wasn't seen
-unseen-fewer : (m : ℕ) (seen : List ℕ) (some : List (ℕ × (Value → Bool))) → is_some (lookup (nat_eq m) some) ≡ true → list_any (λ other. nat_eq other m) seen ≡ false → unseen (seen ++ m ∷ []) some + 1 ≤ unseen seen some
-unseen-fewer m seen [] listed fresh = absurd cc
-unseen-fewer m seen (class ∷ some) listed fresh = by (nat_eq m class.0) refl listed (λ listed. unseen-fewer m seen some listed fresh)
-  where
-    by : (same : Bool) → nat_eq m class.0 ≡ same → is_some (cond same (Some class.1) (lookup (nat_eq m) some)) ≡ true → (is_some (lookup (nat_eq m) some) ≡ true → unseen (seen ++ m ∷ []) some + 1 ≤ unseen seen some) → unseen (seen ++ m ∷ []) (class ∷ some) + 1 ≤ unseen seen (class ∷ some)
-    by true e listed others =
-        let before : list_any (λ other. nat_eq other class.0) seen ≡ false = subst (λ (name : ℕ). list_any (λ other. nat_eq other name) seen ≡ false) (eqb-true m class.0 e) fresh in
-        let now : list_any (λ other. nat_eq other class.0) (seen ++ m ∷ []) ≡ true =
-        list_any-append (λ other. nat_eq other class.0) seen (m ∷ []) ∙ ap (λ (there : Bool). there || (nat_eq m class.0 || false)) before ∙ ap (λ (here : Bool). here || false) e in
-        let one : ◌≡◌ {A = ℕ} (cond (list_any (λ other. nat_eq other class.0) (seen ++ m ∷ [])) 0 1) 0 = ap (λ (there : Bool). cond there 0 1) now in
-        let other : ◌≡◌ {A = ℕ} (cond (list_any (λ other. nat_eq other class.0) seen) 0 1) 1 = ap (λ (there : Bool). cond there 0 1) before in
-        omega (arith, one, other, unseen-all m seen some)
-    by false e listed others = omega (arith, unseen-one m class.0 seen, others listed)
-
-few-none : (some : List (ℕ × (Value → Bool))) → 0 + unseen [] some ≤ length some
-few-none [] = omega arith
-few-none (class ∷ some) = omega (arith, few-none some)
-
-few-seen : (m n : ℕ) (seen : List ℕ) (some : List (ℕ × (Value → Bool))) → is_some (lookup (nat_eq m) some) ≡ true → list_any (λ other. nat_eq other m) seen ≡ false → n + unseen seen some ≤ length some → n + unseen (seen ++ m ∷ []) some ≤ length some
-few-seen m n seen some listed fresh few = omega (arith, few, unseen-fewer m seen some listed fresh)
-
-few-more : (m n more : ℕ) (seen : List ℕ) (some : List (ℕ × (Value → Bool))) → more ≡ n + 1 → is_some (lookup (nat_eq m) some) ≡ true → list_any (λ other. nat_eq other m) seen ≡ false → n + unseen seen some ≤ length some → more + unseen (seen ++ m ∷ []) some ≤ length some
-few-more m n more seen some grows listed fresh few = omega (arith, few, grows, unseen-fewer m seen some listed fresh)
-
-pub few-kept : (n : ℕ) (seen : List ℕ) (some : List (ℕ × (Value → Bool))) → n + unseen seen some ≤ length some → n ≤ length some
-few-kept n seen some few = omega (arith, few)
-
-pub none-yet : (seen : List ℕ) (kept : List CodeAttribute) → seen ≡ [] → kept ≡ [] → AreFirsts [] seen kept
-none-yet seen kept none empty =
-    subst (λ (seen : List ℕ). AreFirsts [] seen kept) (sym none) (subst (λ (kept : List CodeAttribute). AreFirsts [] [] kept) (sym empty) (record { names = λ name listed. refl; counted = λ name. sym (told name []); few = few-none classes }))
-
-module _ (before : List Attribute) (attribute : CodeAttribute) (seen : List ℕ) (kept : List CodeAttribute) (firsts : AreFirsts before seen kept) where
-  abbrev after : List Attribute
-  after = before ++ attribute_shown attribute ∷ []
-
-  other : (name : ℕ) → (attribute.name == name) ≡ false → first_of name after ≡ first_of name before
-  other name apart = grown before (attribute_shown attribute) name ∙ ap (λ (here : Bool). either (first_of name before) (cond here (Some (attribute_shown attribute).value) None)) apart ∙ either-none (first_of name before)
-
-  same : (name : ℕ) → first_of name after ≡ first_of name before → attribute_in name after ≡ attribute_in name before
-  same name e = told name after ∙ ap (option_and_then (given name)) e ∙ sym (told name before)
-
-  -- what holds of the attribute's name and of all others
-  by-name : (P : ℕ → Type 0) → P attribute.name → ((name : ℕ) → (attribute.name == name) ≡ false → P name) → (name : ℕ) → P name
-  by-name P here apart name = by (attribute.name == name) refl
+module _ (all : List Attribute) (names : List ℕ) (one : ℕ) (kept : List CodeAttribute) (filled : AreFilled all names kept) where
+  -- what is there of a name, with one name more
+  more : (name : ℕ) → cond (is_done name (names ++ one ∷ [])) (attribute_in name all) None ≡ either (cond (is_done name names) (attribute_in name all) None) (cond (nat_eq name one) (attribute_in name all) None)
+  more name = ap (λ (done : Bool). cond done (attribute_in name all) None) (list_any-append (nat_eq name) names (one ∷ [])) ∙ by (is_done name names) (nat_eq name one)
     where
-      by : (b : Bool) → (attribute.name == name) ≡ b → P name
-      by true e = subst P (eqb-true attribute.name name e) here
-      by false e = apart name e
+      by : (done here : Bool) → cond (done || (here || false)) (attribute_in name all) None ≡ either (cond done (attribute_in name all) None) (cond here (attribute_in name all) None)
+      by true true = sym (either-same (attribute_in name all))
+      by true false = sym (either-none (attribute_in name all))
+      by false true = refl
+      by false false = refl
 
   -- no value counts for the name
-  pub unlisted : lookup (nat_eq attribute.name) classes ≡ None → AreFirsts after seen kept
-  unlisted none = record {
-    names = by-name (λ name. IsListed name → list_any (λ other. nat_eq other name) seen ≡ is_some (first_of name after))
-        (λ listed. let never : false ≡ true = ap (λ (class : Option (Value → Bool)). is_some class) (sym none) ∙ listed in absurd cc)
-        (λ name apart listed. firsts.names name listed ∙ ap (λ (value : Option Value). is_some value) (sym (other name apart)));
-    counted = λ name. firsts.counted name ∙ sym (by-name (λ name. attribute_in name after ≡ attribute_in name before)
-        (unlisted-attribute attribute.name after none ∙ sym (unlisted-attribute attribute.name before none))
-        (λ name apart. same name (other name apart)) name);
-    few = firsts.few;
-  }
+  pub filled-none : attribute_in one all ≡ None → AreFilled all (names ++ one ∷ []) kept
+  filled-none none name = filled name ∙ by (nat_eq name one) refl
+    where
+      by : (here : Bool) → nat_eq name one ≡ here → cond (is_done name names) (attribute_in name all) None ≡ cond (is_done name (names ++ one ∷ [])) (attribute_in name all) None
+      by true e =
+          let absent : cond (nat_eq name one) (attribute_in name all) None ≡ None = ap (λ (here : Bool). cond here (attribute_in name all) None) e ∙ ap (λ (name : ℕ). attribute_in name all) (eqb-true name one e) ∙ none in
+          sym (more name ∙ ap (either (cond (is_done name names) (attribute_in name all) None)) absent ∙ either-none (cond (is_done name names) (attribute_in name all) None))
+      by false e =
+          let absent : cond (nat_eq name one) (attribute_in name all) None ≡ None = ap (λ (here : Bool). cond here (attribute_in name all) None) e in
+          sym (more name ∙ ap (either (cond (is_done name names) (attribute_in name all) None)) absent ∙ either-none (cond (is_done name names) (attribute_in name all) None))
 
-  module _ (listed : IsListed attribute.name) where
-    -- there is one of the name already
-    pub again : list_any (λ other. nat_eq other attribute.name) seen ≡ true → AreFirsts after seen kept
-    again there = record {
-      names = λ name listed. firsts.names name listed ∙ ap (λ (value : Option Value). is_some value) (sym (stays name));
-      counted = λ name. firsts.counted name ∙ sym (same name (stays name));
-      few = firsts.few;
-    }
+  -- this value counts for it
+  pub filled-some : (attribute : CodeAttribute) → attribute.name ≡ one → Some (attribute_shown attribute).value ≡ attribute_in one all → AreFilled all (names ++ one ∷ []) (kept ++ attribute ∷ [])
+  filled-some attribute named counts name =
+      ap (first_of name) (map_push attribute_shown kept attribute)
+      ∙ grown (map attribute_shown kept) (attribute_shown attribute) name
+      ∙ ap (λ (first : Option Value). either first (cond (attribute.name == name) (Some (attribute_shown attribute).value) None)) (filled name)
+      ∙ ap (either (cond (is_done name names) (attribute_in name all) None)) (by (nat_eq name one) refl)
+      ∙ sym (more name)
+    where
+      by : (here : Bool) → nat_eq name one ≡ here → cond (attribute.name == name) (Some (attribute_shown attribute).value) None ≡ cond (nat_eq name one) (attribute_in name all) None
+      by true e =
+          let same : name ≡ one = eqb-true name one e in
+          ap (λ (here : Bool). cond here (Some (attribute_shown attribute).value) None) (eq-eqb attribute.name name (named ∙ sym same))
+          ∙ counts ∙ ap (λ (name : ℕ). attribute_in name all) (sym same)
+          ∙ sym (ap (λ (here : Bool). cond here (attribute_in name all) None) e)
+      by false e =
+          ap (λ (here : Bool). cond here (Some (attribute_shown attribute).value) None) (apart (attribute.name == name) refl)
+          ∙ sym (ap (λ (here : Bool). cond here (attribute_in name all) None) e)
+        where
+          apart : (b : Bool) → (attribute.name == name) ≡ b → (attribute.name == name) ≡ false
+          apart false is = is
+          apart true is =
+              let same : name ≡ one = sym (eqb-true attribute.name name is) ∙ named in
+              let both : true ≡ false = sym (eq-eqb name one same) ∙ e in
+              absurd cc
+
+-- ---- all names
+
+-- the names are those for which some values count
+unlisted : (name : ℕ) → is_done name NAMES ≡ false → lookup (nat_eq name) classes ≡ None
+unlisted name none = looked classes none
+  where
+    looked : (table : List (ℕ × (Value → Bool))) → list_any (nat_eq name) (map (λ one. one.0) table) ≡ false → lookup (nat_eq name) table ≡ None
+    looked [] e = refl
+    looked (one ∷ table) e = by (nat_eq name one.0) e (looked table)
       where
-        stays : (name : ℕ) → first_of name after ≡ first_of name before
-        stays = by-name (λ name. first_of name after ≡ first_of name before)
-            (grown before (attribute_shown attribute) attribute.name ∙ either-there (first_of attribute.name before) (cond (attribute.name == attribute.name) (Some (attribute_shown attribute).value) None) (sym (firsts.names attribute.name listed) ∙ there))
-            other
+        by : (here : Bool) → (here || list_any (nat_eq name) (map (λ one. one.0) table)) ≡ false → (list_any (nat_eq name) (map (λ one. one.0) table) ≡ false → lookup (nat_eq name) table ≡ None) → cond here (Some one.1) (lookup (nat_eq name) table) ≡ None
+        by true e others = absurd cc
+        by false e others = others e
 
-    module _ (fresh : list_any (λ other. nat_eq other attribute.name) seen ≡ false) where
-      none-before : first_of attribute.name before ≡ None
-      none-before = is-none (first_of attribute.name before) (sym (firsts.names attribute.name listed) ∙ fresh)
+unlisted-attribute : (name : ℕ) (attributes : List Attribute) → lookup (nat_eq name) classes ≡ None → attribute_in name attributes ≡ None
+unlisted-attribute name attributes none = told name attributes ∙ never (first_of name attributes)
+  where
+    never : (value : Option Value) → option_and_then (given name) value ≡ None
+    never None = refl
+    never (Some value) = ap (λ (class : Option (Value → Bool)). cond (option_map_or (λ counts. counts value) class false) (Some value) None) none
 
-      absent-before : attribute_in attribute.name before ≡ None
-      absent-before = told attribute.name before ∙ ap (option_and_then (given attribute.name)) none-before
+pub all-filled : (all : List Attribute) (kept : List CodeAttribute) → AreFilled all NAMES kept → AreCounted all kept
+all-filled all kept filled name = filled name ∙ by (is_done name NAMES) refl
+  where
+    by : (done : Bool) → is_done name NAMES ≡ done → cond (is_done name NAMES) (attribute_in name all) None ≡ attribute_in name all
+    by true e = ap (λ (done : Bool). cond done (attribute_in name all) None) e
+    by false e = ap (λ (done : Bool). cond done (attribute_in name all) None) e ∙ sym (unlisted-attribute name all (unlisted name e))
 
-      first-after : first_of attribute.name after ≡ Some (attribute_shown attribute).value
-      first-after =
-          grown before (attribute_shown attribute) attribute.name
-          ∙ ap (λ (first : Option Value). either first (cond (attribute.name == attribute.name) (Some (attribute_shown attribute).value) None)) none-before
-          ∙ ap (λ (here : Bool). cond {A = Option Value} here (Some (attribute_shown attribute).value) None) (eq-eqb attribute.name attribute.name refl)
-
-      given-after : (counts : Bool) → Counts attribute.name (attribute_shown attribute).value ≡ counts → attribute_in attribute.name after ≡ cond counts (Some (attribute_shown attribute).value) None
-      given-after counts e = told attribute.name after ∙ ap (option_and_then (given attribute.name)) first-after ∙ given-by attribute.name (attribute_shown attribute).value counts e
-
-      seen-now : (name : ℕ) → IsListed name → list_any (λ other. nat_eq other name) (seen ++ attribute.name ∷ []) ≡ is_some (first_of name after)
-      seen-now name listed =
-          list_any-append (λ other. nat_eq other name) seen (attribute.name ∷ [])
-          ∙ ap (λ (there : Bool). there || (nat_eq attribute.name name || false)) (firsts.names name listed)
-          ∙ sum (first_of name before) (attribute.name == name)
-          ∙ ap (λ (value : Option Value). is_some value) (sym (grown before (attribute_shown attribute) name))
-        where
-          sum : (first : Option Value) (here : Bool) → (is_some first || (here || false)) ≡ is_some (either first (cond here (Some (attribute_shown attribute).value) None))
-          sum (Some value) here = refl
-          sum None true = refl
-          sum None false = refl
-
-      -- it is the first of the name, and doesn't count
-      pub not-kept : Counts attribute.name (attribute_shown attribute).value ≡ false → AreFirsts after (seen ++ attribute.name ∷ []) kept
-      not-kept uncounted = record {
-        names = seen-now;
-        counted = λ name. firsts.counted name ∙ sym (by-name (λ name. attribute_in name after ≡ attribute_in name before)
-            (given-after false uncounted ∙ sym absent-before)
-            (λ name apart. same name (other name apart)) name);
-        few = few-seen attribute.name (length kept) seen classes listed fresh firsts.few;
-      }
-
-      -- what is kept with it of a name
-      abbrev Right : ℕ → Type 0
-      Right name = either (attribute_in name before) (cond (attribute.name == name) (Some (attribute_shown attribute).value) None) ≡ attribute_in name after
-
-      -- it is the first of the name, and counts
-      pub is-kept : Counts attribute.name (attribute_shown attribute).value ≡ true → AreFirsts after (seen ++ attribute.name ∷ []) (kept ++ attribute ∷ [])
-      is-kept counts = record {
-        names = seen-now;
-        counted = λ name. whole name ∙ by-name Right here apart name;
-        few = few-more attribute.name (length kept) (length (kept ++ attribute ∷ [])) seen classes (length_push kept attribute) listed fresh firsts.few;
-      }
-        where
-          whole : (name : ℕ) → first_of name (map attribute_shown (kept ++ attribute ∷ [])) ≡ either (attribute_in name before) (cond (attribute.name == name) (Some (attribute_shown attribute).value) None)
-          whole name =
-              ap (first_of name) (map_push attribute_shown kept attribute)
-              ∙ grown (map attribute_shown kept) (attribute_shown attribute) name
-              ∙ ap (λ (first : Option Value). either first (cond (attribute.name == name) (Some (attribute_shown attribute).value) None)) (firsts.counted name)
-
-          here : Right attribute.name
-          here =
-              ap (λ (first : Option Value). either first (cond (attribute.name == attribute.name) (Some (attribute_shown attribute).value) None)) absent-before
-              ∙ ap (λ (here : Bool). cond {A = Option Value} here (Some (attribute_shown attribute).value) None) (eq-eqb attribute.name attribute.name refl)
-              ∙ sym (given-after true counts)
-
-          apart : (name : ℕ) → (attribute.name == name) ≡ false → Right name
-          apart name e =
-              ap (λ (here : Bool). either (attribute_in name before) (cond here (Some (attribute_shown attribute).value) None)) e
-              ∙ either-none (attribute_in name before)
-              ∙ sym (same name (other name e))
+-- ---- how many are kept
 
 or-later : (first : Bool) {second : Bool} → second ≡ true → (first || second) ≡ true
 or-later true e = refl

@@ -10,3 +10,4 @@ pub mod AttrLemmas
 pub mod PlaceLemmas
 pub mod SkipLemmas
 pub mod WalkedLemmas
+pub mod LayoutLemmas

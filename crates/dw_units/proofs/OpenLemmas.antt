@@ -50,9 +50,6 @@ root-undeclared s unit fault e =
 
 -- ---- the test of a unit
 
-pub skipped-passes : (s : Sections) (unit : DwarfUnit) → is_skipped unit.kind ≡ true → has_root s unit ≡ Ok tt
-skipped-passes s unit e = rw e refl
-
 pub rooted-passes : (s : Sections) (unit : DwarfUnit) (found : Entry) → root s unit ≡ Some found → has_root s unit ≡ Ok tt
 rooted-passes s unit found e = passes (not (is_skipped unit.kind)) (root s unit) found e
   where

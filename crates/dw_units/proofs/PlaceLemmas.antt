@@ -46,9 +46,6 @@ too_few : (n : ℕ) (p : Place) (enough : Bool) → nat_le n (length p.left) ≡
 too_few n p true e h = absurd cc
 too_few n p false e h = leb-false n (length p.left) e
 
-pub no_bytes : (n : ℕ) (p : Place) → bytes_at n p ≡ None → length p.left < n
-no_bytes n p e = too_few n p (nat_le n (length p.left)) refl e
-
 -- ---- a null entry
 
 some_bytes : (at : ℕ) (left : List ℕ) (x : ℕ × Place) → uleb_at (record { at = at; left = left }) ≡ Ok x → 0 < length left

@@ -8,7 +8,6 @@ use Rattle.dw_model.proofs.StepLemmas.{ok_is}
 use Rattle.dw_forms.specs.declared.fault.FormFault.{FormFault}
 use Rattle.dw_forms.specs.Fault.{form_fault, Passes}
 use Rattle.dw_forms.specs.Size.{place_behind, Skips}
-use Rattle.dw_forms.specs.Steps.{Passed}
 
 found-at : {A : Type 0} (read : Result (A × Place) Fault) (q : Place) → place_behind read ≡ Ok (tt, q) → (found : A) × (read ≡ Ok (found, q))
 found-at (Ok found) q e = (found.0, ap (λ (x : Unit {0} × Place). Ok (found.0, x.1)) (ok_is (tt, found.1) (tt, q) e))
@@ -26,10 +25,10 @@ not-passed n read p h e = faults-at (read p) ends_early (h p ∙ ap (λ (taken :
 
 -- ---- the same by steps
 
-tells-at : {A : Type 0} (read : Result (A × Place) Fault) (by : Passed) (told : Option Fault) → place_behind read ≡ by → Tells told by → Tells told read
+tells-at : {A : Type 0} (read : Result (A × Place) Fault) (by : Result (Unit {0} × Place) Fault) (told : Option Fault) → place_behind read ≡ by → Tells told by → Tells told read
 tells-at read by None same fault = fault
 tells-at read by (Some f) same fault = faults-at read f (same ∙ fault)
 
-pub passes : {A : Type 0} (read : Result (A × Place) Fault) (by : Passed) (result : Result (Unit {0}) FormFault) (q : Place) → place_behind read ≡ by → ReadsOn (λ done. done) form_fault result by q → Passes result read q
+pub passes : {A : Type 0} (read : Result (A × Place) Fault) (by : Result (Unit {0} × Place) Fault) (result : Result (Unit {0}) FormFault) (q : Place) → place_behind read ≡ by → ReadsOn (λ done. done) form_fault result by q → Passes result read q
 passes read by (Ok done) q same e = found-at read q (same ∙ e)
 passes read by (Err fault) q same told = tells-at read by (form_fault fault) same told

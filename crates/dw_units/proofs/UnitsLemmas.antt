@@ -1,6 +1,6 @@
 -- The unit at a place of those that were read.
 use Rattle.std.proofs.Common.{◌≡◌, ◌∙◌, ℕ, zero, suc, ◌<◌, ◌≤◌, List, [], ◌∷◌, length, map, true, false, Option, Some, None, Result, Ok, Err, refl, sym, ap, subst, arith}
-use Rattle.std.specs.Prelude.{IfSome, option_map, slice_get, slice_index_or}
+use Rattle.std.specs.Prelude.{option_map, slice_get, slice_index_or}
 use Rattle.std.specs.List.{AllByRecursion}
 use Rattle.std.specs.Result.{result_unwrap_or}
 use Rattle.std.proofs.lemmas.Option.{get_or_from_slice_get, same_Some, slice_get_read, slice_get-map}
@@ -14,7 +14,7 @@ use Rattle.dw_model.specs.Abbrev.{Declaration, abbreviations}
 use Rattle.dw_model.proofs.StepLemmas.{ok_is}
 use Rattle.dw_units.specs.declared.unit.Unit.{Unit as CodeUnit}
 use Rattle.dw_forms.specs.declared.run.Start.{Start}
-use Rattle.dw_forms.specs.Store.{Read, HasTable, table_from}
+use Rattle.dw_forms.specs.Store.{Read, table_from}
 use Rattle.dw_units.specs.Unit.{unit_shown, HasEntries, IsOpened}
 use Rattle.dw_units.specs.UnitAt.{absent, unit_at, HasEntriesBy}
 use Rattle.dw_units.proofs.PlaceLemmas.{outside-all}
@@ -38,18 +38,10 @@ unit-in s seen read units i unit same whole opened within e =
     let at = unit-at s.info units i unit whole (subst (λ (s : Sections). i < length (model.units s.info)) (sym same) within) e in
     (ap (λ (s : Sections). slice_get (model.units s.info) i) (sym same) ∙ at.1, subst (λ s. IsOpened s read unit) same (opened-at s read units i unit opened at.0))
 
-pub of-unit : (P : DwarfUnit → Type 0) (found : Option DwarfUnit) (unit : DwarfUnit) → found ≡ Some unit → P unit → IfSome found P
-of-unit P found unit e h = rw e h
-
 pub no-entry : (s : Sections) (read : Read) (unit : CodeUnit) (offset : ℕ) → IsOpened s read unit → unit.table ≡ None → entry s (unit_shown unit) offset ≡ Err ends_early
 no-entry s read unit offset opened none =
     let skipped = subst (HasEntries s read (unit_shown unit)) none opened.table in
     outside-all s (unit_shown unit) offset skipped.1
-
-pub its-table : (s : Sections) (read : Read) (unit : CodeUnit) (table : Start) → IsOpened s read unit → unit.table ≡ Some table → HasTable read unit.debug_abbrev_offset table
-its-table s read unit table opened is =
-    let placed = subst (HasEntries s read (unit_shown unit)) is opened.table in
-    placed.0
 
 -- ---- how many declarations a unit has
 

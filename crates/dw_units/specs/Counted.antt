@@ -1,9 +1,8 @@
 -- The attributes of an entry whose values count.
-use Rattle.std.specs.Prelude.{◌≡◌, ◌≤◌, ◌+◌, ◌==◌, ℕ, Bool, true, false, cond, List, [], ◌∷◌, length, map, Option}
-use Rattle.std.specs.Prelude.{option_map, find, is_some, nat_eq, IsSome}
-use Rattle.std.specs.List.{list_any, IsDistinct}
+use Rattle.std.specs.Prelude.{◌≡◌, ◌==◌, ℕ, true, false, List, map, Option}
+use Rattle.std.specs.Prelude.{option_map, find, nat_eq, IsSome}
+use Rattle.std.specs.List.{IsDistinct}
 use Rattle.std.specs.Set.{is_member}
-use Rattle.std.specs.Map.{lookup}
 use Rattle.dw_model.specs.Form.{Value}
 use Rattle.dw_model.specs.Entry as model
 use Rattle.dw_model.specs.Entry.{attribute, classes}
@@ -24,19 +23,6 @@ attribute_in name attributes =
 -- Of each name, what is kept has just the value of the first attribute, where that counts.
 abbrev pub AreCounted : List model.Attribute → (kept : List Attribute) → Type 0
 AreCounted attributes kept = (name : ℕ) → first_of name (map attribute_shown kept) ≡ attribute_in name attributes
-
--- of these classes, those whose names weren't seen
-abbrev pub unseen : List ℕ → List (ℕ × (Value → Bool)) → ℕ
-unseen seen [] = 0
-unseen seen (class ∷ others) = cond (list_any (λ other. nat_eq other class.0) seen) 0 1 + unseen seen others
-
--- The same while they are read. Of the names for which some values count, those were seen of which
--- there is an attribute.
-pub record AreFirsts (attributes : List model.Attribute) (seen : List ℕ) (kept : List Attribute) : Type 0 where
-  pub names : (name : ℕ) → is_some (lookup (nat_eq name) classes) ≡ true
-      → list_any (λ other. nat_eq other name) seen ≡ is_some (first_of name attributes)
-  pub counted : AreCounted attributes kept
-  pub few : length kept + unseen seen classes ≤ length classes
 
 -- names, no two of which are equal, of each of which an attribute counts
 pub record AllCount (attributes : List model.Attribute) (names : List ℕ) : Type 0 where

@@ -1,10 +1,11 @@
 pub mod Attribute
 pub mod AttributesInside
-pub mod Class
 pub mod Counted
 pub mod Entries
+pub mod EntriesInside
 pub mod Entry
 pub mod Header
+pub mod Layouts
 pub mod NamedRanges
 pub mod Null
 pub mod OpenUnit

@@ -1,6 +1,6 @@
 //! The attributes of entries, by section 7.5.3 of DWARF 5.
 
-ghost use Rattle.std.specs.Prelude.{◌≡◌, ◌≤◌, ◌==◌, ℕ, List, [], IfErr, IfOk, find, length, map, option_map};
+ghost use Rattle.std.specs.Prelude.{◌≡◌, ◌≤◌, ◌==◌, ℕ, List, IfErr, IfOk, find, length, map, option_map};
 ghost use Rattle.dw_model.specs.Entry.{attributes_at, classes};
 ghost use Rattle.dw_model.specs.Answers.{ReadsUnlessMemory};
 ghost use Rattle.dw_bytes.specs.Width.{size_of};
@@ -79,18 +79,6 @@ fn find_named<'b, 'a>(attributes: &'b [Attribute<'a>], name: u64) -> Option<&'b 
 }
 
 impl<'a> Attributes<'a> {
-    /// No attribute.
-    pub fn new(alloc: Global) -> Self
-        ensures { result ≡ [] }
-    {
-        Attributes {
-            specs: Specs::none(),
-            values: Cursor::new(&[]),
-            width: Width::Four,
-            counted: Vec::new(alloc),
-        }
-    }
-
     /// How many there are.
     pub fn len(&self) -> usize
         ensures { result ≡ length self.now }
@@ -133,28 +121,27 @@ impl<'a> Attributes<'a> {
         Some(&found.value)
     }
 
-    /// Reads the values that a declaration asks for, instead of those that were read. After a
-    /// refusal there may be none, and the cursor may be anywhere.
+    /// The attributes that a declaration asks for, whose values begin at a cursor. After a refusal
+    /// the cursor may be anywhere.
     pub(crate) fn read(
-        &mut self,
+        alloc: Global,
         cursor: &mut Cursor<'a>,
         declaration: &Decl<'a>,
         width: Width,
-    ) -> Result<(), FormFault>
-        ensures read { ReadsUnlessMemory (λ _. self.new) form_fault result
+    ) -> Result<Self, FormFault>
+        ensures read { ReadsUnlessMemory (λ attributes. attributes) form_fault result
             (attributes_at (size_of width) declaration.now.specs cursor.old) cursor.new }
         ensures memory { IfErr result (λ fault. HidesNoFault fault
             (attributes_at (size_of width) declaration.now.specs cursor.old)) }
     {
         let values = cursor.fork();
-        pass_values(cursor, declaration, width)?;
-        let Ok(()) = read_counted(&mut self.counted, &values, &declaration.specs, width) else {
-            self.specs = Specs::none();
-            return Err(FormFault::Memory);
-        };
-        self.specs = declaration.specs.fork();
-        self.values = values;
-        self.width = width;
-        Ok(())
+        pass_values(cursor, declaration.shape(), width)?;
+        let counted = read_counted(alloc, &values, declaration.shape(), width)?;
+        Ok(Attributes {
+            specs: declaration.specs.fork(),
+            values,
+            width,
+            counted,
+        })
     }
 }

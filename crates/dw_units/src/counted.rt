@@ -1,71 +1,77 @@
 //! The attributes of an entry whose values count, by sections 7.5.4 and 7.5.5 of DWARF 5.
 
-ghost use Rattle.std.specs.Prelude.{◌≡◌, ◌≤◌, ◌++◌, ◌∷◌, [], List, OnErr, OnOk, length};
-ghost use Rattle.dw_model.specs.Entry as model;
+ghost use Rattle.std.specs.Prelude.{◌≡◌, ◌≤◌, IfOk, length, option_map};
 ghost use Rattle.dw_model.specs.Entry.{attributes_at, classes};
 ghost use Rattle.dw_bytes.specs.Width.{size_of};
-ghost use Rattle.dw_units.specs.Attribute.{attribute_shown};
-ghost use Rattle.dw_units.specs.Counted.{AreCounted, AreFirsts};
+ghost use Rattle.dw_forms.specs.Shape.{specs_of};
+ghost use Rattle.dw_forms.specs.Value.{value_shown};
+ghost use Rattle.dw_units.specs.Counted.{attribute_in, AreCounted};
 ghost use Rattle.dw_units.specs.View.{attributes_in, IsRead};
 
 use crate::attributes::Attribute;
-use crate::class::class_of;
+use crate::class::counts;
 use dw_bytes::{Cursor, Width};
-use dw_forms::{Specs, read_value};
-use smallvec::SmallVec;
-use std::alloc::AllocError;
+use dw_forms::{Layout, NAMES, Shape, Value};
+use std::alloc::{AllocError, Global};
 
-/// Keeps an attribute that was read, where it is the first of its name and its value counts.
-#[inline(always)]
-fn keep_first<'a>(
-    seen: &mut SmallVec<u64, 16>,
-    kept: &mut Vec<Attribute<'a>>,
-    attribute: Attribute<'a>,
-) -> Result<(), AllocError>
-    ensures { (before : List model.Attribute) → AreFirsts before seen.old.items kept.old.items
-        → OnOk result (AreFirsts (before ++ attribute_shown attribute.entry ∷ []) seen.new.items kept.new.items) }
+/// The value of the first attribute of a name, where it counts for the name.
+fn counted_value<'a>(
+    name: u64,
+    values: &Cursor<'a>,
+    layout: &Layout<'_>,
+    width: Width,
+) -> Option<Value<'a>>
+    requires { IsRead (attributes_at (size_of width) layout.now values.now) }
+    ensures { option_map value_shown result
+        ≡ attribute_in name (attributes_in (attributes_at (size_of width) layout.now values.now)) }
 {
-    let Some(class) = class_of(attribute.name) else {
-        return Ok(());
-    };
-    if seen.as_slice().contains(&attribute.name) {
-        return Ok(());
+    let value = layout.first_value(name, values, width)?;
+    if !counts(name, &value) {
+        return None;
     }
-    seen.push(attribute.name)?;
-    if !class.has(&attribute.value) {
-        return Ok(());
-    }
-    kept.push(attribute)?;
-    Ok(())
+    Some(value)
 }
 
-/// Keeps the attributes that count of an entry whose values begin at a cursor, instead of those
-/// that were kept: none where an allocation was refused. All values have to be readable.
-pub(crate) fn read_counted<'a>(
-    kept: &mut Vec<Attribute<'a>>,
+/// The attributes that count of an entry whose values begin at a cursor, by its layout. All values
+/// have to be readable.
+fn counted_by<'a>(
+    alloc: Global,
     values: &Cursor<'a>,
-    specs: &Specs<'_>,
+    layout: &Layout<'_>,
     width: Width,
-) -> Result<(), AllocError>
-    requires { IsRead (attributes_at (size_of width) specs.now values.now) }
-    ensures counted { OnOk result
-        (AreCounted (attributes_in (attributes_at (size_of width) specs.now values.now)) kept.new.items) }
-    ensures few { length kept.new.items ≤ length classes }
-    ensures none { OnErr result (kept.new.items ≡ []) }
+) -> Result<Vec<Attribute<'a>>, AllocError>
+    requires { IsRead (attributes_at (size_of width) layout.now values.now) }
+    ensures counted { IfOk result (λ kept.
+        AreCounted (attributes_in (attributes_at (size_of width) layout.now values.now)) kept.items) }
+    ensures few { IfOk result (λ kept. length kept.items ≤ length classes) }
 {
-    kept.clear();
-    let mut seen = SmallVec::new(*kept.allocator());
-    let mut place = values.fork();
-    let mut left = specs.fork();
-    while let Some(spec) = left.take_first() {
-        let Ok(value) = read_value(&mut place, spec.form, spec.implicit, width) else {
-            return Ok(());
-        };
-        let name = spec.name;
-        let Ok(()) = keep_first(&mut seen, kept, Attribute { name, value }) else {
-            kept.clear();
-            return Err(AllocError);
-        };
+    let mut kept = Vec::new(alloc);
+    for name in &NAMES {
+        if let Some(value) = counted_value(*name, values, layout, width) {
+            let name = *name;
+            kept.push(Attribute { name, value })?;
+        }
     }
-    Ok(())
+    Ok(kept)
+}
+
+/// The same, where the values lie in a shape.
+pub(crate) fn read_counted<'a>(
+    alloc: Global,
+    values: &Cursor<'a>,
+    shape: Shape<'_, '_>,
+    width: Width,
+) -> Result<Vec<Attribute<'a>>, AllocError>
+    requires { IsRead (attributes_at (size_of width) (specs_of shape) values.now) }
+    ensures counted { IfOk result (λ kept.
+        AreCounted (attributes_in (attributes_at (size_of width) (specs_of shape.entry) values.now)) kept.items) }
+    ensures few { IfOk result (λ kept. length kept.items ≤ length classes) }
+{
+    match shape {
+        Shape::Laid(layout) => counted_by(alloc, values, layout, width),
+        Shape::Declared(specs) => {
+            let layout = Layout::of(alloc, specs)?;
+            counted_by(alloc, values, &layout, width)
+        }
+    }
 }

@@ -1,6 +1,6 @@
 //! Entries of units, by sections 7.5.2 to 7.5.6 of DWARF 5.
 
-ghost use Rattle.std.specs.Prelude.{◌≡◌, ◌<◌, true, false, Ok, IfOk, IfErr, length, option_map, take, MatchOption};
+ghost use Rattle.std.specs.Prelude.{◌≡◌, ◌<◌, Ok, IfOk, IfErr, IfSome, length, option_map, take, MatchOption};
 ghost use Rattle.dw_model.specs.Entry.{entry_at};
 ghost use Rattle.dw_model.specs.Entry as model;
 ghost use Rattle.dw_model.specs.Abbrev.{abbreviations};
@@ -10,7 +10,7 @@ ghost use Rattle.dw_bytes.specs.Width.{size_of};
 ghost use Rattle.dw_forms.specs.Fault.{form_fault, HidesNoFault};
 ghost use Rattle.dw_forms.specs.Table.{declarations_of};
 ghost use Rattle.dw_forms.specs.Value.{value_shown};
-ghost use Rattle.dw_units.specs.Entry.{entry_shown, shown_where, unread, FindsEntry, ReadsEntry};
+ghost use Rattle.dw_units.specs.Entry.{entry_shown, FindsEntry};
 ghost use Rattle.dw_units.specs.Header.{header_shown};
 ghost use Rattle.dw_units.specs.Sections.{sections_shown};
 ghost use Rattle.dw_units.specs.Null.{IsNull, IsPastNull};
@@ -35,53 +35,38 @@ pub struct Entry<'a> {
     pub attrs: Attributes<'a>,
 }
 
-/// Reads the entry at the cursor, which goes just past it, instead of the one that was kept;
-/// `false` for a null entry, which ends a list of children, and then what was kept stays. After a
-/// refusal the cursor may be anywhere.
+/// The entry at the cursor, which goes just past it; `None` for a null entry, which ends a list of
+/// children. After a refusal the cursor may be anywhere.
 #[tactic(auto, unfolding(dw_model::specs::Entry::entry_at))]
-pub(crate) fn read_entry<'a>(
-    kept: &mut Entry<'a>,
+fn read_entry<'a>(
+    alloc: Global,
     cursor: &mut Cursor<'a>,
     abbrevs: AbbrevTable<'_, 'a>,
     width: Width,
-) -> Result<bool, FormFault>
-    ensures entry { ReadsUnlessMemory (λ found. shown_where found kept.new) form_fault result
+) -> Result<Option<Entry<'a>>, FormFault>
+    ensures entry { ReadsUnlessMemory (option_map entry_shown) form_fault result
         (entry_at (size_of width) (declarations_of abbrevs.entry) cursor.old) cursor.new }
-    ensures next { IfOk result (λ found. found ≡ true → kept.new.next ≡ cursor.new.at) }
-    ensures stays { IfOk result (λ found. found ≡ false → kept.new ≡ kept.old) }
+    ensures next { IfOk result (λ found. IfSome found (λ entry. entry.next ≡ cursor.new.at)) }
     ensures memory { IfErr result (λ fault. HidesNoFault fault
         (entry_at (size_of width) (declarations_of abbrevs.entry) cursor.old)) }
 {
     let offset = cursor.at() as u64;
     let code = cursor.uleb()?;
     if code == 0 {
-        return Ok(false);
+        return Ok(None);
     }
     let declaration = abbrevs.get(code).ok_or(FormFault::Code)?;
-    kept.attrs.read(cursor, declaration, width)?;
-    kept.offset = offset;
-    kept.next = cursor.at() as u64;
-    kept.tag = declaration.tag;
-    kept.children = declaration.children;
-    Ok(true)
+    let attrs = Attributes::read(alloc, cursor, declaration, width)?;
+    Ok(Some(Entry {
+        offset,
+        next: cursor.at() as u64,
+        tag: declaration.tag,
+        children: declaration.children,
+        attrs,
+    }))
 }
 
 impl<'a> Entry<'a> {
-    /// An entry that isn't read yet, instead of which others are read. The memory that its
-    /// attributes take serves them all.
-    pub fn unread(alloc: Global) -> Self
-        ensures unread { entry_shown result ≡ unread }
-        ensures next { result.next ≡ 0 }
-    {
-        Entry {
-            offset: 0,
-            next: 0,
-            tag: 0,
-            children: false,
-            attrs: Attributes::new(alloc),
-        }
-    }
-
     /// The value of the first attribute of a name, where it is of a kind that counts for the name;
     /// else the attribute is absent.
     #[tactic(auto, unfolding(dw_model::specs::Entry::attribute))]
@@ -114,34 +99,9 @@ pub(crate) fn cursor_at<'a>(
     Some(cursor)
 }
 
-/// Reads the entry at an offset of .debug_info that lies between a unit's first entry and its end,
-/// instead of the one that was kept; `false` for a null entry. Nothing past the unit's end is
-/// read.
-#[tactic(auto, unfolding(dw_model::specs::Root::entry))]
-pub(crate) fn read_in<'a>(
-    kept: &mut Entry<'a>,
-    sections: &Sections<'a>,
-    unit: &Header,
-    abbrevs: AbbrevTable<'_, 'a>,
-    offset: u64,
-) -> Result<bool, FormFault>
-    requires { abbreviations sections.now.abbrevs.now unit.now.debug_abbrev_offset ≡ Ok (declarations_of abbrevs) }
-    ensures entry { ReadsEntry result kept.new (entry (sections_shown sections.now) (header_shown unit.now) offset) }
-    ensures stays { IfOk result (λ found. found ≡ false → kept.new ≡ kept.old) }
-    ensures memory { IfErr result (λ fault. HidesNoFault fault
-        (entry (sections_shown sections.now) (header_shown unit.now) offset)) }
-{
-    if offset < unit.first_entry || offset >= unit.end {
-        return Err(FormFault::End);
-    }
-    let Some(mut cursor) = cursor_at(sections, unit, offset) else {
-        return Err(FormFault::End);
-    };
-    read_entry(kept, &mut cursor, abbrevs, unit.width)
-}
-
 /// The entry at an offset of .debug_info that lies between a unit's first entry and its end; `None`
 /// for a null entry. Nothing past the unit's end is read.
+#[tactic(auto, unfolding(dw_model::specs::Root::entry))]
 pub(crate) fn entry_in<'a>(
     alloc: Global,
     sections: &Sections<'a>,
@@ -154,12 +114,13 @@ pub(crate) fn entry_in<'a>(
     ensures memory { IfErr result (λ fault. HidesNoFault fault
         (entry (sections_shown sections.now) (header_shown unit.now) offset)) }
 {
-    let mut found = Entry::unread(alloc);
-    let is_some = read_in(&mut found, sections, unit, abbrevs, offset)?;
-    if !is_some {
-        return Ok(None);
+    if offset < unit.first_entry || offset >= unit.end {
+        return Err(FormFault::End);
     }
-    Ok(Some(found))
+    let Some(mut cursor) = cursor_at(sections, unit, offset) else {
+        return Err(FormFault::End);
+    };
+    read_entry(alloc, &mut cursor, abbrevs, unit.width)
 }
 
 /// The offset just past a null entry, whose code may be padded.

@@ -4,7 +4,8 @@ ghost use Rattle.std.specs.Prelude.{◌<◌, length};
 ghost use Rattle.dw_model.specs.Unit as cut;
 
 use crate::entries::Entries;
-use crate::entry::{Entry, cursor_at, end_of_null, entry_in, read_in};
+use crate::entry::{Entry, cursor_at, end_of_null, entry_in};
+use crate::layouts::Layouts;
 use crate::unit::Unit;
 use crate::units::Units;
 use crate::view::{EntryView, view_in};
@@ -49,7 +50,7 @@ impl<'a> Units<'a> {
 }
 
 impl<'b, 'a> OpenUnit<'b, 'a> {
-    ghost use Rattle.std.specs.Prelude.{◌≡◌, false, IfOk, IfErr, option_map};
+    ghost use Rattle.std.specs.Prelude.{◌≡◌, IfErr, option_map};
     ghost use Rattle.dw_model.specs.Root as model;
     ghost use Rattle.dw_model.specs.Text as texts;
     ghost use Rattle.dw_bytes.specs.Width.{size_of};
@@ -58,7 +59,8 @@ impl<'b, 'a> OpenUnit<'b, 'a> {
     ghost use Rattle.dw_forms.specs.Text.{text_shown};
     ghost use Rattle.dw_forms.specs.Value.{value_shown};
     ghost use Rattle.dw_units.specs.Entries.{WalksFrom};
-    ghost use Rattle.dw_units.specs.Entry.{entry_shown, FindsEntry, ReadsEntry};
+    ghost use Rattle.dw_units.specs.Entry.{entry_shown, FindsEntry};
+    ghost use Rattle.dw_units.specs.Layouts.{AreOfUnit};
     ghost use Rattle.dw_units.specs.Null.{IsNull, IsPastNull};
     ghost use Rattle.dw_units.specs.OpenUnit.{sections_of, unit_of};
     ghost use Rattle.dw_units.specs.Unit.{unit_shown, HasFirst};
@@ -141,23 +143,6 @@ impl<'b, 'a> OpenUnit<'b, 'a> {
         entry_in(alloc, self.units.sections(), &header, abbrevs, offset)
     }
 
-    /// Reads the entry at an offset of .debug_info instead of the one that was kept; `false` for a
-    /// null entry, and then what was kept stays. The error is that of `entry`; then any entry may
-    /// be kept.
-    #[inline(always)]
-    pub fn read_entry(self, offset: u64, kept: &mut Entry<'a>) -> Result<bool, FormFault>
-        ensures stays { IfOk result (λ found. found ≡ false → kept.new ≡ kept.old) }
-        ensures entry { ReadsEntry result kept.new (model.entry (sections_of self.entry) (unit_of self.entry) offset) }
-        ensures memory { IfErr result (λ fault. HidesNoFault fault
-            (model.entry (sections_of self.entry) (unit_of self.entry) offset)) }
-    {
-        let Some(abbrevs) = self.units.abbrevs(self.index) else {
-            return Err(FormFault::End);
-        };
-        let header = self.unit().header();
-        read_in(kept, self.units.sections(), &header, abbrevs, offset)
-    }
-
     /// The entry at an offset of .debug_info, of which each value is read when it is asked for.
     /// `None` for a null entry, and where none can be read.
     pub fn view(self, offset: u64) -> Option<EntryView<'b, 'a>>
@@ -165,17 +150,33 @@ impl<'b, 'a> OpenUnit<'b, 'a> {
     {
         let abbrevs = self.units.abbrevs(self.index)?;
         let header = self.unit().header();
-        view_in(self.units.sections(), &header, abbrevs, offset)
+        view_in(self.units.sections(), &header, abbrevs, None, offset)
+    }
+
+    /// The same, by layouts of the unit's declarations.
+    pub fn view_by(self, layouts: &'b Layouts<'a>, offset: u64) -> Option<EntryView<'b, 'a>>
+        requires { AreOfUnit (sections_of self) (unit_of self) layouts.now }
+        ensures { result ≡ found_in (model.entry (sections_of self.entry) (unit_of self.entry) offset) }
+    {
+        let abbrevs = self.units.abbrevs(self.index)?;
+        let header = self.unit().header();
+        view_in(
+            self.units.sections(),
+            &header,
+            abbrevs,
+            Some(layouts),
+            offset,
+        )
     }
 
     /// A walk over its entries, from the first one on; `None` just for a skipped unit.
-    pub fn entries(self) -> Option<Entries<'b, 'a>>
+    pub fn entries(self, alloc: Global) -> Option<Entries<'b, 'a>>
         ensures { WalksFrom (sections_of self.entry) (unit_of self.entry) (option_map (λ entries. entries) result) }
     {
         let abbrevs = self.units.abbrevs(self.index)?;
         let unit = self.unit();
         let cursor = cursor_at(self.units.sections(), &unit.header(), unit.first_entry)?;
-        Some(Entries::new(abbrevs, unit.width, cursor))
+        Some(Entries::new(alloc, abbrevs, unit.width, cursor))
     }
 
     /// The offset just past a null entry. Its code may be padded, so it may take more than one

@@ -12,14 +12,12 @@ ghost use Rattle.dw_elf.specs.OpenFault.{RefusesUnlessMemory};
 ghost use Rattle.dw_forms.specs.Fault.{HidesNoFault};
 ghost use Rattle.dw_forms.specs.Table.{declarations_of};
 ghost use Rattle.dw_forms.specs.Tables.{bases_shown, tables_shown};
-ghost use Rattle.dw_units.specs.Entry.{entry_shown, FindsEntry, ReadsEntry};
-ghost use Rattle.dw_units.specs.Entries.{WalksFrom};
+ghost use Rattle.dw_units.specs.Entry.{entry_shown, FindsEntry};
 ghost use Rattle.dw_units.specs.Unit.{unit_shown, HasFirst, TellsAtUnit};
 ghost use Rattle.dw_units.specs.Null.{IsNull, IsPastNull};
 ghost use Rattle.dw_units.specs.UnitAt.{unit_at, HasNoEntry, HasEntriesBy};
 ghost use Rattle.dw_units.specs.Sections.{sections_shown};
 
-use crate::entries::Entries;
 use crate::entry::Entry;
 use crate::header::piece;
 use crate::sections::Sections;
@@ -182,30 +180,6 @@ impl<'a> Units<'a> {
             (λ unit. HidesNoFault fault (model.entry self.now unit offset))) }
     {
         self.at(i).entry(alloc, offset)
-    }
-
-    /// Reads the entry at an offset of .debug_info, in the unit at a place, instead of the one
-    /// that was kept; `false` for a null entry, and then what was kept stays. The error is that of
-    /// `entry`; then any entry may be kept.
-    pub fn read_entry(&self, i: usize, offset: u64, kept: &mut Entry<'a>) -> Result<bool, FormFault>
-        requires { i < length (units self.now.info) }
-        ensures stays { IfOk result (λ found. found ≡ false → kept.new ≡ kept.old) }
-        ensures entry { IfSome (slice_get (units self.now.info) i)
-            (λ unit. ReadsEntry result kept.new (model.entry self.now unit offset)) }
-        ensures memory { IfErr result (λ fault. IfSome (slice_get (units self.now.info) i)
-            (λ unit. HidesNoFault fault (model.entry self.now unit offset))) }
-    {
-        self.at(i).read_entry(offset, kept)
-    }
-
-    /// A walk over the entries of the unit at a place, from its first one on; `None` just for a
-    /// skipped unit.
-    pub fn entries(&self, i: usize) -> Option<Entries<'_, 'a>>
-        requires { i < length (units self.now.info) }
-        ensures { IfSome (slice_get (units self.now.info) i)
-            (λ unit. WalksFrom self.now unit (option_map (λ entries. entries) result)) }
-    {
-        self.at(i).entries()
     }
 
     /// The offset just past a null entry, in the unit at a place. Its code may be padded, so it may

@@ -3,9 +3,10 @@
 ghost use Rattle.dw_model.specs.Entry.{attributes_at};
 ghost use Rattle.dw_bytes.specs.Width.{size_of};
 ghost use Rattle.dw_forms.specs.Fault.{Passes};
+ghost use Rattle.dw_forms.specs.Shape.{specs_of};
 
 use dw_bytes::{Cursor, Width};
-use dw_forms::{Decl, FormFault, Specs, read_value};
+use dw_forms::{FormFault, Layout, Shape, Specs, read_value};
 
 /// Passes over the values that a declaration asks for, where offsets have a width.
 pub(crate) fn pass_attributes(
@@ -22,36 +23,50 @@ pub(crate) fn pass_attributes(
     Ok(())
 }
 
-/// Passes over the values of an entry of which some have no fixed size: from one to the next where
-/// its declaration says how far that is.
+/// Passes over the values of an entry: in the 32-bit format from one of no fixed size to the next,
+/// else one after the other.
 #[inline(never)]
-fn pass_by_steps(
-    cursor: &mut Cursor<'_>,
-    declaration: &Decl<'_>,
-    width: Width,
-) -> Result<(), FormFault>
-    ensures { Passes result (attributes_at (size_of width) declaration.now.specs cursor.old)
-        cursor.new }
+fn pass_each(cursor: &mut Cursor<'_>, layout: &Layout<'_>, width: Width) -> Result<(), FormFault>
+    ensures { Passes result (attributes_at (size_of width) layout.now cursor.old) cursor.new }
 {
-    let Some(steps) = declaration.steps(width) else {
-        return pass_attributes(cursor, &declaration.specs, width);
-    };
-    steps.pass(cursor)
+    match width {
+        Width::Four => layout.pass(cursor),
+        Width::Eight => pass_attributes(cursor, layout.specs(), width),
+    }
 }
 
-/// Passes over the values of an entry, in one step where its declaration says how far.
+/// Passes over the values of an entry, in one step where its layout says how far.
+#[inline(always)]
+fn pass_laid(cursor: &mut Cursor<'_>, layout: &Layout<'_>, width: Width) -> Result<(), FormFault>
+    ensures { Passes result (attributes_at (size_of width) layout.now cursor.old) cursor.new }
+{
+    if let Some(size) = layout.size(width) {
+        let _values = cursor.take(size).ok_or(FormFault::End)?;
+        return Ok(());
+    }
+    // A cursor that is lent lies in memory; the caller's own stays in registers.
+    let mut place = cursor.fork();
+    pass_each(&mut place, layout, width)?;
+    *cursor = place;
+    Ok(())
+}
+
+/// Passes over the values of an entry.
 #[inline(always)]
 pub(crate) fn pass_values(
     cursor: &mut Cursor<'_>,
-    declaration: &Decl<'_>,
+    shape: Shape<'_, '_>,
     width: Width,
 ) -> Result<(), FormFault>
-    ensures { Passes result (attributes_at (size_of width) declaration.now.specs cursor.old)
-        cursor.new }
+    ensures { Passes result (attributes_at (size_of width) (specs_of shape.entry) cursor.old) cursor.new }
 {
-    let Some(size) = declaration.size(width) else {
-        return pass_by_steps(cursor, declaration, width);
-    };
-    let _values = cursor.take(size).ok_or(FormFault::End)?;
-    Ok(())
+    match shape {
+        Shape::Laid(layout) => pass_laid(cursor, layout, width),
+        Shape::Declared(specs) => {
+            let mut place = cursor.fork();
+            pass_attributes(&mut place, specs, width)?;
+            *cursor = place;
+            Ok(())
+        }
+    }
 }

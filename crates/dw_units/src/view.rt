@@ -1,6 +1,6 @@
 //! Entries whose values are read when they are asked for, by sections 7.5.2 to 7.5.6 of DWARF 5.
 
-ghost use Rattle.std.specs.Prelude.{◌≡◌, Ok, option_map};
+ghost use Rattle.std.specs.Prelude.{◌≡◌, IfSome, Ok, option_map};
 ghost use Rattle.dw_model.specs.Abbrev.{abbreviations};
 ghost use Rattle.dw_model.specs.Answers.{ReadsOn};
 ghost use Rattle.dw_model.specs.Entry.{entry_at};
@@ -11,23 +11,27 @@ ghost use Rattle.dw_forms.specs.Fault.{form_fault};
 ghost use Rattle.dw_forms.specs.Table.{declarations_of};
 ghost use Rattle.dw_forms.specs.Value.{value_shown};
 ghost use Rattle.dw_units.specs.Header.{header_shown};
+ghost use Rattle.dw_units.specs.Layouts.{AreOf};
 ghost use Rattle.dw_units.specs.Sections.{sections_shown};
 ghost use Rattle.dw_units.specs.View.{found_in};
 
 use crate::class::counts;
 use crate::entry::cursor_at;
 use crate::header::Header;
+use crate::layouts::{Layouts, meaning_of};
 use crate::sections::Sections;
 use crate::values::pass_values;
 use dw_bytes::{Cursor, Width};
-use dw_forms::{AbbrevTable, Decl, FormFault, Value};
+use dw_forms::{AbbrevTable, FormFault, Shape, Value};
 use std::marker::Model;
 
 /// An entry that can be read, of which each value is read when it is asked for: so it takes no
 /// memory. Contracts see the entry.
 #[derive(Drop)]
 pub struct EntryView<'b, 'a> {
-    pub(crate) declaration: &'b Decl<'a>,
+    pub(crate) tag: u64,
+    pub(crate) children: bool,
+    pub(crate) shape: Shape<'b, 'a>,
     /// How many bytes the offsets of its unit have.
     pub(crate) width: Width,
     /// Its offset, which counts from the first byte of .debug_info.
@@ -59,14 +63,14 @@ impl<'b, 'a> EntryView<'b, 'a> {
     pub fn children(&self) -> bool
         ensures { result ≡ self.now.children }
     {
-        self.declaration.children
+        self.children
     }
 
     /// A DW_TAG code.
     pub fn tag(&self) -> u64
         ensures { result ≡ self.now.tag }
     {
-        self.declaration.tag
+        self.tag
     }
 
     /// The value of the first attribute of a name, where it is of a kind that counts for the name;
@@ -76,9 +80,7 @@ impl<'b, 'a> EntryView<'b, 'a> {
     pub fn attr(&self, name: u64) -> Option<Value<'a>>
         ensures { option_map value_shown result ≡ model.attribute name self.now }
     {
-        let value = self
-            .declaration
-            .first_value(name, &self.values, self.width)?;
+        let value = self.shape.first_value(name, &self.values, self.width)?;
         if !counts(name, &value) {
             return None;
         }
@@ -92,8 +94,10 @@ impl<'b, 'a> EntryView<'b, 'a> {
 fn view_at<'b, 'a>(
     cursor: &mut Cursor<'a>,
     abbrevs: AbbrevTable<'b, 'a>,
+    layouts: Option<&'b Layouts<'a>>,
     width: Width,
 ) -> Result<Option<EntryView<'b, 'a>>, FormFault>
+    requires { IfSome layouts (λ layouts. AreOf (declarations_of abbrevs) layouts.now) }
     ensures { ReadsOn (λ found. found) form_fault result
         (entry_at (size_of width) (declarations_of abbrevs.entry) cursor.old) cursor.new }
 {
@@ -102,11 +106,13 @@ fn view_at<'b, 'a>(
     if code == 0 {
         return Ok(None);
     }
-    let declaration = abbrevs.get(code).ok_or(FormFault::Code)?;
+    let meant = meaning_of(layouts, abbrevs, code).ok_or(FormFault::Code)?;
     let values = cursor.fork();
-    pass_values(cursor, declaration, width)?;
+    pass_values(cursor, meant.shape, width)?;
     Ok(Some(EntryView {
-        declaration,
+        tag: meant.tag,
+        children: meant.children,
+        shape: meant.shape,
         width,
         offset,
         values,
@@ -120,16 +126,19 @@ pub(crate) fn view_in<'b, 'a>(
     sections: &Sections<'a>,
     unit: &Header,
     abbrevs: AbbrevTable<'b, 'a>,
+    layouts: Option<&'b Layouts<'a>>,
     offset: u64,
 ) -> Option<EntryView<'b, 'a>>
-    requires { abbreviations sections.now.abbrevs.now unit.now.debug_abbrev_offset ≡ Ok (declarations_of abbrevs) }
+    requires layouts { IfSome layouts (λ layouts. AreOf (declarations_of abbrevs) layouts.now) }
+    requires table { abbreviations sections.now.abbrevs.now unit.now.debug_abbrev_offset
+        ≡ Ok (declarations_of abbrevs) }
     ensures { result ≡ found_in (entry (sections_shown sections.now) (header_shown unit.now) offset) }
 {
     if offset < unit.first_entry || offset >= unit.end {
         return None;
     }
     let mut cursor = cursor_at(sections, unit, offset)?;
-    match view_at(&mut cursor, abbrevs, unit.width) {
+    match view_at(&mut cursor, abbrevs, layouts, unit.width) {
         Ok(found) => found,
         Err(_) => None,
     }

@@ -53,32 +53,21 @@ fn file_with(alloc: Global, entry: &[u8], declarations: &[u8]) -> Result<Vec<u8>
     file_of(alloc, &info, declarations)
 }
 
-/// Why the second entry can't be read, by itself and into one that is kept.
-fn faults_in<'a>(
-    alloc: Global,
-    units: &Units<'a>,
-    kept: &mut Entry<'a>,
-) -> Result<[Option<FormFault>; 2], Fail> {
+/// Why the second entry can't be read, of a file with this one.
+fn fault_of(alloc: Global, entry: &[u8]) -> Result<Option<FormFault>, Fail> {
+    let file = file_with(alloc, entry, DECLARATIONS)?;
+    let units = units_of(alloc, &file)?;
     if units.len() == 0 {
         return Err(Fail::from("a unit"));
     }
-    let alone = units.entry(alloc, 0, 13).err();
-    let in_place = units.read_entry(0, 13, kept).err();
-    Ok([alone, in_place])
-}
-
-/// The same of a file with this entry.
-fn faults_of(alloc: Global, entry: &[u8]) -> Result<[Option<FormFault>; 2], Fail> {
-    let file = file_with(alloc, entry, DECLARATIONS)?;
-    let units = units_of(alloc, &file)?;
-    faults_in(alloc, &units, &mut Entry::unread(alloc))
+    Ok(units.entry(alloc, 0, 13).err())
 }
 
 #[test]
 fn faults_of_entries(rt: HostRuntime) -> Result<(), Fail> {
     for (entry, fault) in &FAULTS {
-        let found = faults_of(rt.alloc(), entry)?;
-        expect(&rt, entry, &found, &[Some(*fault); 2]);
+        let found = fault_of(rt.alloc(), entry)?;
+        expect(&rt, entry, &found, &Some(*fault));
     }
     Ok(())
 }
@@ -262,7 +251,7 @@ fn units_at_last<'a>(alloc: Global, file: &'a [u8]) -> Result<Units<'a>, OpenFau
 }
 
 /// The entry at 13 of the first unit, read once more where an allocation was refused.
-fn alone_at_last<'a>(alloc: Global, units: &Units<'a>) -> Result<Option<Entry<'a>>, FormFault> {
+fn entry_at_last<'a>(alloc: Global, units: &Units<'a>) -> Result<Option<Entry<'a>>, FormFault> {
     if units.len() == 0 {
         return Ok(None);
     }
@@ -273,36 +262,12 @@ fn alone_at_last<'a>(alloc: Global, units: &Units<'a>) -> Result<Option<Entry<'a
     units.entry(alloc, 0, 13)
 }
 
-/// The same, read into one that is kept, and whether there is one.
-fn in_place_at_last<'a>(units: &Units<'a>, kept: &mut Entry<'a>) -> Result<bool, FormFault> {
-    if units.len() == 0 {
-        return Ok(false);
-    }
-    let read = units.read_entry(0, 13, kept);
-    let Err(FormFault::Memory) = read else {
-        return read;
-    };
-    units.read_entry(0, 13, kept)
-}
-
 /// The entry is whole, where it is read once more after an allocation was refused.
-fn is_whole_alone(alloc: Global, units: &Units<'_>) -> Result<bool, Fail> {
-    match alone_at_last(alloc, units)? {
+fn is_whole_at_last(alloc: Global, units: &Units<'_>) -> Result<bool, Fail> {
+    match entry_at_last(alloc, units)? {
         Some(found) => Ok(is_whole(alloc, &found)?),
         None => Err(Fail::from("no null entry")),
     }
-}
-
-/// The same, read into another.
-fn is_whole_in_place(alloc: Global, units: &Units<'_>) -> Result<bool, Fail> {
-    let mut kept = Entry::unread(alloc);
-    let read = in_place_at_last(units, &mut kept)?;
-    Ok(read && is_whole(alloc, &kept)?)
-}
-
-/// Both hold.
-fn is_read_at_last(alloc: Global, units: &Units<'_>) -> Result<bool, Fail> {
-    Ok(is_whole_alone(alloc, units)? && is_whole_in_place(alloc, units)?)
 }
 
 /// Where an allocation is refused, units and an entry are out of memory, and the same call, with
@@ -314,6 +279,6 @@ fn each_allocation_refused(rt: HostRuntime) -> Result<(), Fail> {
         return Ok(());
     };
     let units = units_at_last(rt.alloc(), &file)?;
-    assert!(rt; is_read_at_last(rt.alloc(), &units)?);
+    assert!(rt; is_whole_at_last(rt.alloc(), &units)?);
     Ok(())
 }

@@ -173,8 +173,10 @@ fn has_first_base(here: OpenUnit<'_, '_>) -> bool {
     let Some(root) = &here.unit().root else {
         return true;
     };
-    root.attr(DW_AT_low_pc)
-        .map_or(true, |low| here.address(low).is_some())
+    match root.attr(DW_AT_low_pc) {
+        Some(low) => here.address(low).is_some(),
+        None => true,
+    }
 }
 
 /// Why the ranges of an entry of a unit can't be read.

@@ -38,7 +38,7 @@ fn other_note<'a>(alloc: Global, tree: &Tree<'a>, id: EntryId, by: Range) -> All
 }
 
 /// An attribute by which an entry has a name, where its text can be read.
-fn own_name(here: OpenUnit<'_, '_>, entry: &Entry<'_>) -> Option<Words> {
+fn own_name<'a>(here: OpenUnit<'_, 'a>, entry: &Entry<'a>) -> Option<Words> {
     for (name, text) in [
         (DW_AT_linkage_name, "DW_AT_linkage_name"),
         (DW_AT_name, "DW_AT_name"),

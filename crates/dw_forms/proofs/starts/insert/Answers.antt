@@ -10,7 +10,7 @@ pub returns-in_default-clause-undone : goal.returns-in_default-clause-undone
 returns-in_default-clause-undone c =
     let offsets = c.args.read.now.offsets in
     let added = added-same c.args.run offsets c.args.starts.now.entries c.loop-index.index c.loop-index.starts.entries c.insert.new.self.entries c.in_default.ensures.err c.loop-index.invariant in
-    undone c.args.run offsets c.args.starts.now.entries c.loop-index.index c.insert.new.self.entries c.take_away.new.starts.entries c.requires.rising added c.take_away.ensures
+    undone c.args.run offsets c.args.starts.now.entries c.loop-index.index c.insert.new.self.entries c.take_away.new.starts.entries c.requires.apart c.requires.rising added c.take_away.ensures
 
 pub loop-index-preserved : goal.loop-index-preserved
 loop-index-preserved c =

@@ -13,14 +13,14 @@ returns-in_err-read_from_first-clause-follows c =
     let knows : Knows c.new-reader.result c.new-drafts.result = subst (λ (drafts : Drafts). Knows c.new-reader.result drafts) (sym c.new-drafts.ensures) c.new-reader.ensures.knows in
     let p = err_from_is_err_and c.from_residual.result c.from_residual.ensures.1 in
     let is = c.new-drafts.ensures ∙ ap no_drafts (sym c.new-reader.ensures.of) in
-    let told = (rw (c.new-reader.ensures.of) at (c.in_err-read_from_first.ensures.follows knows is)) c.in-Some.ensures in
+    let told = (rw (c.new-reader.ensures.of) at (c.in_err-read_from_first.ensures.follows knows is)) c.requires in
     rw (p.1) (subst (λ fault. MatchOption (tree_fault fault) (Unit {0}) (λ told. tree (sections_of c.args.unit) (unit_of c.args.unit) ≡ Err told)) (sym p.2) told)
 
 pub returns-clause-follows : goal.returns-clause-follows
 returns-clause-follows c =
     let knows : Knows c.new-reader.result c.new-drafts.result = subst (λ (drafts : Drafts). Knows c.new-reader.result drafts) (sym c.new-drafts.ensures) c.new-reader.ensures.knows in
     let is = c.new-drafts.ensures ∙ ap no_drafts (sym c.new-reader.ensures.of) in
-    (rw (c.new-reader.ensures.of) at (c.in_ok-read_from_first.ensures.follows knows is)) c.in-Some.ensures
+    (rw (c.new-reader.ensures.of) at (c.in_ok-read_from_first.ensures.follows knows is)) c.requires
 
 pub returns-clause-of : goal.returns-clause-of
 returns-clause-of c =

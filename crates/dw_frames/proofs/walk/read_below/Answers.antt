@@ -16,7 +16,7 @@ more depth lists left done same some is open_still =
     or_from (lists == 0) (left == 0) (ne_eqb lists 0 (λ e. absurd (omega (arith, e, same, some)))) (sym is ∙ open_still)
 
 pub loop-entries-init : goal.loop-entries-init
-loop-entries-init c = (refl, λ knows. (knows, λ before f. starts c.args.reader.now.of.sections c.args.reader.now.of.unit before c.args.entries.now c.args.drafts.now f))
+loop-entries-init c = (refl, λ knows. (knows, λ before f. starts c.args.reader.now.of.sections c.args.reader.now.of.unit before c.args.entries.now c.args.drafts.now f), refl)
 
 pub returns-in_err-next-clause-follows : goal.returns-in_err-next-clause-follows
 returns-in_err-next-clause-follows c knows before f =
@@ -41,6 +41,7 @@ loop-entries-preserved c = (
         let kept = (rw (c.loop-entries.invariant.0) at (c.in_ok-keep.ensures.entry (c.loop-entries.invariant.1 knows).0)) (ranged_at c.loop-entries.entries.declarations c.loop-entries.entries.place) read.0 read.2 in
         goes-on c.args.reader.now.of.sections c.args.reader.now.of.unit before c.args.entries.now (length c.args.drafts.now.lists) c.loop-entries.drafts c.keep.new.drafts c.loop-entries.entries c.next_function.new.self read.0 open_still c.in_ok-next.ensures.declarations c.in_ok-next.ensures.offset_size read.1 kept.0 kept.1 ((c.loop-entries.invariant.1 knows).1 before f),
   ),
+  c.in_ok-next.ensures.declarations ∙ c.loop-entries.invariant.2,
 )
 
 pub returns-in_err-keep-clause-follows : goal.returns-in_err-keep-clause-follows

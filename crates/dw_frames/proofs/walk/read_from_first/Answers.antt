@@ -20,7 +20,7 @@ pub returns-in-Null-clause-follows : goal.returns-in-Null-clause-follows
 returns-in-Null-clause-follows c knows is walk =
     let of = c.args.reader.now.of in
     let read = c.in_ok-first.ensures.next in
-    root-null of.sections of.unit c.args.entries.now walk.3 walk.0 walk.1 read.0 c.next_function.new.self.place read.1 (subst (λ next. IsNext (ranged_at c.args.entries.now.declarations c.args.entries.now.place) next read.0) c.in-Null.is read.2)
+    root-null of.sections of.unit c.args.entries.now walk.3 walk.0 walk.1 read.0 c.next_function.new.self.place read.1 (subst (λ next. IsNext (ranged_at c.args.entries.now.declarations c.args.entries.now.place) next read.0 c.next_function.new.self.last) c.in-Null.is read.2)
 
 pub returns-in_err-keep-clause-follows : goal.returns-in_err-keep-clause-follows
 returns-in_err-keep-clause-follows c knows is walk =
@@ -34,7 +34,7 @@ pub returns-clause-follows : goal.returns-clause-follows
 returns-clause-follows c knows is walk =
     let of = c.args.reader.now.of in
     let read = c.in_ok-first.ensures.next in
-    let first = found-some (ranged_at c.args.entries.now.declarations c.args.entries.now.place) c.in_ok-first.first read.0 read.2 c.in_default.not-Null in
+    let first = found-some (ranged_at c.args.entries.now.declarations c.args.entries.now.place) c.in_ok-first.first read.0 c.next_function.new.self.last read.2 c.in_default.not-Null in
     let kept = c.in_ok-keep.ensures.entry knows (ranged_at c.args.entries.now.declarations c.args.entries.now.place) read.0 read.2 in
     let b = began of.sections of.unit c.args.entries.now walk.3 walk.0 walk.1 of c.args.drafts.now c.keep.new.drafts read.0 first.0 c.next_function.new.self is c.in_ok-first.ensures.declarations c.in_ok-first.ensures.offset_size read.1 first.1 kept.0 kept.1 in
     below-read of.sections of.unit c.args.entries.now walk.3 walk.0 walk.1 c.args.drafts.now c.keep.new.drafts c.read_below.new.drafts c.next_function.new.self c.read_below.result b ((rw (c.in_ok-keep.ensures.same) at (c.read_below.ensures.follows (c.in_ok-keep.ensures.known knows))) (record { depth = 0; entry = b.entry } ∷ []) b.follows)

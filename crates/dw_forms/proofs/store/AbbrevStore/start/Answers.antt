@@ -7,7 +7,7 @@ use Rattle.dw_forms.specs.Run.{ReadRun}
 use Rattle.dw_forms.specs.Starts.{AreRising}
 use Rattle.dw_forms.specs.StoreInside.{sizes_of}
 use Rattle.dw_forms.proofs.StartLemmas.{rising}
-use Rattle.dw_forms.proofs.StoreLemmas.{added-run, below-more, counted-more, tabled-more, starts-more, first-of, leads, stands-taken, run-ends, readable, hides, stored}
+use Rattle.dw_forms.proofs.StoreLemmas.{added-run, read-there, below-more, counted-more, tabled-more, starts-more, first-of, leads, stands-taken, run-ends, readable, hides, stored}
 use Rattle.dw_forms.proofs.store.AbbrevStore.start.Goals as goal
 
 pub returns-in-Some-clause-found : goal.returns-in-Some-clause-found
@@ -24,8 +24,8 @@ returns-in_err-push-clause-memory c =
     let s = stands-taken c.self.inside.section.now c.in-Some-take.field-0.now c.args.offset c.new-cursor.result c.fork.result c.take.new.self c.new-cursor.ensures c.fork.ensures c.in-Some-take.ensures in
     rw (← c.self.view_is) (hides c.from_residual-in_err-push.result (abbreviations c.self.inside.section.now c.args.offset) (readable c.self.inside.section.now c.self.inside.runs.items c.self.inside.starts c.fork.result c.in-Ok.declarations.items c.in-Ok.rest c.args.offset c.self.invariant.starts s c.in-Ok.ensures.run))
 
-pub invariant_of-self : goal.invariant_of-self
-invariant_of-self c =
+pub invariant_of-self-in_err-push : goal.invariant_of-self-in_err-push
+invariant_of-self-in_err-push c =
     stored _ c.self.inside.runs.items c.in_err-push.ensures.items c.self.invariant.tabled c.self.invariant.counted c.self.invariant.below c.self.invariant.starts
 
 pub add-requires-clause-rising : goal.add-requires-clause-rising
@@ -84,3 +84,15 @@ returns-clause-found c =
     let last : c.len-run.result ≡ length runs = omega (arith, c.len-run.ensures) in
     let end = run-ends section runs c.self.inside.starts c.fork.result c.in-Ok.declarations.items c.in-Ok.rest run.rest c.self.invariant.starts s.0 c.in_ok-read.ensures.rest h in
     first-of section runs run c.self.invariant.tabled.count c.push.new.self.items c.len-run.result c.args.offset c.fork.result h.0 end.0 c.in-Ok.declarations.items c.in_ok-push.ensures.items last c.in_ok-read.ensures.declarations s h.1 end.1
+
+pub returns-clause-read : goal.returns-clause-read
+returns-clause-read c =
+    let section = c.self.inside.section.now in
+    let runs = c.self.inside.runs.items in
+    let run = c.in_ok-read.read in
+    let s = stands-taken section c.in-Some-take.field-0.now c.args.offset c.new-cursor.result c.fork.result c.take.new.self c.new-cursor.ensures c.fork.ensures c.in-Some-take.ensures in
+    let h = c.in-Ok.ensures.run in
+    let last : c.len-run.result ≡ length runs = omega (arith, c.len-run.ensures) in
+    let added = added-run section runs run c.self.invariant.tabled.count c.push.new.self.items c.len-run.result c.index.result.now c.in_ok-push.ensures.items last c.index.ensures in
+    let offsets = ap (λ (run : ReadRun). run.offsets) added ∙ c.in_ok-read.ensures.offsets in
+    read-there section runs run c.self.invariant.tabled.count c.push.new.self.items c.len-run.result c.args.offset c.fork.result h.0 c.in-Ok.declarations.items c.in-Ok.rest c.index.result.now.offsets c.self.inside.starts c.add.new.self c.in_ok-push.ensures.items last c.in_ok-read.ensures.declarations c.in_ok-read.ensures.rest offsets s.1 h.1 h.2 (sym c.in_default.ensures) c.in-Ok-add.ensures.added

@@ -1,8 +1,12 @@
-use Rattle.std.proofs.Common.{◌≡◌, ◌∙◌, ◌≤◌, ◌+◌, ℕ, length, sym, ap, subst}
+use Rattle.std.proofs.Common.{◌≡◌, ◌∙◌, ◌≤◌, ◌+◌, ℕ, List, Ok, length, sym, ap, subst, subst₂}
+use Rattle.dw_model.specs.Abbrev.{Declaration, abbreviations}
 use Rattle.dw_model.specs.Section.{Sections}
+use Rattle.dw_model.proofs.StepLemmas.{ok_is}
 use Rattle.dw_index.specs.Owners.{least_owner}
 use Rattle.dw_units.specs.declared.open_unit.OpenUnit.{OpenUnit}
-use Rattle.dw_units.specs.OpenUnit.{sections_of}
+use Rattle.dw_units.specs.Layouts.{AreOf, AreOfUnit}
+use Rattle.dw_units.specs.OpenUnit.{sections_of, unit_of}
+use Rattle.dw_units.specs.declared.layouts.Layouts.{Layouts}
 use Rattle.dw_units.specs.UnitAt.{unit_at}
 use Rattle.dw_frames.specs.declared.chains.Chains.{Chains}
 use Rattle.dw_frames.specs.Kept.{most_listed}
@@ -18,9 +22,15 @@ of-file here sections index chains file at tree =
     subst (λ index. IsTreeOf (record { index = index; sections = sections; unit = unit_at sections index }) chains) at
     (subst (λ (sections : Sections). IsTreeOf (record { index = here.index; sections = sections; unit = unit_at sections here.index }) chains) file tree)
 
+-- the layouts are those of the declarations of that unit
+layouts-of : (here : OpenUnit) (sections : Sections) (index : ℕ) (declarations : List Declaration) (layouts : Layouts) → sections_of here ≡ sections → here.index ≡ index → abbreviations (sections_of here).abbrevs (unit_of here).debug_abbrev_offset ≡ Ok declarations → AreOf declarations layouts
+    → AreOfUnit sections (unit_at sections index) layouts
+layouts-of here sections index declarations layouts file at known are =
+    subst₂ (λ (sections : Sections) (index : ℕ). AreOfUnit sections (unit_at sections index) layouts) file at (λ others e. subst (λ (declarations : List Declaration). AreOf declarations layouts) (ok_is declarations others (sym known ∙ e)) are)
+
 pub invariant_of-result : goal.invariant_of-result
 invariant_of-result c =
-    let of = unit_in c.at.result in
+    let of = unit_in c.at-unit.result in
     let read = c.in_ok-drafts.ensures.follows in
     let same : c.in_ok-drafts.drafts.of ≡ of = c.in_ok-drafts.ensures.of in
     let built = c.in_ok-chains.ensures in
@@ -30,8 +40,9 @@ invariant_of-result c =
     let inlined = subst (λ (of : UnitIn). all_inlined of.sections.tables chains ≡ drafts.inlined) same built.inlined in
     let outermost = subst (λ (of : UnitIn). (a : ℕ) → outermost_at of.sections.tables chains a ≡ least_owner drafts.outermost a) same built.outermost in
     let room = subst (λ (of : UnitIn). chains.ranges ≤ most_listed of.unit + length drafts.functions) same built.few in
-    let tree = is-tree of read.0 drafts read.1 chains read.2 read.3 index c.at.result.within built.functions inlined outermost room built.counted in
+    let tree = is-tree of read.0 drafts read.1 chains read.2 read.3 index c.at-unit.result.within built.functions inlined outermost room built.counted in
     record {
-      chains = of-file c.at.result c.in_ok-units.units.value chains.unit chains (c.at.ensures.sections ∙ c.deref.ensures ∙ sym c.in_ok-units.ensures) (sym index) tree;
-      told = none-told _ c.new-told.result.kept.items c.new-told.ensures;
+      chains = of-file c.at-unit.result c.in_ok-try_clone.field-0.value chains.unit chains (c.at-unit.ensures.sections ∙ c.deref.ensures ∙ sym c.in_ok-try_clone.ensures) (sym index) tree;
+      layouts = layouts-of c.at-unit.result c.in_ok-try_clone.field-0.value chains.unit c.in-Some.entries.declarations c.into_layouts.result (c.at-unit.ensures.sections ∙ c.deref.ensures ∙ sym c.in_ok-try_clone.ensures) (sym index) c.in-Some.ensures.0 (subst (λ (declarations : List Declaration). AreOf declarations c.into_layouts.result) c.in_ok-drafts.ensures.declarations c.into_layouts.ensures);
+      told = none-told _ c.new.result.list.items c.new.ensures;
     }

@@ -6,4 +6,4 @@ use Rattle.dw_units.proofs.attributes.Attributes.first.Goals as goal
 pub returns : goal.returns
 returns c =
     let read = c.self.invariant.readable in
-    c.first_value.ensures read.0 read.1 ∙ ap (first_of c.args.name) (sym (ap attributes_in read.1) ∙ c.self.view_is)
+    c.first_value.ensures.read read.0 read.1 ∙ ap (first_of c.args.name) (sym (ap attributes_in read.1) ∙ c.self.view_is)

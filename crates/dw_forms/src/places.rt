@@ -1,0 +1,184 @@
+//! Where the values of attributes that are used are in the entries of a declaration.
+
+ghost use Rattle.std.specs.Prelude.{◌≡◌, ◌++◌, ◌∷◌, ◌&&◌, ◌||◌, [], ℕ, List, IfOk, OnOk, true};
+ghost use Rattle.std.specs.Prelude.{is_some, length, map, option_map, take};
+ghost use Rattle.dw_model.specs.declared.dwarf.TheConstants.{OFFSET_SIZE_32};
+ghost use Rattle.dw_model.specs.Abbrev.{Specification};
+ghost use Rattle.dw_forms.specs.Named.{value_up_to};
+ghost use Rattle.dw_forms.specs.Names.{is_used};
+ghost use Rattle.dw_forms.specs.Spec.{spec_shown};
+ghost use Rattle.dw_forms.specs.Steps.{find_place, AreAtHand, ArePlaces, AreSteps, IsPlaced};
+ghost use Rattle.dw_forms.specs.Value.{value_shown};
+
+use crate::declaration::Spec;
+use crate::names::is_used;
+use crate::steps::{Step, pass_steps, passed_with};
+use crate::value::{Value, value_ahead};
+use dw_bytes::{Cursor, Width};
+use dw_model::dwarf::{DW_AT_high_pc, DW_AT_low_pc, DW_AT_ranges};
+use smallvec::SmallVec;
+use std::alloc::{AllocError, Global};
+
+/// Where the value of the first attribute of a name is: after so many steps, and so many bytes
+/// more.
+#[derive(Clone, Copy, Debug, Default, PartialEq, Eq)]
+pub(crate) struct Place {
+    spec: Spec,
+    count: usize,
+    offset: usize,
+}
+
+/// What is known of where the values are of the entries of a declaration. Most of it needs no
+/// allocation.
+#[derive(Drop)]
+pub(crate) struct Places {
+    /// The values of no fixed size.
+    pub(crate) steps: SmallVec<Step, 2>,
+    /// How many bytes are after the last of them.
+    pub(crate) rest: usize,
+    /// The values of the first attributes of the names that are used.
+    pub(crate) list: SmallVec<Place, 6>,
+    /// Those that are asked of every function, at hand.
+    pub(crate) bounds: Bounds,
+}
+
+/// The places of the attributes that say which addresses a function has.
+#[derive(Clone, Copy, Debug, Default, PartialEq, Eq)]
+pub(crate) struct Bounds {
+    pub(crate) low: Option<Place>,
+    pub(crate) high: Option<Place>,
+    pub(crate) ranges: Option<Place>,
+}
+
+impl Bounds {
+    /// DW_AT_ranges is among them, or both of DW_AT_low_pc and DW_AT_high_pc are.
+    pub(crate) fn may_have_ranges(&self) -> bool
+        ensures { result ≡ (is_some self.now.ranges || (is_some self.now.low && is_some self.now.high)) }
+    {
+        self.ranges.is_some() || (self.low.is_some() && self.high.is_some())
+    }
+}
+
+/// The place of a name among some.
+#[inline(always)]
+fn find_place(places: &[Place], name: u64) -> Option<&Place>
+    ensures { option_map (λ place. place.now) result ≡ find_place name places.now }
+{
+    places.iter().find(|place| place.spec.name == name)
+}
+
+/// A copy of the place of a name.
+fn copied_place(places: &[Place], name: u64) -> Option<Place>
+    ensures { result ≡ find_place name places.now }
+{
+    let place = find_place(places, name)?;
+    Some(*place)
+}
+
+impl Places {
+    /// The place of a name.
+    #[inline(always)]
+    pub(crate) fn find(&self, name: u64) -> Option<&Place>
+        requires { AreAtHand self.now }
+        ensures { option_map (λ place. place.now) result ≡ find_place name self.now.list.items }
+    {
+        match name {
+            DW_AT_low_pc => self.bounds.low.as_ref(),
+            DW_AT_high_pc => self.bounds.high.as_ref(),
+            DW_AT_ranges => self.bounds.ranges.as_ref(),
+            _ => find_place(self.list.as_slice(), name),
+        }
+    }
+}
+
+/// Keeps the place of an attribute that is the first of a name that is used, after so many steps
+/// and bytes.
+fn note(
+    places: &mut SmallVec<Place, 6>,
+    spec: &Spec,
+    count: usize,
+    offset: usize,
+) -> Result<(), AllocError>
+    ensures { (steps : List Step) (specs : List Specification) → AreSteps steps offset specs → length steps ≡ count
+        → ArePlaces steps places.old.items specs
+        → OnOk result (ArePlaces steps places.new.items (specs ++ spec_shown spec.now ∷ [])) }
+{
+    if !is_used(spec.name) {
+        return Ok(());
+    }
+    if let Some(_) = find_place(places.as_slice(), spec.name) {
+        return Ok(());
+    }
+    let spec = *spec;
+    places.push(Place {
+        spec,
+        count,
+        offset,
+    })?;
+    Ok(())
+}
+
+/// Where the values are in the entries with these attributes.
+pub(crate) fn places_of(alloc: Global, specs: &[Spec]) -> Result<Places, AllocError>
+    ensures steps { IfOk result (λ places. AreSteps places.steps.items places.rest (map spec_shown specs.now)) }
+    ensures list { IfOk result (λ places. ArePlaces places.steps.items places.list.items (map spec_shown specs.now)) }
+    ensures bounds { IfOk result AreAtHand }
+{
+    let mut steps = SmallVec::new(alloc);
+    let mut list = SmallVec::new(alloc);
+    let mut rest: usize = 0;
+    for spec in specs {
+        note(&mut list, spec, steps.len(), rest)?;
+        let Some(passed) = passed_with(spec, rest) else {
+            let spec = *spec;
+            steps.push(Step { before: rest, spec })?;
+            rest = 0;
+            continue;
+        };
+        rest = passed;
+    }
+    let known = list.as_slice();
+    let bounds = Bounds {
+        low: copied_place(known, DW_AT_low_pc),
+        high: copied_place(known, DW_AT_high_pc),
+        ranges: copied_place(known, DW_AT_ranges),
+    };
+    Ok(Places {
+        steps,
+        rest,
+        list,
+        bounds,
+    })
+}
+
+/// The first of some steps, so many where there are as many.
+#[inline(always)]
+fn first_steps(steps: &[Step], count: usize) -> &[Step]
+    ensures { result.now ≡ take count steps.now }
+{
+    if count >= steps.len() {
+        return steps;
+    }
+    &steps[..count]
+}
+
+/// The value at a place, in an entry whose values begin at a cursor; `None` where it or one before
+/// it can't be read.
+pub(crate) fn value_at_place<'a>(
+    steps: &[Step],
+    place: &Place,
+    values: &Cursor<'a>,
+) -> Option<Value<'a>>
+    ensures { (name : ℕ) (specs : List Specification) → IsPlaced steps.now name place.now specs
+        → option_map value_shown result ≡ value_up_to OFFSET_SIZE_32 name specs values.now }
+{
+    let mut cursor = values.fork();
+    let Ok(()) = pass_steps(first_steps(steps, place.count), place.offset, &mut cursor) else {
+        return None;
+    };
+    let spec = place.spec;
+    let Ok(value) = value_ahead(&mut cursor, spec.form, spec.implicit, Width::Four) else {
+        return None;
+    };
+    Some(value)
+}
