@@ -1,11 +1,9 @@
--- Where declarations begin: starts that are added and taken away, and how many there are.
+-- Where declarations begin: starts that are added, and how many there are.
 use Rattle.std.proofs.Common.{◌≡◌, ◌⊎◌, inl, inr, ◌∙◌, ℕ, zero, suc, ◌+◌, ◌<◌, ◌≤◌, Bool, true, false, cond, List, [], ◌∷◌, ◌++◌, length, map, drop, get_or, Option, Some, None, Ok, refl, sym, ap, subst, arith}
-use Rattle.std.specs.Prelude.{IsSome, fold, is_some, slice_get, sum, ◌==◌, if◌then◌else◌}
-use Rattle.std.specs.Ordering.{nat_cmp}
-use Rattle.std.specs.Cmp.{unsigned_tied}
-use Rattle.std.specs.BTreeMap.{is_at}
+use Rattle.std.specs.Prelude.{IsSome, fold, slice_get, sum, ◌==◌}
+use Rattle.std.specs.Option.{option_or}
 use Rattle.std.proofs.lemmas.Bool.{eqb-true, eqb-false}
-use Rattle.std.proofs.lemmas.List.{length-append, length-drop}
+use Rattle.std.proofs.lemmas.List.{length-append, length-drop, length_push}
 use Rattle.std.proofs.lemmas.List.Sums.{sum-map, sum_by-append, sum_by-cons}
 use Rattle.std.proofs.lemmas.Option.{same_Some}
 use Rattle.dw_model.specs.Reading.{Place}
@@ -15,7 +13,7 @@ use Rattle.dw_forms.specs.declared.declaration.Decl.{Decl}
 use Rattle.dw_forms.specs.declared.run.Start.{Start}
 use Rattle.dw_forms.specs.Declaration.{declaration_shown}
 use Rattle.dw_forms.specs.Run.{ReadRun}
-use Rattle.dw_forms.specs.Starts.{StartList, start_at, AreAdded, AreApart, AreRising, AreTaken, IsAsBefore}
+use Rattle.dw_forms.specs.Starts.{StartList, start_at, AreAdded, AreApart, AreRising}
 use Rattle.dw_forms.specs.Store.{AreChained}
 use Rattle.dw_forms.specs.StoreInside.{grown, rest_in, sizes_of, tables_of, whole}
 use Rattle.dw_forms.proofs.OntoLemmas.{Stands, next-stands}
@@ -61,18 +59,32 @@ rising section p q (d ∷ ds) s h zero (suc k) a b less e f =
 rising section p q (d ∷ ds) s h (suc j) (suc k) a b less e f =
     rising section h.1 q ds (next-stands section p h.1 (declaration_shown d) s h.2) h.3 j k a b (omega (arith, less)) e f
 
--- ---- one start more, or less
+-- ---- one start more
 
-abbrev Writes : StartList → StartList → ℕ → Option Start → Type 0
-Writes old new key w = (q : ℕ) → start_at new q ≡ cond (is_at (nat_cmp key) q) w (start_at old q)
+-- what an offset has after a start was added at a key
+abbrev Adds : StartList → StartList → ℕ → Start → Type 0
+Adds old new key start = (q : ℕ) (same : Bool) → (q == key) ≡ same → start_at new q ≡ cond same (Some start) (start_at old q)
 
-written : (old new : StartList) (key : ℕ) (w : Option Start) → Writes old new key w → (q : ℕ) (same : Bool) → (key == q) ≡ same → start_at new q ≡ cond same w (start_at old q)
-written old new key w u q same e =
-    u q ∙ ap (λ (b : Bool). cond b w (start_at old q)) (unsigned_tied key q ∙ e)
+appended : (old : StartList) (key : ℕ) (start : Start) (q : ℕ) → start_at (old ++ (key, start) ∷ []) q ≡ option_or (start_at old q) (cond (q == key) (Some start) None)
+appended [] key start q = refl
+appended (first ∷ old) key start q = by (q == first.0) (appended old key start q)
+  where
+    by : (here : Bool) → start_at (old ++ (key, start) ∷ []) q ≡ option_or (start_at old q) (cond (q == key) (Some start) None)
+        → cond here (Some first.1) (start_at (old ++ (key, start) ∷ []) q) ≡ option_or (cond here (Some first.1) (start_at old q)) (cond (q == key) (Some start) None)
+    by true later = refl
+    by false later = later
 
-some-is : (found : Option Start) → IsSome found → (s : Start) × (found ≡ Some s)
-some-is None h = absurd cc
-some-is (Some s) h = (s, refl)
+or-none : (found : Option Start) → option_or found None ≡ found
+or-none None = refl
+or-none (Some start) = refl
+
+adds : (old : StartList) (key : ℕ) (start : Start) → start_at old key ≡ None → Adds old (old ++ (key, start) ∷ []) key start
+adds old key start none q same e =
+    appended old key start q ∙ ap (λ (here : Bool). option_or (start_at old q) (cond here (Some start) None)) e ∙ by same e
+  where
+    by : (same : Bool) → (q == key) ≡ same → option_or (start_at old q) (cond same (Some start) None) ≡ cond same (Some start) (start_at old q)
+    by true e = ap (λ (found : Option Start). option_or found (Some start)) (ap (start_at old) (eqb-true q key e) ∙ none)
+    by false e = or-none (start_at old q)
 
 one-offset : (offsets : List ℕ) (j k a : ℕ) → AreRising offsets → j < k → slice_get offsets j ≡ Some a → slice_get offsets k ≡ Some a → ⊥
 one-offset offsets j k a rise less e f = omega (arith, rise j k a a less e f)
@@ -99,107 +111,43 @@ module _ (run : ℕ) (offsets : List ℕ) (first : StartList) where
             | inr mine ↦ absurd (one-offset offsets s.index i key rise mine.1 mine.2 at)
           ]
 
-  pub added-one : (i key : ℕ) (start : Start) (was : Option Start) (old new : StartList) → AreApart first offsets → AreRising offsets → AreAdded run i offsets first old → slice_get offsets i ≡ Some key → start.run ≡ run → start.index ≡ i → Writes old new key (Some start) → was ≡ start_at old key
-      → length new ≡ length old + (if is_some was then 0 else 1) → AreAdded run (i + 1) offsets first new
-  added-one i key start was old new apart rise added at of_run of_index u found count = record {
-    each = λ offset s e. each offset s (key == offset) refl e;
-    there = λ k offset less e. there k offset less e (key == offset) refl;
-    kept = λ offset s e. kept offset s (key == offset) refl (added.kept offset s e);
-    counted = counted;
+  pub added-one : (i key : ℕ) (start : Start) (old : StartList) → AreApart first offsets → AreRising offsets → AreAdded run i offsets first old → slice_get offsets i ≡ Some key → start.run ≡ run → start.index ≡ i → AreAdded run (i + 1) offsets first (old ++ (key, start) ∷ [])
+  added-one i key start old apart rise added at of_run of_index = record {
+    each = λ offset s e. each offset s (offset == key) refl e;
+    there = λ k offset less e. there k offset less e (offset == key) refl;
+    kept = λ offset s e. kept offset s (offset == key) refl (added.kept offset s e);
+    counted = let more = length_push old (key, start) in omega (arith, more, added.counted);
   }
     where
-      kept : (offset : ℕ) (s : Start) (same : Bool) → (key == offset) ≡ same → start_at old offset ≡ Some s → start_at new offset ≡ Some s
+      none : start_at old key ≡ None
+      none = none-yet i key old apart rise added at
+
+      new : StartList
+      new = old ++ (key, start) ∷ []
+
+      kept : (offset : ℕ) (s : Start) (same : Bool) → (offset == key) ≡ same → start_at old offset ≡ Some s → start_at new offset ≡ Some s
       kept offset s true same e =
-          let none : Some s ≡ None = sym e ∙ ap (start_at old) (sym (eqb-true key offset same)) ∙ none-yet i key old apart rise added at in
+          let both : Some s ≡ None = sym e ∙ ap (start_at old) (eqb-true offset key same) ∙ none in
           absurd cc
-      kept offset s false same e = written old new key (Some start) u offset false same ∙ e
+      kept offset s false same e = adds old key start none offset false same ∙ e
 
-      counted : length new ≡ length first + (i + 1)
-      counted =
-          let one : length new ≡ length old + 1 = count ∙ ap (λ (was : Option Start). length old + (if is_some was then 0 else 1)) (found ∙ none-yet i key old apart rise added at) in
-          omega (arith, one, added.counted)
-
-      each : (offset : ℕ) (s : Start) (same : Bool) → (key == offset) ≡ same → start_at new offset ≡ Some s → (start_at first offset ≡ Some s) ⊎ ((s.run ≡ run) × (s.index < i + 1) × (slice_get offsets s.index ≡ Some offset))
+      each : (offset : ℕ) (s : Start) (same : Bool) → (offset == key) ≡ same → start_at new offset ≡ Some s → (start_at first offset ≡ Some s) ⊎ ((s.run ≡ run) × (s.index < i + 1) × (slice_get offsets s.index ≡ Some offset))
       each offset s true same e =
-          let is : start ≡ s = same_Some start s (sym (written old new key (Some start) u offset true same) ∙ e) in
+          let is : start ≡ s = same_Some start s (sym (adds old key start none offset true same) ∙ e) in
           let place : s.index ≡ i = ap (λ (s : Start). s.index) (sym is) ∙ of_index in
-          inr (ap (λ (s : Start). s.run) (sym is) ∙ of_run, omega (arith, place), ap (slice_get offsets) place ∙ at ∙ ap Some (eqb-true key offset same))
+          inr (ap (λ (s : Start). s.run) (sym is) ∙ of_run, omega (arith, place), ap (slice_get offsets) place ∙ at ∙ ap Some (sym (eqb-true offset key same)))
       each offset s false same e =
-          elim (added.each offset s (sym (written old new key (Some start) u offset false same) ∙ e)) [
+          elim (added.each offset s (sym (adds old key start none offset false same) ∙ e)) [
             | inl before ↦ inl before
             | inr mine ↦ inr (mine.0, omega (arith, mine.1), mine.2)
           ]
 
-      there : (k offset : ℕ) → k < i + 1 → slice_get offsets k ≡ Some offset → (same : Bool) → (key == offset) ≡ same → IsSome (start_at new offset)
+      there : (k offset : ℕ) → k < i + 1 → slice_get offsets k ≡ Some offset → (same : Bool) → (offset == key) ≡ same → IsSome (start_at new offset)
       there k offset less e true same =
-          subst (λ (found : Option Start). IsSome found) (sym (written old new key (Some start) u offset true same)) refl
+          subst (λ (found : Option Start). IsSome found) (sym (adds old key start none offset true same)) refl
       there k offset less e false same =
-          let other : k ≡ i → ⊥ = λ k_is. eqb-false key offset same (same_Some key offset (sym at ∙ ap (slice_get offsets) (sym k_is) ∙ e)) in
-          subst (λ (found : Option Start). IsSome found) (sym (written old new key (Some start) u offset false same)) (added.there k offset (omega (arith, less, other)) e)
-
-  -- the same entries in another map
-  pub added-same : (i : ℕ) (old new : StartList) → new ≡ old → AreAdded run i offsets first old → AreAdded run i offsets first new
-  added-same i old new same added = subst (AreAdded run i offsets first) (sym same) added
-
-  pub undone : (i : ℕ) (old new : StartList) → AreApart first offsets → AreRising offsets → AreAdded run i offsets first old → AreTaken i offsets old new → IsAsBefore first new
-  undone i old new apart rise added taken = record {
-    each = each;
-    kept = λ offset s e. taken.others offset (λ k less at. let none : Some s ≡ None = sym e ∙ apart k offset at in absurd cc) ∙ added.kept offset s e;
-    counted = let count = taken.counted rise added.there in omega (arith, count, added.counted);
-  }
-    where
-      each : (offset : ℕ) (s : Start) → start_at new offset ≡ Some s → start_at first offset ≡ Some s
-      each offset s e =
-          let old_has = taken.each offset s e in
-          elim (added.each offset s old_has.0) [
-            | inl before ↦ before
-            | inr mine ↦ absurd (old_has.1 s.index mine.1 mine.2)
-          ]
-
--- ---- starts are taken away
-
-module _ (offsets : List ℕ) (first : StartList) where
-  pub taken-none : AreTaken 0 offsets first first
-  taken-none = record {
-    each = λ offset s e. (e, λ k less at. absurd (omega (arith, less)));
-    others = λ offset away. refl;
-    counted = λ rise there. omega arith;
-  }
-
-  pub taken-one : (i key : ℕ) (was : Option Start) (old new : StartList) → AreTaken i offsets first old → slice_get offsets i ≡ Some key → Writes old new key None → was ≡ start_at old key
-      → length new + (if is_some was then 1 else 0) ≡ length old → AreTaken (i + 1) offsets first new
-  taken-one i key was old new taken at u found count = record {
-    each = λ offset s e. each offset s (key == offset) refl e;
-    others = λ offset away. others offset away (key == offset) refl;
-    counted = counted;
-  }
-    where
-      -- the offset at a place below the next one
-      before : (k offset : ℕ) → (key == offset) ≡ false → k < i + 1 → slice_get offsets k ≡ Some offset → k < i
-      before k offset apart less e =
-          let other : k ≡ i → ⊥ = λ k_is. eqb-false key offset apart (same_Some key offset (sym at ∙ ap (slice_get offsets) (sym k_is) ∙ e)) in
-          omega (arith, less, other)
-
-      each : (offset : ℕ) (s : Start) (same : Bool) → (key == offset) ≡ same → start_at new offset ≡ Some s → (start_at first offset ≡ Some s) × ((k : ℕ) → k < i + 1 → slice_get offsets k ≡ Some offset → ⊥)
-      each offset s true same e =
-          let none : None ≡ Some s = sym (written old new key None u offset true same) ∙ e in
-          absurd cc
-      each offset s false same e =
-          let old_has = taken.each offset s (sym (written old new key None u offset false same) ∙ e) in
-          (old_has.0, λ k less there. old_has.1 k (before k offset same less there) there)
-
-      others : (offset : ℕ) → ((k : ℕ) → k < i + 1 → slice_get offsets k ≡ Some offset → ⊥) → (same : Bool) → (key == offset) ≡ same → start_at new offset ≡ start_at first offset
-      others offset away true same = absurd (away i (omega arith) (at ∙ ap Some (eqb-true key offset same)))
-      others offset away false same =
-          written old new key None u offset false same ∙ taken.others offset (λ k less. away k (omega (arith, less)))
-
-      counted : AreRising offsets → ((k offset : ℕ) → k < i + 1 → slice_get offsets k ≡ Some offset → IsSome (start_at first offset)) → length new + (i + 1) ≡ length first
-      counted rise there =
-          let same : start_at old key ≡ start_at first key = taken.others key (λ k less e. one-offset offsets k i key rise less e at) in
-          let has = some-is (start_at first key) (there i key (omega arith) at) in
-          let one : length new + 1 ≡ length old = ap (λ (was : Option Start). length new + (if is_some was then 1 else 0)) (sym (found ∙ same ∙ has.1)) ∙ count in
-          let so_far = taken.counted rise (λ k offset less. there k offset (omega (arith, less))) in
-          omega (arith, one, so_far)
+          let other : k ≡ i → ⊥ = λ k_is. eqb-false offset key same (same_Some offset key (sym e ∙ ap (slice_get offsets) k_is ∙ at)) in
+          subst (λ (found : Option Start). IsSome found) (sym (adds old key start none offset false same)) (added.there k offset (omega (arith, less, other)) e)
 
 -- ---- how many there are
 

@@ -1,95 +1,113 @@
--- How many starts there are, and up to where.
-use Rattle.std.proofs.Common.{◌≡◌, ◌≢◌, inl, inr, ◌∙◌, ℕ, zero, suc, ◌+◌, ◌<◌, ◌≤◌, Bool, true, false, ◌||◌, cond, List, [], ◌∷◌, length, map, Option, Some, None, refl, sym, ap, subst, arith}
-use Rattle.std.specs.Prelude.{IsSome, slice_get, ◌==◌}
-use Rattle.std.specs.List.{range_with_len, list_any}
-use Rattle.std.specs.List.Sorted.{IsStrictlySortedBy}
-use Rattle.std.specs.Ordering.{nat_cmp, eq_by_cmp}
-use Rattle.std.specs.Cmp.{unsigned_tied}
-use Rattle.std.specs.BTreeMap.{is_at}
-use Rattle.std.proofs.lemmas.Bool.{eq-eqb, ne_eqb, eqb-true, eqb-false}
-use Rattle.std.proofs.lemmas.Cmp.{eq_by_cmp_equiv, nat_cmp_total}
-use Rattle.std.proofs.lemmas.List.{length-map}
+-- Starts by their places in a list, and how many there are.
+use Rattle.std.proofs.Common.{◌≡◌, inl, inr, ◌∙◌, ℕ, zero, suc, ◌+◌, ◌<◌, ◌≤◌, Bool, true, false, ◌||◌, List, [], ◌∷◌, ◌++◌, get_or, length, set, Option, Some, None, refl, sym, ap, arith}
+use Rattle.std.specs.Prelude.{is_some, nat_eq, slice_get, ◌==◌}
+use Rattle.std.specs.Cmp.{nat_eq_equiv}
+use Rattle.std.specs.List.{range_with_len, list_any, AllByRecursion, IsDistinct}
+use Rattle.std.specs.Map.{keys_of}
+use Rattle.std.proofs.lemmas.Bool.{ne_eqb, eqb-true, eqb-false}
+use Rattle.std.proofs.lemmas.List.{get_or-set_same, get_or-set_other, length-set}
 use Rattle.std.proofs.lemmas.List.FromFn.{length-range_with_len}
-use Rattle.std.proofs.lemmas.Map.Keys.{IsDistinct-from_sorted}
-use Rattle.std.proofs.lemmas.Map.Made.{length-le_from_is_member}
-use Rattle.std.proofs.lemmas.Option.{same_Some}
+use Rattle.std.proofs.lemmas.Map.Entries.{length-keys_of, lookup_from_place, place_from_lookup}
+use Rattle.std.proofs.lemmas.Map.Made.{is_some-lookup, length-le_from_is_member}
+use Rattle.std.proofs.lemmas.Option.{get_or_from_slice_get, same_Some, slice_get-get_or, slice_get_past, slice_get_read, slice_get_within}
 use Rattle.dw_forms.specs.declared.run.Start.{Start}
-use Rattle.dw_forms.specs.Starts.{StartList, start_at, AreAdded, AreBelow, AreUpTo}
+use Rattle.dw_forms.specs.Starts.{StartList, start_at, AreBelow, AreMarked}
+use Rattle.dw_forms.proofs.StoreLemmas.{get-pushed}
 
--- the offsets alone
-abbrev offsets_in : StartList → List ℕ
-offsets_in starts = map (λ (pair : ℕ × Start). pair.0) starts
+-- ---- no two have one offset
 
--- a run was added that ends there, or before
-pub up-to-added : (run last next : ℕ) (offsets : List ℕ) (old new : StartList) → AreUpTo last old → AreAdded run (length offsets) offsets old new → last ≤ next
-    → ((k offset : ℕ) → slice_get offsets k ≡ Some offset → offset ≤ next) → AreUpTo next new
-up-to-added run last next offsets old new up added more all offset start e =
-    elim (added.each offset start e) [
-      | inl there ↦ let fits = up offset start there in omega (arith, fits, more)
-      | inr here ↦ all start.index offset here.2
+-- the place of each is noted, from a number on
+abbrev MarkedFrom : ℕ → List ℕ → StartList → Type 0
+MarkedFrom from places starts = (k offset : ℕ) (start : Start) → slice_get starts k ≡ Some (offset, start) → slice_get places offset ≡ Some (k + from)
+
+later : (from : ℕ) (places : List ℕ) (first : ℕ × Start) (starts : StartList) → MarkedFrom from places (first ∷ starts) → MarkedFrom (from + 1) places starts
+later from places first starts marked k offset start e =
+    let same : suc k + from ≡ k + (from + 1) = omega arith in
+    marked (suc k) offset start e ∙ ap Some same
+
+apart : (own from key : ℕ) (places : List ℕ) (starts : StartList) → own < from → slice_get places key ≡ Some own → MarkedFrom from places starts → AllByRecursion (λ other. nat_eq key other ≡ false) (keys_of starts)
+apart own from key places [] less at marked = tt
+apart own from key places (first ∷ starts) less at marked = (
+  ne_eqb key first.0 (λ same.
+      let number = same_Some own (0 + from) (sym at ∙ ap (slice_get places) same ∙ marked 0 first.0 first.1 refl) in
+      omega (arith, less, number)),
+  apart own (from + 1) key places starts (omega (arith, less)) at (later from places first starts marked),
+)
+
+distinct : (from : ℕ) (places : List ℕ) (starts : StartList) → MarkedFrom from places starts → IsDistinct nat_eq (keys_of starts)
+unfolding IsDistinct
+distinct from places [] marked = tt
+distinct from places (first ∷ starts) marked =
+    let rest = later from places first starts marked in
+    (apart (0 + from) (from + 1) first.0 places starts (omega arith) (marked 0 first.0 first.1 refl) rest, distinct (from + 1) places starts rest)
+
+-- ---- a start is found at its place
+
+-- what a look-up finds
+pub read-at : {X : Type 0} (xs ys : List X) (k : ℕ) (x : X) → xs ≡ ys → k < length xs → x ≡ get_or xs k x → slice_get ys k ≡ Some x
+read-at {X = X} xs ys k x same within is =
+    ap (λ (xs : List X). slice_get xs k) (sym same) ∙ slice_get_read xs (length xs) k x refl within is
+
+pub unread-at : {X : Type 0} (xs ys : List X) (k : ℕ) → xs ≡ ys → length xs ≤ k → slice_get ys k ≡ None
+unread-at {X = X} xs ys k same out = ap (λ (xs : List X). slice_get xs k) (sym same) ∙ slice_get_past xs k out
+
+pub there : (places : List ℕ) (starts : StartList) (k offset : ℕ) (start : Start) → AreMarked places starts → slice_get starts k ≡ Some (offset, start) → Some start ≡ start_at starts offset
+there places starts k offset start marked e =
+    sym (lookup_from_place nat_eq_equiv starts k offset start (distinct 1 places starts marked) e)
+
+-- an offset without a start
+pub missing : (starts : StartList) (offset : ℕ) → ((k : ℕ) (start : Start) → slice_get starts k ≡ Some (offset, start) → ⊥) → None ≡ start_at starts offset
+missing starts offset none = by (start_at starts offset) refl
+  where
+    by : (found : Option Start) → start_at starts offset ≡ found → None ≡ found
+    by None e = refl
+    by (Some start) e =
+        let place = place_from_lookup (nat_eq offset) starts start e in
+        absurd (none place.0 start (place.2 ∙ ap (λ (key : ℕ). Some (key, start)) (sym (eqb-true offset place.1 place.3))))
+
+set-here : (places : List ℕ) (key n : ℕ) → key < length places → slice_get (set places key n) key ≡ Some n
+set-here places key n within =
+    let long = length-set places key n in
+    slice_get-get_or (set places key n) key n (omega (arith, long, within)) ∙ ap Some (get_or-set_same places key n n within)
+
+set-apart : (places : List ℕ) (key n other m : ℕ) → (key ≡ other → ⊥) → slice_get places other ≡ Some m → slice_get (set places key n) other ≡ Some m
+set-apart places key n other m differ e =
+    let long = length-set places key n in
+    let within = slice_get_within places other m e in
+    slice_get-get_or (set places key n) other 0 (omega (arith, long, within))
+    ∙ ap Some (get_or-set_other places key other n 0 (λ same. differ (sym same)) ∙ get_or_from_slice_get places other m 0 e)
+
+pub marked-more : (places : List ℕ) (starts : StartList) (key : ℕ) (start : Start) → AreMarked places starts → key < length places → start_at starts key ≡ None → AreMarked (set places key (length starts + 1)) (starts ++ (key, start) ∷ [])
+marked-more places starts key start marked within none k offset s e =
+    elim (get-pushed starts (key, start) (offset, s) k e) [
+      | inl old ↦ set-apart places key (length starts + 1) offset (k + 1) (λ same.
+          let both : Some s ≡ None = there places starts k offset s marked old.1 ∙ ap (start_at starts) (sym same) ∙ none in
+          absurd cc) (marked k offset s old.1)
+      | inr new ↦ let same : key ≡ offset = ap (λ (pair : ℕ × Start). pair.0) new.1 in
+          let last : k ≡ length starts = omega (arith, new.0) in
+          ap (slice_get (set places key (length starts + 1))) (sym same) ∙ set-here places key (length starts + 1) within ∙ ap (λ (n : ℕ). Some (n + 1)) (sym last)
     ]
 
 -- ---- how many there are
 
-tied : (offset key : ℕ) (same : Bool) → (offset == key) ≡ same → is_at (nat_cmp offset) key ≡ same
-tied offset key same e = unsigned_tied offset key ∙ e
-
-first : (e : ℕ × Start) (es : StartList) (offset : ℕ) → offset ≡ e.0 → start_at (e ∷ es) offset ≡ Some e.1
-first e es offset same = ap (λ (b : Bool). cond b (Some e.1) (start_at es offset)) (tied offset e.0 true (eq-eqb offset e.0 same))
-
-later : (e : ℕ × Start) (es : StartList) (offset : ℕ) → offset ≢ e.0 → start_at (e ∷ es) offset ≡ start_at es offset
-later e es offset other = ap (λ (b : Bool). cond b (Some e.1) (start_at es offset)) (tied offset e.0 false (ne_eqb offset e.0 other))
-
--- an offset of the list has a start
-some-there : (es : StartList) (k key : ℕ) → slice_get (offsets_in es) k ≡ Some key → IsSome (start_at es key)
-some-there [] k key e = absurd cc
-some-there (x ∷ es) k key e = by_key (key == x.0) refl (λ j. some-there es j key) k e
-  where
-    by_key : (same : Bool) → (key == x.0) ≡ same → ((j : ℕ) → slice_get (offsets_in es) j ≡ Some key → IsSome (start_at es key)) → (k : ℕ) → slice_get (offsets_in (x ∷ es)) k ≡ Some key → IsSome (start_at (x ∷ es) key)
-    by_key true same others k e =
-        subst (λ (found : Option Start). IsSome found) (sym (first x es key (eqb-true key x.0 same))) refl
-    by_key false same others zero e = absurd (eqb-false key x.0 same (sym (same_Some x.0 key e)))
-    by_key false same others (suc k) e =
-        subst (λ (found : Option Start). IsSome found) (sym (later x es key (eqb-false key x.0 same))) (others k e)
-
-some-is : (found : Option Start) → IsSome found → (s : Start) × (found ≡ Some s)
-some-is None h = absurd cc
-some-is (Some s) h = (s, refl)
-
-abbrev eq : ℕ → ℕ → Bool
-eq = eq_by_cmp nat_cmp
-
-any-place : (keys : List ℕ) (q : ℕ) → list_any (eq q) keys ≡ true → (k : ℕ) × (slice_get keys k ≡ Some q)
-any-place [] q e = absurd cc
-any-place (key ∷ keys) q e = by_key (q == key) refl (any-place keys q)
-  where
-    by_key : (same : Bool) → (q == key) ≡ same → (list_any (eq q) keys ≡ true → (k : ℕ) × (slice_get keys k ≡ Some q)) → (k : ℕ) × (slice_get (key ∷ keys) k ≡ Some q)
-    by_key true same others = (0, ap Some (sym (eqb-true q key same)))
-    by_key false same others =
-        let rest = others (ap (λ (b : Bool). b || list_any (eq q) keys) (sym (tied q key false same)) ∙ e) in
-        (suc rest.0, rest.1)
-
-in-range : (from count q : ℕ) → from ≤ q → q < from + count → list_any (eq q) (range_with_len from count) ≡ true
+in-range : (from count q : ℕ) → from ≤ q → q < from + count → list_any (nat_eq q) (range_with_len from count) ≡ true
 in-range from zero q low high = absurd (omega (arith, low, high))
-in-range from (suc count) q low high = by_key (q == from) refl (in-range (from + 1) count q)
+in-range from (suc count) q low high = by (q == from) refl (in-range (from + 1) count q)
   where
-    by_key : (same : Bool) → (q == from) ≡ same → (from + 1 ≤ q → q < from + 1 + count → list_any (eq q) (range_with_len (from + 1) count) ≡ true) → list_any (eq q) (range_with_len from (suc count)) ≡ true
-    by_key true same others = ap (λ (b : Bool). b || list_any (eq q) (range_with_len (from + 1) count)) (tied q from true same)
-    by_key false same others =
-        let other = eqb-false q from same in
-        ap (λ (b : Bool). b || list_any (eq q) (range_with_len (from + 1) count)) (tied q from false same) ∙ others (omega (arith, low, other)) (omega (arith, high))
+    by : (same : Bool) → (q == from) ≡ same → (from + 1 ≤ q → q < from + 1 + count → list_any (nat_eq q) (range_with_len (from + 1) count) ≡ true) → (same || list_any (nat_eq q) (range_with_len (from + 1) count)) ≡ true
+    by true same others = refl
+    by false same others = let other = eqb-false q from same in others (omega (arith, low, other)) (omega (arith, high))
 
-pub most : (starts : StartList) (end : ℕ) → IsStrictlySortedBy nat_cmp (offsets_in starts) → AreBelow end starts → length starts ≤ end
-most starts end order below =
-    let keys = offsets_in starts in
-    let count = length-map starts (λ (pair : ℕ × Start). pair.0) in
+pub most : (places : List ℕ) (starts : StartList) (end : ℕ) → AreMarked places starts → AreBelow end starts → length starts ≤ end
+most places starts end marked below =
+    let count = length-keys_of starts in
     let size = length-range_with_len 0 end in
-    let fits = length-le_from_is_member (eq_by_cmp_equiv nat_cmp_total) keys (range_with_len 0 end) (IsDistinct-from_sorted nat_cmp keys order) inside in
+    let fits = length-le_from_is_member nat_eq_equiv (keys_of starts) (range_with_len 0 end) (distinct 1 places starts marked) inside in
     omega (arith, count, size, fits)
   where
-    inside : (q : ℕ) → list_any (eq q) (offsets_in starts) ≡ true → list_any (eq q) (range_with_len 0 end) ≡ true
-    inside q member =
-        let place = any-place (offsets_in starts) q member in
-        let found = some-is (start_at starts q) (some-there starts place.0 q place.1) in
-        let less = below q found.0 found.1 in
-        in-range 0 end q (omega arith) (omega (arith, less))
+    inside : (q : ℕ) → list_any (nat_eq q) (keys_of starts) ≡ true → list_any (nat_eq q) (range_with_len 0 end) ≡ true
+    inside q member = by (start_at starts q) refl (is_some-lookup (nat_eq q) starts ∙ member)
+      where
+        by : (found : Option Start) → start_at starts q ≡ found → is_some found ≡ true → list_any (nat_eq q) (range_with_len 0 end) ≡ true
+        by None e some = absurd cc
+        by (Some start) e some = let less = below q start e in in-range 0 end q (omega arith) (omega (arith, less))

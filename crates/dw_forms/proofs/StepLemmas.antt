@@ -94,6 +94,12 @@ leads-to-rest steps rest p all none leads =
     let are : AreSteps [] rest leads.left = subst (λ (steps : List Step). AreSteps steps rest leads.left) none leads.are in
     sym (values-skip OFFSET_SIZE_32 leads.left rest are p) ∙ leads.same
 
+-- without steps all are passed at once
+pub fixed-before : (steps : List Step) (count rest : ℕ) (specs : List Specification) (p : reading.Place) → count ≡ 0 → AreSteps (take count steps) rest specs → bytes_behind rest p ≡ values_behind specs p
+fixed-before steps count rest specs p none are =
+    let fixed : AreSteps [] rest specs = subst (λ (n : ℕ). AreSteps (take n steps) rest specs) none are in
+    sym (values-skip OFFSET_SIZE_32 specs rest fixed p)
+
 -- ---- the first value of a name
 
 -- a name is sought behind values of others

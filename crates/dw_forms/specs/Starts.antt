@@ -1,7 +1,5 @@
 -- Where the declarations that were read begin.
-use Rattle.std.specs.Prelude.{◌≡◌, ◌⊎◌, ◌+◌, ◌<◌, ◌≤◌, ℕ, List, Option, Some, None, IsSome, length, slice_get}
-use Rattle.std.specs.Ordering.{nat_cmp}
-use Rattle.std.specs.BTreeMap.{is_at}
+use Rattle.std.specs.Prelude.{◌≡◌, ◌⊎◌, ◌+◌, ◌<◌, ℕ, List, Option, Some, None, IsSome, length, nat_eq, slice_get}
 use Rattle.std.specs.Map.{lookup}
 use Rattle.dw_forms.specs.declared.run.Start.{Start}
 
@@ -11,15 +9,21 @@ StartList = List (ℕ × Start)
 
 -- the start that an offset has
 abbrev pub start_at : StartList → ℕ → Option Start
-start_at starts offset = lookup (is_at (nat_cmp offset)) starts
+start_at starts offset = lookup (nat_eq offset) starts
 
 -- All offsets that have a start are below the end.
 abbrev pub AreBelow : (end : ℕ) → StartList → Type 0
 AreBelow end starts = (offset : ℕ) (start : Start) → start_at starts offset ≡ Some start → offset < end
 
--- All offsets that have a start are the last or below it.
-abbrev pub AreUpTo : (last : ℕ) → StartList → Type 0
-AreUpTo last starts = (offset : ℕ) (start : Start) → start_at starts offset ≡ Some start → offset ≤ last
+-- At the offset of each start its place in the list is noted, from 1 on.
+abbrev pub AreMarked : (places : List ℕ) → StartList → Type 0
+AreMarked places starts =
+    (k offset : ℕ) (start : Start) → slice_get starts k ≡ Some (offset, start)
+    → slice_get places offset ≡ Some (k + 1)
+
+-- These offsets are below the end.
+abbrev pub AreWithin : (end : ℕ) → List ℕ → Type 0
+AreWithin end offsets = (k offset : ℕ) → slice_get offsets k ≡ Some offset → offset < end
 
 -- None of these offsets has a start.
 abbrev pub AreApart : StartList → List ℕ → Type 0
@@ -37,20 +41,3 @@ pub record AreAdded (run count : ℕ) (offsets : List ℕ) (old new : StartList)
   pub there : (k offset : ℕ) → k < count → slice_get offsets k ≡ Some offset → IsSome (start_at new offset)
   pub kept : (offset : ℕ) (start : Start) → start_at old offset ≡ Some start → start_at new offset ≡ Some start
   pub counted : length new ≡ length old + count
-
--- The first so many offsets were taken away, and nothing else was changed. If they rise and all
--- were there, there are as many fewer.
-pub record AreTaken (count : ℕ) (offsets : List ℕ) (old new : StartList) : Type 0 where
-  pub each : (offset : ℕ) (start : Start) → start_at new offset ≡ Some start → (start_at old offset ≡ Some start)
-      × ((k : ℕ) → k < count → slice_get offsets k ≡ Some offset → ⊥)
-  pub others : (offset : ℕ) → ((k : ℕ) → k < count → slice_get offsets k ≡ Some offset → ⊥)
-      → start_at new offset ≡ start_at old offset
-  pub counted : AreRising offsets
-      → ((k offset : ℕ) → k < count → slice_get offsets k ≡ Some offset → IsSome (start_at old offset))
-      → length new + count ≡ length old
-
--- No start was added, and none was lost.
-pub record IsAsBefore (old new : StartList) : Type 0 where
-  pub each : (offset : ℕ) (start : Start) → start_at new offset ≡ Some start → start_at old offset ≡ Some start
-  pub kept : (offset : ℕ) (start : Start) → start_at old offset ≡ Some start → start_at new offset ≡ Some start
-  pub counted : length new ≡ length old

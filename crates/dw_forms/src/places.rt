@@ -4,13 +4,18 @@ ghost use Rattle.std.specs.Prelude.{◌≡◌, ◌++◌, ◌∷◌, ◌&&◌, �
 ghost use Rattle.std.specs.Prelude.{is_some, length, map, option_map, take};
 ghost use Rattle.dw_model.specs.declared.dwarf.TheConstants.{OFFSET_SIZE_32};
 ghost use Rattle.dw_model.specs.Abbrev.{Specification};
+ghost use Rattle.dw_model.specs.Answers.{ReadsOn};
+ghost use Rattle.dw_model.specs.Entry.{attributes_at};
+ghost use Rattle.dw_forms.specs.Fault.{form_fault};
 ghost use Rattle.dw_forms.specs.Named.{value_up_to};
 ghost use Rattle.dw_forms.specs.Names.{is_used};
+ghost use Rattle.dw_forms.specs.Size.{place_behind};
 ghost use Rattle.dw_forms.specs.Spec.{spec_shown};
 ghost use Rattle.dw_forms.specs.Steps.{find_place, AreAtHand, ArePlaces, AreSteps, IsPlaced};
 ghost use Rattle.dw_forms.specs.Value.{value_shown};
 
 use crate::declaration::Spec;
+use crate::fault::FormFault;
 use crate::names::is_used;
 use crate::steps::{Step, pass_steps, passed_with};
 use crate::value::{Value, value_ahead};
@@ -162,6 +167,23 @@ fn first_steps(steps: &[Step], count: usize) -> &[Step]
     &steps[..count]
 }
 
+/// Passes over the bytes before a place, step by step where there are steps. After a refusal the
+/// cursor may be anywhere.
+#[inline(always)]
+fn pass_to(steps: &[Step], place: &Place, cursor: &mut Cursor<'_>) -> Result<(), FormFault>
+    ensures { (specs : List Specification) → AreSteps (take place.now.count steps.now) place.now.offset specs
+        → ReadsOn (λ done. done) form_fault result (place_behind (attributes_at OFFSET_SIZE_32 specs cursor.old))
+        cursor.new }
+{
+    if place.count > 0 {
+        return pass_steps(first_steps(steps, place.count), place.offset, cursor);
+    }
+    let Some(_) = cursor.take(place.offset) else {
+        return Err(FormFault::End);
+    };
+    Ok(())
+}
+
 /// The value at a place, in an entry whose values begin at a cursor; `None` where it or one before
 /// it can't be read.
 pub(crate) fn value_at_place<'a>(
@@ -173,7 +195,7 @@ pub(crate) fn value_at_place<'a>(
         → option_map value_shown result ≡ value_up_to OFFSET_SIZE_32 name specs values.now }
 {
     let mut cursor = values.fork();
-    let Ok(()) = pass_steps(first_steps(steps, place.count), place.offset, &mut cursor) else {
+    let Ok(()) = pass_to(steps, place, &mut cursor) else {
         return None;
     };
     let spec = place.spec;

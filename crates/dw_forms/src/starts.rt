@@ -1,68 +1,80 @@
 //! Where each declaration begins that was read of .debug_abbrev.
 
-ghost use Rattle.std.specs.Prelude.{◌≡◌, ◌≤◌, ℕ, Some, [], OnOk, OnErr, length, slice_get};
-ghost use Rattle.dw_forms.specs.Starts.{start_at, AreAdded, AreApart, AreBelow, AreRising, AreTaken, IsAsBefore};
+ghost use Rattle.std.specs.Prelude.{◌≡◌, ◌≤◌, ℕ, Some, [], IfSome, OnOk, OnErr, length, slice_get};
+ghost use Rattle.dw_forms.specs.Starts.{start_at, AreAdded, AreApart, AreBelow, AreMarked, AreRising, AreWithin};
 
 use crate::run::{Run, Start};
 use std::alloc::{AllocError, Global};
-use std::collections::BTreeMap;
 use std::marker::Model;
 
-/// Takes away the starts of the first `count` declarations of a run.
-fn take_away(starts: &mut BTreeMap<usize, Start>, read: &Run<'_>, count: usize)
-    requires { count ≤ length read.now.offsets }
-    ensures { AreTaken count read.now.offsets starts.old.entries starts.new.entries }
+/// The first offset after those of a run; `None` where it doesn't fit.
+fn end_of(read: &Run<'_>) -> Option<usize>
+    requires { AreRising read.now.offsets }
+    ensures { IfSome result (λ end. AreWithin end read.now.offsets) }
 {
-    for index in 0..count {
-        let _start = starts.remove(&read.offset(index));
-    }
+    let Some(last) = read.len().checked_sub(1) else {
+        return Some(0);
+    };
+    read.offset(last).checked_add(1)
 }
 
-/// Adds where each declaration of a run begins; after an error nothing was added.
-fn insert(starts: &mut BTreeMap<usize, Start>, read: &Run<'_>, run: usize) -> Result<(), AllocError>
-    requires apart { AreApart starts.now.entries read.now.offsets }
-    requires rising { AreRising read.now.offsets }
-    ensures added { OnOk result (AreAdded run (length read.now.offsets) read.now.offsets
-        starts.old.entries starts.new.entries) }
-    ensures undone { OnErr result (IsAsBefore starts.old.entries starts.new.entries) }
+/// Makes room for the places of starts below an end.
+fn make_room(places: &mut Vec<usize>, end: usize) -> Result<(), AllocError>
+    ensures kept { (offset place : ℕ) → slice_get places.old.items offset ≡ Some place
+        → slice_get places.new.items offset ≡ Some place }
+    ensures room { OnOk result (end ≤ length places.new.items) }
 {
-    for index in 0..read.len() {
-        let Ok(_) = starts.insert(read.offset(index), Start { run, index }) else {
-            take_away(starts, read, index);
-            return Err(AllocError);
-        };
+    if end > places.len() {
+        places.resize(end, 0)?;
     }
     Ok(())
 }
 
-/// The offset of the last declaration of a run, if that is above another offset; else the other.
-fn last_offset(read: &Run<'_>, other: usize) -> usize
-    requires { AreRising read.now.offsets }
-    ensures run { (k offset : ℕ) → slice_get read.now.offsets k ≡ Some offset → offset ≤ result }
-    ensures other { other ≤ result }
+/// Adds where each declaration of a run begins; after an error nothing was added.
+fn append(
+    list: &mut Vec<(usize, Start)>,
+    places: &mut Vec<usize>,
+    read: &Run<'_>,
+    run: usize,
+) -> Result<(), AllocError>
+    requires apart { AreApart list.now.items read.now.offsets }
+    requires rising { AreRising read.now.offsets }
+    requires within { AreWithin (length places.now.items) read.now.offsets }
+    requires marked { AreMarked places.now.items list.now.items }
+    ensures added { OnOk result (AreAdded run (length read.now.offsets) read.now.offsets
+        list.old.items list.new.items) }
+    ensures undone { OnErr result (list.new.items ≡ list.old.items) }
+    ensures marked { AreMarked places.new.items list.new.items }
 {
-    let Some(place) = read.len().checked_sub(1) else {
-        return other;
-    };
-    other.max(read.offset(place))
+    let before = list.len();
+    for index in 0..read.len() {
+        let offset = read.offset(index);
+        let Ok(()) = list.push((offset, Start { run, index })) else {
+            list.truncate(before);
+            return Err(AllocError);
+        };
+        places[offset] = list.len();
+    }
+    Ok(())
 }
 
 /// The offsets at which declarations begin. Contracts see a list of these, each with its start.
 #[derive(Drop)]
 pub(crate) struct Starts {
-    map: BTreeMap<usize, Start>,
-    /// No offset is above this one.
-    last: usize,
+    list: Vec<(usize, Start)>,
+    /// At an offset that has a start, the place of that in the list, from 1 on. At others anything
+    /// may stand.
+    places: Vec<usize>,
 }
 
 impl Model for Starts {
-    ghost use Rattle.dw_forms.specs.Starts.{AreUpTo, StartList};
+    ghost use Rattle.dw_forms.specs.Starts.{AreMarked, StartList};
 
     ghost Value = { StartList };
 
-    ghost view = { λ starts. starts.map.entries };
+    ghost view = { λ starts. starts.list.items };
 
-    ghost invariant = { λ starts. AreUpTo starts.last starts.map.entries };
+    ghost invariant = { λ starts. AreMarked starts.places.items starts.list.items };
 }
 
 impl Starts {
@@ -71,21 +83,22 @@ impl Starts {
         ensures { result ≡ [] }
     {
         Starts {
-            map: BTreeMap::new(alloc),
-            last: 0,
+            list: Vec::new(alloc),
+            places: Vec::new(alloc),
         }
     }
 
-    /// The start at an offset. Whether the offset is above all is asked first: in files that
-    /// compilers write, each new declaration begins there.
+    /// The start at an offset.
     pub(crate) fn get(&self, offset: usize) -> Option<Start>
         ensures { result ≡ start_at self.now offset }
     {
-        if offset > self.last {
+        let place = self.places.get(offset)?;
+        let index = place.checked_sub(1)?;
+        let found = self.list.get(index)?;
+        if found.0 != offset {
             return None;
         }
-        let start = self.map.get(&offset)?;
-        Some(*start)
+        Some(found.1)
     }
 
     /// How many there are. If all are below an end, there are at most as many as the end says.
@@ -93,7 +106,7 @@ impl Starts {
         ensures count { result ≡ length self.now }
         ensures bound { (end : ℕ) → AreBelow end self.now → result ≤ end }
     {
-        self.map.len()
+        self.list.len()
     }
 
     /// Adds where each declaration of a run begins; after an error nothing was added.
@@ -101,10 +114,10 @@ impl Starts {
         requires apart { AreApart self.now read.now.offsets }
         requires rising { AreRising read.now.offsets }
         ensures added { OnOk result (AreAdded run (length read.now.offsets) read.now.offsets self.old self.new) }
-        ensures undone { OnErr result (IsAsBefore self.old self.new) }
+        ensures undone { OnErr result (self.new ≡ self.old) }
     {
-        insert(&mut self.map, read, run)?;
-        self.last = last_offset(read, self.last);
-        Ok(())
+        let end = end_of(read).ok_or(AllocError)?;
+        make_room(&mut self.places, end)?;
+        append(&mut self.list, &mut self.places, read, run)
     }
 }

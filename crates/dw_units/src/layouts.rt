@@ -14,7 +14,7 @@ pub(crate) struct Laid<'a> {
     pub(crate) code: u64,
     pub(crate) tag: u64,
     pub(crate) children: bool,
-    pub(crate) layout: Layout<'a>,
+    pub(crate) layout: Box<Layout<'a>>,
 }
 
 /// Declarations of a unit that were met, each with its layout. Those that aren't kept, because
@@ -40,7 +40,7 @@ impl<'a> Laid<'a> {
     /// What it means.
     #[inline(always)]
     pub(crate) fn meaning(&self) -> Meaning<'_, 'a>
-        ensures { (found : Option Declaration) → Means found self.now.tag self.now.children self.now.layout
+        ensures { (found : Option Declaration) → Means found self.now.tag self.now.children self.now.layout.value
             → MeansWhat (Some result) found }
     {
         Meaning {
@@ -116,7 +116,9 @@ impl<'a> Layouts<'a> {
         if declaration.specs.len() > ATTRIBUTES {
             return Ok(());
         }
-        let layout = Layout::of(*self.list.allocator(), &declaration.specs)?;
+        let alloc = *self.list.allocator();
+        let layout = Layout::of(alloc, &declaration.specs)?;
+        let layout = Box::new(alloc, layout)?;
         self.make_room(code as usize + 1)?;
         self.list.push(Laid {
             code,

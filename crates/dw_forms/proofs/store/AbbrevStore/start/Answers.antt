@@ -4,10 +4,10 @@ use Rattle.std.proofs.Math.Seq.{take-append_seam}
 use Rattle.dw_model.specs.Abbrev.{abbreviations}
 use Rattle.dw_forms.specs.declared.run.Start.{Start}
 use Rattle.dw_forms.specs.Run.{ReadRun}
-use Rattle.dw_forms.specs.Starts.{AreRising}
+use Rattle.dw_forms.specs.Starts.{StartList, AreBelow, AreRising}
 use Rattle.dw_forms.specs.StoreInside.{sizes_of}
 use Rattle.dw_forms.proofs.StartLemmas.{rising}
-use Rattle.dw_forms.proofs.StoreLemmas.{added-run, read-there, below-more, counted-more, tabled-more, starts-more, first-of, leads, stands-taken, run-ends, readable, hides, stored}
+use Rattle.dw_forms.proofs.StoreLemmas.{HaveTables, added-run, read-there, below-more, counted-more, tabled-more, starts-more, first-of, leads, stands-taken, run-ends, readable, hides, stored}
 use Rattle.dw_forms.proofs.store.AbbrevStore.start.Goals as goal
 
 pub returns-in-Some-clause-found : goal.returns-in-Some-clause-found
@@ -46,7 +46,7 @@ invariant_of-self-in_default-add c =
     let undone = c.in_default-add.ensures.undone in
     let last : c.len-run.result ≡ length runs = omega (arith, c.len-run.ensures) in
     let same = c.truncate.ensures.items ∙ ap (take c.len-run.result) c.in_ok-push.ensures.items ∙ ap (λ (n : ℕ). take n (runs ++ c.in_ok-read.read ∷ [])) last ∙ take-append_seam runs (c.in_ok-read.read ∷ []) in
-    stored _ runs same c.self.invariant.tabled (undone.counted ∙ c.self.invariant.counted) (λ offset start e. c.self.invariant.below offset start (undone.each offset start e)) (λ offset start e. c.self.invariant.starts offset start (undone.each offset start e))
+    stored _ runs same c.self.invariant.tabled (ap (λ (starts : StartList). length starts) undone ∙ c.self.invariant.counted) (subst (AreBelow (length c.self.inside.section.now)) (sym undone) c.self.invariant.below) (subst (HaveTables c.self.inside.section.now runs) (sym undone) c.self.invariant.starts)
 
 pub returns-in_default-add-clause-memory : goal.returns-in_default-add-clause-memory
 returns-in_default-add-clause-memory c =
