@@ -16,8 +16,8 @@ need_a2l() {
 
 # Builds the targets of the Makefile that the words name. Where they aren't built yet, all that they stand on is proved.
 need_library() {
-    timeout 900 make -s -C "$here" "$@" > make.log 2>&1 || {
-        [ $? = 124 ] && { echo "skipped, the library is not built within 15 minutes"; exit 0; }
+    timeout 2700 make -s -C "$here" "$@" > make.log 2>&1 || {
+        [ $? = 124 ] && { echo "skipped, the library is not built within 45 minutes"; exit 0; }
         cat make.log
         exit 1
     }
