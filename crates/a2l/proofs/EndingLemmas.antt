@@ -21,11 +21,6 @@ use Rattle.a2l.specs.Known.{Known, OfFile}
 use Rattle.a2l.specs.Named.{IsNamed, NameJob}
 use Rattle.a2l.proofs.ServingLemmas.{if_known}
 
--- words whose texts are none are none
-pub no-texts : {A B : Type 0} (f : A → B) (words : List A) → map f words ≡ [] → words ≡ []
-no-texts f [] none = refl
-no-texts f (word ∷ words) none = cc
-
 -- what refuses a file, where a listing was asked for and where not
 pub refusal-by : (rows : List Row) (file : List ℕ) (units asked : Bool) → units ≡ is_set (codes "units") rows → units ≡ asked → (if asked then listing_refusal file else refusal file) ≡ refusal_by rows file
 refusal-by rows file units asked are is = ap (λ (units : Bool). if units then listing_refusal file else refusal file) (sym is ∙ are)
@@ -51,10 +46,6 @@ told Why r fault is why = subst (λ r. IfErr r Why) (sym is) why
 module _ (known : List ℕ → Known) (words : List Text) (reader_failed writer_failed : Type 0) where
   abbrev First : Fault → Type 0
   First = IsFirst known words reader_failed writer_failed
-
-  pub unparsed : (fault : ParseFault) → words ≢ [] → (fault ≡ parse_faults.Refused → ¬ (NameJob words)) → First (fault_of_parse fault)
-  unparsed parse_faults.Refused some unnamed = (some, unnamed refl)
-  unparsed parse_faults.Memory some unnamed = tt
 
   at_path : (P : Known → Type 0) (job : Job) → IsNamed words job → P (known job.file.now) → P (named_in known (found_in words))
   at_path P job named h = subst (λ (path : Option Text). P (option_and_then known path)) (sym named.file) h

@@ -50,14 +50,6 @@ asks-within : (inputs : List (Option Query)) (place : ℕ) (query : Query) (insi
 asks-within inputs place query true e is = ltb-true place (length inputs) e
 asks-within inputs place query false e is = absurd (cc (sym (get_or_past inputs place None (ltb-false place (length inputs) e)) ∙ is))
 
--- all inputs were seen
-pub all-pairs : (inputs : List (Option Query)) (pairs : List Pair) (i : ℕ) → length inputs ≤ i → All (λ pair. get_or inputs pair.1 None ≡ Some pair.0) pairs
-    → ((j : ℕ) (other : Query) → j < i → get_or inputs j None ≡ Some other → Contains pairs (other, j)) → ArePairs inputs pairs
-all-pairs inputs pairs i end right so_far = record {
-  right = right;
-  all = λ j query asks. so_far j query (omega (arith, asks-within inputs j query (ltb j (length inputs)) refl asks, end)) asks;
-}
-
 -- in another order
 pub pairs-moved : (inputs : List (Option Query)) (pairs new : List Pair) → IsPermutation pairs new → ArePairs inputs pairs → ArePairs inputs new
 pairs-moved inputs pairs new moved is = record {
@@ -104,13 +96,6 @@ before p q (inr same) apart = by_place (eq-or-lt_of_le same.1)
     by_place : (second_word p ≡ second_word q) ⊎ (second_word p < second_word q) → IsBefore p q
     by_place (inl equal) = absurd (apart same.0 equal)
     by_place (inr less) = inr (same.0, less)
-
--- queries of the same words are the same
-pub same-words : (p q : Query) → IsQuery p → IsQuery q → first_word p ≡ first_word q → second_word p ≡ second_word q → p ≡ q
-same-words (Address a) (Address b) is other first second = ap Address first
-same-words (Address a) (Span low high) is other first second = absurd (omega (arith, other, second))
-same-words (Span low high) (Address b) is other first second = absurd (omega (arith, is, second))
-same-words (Span low high) (Span from end) is other first second = cc
 
 -- ---- a query more
 
@@ -202,22 +187,6 @@ pub record IsDone (inputs : List (Option Query)) (pairs : List Pair) (i : ℕ) (
   pub below : i < length pairs → All (λ query. IsUpTo query (pair_at pairs i).0) asked
   pub bad : (j : ℕ) → get_or inputs j None ≡ None → IsPicked inputs asked picks j
   pub found : All (λ pair. IsPicked inputs asked picks pair.1) (take i pairs)
-
-none-picked : (n j : ℕ) → get_or (replicate n zero) j zero ≡ zero
-none-picked zero j = refl
-none-picked (suc n) zero = refl
-none-picked (suc n) (suc j) = none-picked n j
-
-pub sharing-starts : (inputs : List (Option Query)) (pairs : List Pair) (n : ℕ) (asked : List Query) (picks : List ℕ) → n ≡ length inputs → asked ≡ [] → picks ≡ replicate n 0 → IsDone inputs pairs 0 asked picks
-sharing-starts inputs pairs n asked picks len none empty = rw (none, empty) record {
-  len = length-replicate n 0 ∙ len;
-  rising = λ k within. absurd (omega (arith, within));
-  needed = All-nil (λ query. Contains inputs (Some query));
-  within = All-replicate (λ pick. pick ≤ 0) n 0 (omega arith);
-  below = λ some. All-nil (λ query. IsUpTo query (pair_at pairs 0).0);
-  bad = λ j is. ap (picked []) (none-picked n j) ∙ sym is;
-  found = All-nil (λ (pair : Pair). IsPicked inputs [] (replicate n 0) pair.1);
-}
 
 -- a place among pairs is that of an input
 pub place-within : (inputs : List (Option Query)) (pairs : List Pair) (i : ℕ) → ArePairs inputs pairs → i < length pairs → (pair_at pairs i).1 < length inputs

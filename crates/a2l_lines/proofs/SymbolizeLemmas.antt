@@ -32,10 +32,6 @@ pub asks-words : {X : Type 0} (shown : X → List ℕ) (words : List X) (left : 
 asks-words shown [] left found some asked = grind (arith, some)
 asks-words shown (word ∷ words) left found some asked = record { bytes = unwrap_or left []; input = is-known left; asked = asked }
 
--- the lines of the input ask where there are no words
-pub asks-lines : (left : Option (List ℕ)) (bytes : List ℕ) (found : List (Option asks.Query)) → IsInput left bytes → found ≡ map model.query_in (model.inputs [] bytes) → Asks [] left found
-asks-lines left bytes found input asked = record { bytes = bytes; input = input; asked = asked }
-
 -- ---- the text that inputs pick
 
 flat_map-same : {X Y : Type 0} (f g : X → List Y) (xs : List X) → All (λ x. f x ≡ g x) xs → flat_map f xs ≡ flat_map g xs

@@ -26,10 +26,6 @@ Writes-more old told new text rest n so_far e = record {
   written = e ∙ ap (λ (known : Option (List ℕ)). append_known known (take n rest)) so_far.written ∙ append_known-append old so_far.front (take n rest);
 }
 
--- all of it is
-pub Writes-all : (old new : Option (List ℕ)) (text : List ℕ) → Writes old new text [] → new ≡ append_known old text
-Writes-all old new text done = done.written ∙ ap (append_known old) (sym (done.parts ∙ append-nil done.front))
-
 -- ---- through a block
 
 -- a block was written
@@ -65,10 +61,6 @@ Writes-begins old told new text next rest so_far begun = (
     written = begun.1.written ∙ ap (λ (known : Option (List ℕ)). append_known known begun.1.front) so_far.written ∙ append_known-append old so_far.front begun.1.front;
   },
 )
-
--- what is in the block is after what was written
-pub Writes-blocked : (told : Option (List ℕ)) (text block : List ℕ) → block ≡ text → Writes told told text block
-Writes-blocked told text block is = rw is (Writes-start told text)
 
 -- a block and then a piece that is longer
 long : (old told : Option (List ℕ)) (block piece : List ℕ) → told ≡ append_known old block → Writes old told (block ++ piece) (piece ++ [])

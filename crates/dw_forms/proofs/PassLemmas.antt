@@ -1,6 +1,6 @@
 -- Items are passed over one after the other, as a loop does.
 use Rattle.std.proofs.Common.{◌≡◌, ℕ, Bool, true, false, List, Option, Some, None, Result, Ok, Err, sym, ap, subst}
-use Rattle.std.specs.Prelude.{is_some, MatchOption, IsOk}
+use Rattle.std.specs.Prelude.{is_some}
 use Rattle.dw_model.specs.Reading.{Place, made, items}
 use Rattle.dw_model.specs.Answers.{Tells}
 use Rattle.dw_model.proofs.StepLemmas.{ok_is, ok-err}
@@ -35,7 +35,3 @@ made-none (Ok (None, s)) t h =
     ap (λ (t : Place). Ok (None, t)) same
 
 -- ---- what an error tells hides no fault
-
-pub told-hides : {A B E : Type 0} (given : Result A E) (other : Result B E) (told own : Option E) → own ≡ told → Tells told given → MatchOption own (IsOk other) (λ told. Unit {0})
-told-hides given other None own same fault = absurd fault
-told-hides given other (Some e) own same fault = subst (λ told. MatchOption told (IsOk other) (λ told. Unit {0})) (sym same) tt

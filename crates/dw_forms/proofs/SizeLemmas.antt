@@ -1,9 +1,9 @@
 -- Values of fixed sizes, one after the other.
-use Rattle.std.proofs.Common.{◌≡◌, ◌∙◌, ℕ, ℤ, ◌+◌, ◌-◌, ◌^◌, ◌<◌, ◌≤◌, Bool, true, false, List, [], ◌∷◌, length, drop, Option, Some, None, Result, Ok, Err, refl, sym, ap, subst, arith}
+use Rattle.std.proofs.Common.{◌≡◌, ◌∙◌, ℕ, ℤ, ◌+◌, ◌-◌, ◌^◌, ◌<◌, Bool, true, false, List, [], ◌∷◌, length, drop, Option, Some, None, Result, Ok, Err, refl, sym, ap, subst, arith}
 use Rattle.std.specs.Prelude.{ok_or, nat_eq, nat_le, nat_lt, option_map, option_and_then, IfSome}
 use Rattle.std.proofs.lemmas.Option.{same_Some}
 use Rattle.std.specs.Map.{lookup}
-use Rattle.std.proofs.lemmas.Bool.{leb-true, leb-false, lt-leb, le-leb, lt-ltb, le-ltb}
+use Rattle.std.proofs.lemmas.Bool.{leb-true, leb-false, lt-leb, le-leb, lt-ltb}
 use Rattle.std.proofs.lemmas.List.{drop-drop, length-drop}
 use Rattle.dw_model.specs.Faults.{Fault, ends_early}
 use Rattle.dw_model.specs.Results.{◌>>=◌}
@@ -171,23 +171,6 @@ module _ (w : ℕ) where
   twice : (size m : ℕ) (rest : Option ℕ) → option_map (λ n. size + n) (option_map (λ n. m + n) rest) ≡ option_map (λ n. size + m + n) rest
   twice size m None = refl
   twice size m (Some n) = ap Some (omega arith)
-
-  pub counts-more : (size m : ℕ) (one : Specification) (others : List Specification) (all : Option ℕ) → value_size w one ≡ Some m → Counts size (one ∷ others) all → Counts (size + m) others all
-  counts-more size m one others all e so_far =
-      let step : option_map (λ n. size + n) (values_size w (one ∷ others)) ≡ option_map (λ n. size + n) (option_map (λ n. m + n) (values_size w others)) = rw e refl in
-      so_far ∙ step ∙ twice size m (values_size w others)
-
-  pub counts-not : (size : ℕ) (one : Specification) (others : List Specification) (all : Option ℕ) → value_size w one ≡ None → Counts size (one ∷ others) all → option_and_then fits_u64 all ≡ None
-  counts-not size one others all e so_far =
-      let step : option_map (λ n. size + n) (values_size w (one ∷ others)) ≡ None = rw e refl in
-      ap (option_and_then fits_u64) (so_far ∙ step)
-
-  too-many : (size : ℕ) (rest : Option ℕ) → 2 ^ 64 ≤ size → option_and_then fits_u64 (option_map (λ n. size + n) rest) ≡ None
-  too-many size None h = refl
-  too-many size (Some n) h = rw (le-ltb (size + n) (2 ^ 64) (omega (arith, h))) refl
-
-  pub counts-past : (size : ℕ) (others : List Specification) (all : Option ℕ) → 2 ^ 64 ≤ size → Counts size others all → option_and_then fits_u64 all ≡ None
-  counts-past size others all h so_far = ap (option_and_then fits_u64) so_far ∙ too-many size (values_size w others) h
 
   pub counts-all : (size : ℕ) (all : Option ℕ) → size < 2 ^ 64 → Counts size [] all → option_and_then fits_u64 all ≡ Some size
   counts-all size all h so_far =

@@ -92,14 +92,6 @@ one-offset offsets j k a rise less e f = omega (arith, rise j k a a less e f)
 -- ---- starts are added
 
 module _ (run : ℕ) (offsets : List ℕ) (first : StartList) where
-  pub added-none : AreAdded run 0 offsets first first
-  added-none = record {
-    each = λ offset start e. inl e;
-    there = λ k offset less e. absurd (omega (arith, less));
-    kept = λ offset start e. e;
-    counted = omega arith;
-  }
-
   pub none-yet : (i key : ℕ) (old : StartList) → AreApart first offsets → AreRising offsets → AreAdded run i offsets first old → slice_get offsets i ≡ Some key → start_at old key ≡ None
   none-yet i key old apart rise added at = by_found (start_at old key) refl
     where

@@ -1,45 +1,19 @@
 -- Starts by their places in a list, and how many there are.
-use Rattle.std.proofs.Common.{◌≡◌, inl, inr, ◌∙◌, ℕ, zero, suc, ◌+◌, ◌<◌, ◌≤◌, Bool, true, false, ◌||◌, List, [], ◌∷◌, ◌++◌, get_or, length, set, Option, Some, None, refl, sym, ap, arith}
-use Rattle.std.specs.Prelude.{is_some, nat_eq, slice_get, ◌==◌}
+use Rattle.std.proofs.Common.{◌≡◌, ◌≢◌, ◌⊎◌, inl, inr, ◌∙◌, ℕ, zero, suc, ◌+◌, ◌<◌, ◌≤◌, Bool, true, false, ◌||◌, List, [], ◌∷◌, ◌++◌, get_or, length, set, Option, Some, None, refl, sym, ap, subst, arith}
+use Rattle.std.specs.Prelude.{is_some, nat_eq, nat_lt, slice_get, ◌==◌}
 use Rattle.std.specs.Cmp.{nat_eq_equiv}
-use Rattle.std.specs.List.{range_with_len, list_any, AllByRecursion, IsDistinct}
+use Rattle.std.specs.List.{range_with_len, list_any, IsDistinct}
 use Rattle.std.specs.Map.{keys_of}
-use Rattle.std.proofs.lemmas.Bool.{ne_eqb, eqb-true, eqb-false}
-use Rattle.std.proofs.lemmas.List.{get_or-set_same, get_or-set_other, length-set}
+use Rattle.std.proofs.lemmas.Bool.{eqb-true, eqb-false, ltb-true, ltb-false}
+use Rattle.std.proofs.lemmas.List.{get_or-set_same, get_or-set_other, length-set, length_push, map_push}
 use Rattle.std.proofs.lemmas.List.FromFn.{length-range_with_len}
 use Rattle.std.proofs.lemmas.Map.Entries.{length-keys_of, lookup_from_place, place_from_lookup}
+use Rattle.std.proofs.lemmas.Map.Keys.{IsDistinct-push}
 use Rattle.std.proofs.lemmas.Map.Made.{is_some-lookup, length-le_from_is_member}
-use Rattle.std.proofs.lemmas.Option.{get_or_from_slice_get, same_Some, slice_get-get_or, slice_get_past, slice_get_read, slice_get_within}
+use Rattle.std.proofs.lemmas.Option.{get_or_from_slice_get, same_Some, slice_get-get_or, slice_get_read, slice_get_within}
 use Rattle.dw_forms.specs.declared.run.Start.{Start}
-use Rattle.dw_forms.specs.Starts.{StartList, start_at, AreBelow, AreMarked}
+use Rattle.dw_forms.specs.Starts.{StartList, start_at, group_of, AreBelow, AreLinked, IsLast}
 use Rattle.dw_forms.proofs.StoreLemmas.{get-pushed}
-
--- ---- no two have one offset
-
--- the place of each is noted, from a number on
-abbrev MarkedFrom : ℕ → List ℕ → StartList → Type 0
-MarkedFrom from places starts = (k offset : ℕ) (start : Start) → slice_get starts k ≡ Some (offset, start) → slice_get places offset ≡ Some (k + from)
-
-later : (from : ℕ) (places : List ℕ) (first : ℕ × Start) (starts : StartList) → MarkedFrom from places (first ∷ starts) → MarkedFrom (from + 1) places starts
-later from places first starts marked k offset start e =
-    let same : suc k + from ≡ k + (from + 1) = omega arith in
-    marked (suc k) offset start e ∙ ap Some same
-
-apart : (own from key : ℕ) (places : List ℕ) (starts : StartList) → own < from → slice_get places key ≡ Some own → MarkedFrom from places starts → AllByRecursion (λ other. nat_eq key other ≡ false) (keys_of starts)
-apart own from key places [] less at marked = tt
-apart own from key places (first ∷ starts) less at marked = (
-  ne_eqb key first.0 (λ same.
-      let number = same_Some own (0 + from) (sym at ∙ ap (slice_get places) same ∙ marked 0 first.0 first.1 refl) in
-      omega (arith, less, number)),
-  apart own (from + 1) key places starts (omega (arith, less)) at (later from places first starts marked),
-)
-
-distinct : (from : ℕ) (places : List ℕ) (starts : StartList) → MarkedFrom from places starts → IsDistinct nat_eq (keys_of starts)
-unfolding IsDistinct
-distinct from places [] marked = tt
-distinct from places (first ∷ starts) marked =
-    let rest = later from places first starts marked in
-    (apart (0 + from) (from + 1) first.0 places starts (omega arith) (marked 0 first.0 first.1 refl) rest, distinct (from + 1) places starts rest)
 
 -- ---- a start is found at its place
 
@@ -48,12 +22,8 @@ pub read-at : {X : Type 0} (xs ys : List X) (k : ℕ) (x : X) → xs ≡ ys → 
 read-at {X = X} xs ys k x same within is =
     ap (λ (xs : List X). slice_get xs k) (sym same) ∙ slice_get_read xs (length xs) k x refl within is
 
-pub unread-at : {X : Type 0} (xs ys : List X) (k : ℕ) → xs ≡ ys → length xs ≤ k → slice_get ys k ≡ None
-unread-at {X = X} xs ys k same out = ap (λ (xs : List X). slice_get xs k) (sym same) ∙ slice_get_past xs k out
-
-pub there : (places : List ℕ) (starts : StartList) (k offset : ℕ) (start : Start) → AreMarked places starts → slice_get starts k ≡ Some (offset, start) → Some start ≡ start_at starts offset
-there places starts k offset start marked e =
-    sym (lookup_from_place nat_eq_equiv starts k offset start (distinct 1 places starts marked) e)
+pub there : (starts : StartList) (k offset : ℕ) (start : Start) → IsDistinct nat_eq (keys_of starts) → slice_get starts k ≡ Some (offset, start) → Some start ≡ start_at starts offset
+there starts k offset start distinct e = sym (lookup_from_place nat_eq_equiv starts k offset start distinct e)
 
 -- an offset without a start
 pub missing : (starts : StartList) (offset : ℕ) → ((k : ℕ) (start : Start) → slice_get starts k ≡ Some (offset, start) → ⊥) → None ≡ start_at starts offset
@@ -65,28 +35,90 @@ missing starts offset none = by (start_at starts offset) refl
         let place = place_from_lookup (nat_eq offset) starts start e in
         absurd (none place.0 start (place.2 ∙ ap (λ (key : ℕ). Some (key, start)) (sym (eqb-true offset place.1 place.3))))
 
-set-here : (places : List ℕ) (key n : ℕ) → key < length places → slice_get (set places key n) key ≡ Some n
-set-here places key n within =
-    let long = length-set places key n in
-    slice_get-get_or (set places key n) key n (omega (arith, long, within)) ∙ ap Some (get_or-set_same places key n n within)
+-- ---- one start more
 
-set-apart : (places : List ℕ) (key n other m : ℕ) → (key ≡ other → ⊥) → slice_get places other ≡ Some m → slice_get (set places key n) other ≡ Some m
-set-apart places key n other m differ e =
-    let long = length-set places key n in
-    let within = slice_get_within places other m e in
-    slice_get-get_or (set places key n) other 0 (omega (arith, long, within))
-    ∙ ap Some (get_or-set_other places key other n 0 (λ same. differ (sym same)) ∙ get_or_from_slice_get places other m 0 e)
+module _ (starts : StartList) (key : ℕ) (start : Start) where
+  abbrev more : StartList
+  more = starts ++ (key, start) ∷ []
 
-pub marked-more : (places : List ℕ) (starts : StartList) (key : ℕ) (start : Start) → AreMarked places starts → key < length places → start_at starts key ≡ None → AreMarked (set places key (length starts + 1)) (starts ++ (key, start) ∷ [])
-marked-more places starts key start marked within none k offset s e =
-    elim (get-pushed starts (key, start) (offset, s) k e) [
-      | inl old ↦ set-apart places key (length starts + 1) offset (k + 1) (λ same.
-          let both : Some s ≡ None = there places starts k offset s marked old.1 ∙ ap (start_at starts) (sym same) ∙ none in
-          absurd cc) (marked k offset s old.1)
-      | inr new ↦ let same : key ≡ offset = ap (λ (pair : ℕ × Start). pair.0) new.1 in
-          let last : k ≡ length starts = omega (arith, new.0) in
-          ap (slice_get (set places key (length starts + 1))) (sym same) ∙ set-here places key (length starts + 1) within ∙ ap (λ (n : ℕ). Some (n + 1)) (sym last)
-    ]
+  -- the last of the first so many stays, and so does the last of another group
+  last-still : (group count place : ℕ) → count ≤ length starts → IsLast starts group count place → IsLast more group count place
+  last-still group count place within last = record {
+    within = last.within;
+    own = λ k offset s here e. elim (get-pushed starts (key, start) (offset, s) k e) [ inl old ↦ last.own k offset s here old.1 | inr new ↦ absurd (omega (arith, here, last.within, within, new.0)) ];
+    others = λ k offset s low high e. elim (get-pushed starts (key, start) (offset, s) k e) [ inl old ↦ last.others k offset s low high old.1 | inr new ↦ absurd (omega (arith, high, within, new.0)) ];
+  }
+
+  last-other : (group place : ℕ) → group_of key ≢ group → IsLast starts group (length starts) place → IsLast more group (length more) place
+  last-other group place differ last = record {
+    within = let size = length_push starts (key, start) in omega (arith, last.within, size);
+    own = λ k offset s here e. elim (get-pushed starts (key, start) (offset, s) k e) [ inl old ↦ last.own k offset s here old.1 | inr new ↦ absurd (omega (arith, here, last.within, new.0)) ];
+    others = λ k offset s low high e. elim (get-pushed starts (key, start) (offset, s) k e) [
+      | inl old ↦ last.others k offset s low old.0 old.1
+      | inr new ↦ λ same. differ (ap (λ (pair : ℕ × Start). group_of pair.0) new.1 ∙ same)
+    ];
+  }
+
+  last-new : IsLast more (group_of key) (length more) (length starts + 1)
+  last-new =
+      let size = length_push starts (key, start) in
+      record {
+        within = omega (arith, size);
+        own = λ k offset s here e. elim (get-pushed starts (key, start) (offset, s) k e) [
+          | inl old ↦ absurd (omega (arith, here, old.0))
+          | inr new ↦ ap (λ (pair : ℕ × Start). group_of pair.0) (sym new.1)
+        ];
+        others = λ k offset s low high e. absurd (omega (arith, low, high, size));
+      }
+
+  module _ (heads before : List ℕ) (place : ℕ) (linked : AreLinked heads before starts) (within : group_of key < length heads) (none : start_at starts key ≡ None) (head : slice_get heads (group_of key) ≡ Some place) where
+    lasts : (group last : ℕ) → slice_get (set heads (group_of key) (length starts + 1)) group ≡ Some last → (same : Bool) → (group_of key == group) ≡ same → IsLast more group (length more) last
+    lasts group last e true same =
+        let is : group_of key ≡ group = eqb-true (group_of key) group same in
+        let here : get_or (set heads (group_of key) (length starts + 1)) (group_of key) last ≡ length starts + 1 = get_or-set_same heads (group_of key) (length starts + 1) last within in
+        let number : length starts + 1 ≡ last = sym here ∙ ap (λ (group : ℕ). get_or (set heads (group_of key) (length starts + 1)) group last) is ∙ get_or_from_slice_get (set heads (group_of key) (length starts + 1)) group last last e in
+        subst (λ (last : ℕ). IsLast more group (length more) last) number (subst (λ (group : ℕ). IsLast more group (length more) (length starts + 1)) is last-new)
+    lasts group last e false same =
+        let differ : group_of key ≢ group = eqb-false (group_of key) group same in
+        let long = length-set heads (group_of key) (length starts + 1) in
+        let in_heads = slice_get_within (set heads (group_of key) (length starts + 1)) group last e in
+        let old : get_or heads group last ≡ last = sym (get_or-set_other heads (group_of key) group (length starts + 1) last (λ turned. differ (sym turned))) ∙ get_or_from_slice_get (set heads (group_of key) (length starts + 1)) group last last e in
+        last-other group last differ (linked.lasts group last (slice_get-get_or heads group last (omega (arith, in_heads, long)) ∙ ap Some old))
+
+    earlier : (k offset last : ℕ) (s : Start) → slice_get more k ≡ Some (offset, s) → slice_get (before ++ place ∷ []) k ≡ Some last → IsLast more (group_of offset) k last
+    earlier k offset last s e link =
+        elim (get-pushed starts (key, start) (offset, s) k e) [
+          | inl old ↦ elim (get-pushed before place last k link) [
+            | inl known ↦ last-still (group_of offset) k last (omega (arith, old.0)) (linked.earlier k offset last s old.1 known.1)
+            | inr late ↦ absurd (omega (arith, old.0, late.0, linked.counted))
+          ]
+          | inr new ↦ elim (get-pushed before place last k link) [
+            | inl known ↦ absurd (omega (arith, new.0, known.0, linked.counted))
+            | inr late ↦
+                let group : group_of key ≡ group_of offset = ap (λ (pair : ℕ × Start). group_of pair.0) new.1 in
+                let count : length starts ≡ k = sym new.0 in
+                subst (λ (last : ℕ). IsLast more (group_of offset) k last) late.1 (subst (λ (group : ℕ). IsLast more group k place) group (subst (λ (k : ℕ). IsLast more (group_of key) k place) count (last-still (group_of key) (length starts) place (omega arith) (linked.lasts (group_of key) place head))))
+          ]
+        ]
+
+    grouped : (k offset : ℕ) (s : Start) → slice_get more k ≡ Some (offset, s) → group_of offset < length (set heads (group_of key) (length starts + 1))
+    grouped k offset s e =
+        let long = length-set heads (group_of key) (length starts + 1) in
+        elim (get-pushed starts (key, start) (offset, s) k e) [
+          | inl old ↦ let before = linked.grouped k offset s old.1 in omega (arith, before, long)
+          | inr new ↦ let group : group_of key ≡ group_of offset = ap (λ (pair : ℕ × Start). group_of pair.0) new.1 in omega (arith, group, within, long)
+        ]
+
+    pub linked-more : AreLinked (set heads (group_of key) (length starts + 1)) (before ++ place ∷ []) more
+    linked-more = record {
+      distinct =
+          let absent = sym (is_some-lookup (nat_eq key) starts) ∙ ap is_some none in
+          subst (λ (keys : List ℕ). IsDistinct nat_eq keys) (sym (map_push (λ (pair : ℕ × Start). pair.0) starts (key, start))) (IsDistinct-push nat_eq_equiv (keys_of starts) key linked.distinct absent);
+      counted = let links = length_push before place in let size = length_push starts (key, start) in omega (arith, links, size, linked.counted);
+      lasts = λ group last e. lasts group last e (group_of key == group) refl;
+      grouped = grouped;
+      earlier = earlier;
+    }
 
 -- ---- how many there are
 
@@ -98,11 +130,11 @@ in-range from (suc count) q low high = by (q == from) refl (in-range (from + 1) 
     by true same others = refl
     by false same others = let other = eqb-false q from same in others (omega (arith, low, other)) (omega (arith, high))
 
-pub most : (places : List ℕ) (starts : StartList) (end : ℕ) → AreMarked places starts → AreBelow end starts → length starts ≤ end
-most places starts end marked below =
+pub most : (starts : StartList) (end : ℕ) → IsDistinct nat_eq (keys_of starts) → AreBelow end starts → length starts ≤ end
+most starts end distinct below =
     let count = length-keys_of starts in
     let size = length-range_with_len 0 end in
-    let fits = length-le_from_is_member nat_eq_equiv (keys_of starts) (range_with_len 0 end) (distinct 1 places starts marked) inside in
+    let fits = length-le_from_is_member nat_eq_equiv (keys_of starts) (range_with_len 0 end) distinct inside in
     omega (arith, count, size, fits)
   where
     inside : (q : ℕ) → list_any (nat_eq q) (keys_of starts) ≡ true → list_any (nat_eq q) (range_with_len 0 end) ≡ true
@@ -111,3 +143,69 @@ most places starts end marked below =
         by : (found : Option Start) → start_at starts q ≡ found → is_some found ≡ true → list_any (nat_eq q) (range_with_len 0 end) ≡ true
         by None e some = absurd cc
         by (Some start) e some = let less = below q start e in in-range 0 end q (omega arith) (omega (arith, less))
+
+pub linked-none : AreLinked [] [] []
+unfolding IsDistinct
+linked-none = record {
+  distinct = tt;
+  counted = refl;
+  lasts = λ group place e. absurd cc;
+  grouped = λ k offset s e. absurd cc;
+  earlier = λ k offset place s e. absurd cc;
+}
+
+-- ---- a group is gone through
+
+-- the place is of the last in the offset's group of the first so many starts, and none after these begins there
+abbrev pub Sought : StartList → ℕ → ℕ → Type 0
+Sought starts offset place =
+    (count : ℕ) × (count ≤ length starts) × IsLast starts (group_of offset) count place
+    × ((k : ℕ) (start : Start) → count ≤ k → slice_get starts k ≡ Some (offset, start) → ⊥)
+
+pub sought-first : (heads before : List ℕ) (starts : StartList) (offset place : ℕ) → AreLinked heads before starts → slice_get heads (group_of offset) ≡ Some place → Sought starts offset place
+sought-first heads before starts offset place linked e = (
+  length starts,
+  omega arith,
+  linked.lasts (group_of offset) place e,
+  λ k start past at. let within = slice_get_within starts k (offset, start) at in omega (arith, within, past),
+)
+
+pub sought-within : (starts : StartList) (offset place : ℕ) → Sought starts offset place → place ≤ length starts
+sought-within starts offset place sought = let within = sought.2.within in omega (arith, within, sought.1)
+
+pub sought-next : (heads before : List ℕ) (starts : StartList) (offset place k next : ℕ) (first : ℕ × Start) → AreLinked heads before starts → Sought starts offset place → place ≡ k + 1 → slice_get starts k ≡ Some first → first.0 ≢ offset → slice_get before k ≡ Some next → (next < place) × Sought starts offset next
+sought-next heads before starts offset place k next first linked sought is at other link =
+    let last = sought.2 in
+    let group = last.own k first.0 first.1 is at in
+    let earlier = subst (λ (group : ℕ). IsLast starts group k next) group (linked.earlier k first.0 next first.1 at link) in
+    (omega (arith, earlier.within, is), (k, omega (arith, is, last.within, sought.1), earlier, past))
+  where
+    three : (j k : ℕ) → k ≤ j → (j ≡ k) ⊎ (k < j)
+    three j k past = by (j == k) refl
+      where
+        by : (same : Bool) → (j == k) ≡ same → (j ≡ k) ⊎ (k < j)
+        by true e = inl (eqb-true j k e)
+        by false e = let differ = eqb-false j k e in inr (omega (arith, past, differ))
+
+    between : (j : ℕ) (start : Start) → k < j → slice_get starts j ≡ Some (offset, start) → ⊥
+    between j start after e = by (nat_lt j sought.0) refl
+      where
+        by : (before : Bool) → nat_lt j sought.0 ≡ before → ⊥
+        by true less = sought.2.others j offset start (omega (arith, is, after)) (ltb-true j sought.0 less) e refl
+        by false past = sought.3 j start (ltb-false j sought.0 past) e
+
+    past : (j : ℕ) (start : Start) → k ≤ j → slice_get starts j ≡ Some (offset, start) → ⊥
+    past j start low e = elim (three j k low) [
+      | inl same ↦ other (ap (λ (pair : ℕ × Start). pair.0) (same_Some first (offset, start) (sym at ∙ ap (slice_get starts) (sym same) ∙ e)))
+      | inr after ↦ between j start after e
+    ]
+
+pub sought-none : (starts : StartList) (offset place : ℕ) → Sought starts offset place → (1 ≤ place → ⊥) → None ≡ start_at starts offset
+sought-none starts offset place sought end = missing starts offset none
+  where
+    none : (k : ℕ) (start : Start) → slice_get starts k ≡ Some (offset, start) → ⊥
+    none k start e = by (nat_lt k sought.0) refl
+      where
+        by : (before : Bool) → nat_lt k sought.0 ≡ before → ⊥
+        by true less = sought.2.others k offset start (omega (arith, end)) (ltb-true k sought.0 less) e refl
+        by false past = sought.3 k start (ltb-false k sought.0 past) e

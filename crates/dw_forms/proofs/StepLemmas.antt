@@ -20,7 +20,7 @@ use Rattle.dw_forms.specs.Names.{is_used}
 use Rattle.dw_forms.specs.Size.{place_behind, value_size, values_size}
 use Rattle.dw_forms.specs.Spec.{spec_shown}
 use Rattle.dw_forms.specs.Ranged.{may_have_ranges}
-use Rattle.dw_forms.specs.Steps.{find_place, step_value, AreAtHand, ArePlaces, AreSteps, IsPlaced}
+use Rattle.dw_forms.specs.Steps.{find_place, step_value, ArePlaces, AreSteps, IsPlaced}
 use Rattle.dw_forms.specs.declared.declaration.Spec.{Spec}
 use Rattle.dw_forms.specs.declared.steps.Step.{Step}
 use Rattle.dw_forms.specs.declared.places.Place.{Place}
@@ -173,11 +173,11 @@ place-declared steps places name specs are used = by (find_place name places) (a
     by None none = sym (ap is_some none)
     by (Some place) h = sym (ap (λ (specs : List Specification). is_some (first_named name specs)) h.2 ∙ first-behind name h.0 h.1 (spec_shown place.spec) h.3)
 
-pub ranged_is : (places : Places) (specs : List Specification) → ArePlaces places.steps.items places.list.items specs → AreAtHand places
-    → (is_some places.bounds.ranges || (is_some places.bounds.low && is_some places.bounds.high)) ≡ may_have_ranges specs
-ranged_is places specs are hand =
+pub ranged_is : (places : Places) (specs : List Specification) → ArePlaces places.steps.items places.list.items specs
+    → (is_some (find_place DW_AT_ranges places.list.items) || (is_some (find_place DW_AT_low_pc places.list.items) && is_some (find_place DW_AT_high_pc places.list.items))) ≡ may_have_ranges specs
+ranged_is places specs are =
     let declared = λ (name : ℕ) (used : is_used name ≡ true). place-declared places.steps.items places.list.items name specs are used in
-    rw (ap is_some hand.0 ∙ declared DW_AT_low_pc refl, ap is_some hand.1 ∙ declared DW_AT_high_pc refl, ap is_some hand.2 ∙ declared DW_AT_ranges refl) refl
+    rw (declared DW_AT_low_pc refl, declared DW_AT_high_pc refl, declared DW_AT_ranges refl) refl
 
 -- ---- how places are found
 

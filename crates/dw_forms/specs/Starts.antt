@@ -1,6 +1,8 @@
 -- Where the declarations that were read begin.
-use Rattle.std.specs.Prelude.{◌≡◌, ◌⊎◌, ◌+◌, ◌<◌, ℕ, List, Option, Some, None, IsSome, length, nat_eq, slice_get}
-use Rattle.std.specs.Map.{lookup}
+use Rattle.std.specs.Prelude.{◌≡◌, ◌≢◌, ◌≤◌, ◌⊎◌, ◌+◌, ◌/◌, ◌<◌, ℕ, List, Option, Some, None, IsSome, length, nat_eq}
+use Rattle.std.specs.Prelude.{slice_get}
+use Rattle.std.specs.List.{IsDistinct}
+use Rattle.std.specs.Map.{keys_of, lookup}
 use Rattle.dw_forms.specs.declared.run.Start.{Start}
 
 -- offsets in .debug_abbrev, each with the run and the index of the declaration there
@@ -15,15 +17,38 @@ start_at starts offset = lookup (nat_eq offset) starts
 abbrev pub AreBelow : (end : ℕ) → StartList → Type 0
 AreBelow end starts = (offset : ℕ) (start : Start) → start_at starts offset ≡ Some start → offset < end
 
--- At the offset of each start its place in the list is noted, from 1 on.
-abbrev pub AreMarked : (places : List ℕ) → StartList → Type 0
-AreMarked places starts =
-    (k offset : ℕ) (start : Start) → slice_get starts k ≡ Some (offset, start)
-    → slice_get places offset ≡ Some (k + 1)
+-- The offsets are in groups of 32 bytes.
+abbrev pub group_of : (offset : ℕ) → ℕ
+group_of offset = offset / 32
 
--- These offsets are below the end.
-abbrev pub AreWithin : (end : ℕ) → List ℕ → Type 0
-AreWithin end offsets = (k offset : ℕ) → slice_get offsets k ≡ Some offset → offset < end
+-- Of the first so many starts, the last one in a group has this place, from 1 on; place 0 says
+-- that there is none.
+pub record IsLast (starts : StartList) (group count place : ℕ) : Type 0 where
+  pub within : place ≤ count
+  pub own : (k offset : ℕ) (start : Start) → place ≡ k + 1 → slice_get starts k ≡ Some (offset, start)
+      → group_of offset ≡ group
+  pub others : (k offset : ℕ) (start : Start) → place ≤ k → k < count → slice_get starts k ≡ Some (offset, start)
+      → group_of offset ≢ group
+
+-- Each group leads to its last start, and each start to the one before it in its group.
+pub record AreLinked (heads before : List ℕ) (starts : StartList) : Type 0 where
+  pub distinct : IsDistinct nat_eq (keys_of starts)
+  pub counted : length before ≡ length starts
+  pub lasts : (group place : ℕ) → slice_get heads group ≡ Some place → IsLast starts group (length starts) place
+  pub grouped : (k offset : ℕ) (start : Start) → slice_get starts k ≡ Some (offset, start)
+      → group_of offset < length heads
+  pub earlier : (k offset place : ℕ) (start : Start) → slice_get starts k ≡ Some (offset, start)
+      → slice_get before k ≡ Some place → IsLast starts (group_of offset) k place
+
+-- Groups that are added have no start yet; the others keep theirs.
+pub record AreGrown (old new : List ℕ) : Type 0 where
+  pub longer : length old ≤ length new
+  pub each : (group place : ℕ) → slice_get new group ≡ Some place
+      → (slice_get old group ≡ Some place) ⊎ ((length old ≤ group) × (place ≡ 0))
+
+-- These offsets are in the first so many groups.
+abbrev pub AreGrouped : (groups : ℕ) → List ℕ → Type 0
+AreGrouped groups offsets = (k offset : ℕ) → slice_get offsets k ≡ Some offset → group_of offset < groups
 
 -- None of these offsets has a start.
 abbrev pub AreApart : StartList → List ℕ → Type 0

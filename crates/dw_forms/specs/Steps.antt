@@ -1,7 +1,7 @@
 -- Where values are in the entries of a declaration, in units of the 32-bit format.
 use Rattle.std.specs.Prelude.{◌≡◌, ◌≤◌, ◌==◌, ◌++◌, ◌∷◌, [], ℕ, List, Option, Some, None, Result, MatchOption}
 use Rattle.std.specs.Prelude.{find, length, ok_or, take, true}
-use Rattle.dw_model.specs.declared.dwarf.TheConstants.{DW_AT_high_pc, DW_AT_low_pc, DW_AT_ranges, OFFSET_SIZE_32}
+use Rattle.dw_model.specs.declared.dwarf.TheConstants.{OFFSET_SIZE_32}
 use Rattle.dw_model.specs.Results.{◌>>=◌}
 use Rattle.dw_model.specs.Faults.{Fault, ends_early}
 use Rattle.dw_model.specs.Reading as reading
@@ -14,7 +14,6 @@ use Rattle.dw_forms.specs.Size.{values_size}
 use Rattle.dw_forms.specs.Spec.{spec_shown}
 use Rattle.dw_forms.specs.declared.steps.Step.{Step}
 use Rattle.dw_forms.specs.declared.places.Place.{Place}
-use Rattle.dw_forms.specs.declared.places.Places.{Places}
 
 -- the value of a step: as many bytes are passed, and then it is read
 abbrev pub step_value : Step → reading.Place → Result (Value × reading.Place) Fault
@@ -46,10 +45,3 @@ abbrev pub ArePlaces : List Step → List Place → List Specification → Type 
 ArePlaces steps places specifications =
     (name : ℕ) → is_used name ≡ true → MatchOption (find_place name places)
     (first_named name specifications ≡ None) (λ place. IsPlaced steps name place specifications)
-
--- The places at hand are those of the list.
-abbrev pub AreAtHand : Places → Type 0
-AreAtHand places =
-    (places.bounds.low ≡ find_place DW_AT_low_pc places.list.items)
-    × (places.bounds.high ≡ find_place DW_AT_high_pc places.list.items)
-    × (places.bounds.ranges ≡ find_place DW_AT_ranges places.list.items)

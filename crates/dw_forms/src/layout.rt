@@ -8,6 +8,7 @@ use crate::fault::FormFault;
 use crate::names::is_used;
 use crate::pairs::Specs;
 use crate::places::{Places, places_of, value_at_place};
+use crate::ranged::are_ranged;
 use crate::size::size_of_all;
 use crate::steps::pass_steps;
 use crate::value::Value;
@@ -25,7 +26,9 @@ pub struct Layout<'a> {
     size_32: Option<usize>,
     /// The same in the 64-bit format.
     size_64: Option<usize>,
-    /// Its entries may have ranges.
+    /// Values are asked for by their names.
+    named: bool,
+    /// Its entries may have ranges, if values are asked for by their names.
     ranged: bool,
     /// Where values are in the 32-bit format.
     places: Places,
@@ -68,19 +71,21 @@ impl<'a> Layout<'a> {
     ghost use Rattle.dw_forms.specs.Size.{place_behind, size_in, Skips};
     ghost use Rattle.dw_forms.specs.Value.{value_shown};
 
-    /// The layout of the entries with these attributes. The error comes only where an allocation
-    /// was refused.
+    /// The layout of the entries with these attributes. It has the places of names that are used
+    /// where values are `named`; else those are looked for pair by pair. The error comes only where
+    /// an allocation was refused.
     #[tactic(auto, using(crate::proofs::StepLemmas::ranged_is))]
-    pub fn of(alloc: Global, specs: &Specs<'a>) -> Result<Self, AllocError>
+    pub fn of(alloc: Global, specs: &Specs<'a>, named: bool) -> Result<Self, AllocError>
         ensures { IfOk result (λ layout. layout ≡ specs.now) }
     {
         let list = decoded(alloc, specs)?;
-        let places = places_of(alloc, list.as_slice())?;
+        let places = places_of(alloc, list.as_slice(), named)?;
         Ok(Layout {
             specs: specs.fork(),
             size_32: size_of_all(list.as_slice(), Width::Four),
             size_64: size_of_all(list.as_slice(), Width::Eight),
-            ranged: places.bounds.may_have_ranges(),
+            named,
+            ranged: places.may_have_ranges(),
             places,
         })
     }
@@ -122,6 +127,9 @@ impl<'a> Layout<'a> {
         ensures told { result ≡ may_have_ranges self.now }
         ensures right { result ≡ false → NamesNone self.now }
     {
+        if !self.named {
+            return are_ranged(&self.specs);
+        }
         self.ranged
     }
 
@@ -143,7 +151,7 @@ impl<'a> Layout<'a> {
     fn find<'b>(&self, name: u64, values: &Cursor<'b>, width: Width) -> Option<Value<'b>>
         ensures { option_map value_shown result ≡ value_up_to (size_of width) name self.now values.now }
     {
-        if !is_used(name) {
+        if !self.named || !is_used(name) {
             return self.specs.first_value(name, values, width);
         }
         let place = self.places.find(name)?;

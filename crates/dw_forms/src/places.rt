@@ -11,7 +11,7 @@ ghost use Rattle.dw_forms.specs.Named.{value_up_to};
 ghost use Rattle.dw_forms.specs.Names.{is_used};
 ghost use Rattle.dw_forms.specs.Size.{place_behind};
 ghost use Rattle.dw_forms.specs.Spec.{spec_shown};
-ghost use Rattle.dw_forms.specs.Steps.{find_place, AreAtHand, ArePlaces, AreSteps, IsPlaced};
+ghost use Rattle.dw_forms.specs.Steps.{find_place, ArePlaces, AreSteps, IsPlaced};
 ghost use Rattle.dw_forms.specs.Value.{value_shown};
 
 use crate::declaration::Spec;
@@ -33,35 +33,16 @@ pub(crate) struct Place {
     offset: usize,
 }
 
-/// What is known of where the values are of the entries of a declaration. Most of it needs no
-/// allocation.
+/// What is known of where the values are of the entries of a declaration. What is needed to pass
+/// over them needs no allocation in most.
 #[derive(Drop)]
 pub(crate) struct Places {
     /// The values of no fixed size.
     pub(crate) steps: SmallVec<Step, 2>,
     /// How many bytes are after the last of them.
     pub(crate) rest: usize,
-    /// The values of the first attributes of the names that are used.
-    pub(crate) list: SmallVec<Place, 6>,
-    /// Those that are asked of every function, at hand.
-    pub(crate) bounds: Bounds,
-}
-
-/// The places of the attributes that say which addresses a function has.
-#[derive(Clone, Copy, Debug, Default, PartialEq, Eq)]
-pub(crate) struct Bounds {
-    pub(crate) low: Option<Place>,
-    pub(crate) high: Option<Place>,
-    pub(crate) ranges: Option<Place>,
-}
-
-impl Bounds {
-    /// DW_AT_ranges is among them, or both of DW_AT_low_pc and DW_AT_high_pc are.
-    pub(crate) fn may_have_ranges(&self) -> bool
-        ensures { result ≡ (is_some self.now.ranges || (is_some self.now.low && is_some self.now.high)) }
-    {
-        self.ranges.is_some() || (self.low.is_some() && self.high.is_some())
-    }
+    /// The values of the first attributes of the names that are used, where they are asked for.
+    pub(crate) list: Vec<Place>,
 }
 
 /// The place of a name among some.
@@ -72,42 +53,44 @@ fn find_place(places: &[Place], name: u64) -> Option<&Place>
     places.iter().find(|place| place.spec.name == name)
 }
 
-/// A copy of the place of a name.
-fn copied_place(places: &[Place], name: u64) -> Option<Place>
-    ensures { result ≡ find_place name places.now }
-{
-    let place = find_place(places, name)?;
-    Some(*place)
-}
-
 impl Places {
     /// The place of a name.
     #[inline(always)]
     pub(crate) fn find(&self, name: u64) -> Option<&Place>
-        requires { AreAtHand self.now }
         ensures { option_map (λ place. place.now) result ≡ find_place name self.now.list.items }
     {
-        match name {
-            DW_AT_low_pc => self.bounds.low.as_ref(),
-            DW_AT_high_pc => self.bounds.high.as_ref(),
-            DW_AT_ranges => self.bounds.ranges.as_ref(),
-            _ => find_place(self.list.as_slice(), name),
+        find_place(self.list.as_slice(), name)
+    }
+
+    /// DW_AT_ranges has a place, or both of DW_AT_low_pc and DW_AT_high_pc have one.
+    pub(crate) fn may_have_ranges(&self) -> bool
+        ensures { result ≡ (is_some (find_place DW_AT_ranges self.now.list.items)
+            || (is_some (find_place DW_AT_low_pc self.now.list.items)
+            && is_some (find_place DW_AT_high_pc self.now.list.items))) }
+    {
+        if self.find(DW_AT_ranges).is_some() {
+            return true;
         }
+        self.find(DW_AT_low_pc).is_some() && self.find(DW_AT_high_pc).is_some()
     }
 }
 
 /// Keeps the place of an attribute that is the first of a name that is used, after so many steps
-/// and bytes.
+/// and bytes, where it is asked for (`named`).
 fn note(
-    places: &mut SmallVec<Place, 6>,
+    places: &mut Vec<Place>,
     spec: &Spec,
+    named: bool,
     count: usize,
     offset: usize,
 ) -> Result<(), AllocError>
     ensures { (steps : List Step) (specs : List Specification) → AreSteps steps offset specs → length steps ≡ count
-        → ArePlaces steps places.old.items specs
+        → named ≡ true → ArePlaces steps places.old.items specs
         → OnOk result (ArePlaces steps places.new.items (specs ++ spec_shown spec.now ∷ [])) }
 {
+    if !named {
+        return Ok(());
+    }
     if !is_used(spec.name) {
         return Ok(());
     }
@@ -123,17 +106,18 @@ fn note(
     Ok(())
 }
 
-/// Where the values are in the entries with these attributes.
-pub(crate) fn places_of(alloc: Global, specs: &[Spec]) -> Result<Places, AllocError>
+/// Where the values are in the entries with these attributes, those of names that are used among
+/// them where they are asked for.
+pub(crate) fn places_of(alloc: Global, specs: &[Spec], named: bool) -> Result<Places, AllocError>
     ensures steps { IfOk result (λ places. AreSteps places.steps.items places.rest (map spec_shown specs.now)) }
-    ensures list { IfOk result (λ places. ArePlaces places.steps.items places.list.items (map spec_shown specs.now)) }
-    ensures bounds { IfOk result AreAtHand }
+    ensures list { named ≡ true
+        → IfOk result (λ places. ArePlaces places.steps.items places.list.items (map spec_shown specs.now)) }
 {
     let mut steps = SmallVec::new(alloc);
-    let mut list = SmallVec::new(alloc);
+    let mut list = Vec::with_capacity(alloc, if named { specs.len() } else { 0 })?;
     let mut rest: usize = 0;
     for spec in specs {
-        note(&mut list, spec, steps.len(), rest)?;
+        note(&mut list, spec, named, steps.len(), rest)?;
         let Some(passed) = passed_with(spec, rest) else {
             let spec = *spec;
             steps.push(Step { before: rest, spec })?;
@@ -142,18 +126,7 @@ pub(crate) fn places_of(alloc: Global, specs: &[Spec]) -> Result<Places, AllocEr
         };
         rest = passed;
     }
-    let known = list.as_slice();
-    let bounds = Bounds {
-        low: copied_place(known, DW_AT_low_pc),
-        high: copied_place(known, DW_AT_high_pc),
-        ranges: copied_place(known, DW_AT_ranges),
-    };
-    Ok(Places {
-        steps,
-        rest,
-        list,
-        bounds,
-    })
+    Ok(Places { steps, rest, list })
 }
 
 /// The first of some steps, so many where there are as many.

@@ -1,80 +1,82 @@
 //! Where each declaration begins that was read of .debug_abbrev.
 
-ghost use Rattle.std.specs.Prelude.{◌≡◌, ◌≤◌, ℕ, Some, [], IfSome, OnOk, OnErr, length, slice_get};
-ghost use Rattle.dw_forms.specs.Starts.{start_at, AreAdded, AreApart, AreBelow, AreMarked, AreRising, AreWithin};
+ghost use Rattle.std.specs.Prelude.{◌≡◌, ◌≤◌, ◌+◌, ℕ, [], IfOk, OnOk, OnErr, length, vec_capacity, vec_len};
+ghost use Rattle.dw_forms.specs.Starts.{start_at, AreAdded, AreApart, AreBelow, AreGrouped};
+ghost use Rattle.dw_forms.specs.Starts.{AreGrown, AreLinked, AreRising};
 
 use crate::run::{Run, Start};
 use std::alloc::{AllocError, Global};
 use std::marker::Model;
 
-/// The first offset after those of a run; `None` where it doesn't fit.
-fn end_of(read: &Run<'_>) -> Option<usize>
+/// How many bytes of .debug_abbrev a group has. Declarations of compilers have some twenty.
+const GROUP: usize = 32;
+
+/// How many groups there are up to the last offset of a run.
+fn groups_of(read: &Run<'_>) -> usize
     requires { AreRising read.now.offsets }
-    ensures { IfSome result (λ end. AreWithin end read.now.offsets) }
+    ensures { AreGrouped result read.now.offsets }
 {
-    let Some(last) = read.len().checked_sub(1) else {
-        return Some(0);
-    };
-    read.offset(last).checked_add(1)
+    match read.len().checked_sub(1) {
+        None => 0,
+        Some(last) => read.offset(last) / GROUP + 1,
+    }
 }
 
-/// Makes room for the places of starts below an end.
-fn make_room(places: &mut Vec<usize>, end: usize) -> Result<(), AllocError>
-    ensures kept { (offset place : ℕ) → slice_get places.old.items offset ≡ Some place
-        → slice_get places.new.items offset ≡ Some place }
-    ensures room { OnOk result (end ≤ length places.new.items) }
+/// Makes room for so many groups.
+fn make_room(heads: &mut Vec<usize>, groups: usize) -> Result<(), AllocError>
+    ensures grown { AreGrown heads.old.items heads.new.items }
+    ensures room { OnOk result (groups ≤ length heads.new.items) }
 {
-    if end > places.len() {
-        places.resize(end, 0)?;
+    if groups > heads.len() {
+        heads.resize(groups, 0)?;
     }
     Ok(())
 }
 
-/// Adds where each declaration of a run begins; after an error nothing was added.
+/// Adds where each declaration of a run begins.
 fn append(
     list: &mut Vec<(usize, Start)>,
-    places: &mut Vec<usize>,
+    heads: &mut Vec<usize>,
+    before: &mut Vec<usize>,
     read: &Run<'_>,
     run: usize,
-) -> Result<(), AllocError>
+)
     requires apart { AreApart list.now.items read.now.offsets }
     requires rising { AreRising read.now.offsets }
-    requires within { AreWithin (length places.now.items) read.now.offsets }
-    requires marked { AreMarked places.now.items list.now.items }
-    ensures added { OnOk result (AreAdded run (length read.now.offsets) read.now.offsets
-        list.old.items list.new.items) }
-    ensures undone { OnErr result (list.new.items ≡ list.old.items) }
-    ensures marked { AreMarked places.new.items list.new.items }
+    requires grouped { AreGrouped (length heads.now.items) read.now.offsets }
+    requires room { vec_len list.now + length read.now.offsets ≤ vec_capacity list.now }
+    requires links { vec_len before.now + length read.now.offsets ≤ vec_capacity before.now }
+    requires linked { AreLinked heads.now.items before.now.items list.now.items }
+    ensures added { AreAdded run (length read.now.offsets) read.now.offsets list.old.items list.new.items }
+    ensures linked { AreLinked heads.new.items before.new.items list.new.items }
 {
-    let before = list.len();
     for index in 0..read.len() {
         let offset = read.offset(index);
-        let Ok(()) = list.push((offset, Start { run, index })) else {
-            list.truncate(before);
-            return Err(AllocError);
-        };
-        places[offset] = list.len();
+        let group = offset / GROUP;
+        before.push_reserved(heads[group]);
+        list.push_reserved((offset, Start { run, index }));
+        heads[group] = list.len();
     }
-    Ok(())
 }
 
 /// The offsets at which declarations begin. Contracts see a list of these, each with its start.
 #[derive(Drop)]
 pub(crate) struct Starts {
     list: Vec<(usize, Start)>,
-    /// At an offset that has a start, the place of that in the list, from 1 on. At others anything
-    /// may stand.
-    places: Vec<usize>,
+    /// For each group of offsets, the place in the list of its last start, from 1 on; 0 for none.
+    heads: Vec<usize>,
+    /// For each start, the place of the one before it in its group, from 1 on; 0 for none.
+    before: Vec<usize>,
 }
 
 impl Model for Starts {
-    ghost use Rattle.dw_forms.specs.Starts.{AreMarked, StartList};
+    ghost use Rattle.dw_forms.specs.Starts.{AreLinked, StartList};
 
     ghost Value = { StartList };
 
     ghost view = { λ starts. starts.list.items };
 
-    ghost invariant = { λ starts. AreMarked starts.places.items starts.list.items };
+    ghost invariant = { λ starts. AreLinked starts.heads.items starts.before.items starts.list.items };
 }
 
 impl Starts {
@@ -84,7 +86,8 @@ impl Starts {
     {
         Starts {
             list: Vec::new(alloc),
-            places: Vec::new(alloc),
+            heads: Vec::new(alloc),
+            before: Vec::new(alloc),
         }
     }
 
@@ -92,13 +95,15 @@ impl Starts {
     pub(crate) fn get(&self, offset: usize) -> Option<Start>
         ensures { result ≡ start_at self.now offset }
     {
-        let place = self.places.get(offset)?;
-        let index = place.checked_sub(1)?;
-        let found = self.list.get(index)?;
-        if found.0 != offset {
-            return None;
+        let mut place = *self.heads.get(offset / GROUP)?;
+        while let Some(index) = place.checked_sub(1) {
+            let (key, start) = self.list[index];
+            if key == offset {
+                return Some(start);
+            }
+            place = self.before[index];
         }
-        Some(found.1)
+        None
     }
 
     /// How many there are. If all are below an end, there are at most as many as the end says.
@@ -116,8 +121,11 @@ impl Starts {
         ensures added { OnOk result (AreAdded run (length read.now.offsets) read.now.offsets self.old self.new) }
         ensures undone { OnErr result (self.new ≡ self.old) }
     {
-        let end = end_of(read).ok_or(AllocError)?;
-        make_room(&mut self.places, end)?;
-        append(&mut self.list, &mut self.places, read, run)
+        let count = read.len();
+        make_room(&mut self.heads, groups_of(read))?;
+        self.list.reserve(count)?;
+        self.before.reserve(count)?;
+        append(&mut self.list, &mut self.heads, &mut self.before, read, run);
+        Ok(())
     }
 }

@@ -61,13 +61,6 @@ first-within test xs k e = let x = first-is test xs k e in within xs k x.0 x.1
     within (y ∷ xs) zero x e = omega arith
     within (y ∷ xs) (suc k) x e = omega (arith, within xs k x e)
 
--- two tests that agree on all elements
-pub first-agree : {X : Type 0} (p q : X → Bool) (xs : List X) → ((x : X) (k : ℕ) → slice_get xs k ≡ Some x → p x ≡ q x) → first p xs ≡ first q xs
-unfolding first
-first-agree p q [] h = refl
-first-agree p q (x ∷ xs) h =
-    rw (h x 0 refl, first-agree p q xs (λ y k e. h y (suc k) e)) refl
-
 -- ---- owners of ranges
 
 least-same : (test : Bool) (n : ℕ) → least (Some n) (cond test (Some n) None) ≡ Some n

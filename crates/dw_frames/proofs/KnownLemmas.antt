@@ -128,9 +128,6 @@ onto-others false outer all more k bound next ranges up h = onto-inlined outer a
 grows-list : (drafts : Drafts) (children : Bool) (number : Option ℕ) → Grows drafts (with_list children number drafts)
 grows-list drafts children number = record { of = refl; outermost = λ ranges h. h; inlined = λ k ranges h. h }
 
-grows-null : (drafts : Drafts) → Grows drafts (without_list drafts)
-grows-null drafts = record { of = refl; outermost = λ ranges h. h; inlined = λ k ranges h. h }
-
 grows-function : (drafts : Drafts) (children : Bool) (number : Option ℕ) (offset : ℕ) → Grows drafts (with_list children number (with_function offset drafts))
 grows-function drafts children number offset = record {
   of = refl;
@@ -182,11 +179,6 @@ module _ (s : Sections) (unit : DwarfUnit) (entry : Entry) (drafts new : Drafts)
   -- what is told of a function that is added
   abbrev pub Added : Type 0
   Added = (is_err (entry_ranges_in s unit entry) ≡ false) × Same (behind_function s unit entry drafts) new
-
-  pub idle-added : entry_ranges_in s unit entry ≡ Ok [] → new ≡ with_list entry.children None drafts → Added
-  idle-added e is =
-      let behind : behind_function s unit entry drafts ≡ with_list entry.children None drafts = rw e refl in
-      (ap (λ (read : Result (List Range) Bad). is_err read) e, same-as (behind_function s unit entry drafts) new (is ∙ sym behind))
 
   behind-kept : (ranges : List Range) → entry_ranges_in s unit entry ≡ Ok ranges → (length ranges == 0) ≡ false
       → behind_function s unit entry drafts ≡ with_list entry.children (Some (length drafts.functions)) (with_function entry.offset (with_ranges (is_subprogram entry) (owned ranges (length drafts.functions)) drafts))

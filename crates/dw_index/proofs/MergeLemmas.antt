@@ -111,13 +111,6 @@ begins first second s t = record {
   size = omega arith;
 }
 
-pub is_merged : (first second merged : List Segment) (left right : Option ℕ) → Merging (λ a. least (owner_at first a) (owner_at second a)) left right [] [] merged (length first + length second) → IsMerged first second merged
-is_merged first second merged left right m = record {
-  owners = λ a. elim (cases_lt a m.bound) [ inl h ↦ m.before a h | inr h ↦ m.settled a h ∙ m.behind a h ];
-  segments = m.segments;
-  size = omega (arith, m.size);
-}
-
 -- the bound goes up to a border of either side
 module _ (whole : ℕ → Option ℕ) (left right : Option ℕ) (first second merged : List Segment) (room at : ℕ) (m : Merging whole left right first second merged room) (is_next : Some at ≡ least (border first) (border second)) where
   low : m.bound ≤ at

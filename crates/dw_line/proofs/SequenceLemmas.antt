@@ -13,20 +13,6 @@ use Rattle.dw_line.specs.declared.checkpoints.Sequence.{Sequence}
 use Rattle.dw_model.specs.LineHeader.{LineHeader}
 use Rattle.dw_line.specs.Sequences.{pairs_from, used_sequences, holds_address, number_among, IsSequence, AreSequences}
 
-abbrev pub pair_of : Sequence → ℕ → Range × ℕ
-pair_of s n = (record { begin = s.begin; end = s.end }, n)
-
--- one sequence after the other
-pub pairs-on : (ss : List Sequence) (n : ℕ) (d s : Sequence) (front all : List (Range × ℕ)) → n < length ss → get_or ss n d ≡ s → front ++ pairs_from n (drop n ss) ≡ all → (front ++ pair_of s n ∷ []) ++ pairs_from (n + 1) (drop (n + 1) ss) ≡ all
-pairs-on ss n d s front all within is so_far =
-    let step : drop n ss ≡ s ∷ drop (n + 1) ss = drop_more ss n d within ∙ ap (λ (s : Sequence). s ∷ drop (n + 1) ss) is in
-    append_assoc front (pair_of s n ∷ []) (pairs_from (n + 1) (drop (n + 1) ss)) ∙ ap (λ (rest : List Sequence). front ++ pairs_from n rest) (sym step) ∙ so_far
-
-pub pairs-all : (ss : List Sequence) (n : ℕ) (front all : List (Range × ℕ)) → length ss ≤ n → front ++ pairs_from n (drop n ss) ≡ all → front ≡ all
-pairs-all ss n front all past so_far =
-    let none : drop n ss ≡ [] = drop_all n ss past in
-    sym (append-nil front) ∙ ap (λ (rest : List Sequence). front ++ pairs_from n rest) (sym none) ∙ so_far
-
 -- the sequence holds the address
 abbrev Holds : ℕ → Sequence → Bool
 Holds a s = nat_le s.begin a && nat_lt a s.end

@@ -15,10 +15,6 @@ use Rattle.dw_line.specs.Walked.{IsStretch}
 use Rattle.std.proofs.lemmas.Bool.{cases_lt}
 use Rattle.dw_line.proofs.SequenceLemmas.{is-nowhere}
 
--- the same owner from a later address on
-pub owner_later : (rows : List Row) (number : Option ℕ) (begin later end : ℕ) → IsOwner rows number begin end → begin ≤ later → IsOwner rows number later end
-owner_later rows number begin later end owner order = λ a from before. owner a (omega (arith, order, from)) before
-
 -- the same owner up to an earlier end
 pub owner_before : (rows : List Row) (number : Option ℕ) (begin end until : ℕ) → IsOwner rows number begin until → end ≤ until → IsOwner rows number begin end
 owner_before rows number begin end until owner order = λ a from before. owner a from (omega (arith, order, before))
@@ -30,16 +26,6 @@ no_row rows begin end order owner = record {
   rises = order;
   within = omega arith;
   row = λ a from before. ap (option_map row_told) (is-nowhere rows a (owner a from before));
-}
-
--- the row that was found is that of the addresses up to the next row
-pub one_row : (rows : List Row) (number begin end stop : ℕ) (found : Last) → IsOwner rows (Some number) begin end → Stays rows number begin found → begin < stop → stop ≤ found.reached.next.registers.address → stop ≤ end
-    → IsStretch rows begin end (record { begin = begin; end = stop; row = Some (told_of found.reached) })
-one_row rows number begin end stop found owner stays order next within = record {
-  begins = refl;
-  rises = order;
-  within = within;
-  row = λ a from before. stays.same a from (omega (arith, before, next)) (owner a from (omega (arith, before, within)));
 }
 
 -- a stretch of a shorter span
@@ -104,24 +90,6 @@ either_border header rows number at until high first end found named owner ends 
 -- all addresses from one on and below another have the same row, or none
 abbrev pub HaveRow : List Row → (a end : ℕ) → Option RowTold → Type 0
 HaveRow rows a end row = (c : ℕ) → a ≤ c → c < end → told_at rows c ≡ row
-
-pub first_have : (rows : List Row) (a high : ℕ) (stretch : Stretch) → IsStretch rows a high stretch → HaveRow rows a stretch.end stretch.row
-first_have rows a high stretch is = is.row
-
-pub more_have : (rows : List Row) (a at high : ℕ) (stretch : Stretch) (row : Option RowTold) → HaveRow rows a at row → IsStretch rows at high stretch → stretch.row ≡ row → HaveRow rows a stretch.end row
-more_have rows a at high stretch row have is same = λ c from before. by c from before (cases_lt c at)
-  where
-    by : (c : ℕ) → a ≤ c → c < stretch.end → (c < at) ⊎ (at ≤ c) → told_at rows c ≡ row
-    by c from before (inl less) = have c from less
-    by c from before (inr more) = is.row c more before ∙ same
-
--- the first address that has another row
-pub steady_here : (rows : List Row) (a at : ℕ) (row other : Option RowTold) → a < at → HaveRow rows a at row → told_at rows at ≡ other → other ≢ row → IsSteady (told_at rows) a at
-steady_here rows a at row other order have there differs = record {
-  above = order;
-  same = λ c from before. have c from before ∙ sym (have a (omega arith) order);
-  changes = λ before e. differs (sym there ∙ e ∙ have a (omega arith) order);
-}
 
 -- no address has another row
 pub steady_to_the_end : (rows : List Row) (a end at : ℕ) (row : Option RowTold) → a < end → last_address ≤ end → end ≤ at → HaveRow rows a at row → IsSteady (told_at rows) a end

@@ -27,9 +27,6 @@ use Rattle.dw_model.proofs.ValueLemmas.{value-spans}
 abbrev pub Onward : Place → Place → Type 0
 Onward p q = length q.left ≤ length p.left
 
-pub spans-onward : (Is : List ℕ → Type 0) (p q : Place) → Spans Is p q → Onward p q
-spans-onward Is p q s = omega (arith, between-length p q s.0 s.1)
-
 pub number-onward : {E : Type 0} (n : ℕ) (p : Place) (e : E) (x : ℕ × Place) → ok_or (number_at n p) e ≡ Ok x → length x.1.left + n ≡ length p.left
 number-onward n p e x h =
     let s = number_at-spans n p x (ok_or-ok (number_at n p) e x h) in

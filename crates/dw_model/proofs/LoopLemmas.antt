@@ -31,10 +31,3 @@ module _ {S X A E : Type 0} (view : X → A) (next : S → Result (Option A × S
       by_told : (told : Option E) → Tells told (next s) → MatchOption told (Unit {0}) (λ fault. all ≡ Err fault)
       by_told None fault = tt
       by_told (Some e) fault = loop_fault next left advances (map view front) s e all fault so_far
-
-  pub stops_unless : (front : List X) (s : S) (told own : Option E) (all : Result (List A × S) E) → own ≡ told → MatchOption told (Unit {0}) (λ fault. next s ≡ Err fault) → SoFar front s all → MatchOption own (Unit {0}) (λ fault. all ≡ Err fault)
-  stops_unless front s told own all same fault so_far = subst (λ told. MatchOption told (Unit {0}) (λ fault. all ≡ Err fault)) (sym same) (by_told told fault)
-    where
-      by_told : (told : Option E) → MatchOption told (Unit {0}) (λ fault. next s ≡ Err fault) → MatchOption told (Unit {0}) (λ fault. all ≡ Err fault)
-      by_told None fault = tt
-      by_told (Some e) fault = loop_fault next left advances (map view front) s e all fault so_far

@@ -52,13 +52,6 @@ own_location p =
 pub other_location : (p q : Location) → is_same p q ≡ false → p ≢ q
 other_location p q e = λ same. true≢false (sym (own_location p) ∙ ap (is_same p) same ∙ e)
 
-pub not_same : (p q : Location) → p ≢ q → is_same p q ≡ false
-not_same p q differs = by (is_same p q) refl
-  where
-    by : (same : Bool) → is_same p q ≡ same → same ≡ false
-    by true e = absurd (differs (same_location p q e))
-    by false e = refl
-
 -- ---- the piece of an address
 
 pub held : (piece : Piece) (pieces : List Piece) (a : ℕ) → piece.begin ≤ a → a < piece.end → location_in (piece ∷ pieces) a ≡ Some piece.location

@@ -43,16 +43,6 @@ none-marked zero k e = absurd cc
 none-marked (suc n) zero e = absurd cc
 none-marked (suc n) (suc k) e = none-marked n k e
 
-pub set-marked : (marks : List Bool) (i k : ℕ) → slice_get (set marks i true) k ≡ Some true → (i ≡ k) ⊎ (slice_get marks k ≡ Some true)
-set-marked [] i k e = inr e
-set-marked (m ∷ marks) zero zero e = inl refl
-set-marked (m ∷ marks) zero (suc k) e = inr e
-set-marked (m ∷ marks) (suc i) zero e = inr e
-set-marked (m ∷ marks) (suc i) (suc k) e = elim (set-marked marks i k e) [
-  | inl same ↦ inl (ap suc same)
-  | inr old ↦ inr old
-]
-
 -- one more place of those that are marked
 pub more-marked : (begins : List ℕ) (i k : ℕ) (old : Type 0) → i < length begins → (get_or begins i 0 ≡ k) ⊎ (Has (take i begins) k ⊎ old) → Has (take (i + 1) begins) k ⊎ old
 more-marked begins i k old within (inl same) =

@@ -17,7 +17,7 @@ use Rattle.dw_ranges.specs.ReadLists.{Has}
 use Rattle.dw_ranges.specs.Step.{place_at, ranges_from}
 use Rattle.dw_ranges.specs.Tails.{EndsAs, onto_front, tail_at}
 use Rattle.dw_ranges.proofs.ListLemmas.{Ranges, SoFar, front-nil, from-outcome, goes_on}
-use Rattle.dw_ranges.proofs.PlaceLemmas.{IsIn, in-place, place-in, outcome-in}
+use Rattle.dw_ranges.proofs.PlaceLemmas.{IsIn, in-place, outcome-in}
 
 -- the list that begins at a place has the ranges from there on
 tail-is : (tables : Tables) (p : Place) (base addr : Option ℕ) → IsIn tables.rnglists p → ranges_of_list tables (record { begin = p.at; base = base; addr = addr }) ≡ ranges_from tables (only_addr addr) (base_shown base) p
@@ -34,13 +34,6 @@ pub record NewSoFar (tables : Tables) (list : RangeList) (ranges : List CodeRang
   pub so_far : SoFar tables (only_addr list.addr) ranges (base_shown base) p (ranges_of_list tables list)
   pub is_in : IsIn tables.rnglists p
   pub begins_are : (begin : ℕ) → Has begins begin → EndsAs tables list (tail_at list begin)
-
-pub new-started : (tables : Tables) (list : RangeList) (ranges : List CodeRange) (begins : List ℕ) (p : Place) → place_at tables.rnglists list.begin ≡ Ok p → ranges ≡ [] → begins ≡ [] → NewSoFar tables list ranges begins list.base p
-new-started tables list ranges begins p e none no_begins = record {
-  so_far = rw (none, e) (front-nil (ranges_from tables (only_addr list.addr) (base_shown list.base) p));
-  is_in = place-in tables.rnglists list.begin p e;
-  begins_are = λ begin h. absurd (subst (λ (begins : List ℕ). Has begins begin) no_begins h);
-}
 
 module _ (tables : Tables) (list : RangeList) (ranges : List CodeRange) (begins : List ℕ) (base : Option ℕ) (p : Place) (is : NewSoFar tables list ranges begins base p) where
   -- the list goes on as another one

@@ -40,14 +40,6 @@ pub in-place : (section : List ℕ) (p : Place) → IsIn section p → place_at 
 in-place section p is =
     rw (le-leb p.at (length section) is.within, ← is.left) refl
 
-pub place-in : (section : List ℕ) (offset : ℕ) (p : Place) → place_at section offset ≡ Ok p → IsIn section p
-place-in section offset p e = by_test (nat_le offset (length section)) refl e
-  where
-    by_test : (test : Bool) → nat_le offset (length section) ≡ test → ◌≡◌ {A = Result Place Bad} (cond test (Ok (record { at = offset; left = drop offset section })) (Err bad)) (Ok p) → IsIn section p
-    by_test true within e =
-        subst (IsIn section) (ok_is (record { at = offset; left = drop offset section }) p e) (record { within = leb-true offset (length section) within; left = refl })
-    by_test false within e = absurd cc
-
 module _ (section : List ℕ) where
   in-on : (p q : Place) (piece : List ℕ) → Between p piece q → IsIn section p → IsIn section q
   in-on p q piece b is =

@@ -119,15 +119,6 @@ place_ok s unit table a h = by (lines s unit) refl h
         ap (rows_place s unit a) (e ∙ ap Ok same)
     by (Err bad) e h = absurd cc
 
-place_fault : (s : Sections) (unit : DwarfUnit) (code : CodeFault) (a : ℕ) → Err (code_shown code) ≡ with_code (λ _. line_fault) (lines s unit) → unit_place s unit a ≡ Err (unit.offset, code_shown code)
-place_fault s unit code a h = by (lines s unit) refl h
-  where
-    by : (read : Result (Option Lines) Bad) → lines s unit ≡ read → Err (code_shown code) ≡ with_code (λ _. line_fault) read → rows_place s unit a (lines s unit) ≡ Err (unit.offset, code_shown code)
-    by (Ok table) e h = absurd cc
-    by (Err bad) e h =
-        let same : line_fault ≡ code_shown code = cc in
-        ap (rows_place s unit a) e ∙ ap (λ (code : Code). Err (unit.offset, code)) same
-
 same_place : (table : Lines) (found : Option ModelRow) → option_map (row_place table) (option_map row_told found) ≡ option_map (λ row. row_location (Some table) (Some row)) found
 same_place table None = refl
 same_place table (Some row) = refl

@@ -53,18 +53,6 @@ no-pieces segments from = record {
 }
 
 module _ (segments : List Segment) (from at next : ℕ) (pieces : List (CodeRange × ℕ)) (on : at < next) (steady : (a : ℕ) → at ≤ a → a < next → owner_at segments a ≡ owner_at segments at) (are : ArePieces segments from at pieces) where
-  pub gap-added : owner_at segments at ≡ None → ArePieces segments from next pieces
-  gap-added none = record {
-    below = λ a low high. by a low high (nat_lt a at) refl;
-    above = λ a up. are.above a (omega (arith, on, up));
-  }
-    where
-      by : (a : ℕ) → from ≤ a → a < next → (test : Bool) → nat_lt a at ≡ test → least_owner (map pair_shown pieces) a ≡ owner_at segments a
-      by a low high true e = are.below a low (grind (arith, nat_tests, e))
-      by a low high false e =
-          let up : at ≤ a = grind (arith, nat_tests, e) in
-          are.above a up ∙ sym (steady a up high ∙ none)
-
   pub piece-added : (owner : ℕ) → owner_at segments at ≡ Some owner → ArePieces segments from next (pieces ++ (record { begin = at; end = next }, owner) ∷ [])
   piece-added owner some = record {
     below = λ a low high. ap (λ (pairs : List (Range × ℕ)). least_owner pairs a) shown ∙ by a low high (nat_lt a at) refl;
@@ -132,9 +120,6 @@ abbrev pub Added : (ranges : List CodeRange) (owner k : ℕ) (old new : Draft) �
 Added ranges owner k old new =
     (all : List (Range × ℕ)) (from : ℕ) → HasOwners all from old → HasOwners (all ++ owned (take k ranges) owner) from new
 
-pub none-added : (ranges : List CodeRange) (owner : ℕ) (old : Draft) → Added ranges owner 0 old old
-none-added ranges owner old all from has = subst (λ all. HasOwners all from old) (sym (append-nil all)) has
-
 -- what is read where there is no range
 abbrev pub no_range : CodeRange
 no_range = record { begin = 0; end = 0 }
@@ -174,12 +159,3 @@ one-held tables held k from ranges old new within is has add =
     (ap (λ (ranges : List Range). held_pairs tables (take k held) ++ map (λ range. (range, one.unit)) ranges) is
     ∙ sym (held-more tables (take k held) one) ∙ ap (held_pairs tables) (sym (take_more held k no_unit within)))
     (add (held_pairs tables (take k held)) from has)
-
-pub all-held : (tables : Tables) (held : List HeldUnit) (k from : ℕ) (draft : Draft) (window : Window) → length held ≤ k → HasOwners (held_pairs tables (take k held)) from draft
-    → window.from ≡ from → window.until ≡ draft.until → ((a : ℕ) → owner_at window.index a ≡ least_owner (map pair_shown draft.pairs.items) a)
-    → IsWindow tables held window
-all-held tables held k from draft window past has begin until index a address =
-    let low = address.0 in
-    let high = address.1 in
-    index a ∙ has.owners a (omega (arith, begin, low)) (omega (arith, until, high))
-    ∙ ap (λ (held : List HeldUnit). least_owner (held_pairs tables held) a) (take_all k held past)

@@ -11,12 +11,6 @@ use Rattle.dw_units.specs.AttributesInside.{read_of, AreKept}
 use Rattle.dw_units.specs.Counted.{attribute_in, AreCounted}
 use Rattle.dw_units.specs.View.{attributes_in, IsRead}
 
-pub all-read : (given : Result (List Attribute × Place) Fault) (found : List Attribute) (q : Place) → given ≡ Ok (found, q) → attributes_in given ≡ found
-all-read given found q e = ap attributes_in e
-
-pub as-read : (given : Result (List Attribute × Place) Fault) (found : List Attribute × Place) → given ≡ Ok found → given ≡ Ok (attributes_in given, found.1)
-as-read given found e = e ∙ ap (λ (attributes : List Attribute). Ok (attributes, found.1)) (sym (ap attributes_in e))
-
 -- as many as are asked for
 pub counted-all : (size : ℕ) (specs : List Specification) (p : Place) (found : List Attribute × Place) → attributes_at size specs p ≡ Ok found → length specs ≡ length found.0
 unfolding attributes_at
@@ -26,10 +20,3 @@ counted-all size (one ∷ others) p found e =
     ap (λ (n : ℕ). suc n) (counted-all size others step.0.1 step.2 step.3) ∙ ap (λ (xs : List Attribute). length xs) (sym step.4)
 
 -- ---- all of them
-
-pub kept-all : (inside : Inside) (all : Result (List Attribute × Place) Fault) → read_of inside ≡ all → IsRead all → AreCounted (attributes_in all) inside.counted.items → length inside.counted.items ≤ length classes → AreKept inside
-kept-all inside all same read counted few = record {
-  readable = (read.0, same ∙ read.1);
-  counted = λ name. counted name ∙ ap (attribute_in name) (ap attributes_in (sym same));
-  few = few;
-}

@@ -20,9 +20,6 @@ faults-at (Err told) fault e = cc
 pub passed : {A : Type 0} (n : ℕ) (read : Place → Result (A × Place) Fault) (p q : Place) (bytes : List ℕ) → Skips n read → bytes_at n p ≡ Some (bytes, q) → (found : A) × (read p ≡ Ok (found, q))
 passed n read p q bytes h e = found-at (read p) q (h p ∙ ap (λ (taken : Option (List ℕ × Place)). place_behind (ok_or taken ends_early)) e)
 
-pub not-passed : {A : Type 0} (n : ℕ) (read : Place → Result (A × Place) Fault) (p : Place) → Skips n read → bytes_at n p ≡ None → read p ≡ Err ends_early
-not-passed n read p h e = faults-at (read p) ends_early (h p ∙ ap (λ (taken : Option (List ℕ × Place)). place_behind (ok_or taken ends_early)) e)
-
 -- ---- the same by steps
 
 tells-at : {A : Type 0} (read : Result (A × Place) Fault) (by : Result (Unit {0} × Place) Fault) (told : Option Fault) → place_behind read ≡ by → Tells told by → Tells told read

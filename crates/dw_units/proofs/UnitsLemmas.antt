@@ -38,11 +38,6 @@ unit-in s seen read units i unit same whole opened within e =
     let at = unit-at s.info units i unit whole (subst (λ (s : Sections). i < length (model.units s.info)) (sym same) within) e in
     (ap (λ (s : Sections). slice_get (model.units s.info) i) (sym same) ∙ at.1, subst (λ s. IsOpened s read unit) same (opened-at s read units i unit opened at.0))
 
-pub no-entry : (s : Sections) (read : Read) (unit : CodeUnit) (offset : ℕ) → IsOpened s read unit → unit.table ≡ None → entry s (unit_shown unit) offset ≡ Err ends_early
-no-entry s read unit offset opened none =
-    let skipped = subst (HasEntries s read (unit_shown unit)) none opened.table in
-    outside-all s (unit_shown unit) offset skipped.1
-
 -- ---- how many declarations a unit has
 
 unit-there : (units : List CodeUnit) (i : ℕ) → i < length units → (unit : CodeUnit) × (slice_get units i ≡ Some unit)

@@ -16,7 +16,7 @@ Means found tag children specifications =
 
 -- It is the declaration of a code, among these.
 abbrev pub IsLaid : List Declaration → ℕ → Laid → Type 0
-IsLaid declarations code laid = Means (declared declarations code) laid.tag laid.children laid.layout.value
+IsLaid declarations code laid = Means (declared declarations code) laid.tag laid.children laid.layout
 
 -- Each is the declaration of its code, among these.
 abbrev pub AreOf : List Declaration → Layouts → Type 0

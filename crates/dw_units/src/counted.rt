@@ -70,7 +70,7 @@ pub(crate) fn read_counted<'a>(
     match shape {
         Shape::Laid(layout) => counted_by(alloc, values, layout, width),
         Shape::Declared(specs) => {
-            let layout = Layout::of(alloc, specs)?;
+            let layout = Layout::of(alloc, specs, true)?;
             counted_by(alloc, values, &layout, width)
         }
     }

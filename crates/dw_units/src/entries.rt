@@ -1,6 +1,6 @@
 //! The entries of a unit, one after the other.
 
-ghost use Rattle.std.specs.Prelude.{◌≡◌, ◌==◌, ◌||◌, List, None, IfOk, length, OnErr};
+ghost use Rattle.std.specs.Prelude.{◌≡◌, ◌==◌, List, None, IfOk, length, OnErr};
 ghost use Rattle.dw_model.specs.Abbrev.{Declaration};
 ghost use Rattle.dw_model.specs.Entry.{entry_at};
 ghost use Rattle.dw_model.specs.Reading.{Place};
@@ -10,12 +10,11 @@ ghost use Rattle.dw_units.specs.Entries.{KeepsLast, ReadsNext, ranged_at};
 ghost use Rattle.dw_units.specs.EntriesInside.{last_in, IsHead, IsMet, IsReadable};
 ghost use Rattle.dw_units.specs.Layouts.{AreOf};
 
-use crate::layouts::{Layouts, Meaning, meaning_of};
+use crate::layouts::{Layouts, Meaning, is_function, meaning_of};
 use crate::values::pass_values;
 use crate::view::EntryView;
 use dw_bytes::{Cursor, Width};
 use dw_forms::{AbbrevTable, FormFault};
-use dw_model::dwarf::{DW_TAG_inlined_subroutine, DW_TAG_subprogram};
 use std::alloc::Global;
 use std::marker::Model;
 
@@ -69,13 +68,6 @@ impl<'b, 'a> Model for Entries<'b, 'a> {
     ghost view = { walk_in };
 
     ghost invariant = { IsWalk };
-}
-
-/// Only functions have addresses and names that are asked for.
-fn is_function(tag: u64) -> bool
-    ensures { result ≡ (tag == DW_TAG_subprogram || tag == DW_TAG_inlined_subroutine) }
-{
-    tag == DW_TAG_subprogram || tag == DW_TAG_inlined_subroutine
 }
 
 /// Where an entry begins, and its code.

@@ -1,20 +1,21 @@
 //! Declarations of a unit that were met, each with its layout.
 
-ghost use Rattle.std.specs.Prelude.{◌≡◌, ◌≤◌, IfSome, List, OnOk, Option, Some, length};
+ghost use Rattle.std.specs.Prelude.{◌≡◌, ◌≤◌, ◌==◌, ◌||◌, IfSome, List, OnOk, Option, Some, length};
 ghost use Rattle.dw_model.specs.Abbrev.{Declaration, declared};
 ghost use Rattle.dw_forms.specs.Table.{declarations_of};
 ghost use Rattle.dw_units.specs.Layouts.{AreOf, IsLaid, Means, MeansWhat};
 
 use dw_forms::{AbbrevTable, Layout, Shape};
+use dw_model::dwarf::{DW_TAG_inlined_subroutine, DW_TAG_subprogram};
 use std::alloc::{AllocError, Global};
 
-/// A declaration with its layout.
+/// A declaration with its layout, which has places of names for functions.
 #[derive(Drop)]
 pub(crate) struct Laid<'a> {
     pub(crate) code: u64,
     pub(crate) tag: u64,
     pub(crate) children: bool,
-    pub(crate) layout: Box<Layout<'a>>,
+    pub(crate) layout: Layout<'a>,
 }
 
 /// Declarations of a unit that were met, each with its layout. Those that aren't kept, because
@@ -40,7 +41,7 @@ impl<'a> Laid<'a> {
     /// What it means.
     #[inline(always)]
     pub(crate) fn meaning(&self) -> Meaning<'_, 'a>
-        ensures { (found : Option Declaration) → Means found self.now.tag self.now.children self.now.layout.value
+        ensures { (found : Option Declaration) → Means found self.now.tag self.now.children self.now.layout
             → MeansWhat (Some result) found }
     {
         Meaning {
@@ -59,6 +60,13 @@ const ATTRIBUTES: usize = 64;
 
 /// Of how many bytes of its unit's entries one is kept.
 const BYTES: usize = 32;
+
+/// Only functions have addresses and names that are asked for.
+pub(crate) fn is_function(tag: u64) -> bool
+    ensures { result ≡ (tag == DW_TAG_subprogram || tag == DW_TAG_inlined_subroutine) }
+{
+    tag == DW_TAG_subprogram || tag == DW_TAG_inlined_subroutine
+}
 
 impl<'a> Layouts<'a> {
     /// No declaration was met yet of a unit whose entries have so many bytes.
@@ -117,8 +125,7 @@ impl<'a> Layouts<'a> {
             return Ok(());
         }
         let alloc = *self.list.allocator();
-        let layout = Layout::of(alloc, &declaration.specs)?;
-        let layout = Box::new(alloc, layout)?;
+        let layout = Layout::of(alloc, &declaration.specs, is_function(declaration.tag))?;
         self.make_room(code as usize + 1)?;
         self.list.push(Laid {
             code,

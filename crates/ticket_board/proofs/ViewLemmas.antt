@@ -43,11 +43,3 @@ module _ {V : Type 0} where
   added F views w mine all j u e =
       ⊎_elim (λ (x : get_elem? views j ≡ some u). all j u x)
       (λ (x : (j ≡ length views) × (w ≡ u)). subst (λ (y : ℕ × V). F y.0 y.1) (λ i. (sym x.0 i, x.1 i)) mine) (at_end views w u j e)
-
-  pub each_weaker : (F G : V → Type 0) (items : List V) → ((item : V) → F item → G item) → AllByRecursion F items → AllByRecursion G items
-  each_weaker F G [] f all = tt
-  each_weaker F G (item ∷ items) f all = (f item all.0, each_weaker F G items f all.1)
-
-  pub each_added : (F : V → Type 0) (items : List V) (item : V) → AllByRecursion F items → F item → AllByRecursion F (items ++ item ∷ [])
-  each_added F [] item all mine = (mine, tt)
-  each_added F (x ∷ xs) item all mine = (all.0, each_added F xs item all.1 mine)

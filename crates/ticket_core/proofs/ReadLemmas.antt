@@ -25,6 +25,3 @@ module _ {A : Type 0} where
   inside [] n d h = absurd (h (get_or_past [] n d (omega arith)))
   inside (x ∷ xs) zero d h = omega arith
   inside (x ∷ xs) (suc n) d h = let i : n < length xs = inside xs n d h in omega arith
-
-  pub length-pushed : (xs : List A) (y : A) (n : ℕ) → length xs ≡ n → length (xs ++ y ∷ []) ≡ suc n
-  length-pushed xs y n e = omega (arith, length-append xs (y ∷ []))

@@ -31,7 +31,7 @@ impl<'a> Decl<'a> {
             return Ok(self);
         }
         *room -= count;
-        let layout = Layout::of(alloc, &self.specs)?;
+        let layout = Layout::of(alloc, &self.specs, true)?;
         let layout = Box::new(alloc, layout)?;
         let Decl {
             offset,
@@ -55,7 +55,7 @@ impl<'a> Decl<'a> {
 /// The next pair of a declaration; `None` for the pair 0, 0, which ends them.
 #[tactic(auto, unfolding(dw_model::specs::Abbrev::next_specification))]
 #[inline(always)]
-fn read_spec(cursor: &mut Cursor<'_>) -> Result<Option<Spec>, FormFault>
+pub(crate) fn next_spec(cursor: &mut Cursor<'_>) -> Result<Option<Spec>, FormFault>
     ensures { ReadsOn (option_map spec_shown) form_fault result (next_specification cursor.old) cursor.new }
 {
     let name = cursor.uleb()?;
@@ -78,13 +78,6 @@ fn read_spec(cursor: &mut Cursor<'_>) -> Result<Option<Spec>, FormFault>
     }))
 }
 
-/// The same, for those who decode a few. Opening a file decodes all, and has that inline.
-pub(crate) fn next_spec(cursor: &mut Cursor<'_>) -> Result<Option<Spec>, FormFault>
-    ensures { ReadsOn (option_map spec_shown) form_fault result (next_specification cursor.old) cursor.new }
-{
-    read_spec(cursor)
-}
-
 /// How many pairs a declaration has.
 fn count_specs(cursor: &mut Cursor<'_>) -> Result<usize, FormFault>
     ensures { ReadsCount result (items (λ p. p.left) next_specification cursor.old) cursor.new }
@@ -92,7 +85,7 @@ fn count_specs(cursor: &mut Cursor<'_>) -> Result<usize, FormFault>
     let most = cursor.left();
     let mut count: usize = 0;
     loop {
-        let Some(_) = read_spec(cursor)? else {
+        let Some(_) = next_spec(cursor)? else {
             return Ok(count);
         };
         prove!(count < most);

@@ -1,4 +1,4 @@
-use Rattle.std.proofs.Common.{◌∙◌, ◌++◌, ◌∷◌, [], List, None, ap, get_or, map, subst, sym, take}
+use Rattle.std.proofs.Common.{◌≡◌, ◌∙◌, ◌++◌, ◌∷◌, [], List, None, ap, get_or, map, subst, sym, take, true}
 use Rattle.std.proofs.lemmas.List.{map_push, take_more}
 use Rattle.dw_model.specs.Abbrev.{Specification}
 use Rattle.dw_forms.specs.Spec.{spec_shown}
@@ -21,10 +21,10 @@ loop-spec-preserved-in_default c =
     let steps = c.loop-spec.steps.items in
     let step : Step = record { before = c.loop-spec.rest; spec = spec } in
     let more = sym (ap (map spec_shown) (take_more specs i none c.loop-spec-test.true) ∙ map_push spec_shown (take i specs) spec) in
-    let noted = c.in_ok-note.ensures steps before c.loop-spec.invariant.0 (sym c.len.ensures.value) c.loop-spec.invariant.1 in
+    let noted : (named : c.args.named ≡ true) → ArePlaces steps c.note.new.places.items (before ++ spec_shown spec ∷ []) = λ named. c.in_ok-note.ensures steps before c.loop-spec.invariant.0 (sym c.len.ensures.value) named (c.loop-spec.invariant.1 named) in
     rw (c.in_ok-push.ensures.ok) (
       subst (λ (all : List Specification). AreSteps (steps ++ step ∷ []) 0 all) more (step-more steps c.loop-spec.rest before spec c.loop-spec.invariant.0),
-      subst (λ (all : List Specification). ArePlaces (steps ++ step ∷ []) c.note.new.places.items all) more (places-still steps step c.note.new.places.items (before ++ spec_shown spec ∷ []) noted),
+      λ named. subst (λ (all : List Specification). ArePlaces (steps ++ step ∷ []) c.note.new.places.items all) more (places-still steps step c.note.new.places.items (before ++ spec_shown spec ∷ []) (noted named)),
     )
 
 pub loop-spec-preserved : goal.loop-spec-preserved
@@ -35,8 +35,8 @@ loop-spec-preserved c =
     let before = map spec_shown (take i specs) in
     let steps = c.loop-spec.steps.items in
     let more = sym (ap (map spec_shown) (take_more specs i none c.loop-spec-test.true) ∙ map_push spec_shown (take i specs) spec) in
-    let noted = c.in_ok-note.ensures steps before c.loop-spec.invariant.0 (sym c.len.ensures.value) c.loop-spec.invariant.1 in
+    let noted : (named : c.args.named ≡ true) → ArePlaces steps c.note.new.places.items (before ++ spec_shown spec ∷ []) = λ named. c.in_ok-note.ensures steps before c.loop-spec.invariant.0 (sym c.len.ensures.value) named (c.loop-spec.invariant.1 named) in
     let size = c.in-Some.ensures in (
       subst (λ (all : List Specification). AreSteps steps c.in-Some.passed all) more (pass-more steps c.loop-spec.rest size.0 c.in-Some.passed before (spec_shown spec) size.1 size.2 c.loop-spec.invariant.0),
-      subst (λ (all : List Specification). ArePlaces steps c.note.new.places.items all) more noted,
+      λ named. subst (λ (all : List Specification). ArePlaces steps c.note.new.places.items all) more (noted named),
     )

@@ -11,14 +11,16 @@ use Rattle.dw_forms.proofs.layout.Layout.find.Goals as goal
 pub returns-in_err-place : goal.returns-in_err-place
 returns-in_err-place c =
     let places = c.self.inside.places in
-    let are = subst (λ (specs : List Specification). ArePlaces places.steps.items places.list.items specs) c.self.view_is c.self.invariant.places in
+    let named = c.if-not-self.false in
+    let are = subst (λ (specs : List Specification). ArePlaces places.steps.items places.list.items specs) c.self.view_is (c.self.invariant.places named) in
     let none = sym c.in_err-place.ensures in
     rw (c.from_residual.ensures) (place-none (size_of c.args.width) places.steps.items places.list.items c.args.name c.args.self.now c.args.values.now are (sym c.is_used.ensures ∙ c.if-not-is_used.false) none)
 
 pub returns-in-Four : goal.returns-in-Four
 returns-in-Four c =
     let places = c.self.inside.places in
-    let are = subst (λ (specs : List Specification). ArePlaces places.steps.items places.list.items specs) c.self.view_is c.self.invariant.places in
+    let named = c.if-not-self.false in
+    let are = subst (λ (specs : List Specification). ArePlaces places.steps.items places.list.items specs) c.self.view_is (c.self.invariant.places named) in
     let found = sym c.in_ok-place.ensures in
     let placed = place-found places.steps.items places.list.items c.args.name c.args.self.now c.in_ok-place.place.now are (sym c.is_used.ensures ∙ c.if-not-is_used.false) found in
     c.value_at_place.ensures c.args.name c.args.self.now (subst (λ (steps : List Step). IsPlaced steps c.args.name c.in_ok-place.place.now c.args.self.now) (sym c.as_slice.ensures) placed)

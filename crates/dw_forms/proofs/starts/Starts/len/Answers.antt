@@ -4,5 +4,5 @@ use Rattle.dw_forms.proofs.starts.Starts.len.Goals as goal
 
 pub returns-clause-bound : goal.returns-clause-bound
 returns-clause-bound c = rw (← c.self.view_is) (λ end below.
-    let fits = most c.self.inside.places.items c.self.inside.list.items end c.self.invariant below in
+    let fits = most c.self.inside.list.items end c.self.invariant.distinct below in
     omega (arith, fits, c.len.ensures))

@@ -1,7 +1,7 @@
 use Rattle.std.proofs.Common.{◌∙◌, ap, map, arith}
 use Rattle.dw_forms.specs.Tables.{tables_shown}
 use Rattle.dw_index.specs.Range.{range_shown}
-use Rattle.dw_symbols.proofs.WindowLemmas.{one-held, all-held}
+use Rattle.dw_symbols.proofs.WindowLemmas.{one-held}
 use Rattle.dw_symbols.proofs.window.Window.read.Goals as goal
 
 pub loop-one-preserved : goal.loop-one-preserved

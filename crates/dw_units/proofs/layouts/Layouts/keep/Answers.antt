@@ -9,5 +9,5 @@ pub returns : goal.returns
 returns c are =
     let declarations = declarations_of c.args.abbrevs in
     let declaration = c.in-Some.declaration.now in
-    let one : Laid = record { code = c.args.code; tag = declaration.tag; children = declaration.children; layout = c.in_ok-layout-2.layout } in
-    rw (c.in_ok-push.ensures.items) (one-more declarations c.make_room.new.self.list.items one (subst (λ (list : List Laid). AreList declarations list) (sym (ap (λ list. list.items) c.make_room.ensures.list)) are) (declaration_shown declaration, sym c.in-Some.ensures, refl, refl, sym (c.in_ok-layout-2.ensures.ok ∙ c.in_ok-layout.ensures)))
+    let one : Laid = record { code = c.args.code; tag = declaration.tag; children = declaration.children; layout = c.in_ok-layout.layout } in
+    rw (c.in_ok-push.ensures.items) (one-more declarations c.make_room.new.self.list.items one (subst (λ (list : List Laid). AreList declarations list) (sym (ap (λ list. list.items) c.make_room.ensures.list)) are) (declaration_shown declaration, sym c.in-Some.ensures, refl, refl, sym c.in_ok-layout.ensures))
