@@ -104,7 +104,7 @@ if has "the calls under valgrind" valgrind; then
         { cat under; exit 1; }
 fi
 
-if has "the Rust crate" cargo; then
+if has_crates "the Rust crate"; then
     A2L_LIB_DIR=$here/out CARGO_TARGET_DIR=$work/target "$here/rust/cargo.sh" test --quiet --package a2l \
         > cargo.log 2>&1 || { cat cargo.log; exit 1; }
 fi

@@ -23,9 +23,24 @@ need_library() {
     }
 }
 
+# Whether cargo finds all crates that those in rust/ stand on. Where it doesn't, what is skipped for want of which package of
+# tests/packages is said; where each of these is installed, it isn't skipped.
+has_crates() {
+    local what=$1 package
+    has "$what" cargo || return 1
+    "$here/rust/cargo.sh" fetch > fetch.log 2>&1 && return
+    for package in $("$here/tests/packages" | grep '^librust-'); do
+        dpkg-query -W -f '${db:Status-Status}' "$package" 2> /dev/null | grep -qx installed || {
+            echo "skipped, $package isn't installed: $what"
+            return 1
+        }
+    done
+}
+
 # The program for other tools, as `symbolizer`, which is built where it isn't yet. The variable A2L_SYMBOLIZER names another.
 need_symbolizer() {
     symbolizer=${A2L_SYMBOLIZER:-$here/rust/target/release/a2l-symbolizer}
+    [ -n "${A2L_SYMBOLIZER:-}" ] || has_crates "the symbolizer" || exit 0
     [ -n "${A2L_SYMBOLIZER:-}" ] || need_library symbolizer
     [ -x "$symbolizer" ] || { echo "no program $symbolizer"; exit 1; }
 }

@@ -13,6 +13,7 @@
 need_a2l
 parts=(crates/a2l/out/a2l crates/a2l_why/out/a2l_why out/liba2l.a out/liba2l.so rust/target/release/a2l-symbolizer)
 [ -x "$here/${parts[1]}" ] || { echo "skipped, a2l_why is not built: cd crates/a2l_why && rt run"; exit 0; }
+has_crates "a release" || exit 0
 for part in "${parts[@]}"; do [ -e "$here/$part" ] || need_library shared symbolizer; done
 unset SOURCE_DATE_EPOCH
 version=$(cat "$here/VERSION")
