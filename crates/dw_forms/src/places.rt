@@ -16,7 +16,7 @@ ghost use Rattle.dw_forms.specs.Value.{value_shown};
 
 use crate::declaration::Spec;
 use crate::fault::FormFault;
-use crate::names::is_used;
+use crate::names::{NAMES, is_used};
 use crate::steps::{Step, pass_steps, passed_with};
 use crate::value::{Value, value_ahead};
 use dw_bytes::{Cursor, Width};
@@ -114,7 +114,14 @@ pub(crate) fn places_of(alloc: Global, specs: &[Spec], named: bool) -> Result<Pl
         → IfOk result (λ places. ArePlaces places.steps.items places.list.items (map spec_shown specs.now)) }
 {
     let mut steps = SmallVec::new(alloc);
-    let mut list = Vec::with_capacity(alloc, if named { specs.len() } else { 0 })?;
+    let mut list = Vec::with_capacity(
+        alloc,
+        if named {
+            specs.len().min(NAMES.len())
+        } else {
+            0
+        },
+    )?;
     let mut rest: usize = 0;
     for spec in specs {
         note(&mut list, spec, named, steps.len(), rest)?;

@@ -14,7 +14,8 @@ const GROUP: usize = 32;
 /// How many groups there are up to the last offset of a run.
 fn groups_of(read: &Run<'_>) -> usize
     requires { AreRising read.now.offsets }
-    ensures { AreGrouped result read.now.offsets }
+    ensures enough { AreGrouped result read.now.offsets }
+    ensures least { (groups : ℕ) → AreGrouped groups read.now.offsets → result ≤ groups }
 {
     match read.len().checked_sub(1) {
         None => 0,

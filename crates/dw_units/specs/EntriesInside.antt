@@ -7,7 +7,7 @@ use Rattle.dw_model.specs.Entry.{Entry, attributes_at}
 use Rattle.dw_bytes.specs.Width.{size_of}
 use Rattle.dw_forms.specs.Table.{declarations_of}
 use Rattle.dw_units.specs.Entries.{Walk}
-use Rattle.dw_units.specs.Layouts.{AreOf, MeansWhat}
+use Rattle.dw_units.specs.Layouts.{AreOf, IsMeant}
 use Rattle.dw_units.specs.View.{attributes_in, IsRead}
 use Rattle.dw_units.specs.declared.entries.Head.{Head}
 use Rattle.dw_units.specs.declared.entries.Last.{Last}
@@ -40,19 +40,19 @@ IsHead head p values =
     (head.offset ≡ p.at) × (uleb_at p ≡ Ok (head.code, values)) × ((head.code == 0) ≡ false)
 
 -- The head of the entry at a place, and what its code means.
-abbrev pub IsMet : List Declaration → Head → Meaning → (p values : Place) → Type 0
-IsMet declarations head meant p values =
-    IsHead head p values × MeansWhat (Some meant) (declared declarations head.code)
+abbrev pub IsMet : List Declaration → (offset_size : ℕ) → Head → Meaning → (p values : Place) → Type 0
+IsMet declarations offset_size head meant p values =
+    IsHead head p values × IsMeant offset_size meant (declared declarations head.code)
 
 abbrev pub walk_in : Inside → Walk
 walk_in entries = record {
   declarations = declarations_of entries.abbrevs;
-  offset_size = size_of entries.width;
+  offset_size = size_of entries.layouts.width;
   place = entries.cursor;
-  last = last_in (declarations_of entries.abbrevs) (size_of entries.width) entries.last;
+  last = last_in (declarations_of entries.abbrevs) (size_of entries.layouts.width) entries.last;
 }
 
 -- The layouts are those of its declarations, and the values of the last function can be read.
 pub record IsWalk (entries : Inside) : Type 0 where
   pub layouts : AreOf (declarations_of entries.abbrevs) entries.layouts
-  pub readable : IsReadable (declarations_of entries.abbrevs) (size_of entries.width) entries.last
+  pub readable : IsReadable (declarations_of entries.abbrevs) (size_of entries.layouts.width) entries.last

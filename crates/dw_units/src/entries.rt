@@ -11,7 +11,7 @@ ghost use Rattle.dw_units.specs.EntriesInside.{last_in, IsHead, IsMet, IsReadabl
 ghost use Rattle.dw_units.specs.Layouts.{AreOf};
 
 use crate::layouts::{Layouts, Meaning, is_function, meaning_of};
-use crate::values::pass_values;
+use crate::values::pass_meant;
 use crate::view::EntryView;
 use dw_bytes::{Cursor, Width};
 use dw_forms::{AbbrevTable, FormFault};
@@ -53,7 +53,6 @@ pub(crate) struct Last<'a> {
 #[derive(Drop)]
 pub struct Entries<'b, 'a> {
     abbrevs: AbbrevTable<'b, 'a>,
-    width: Width,
     cursor: Cursor<'a>,
     layouts: Layouts<'a>,
     last: Option<Last<'a>>,
@@ -87,17 +86,17 @@ fn next_by<'a>(
     width: Width,
     last: &mut Option<Last<'a>>,
 ) -> Result<Next, FormFault>
-    ensures next { (declarations : List Declaration) (p : Place) → IsMet declarations head meant.entry p cursor.old
+    ensures next { (declarations : List Declaration) (p : Place) → IsMet declarations (size_of width) head meant.entry p cursor.old
         → ReadsNext (ranged_at declarations p) result (entry_at (size_of width) declarations p) cursor.new
         (last_in declarations (size_of width) last.new) }
     ensures stays { OnErr result (last.new ≡ last.old) }
     ensures kept { (declarations : List Declaration) → IfOk result (λ next. KeepsLast next
         (last_in declarations (size_of width) last.old) (last_in declarations (size_of width) last.new)) }
-    ensures last { (declarations : List Declaration) (p : Place) → IsMet declarations head meant.entry p cursor.old
+    ensures last { (declarations : List Declaration) (p : Place) → IsMet declarations (size_of width) head meant.entry p cursor.old
         → IsReadable declarations (size_of width) last.old → IsReadable declarations (size_of width) last.new }
 {
     let values = cursor.fork();
-    pass_values(cursor, meant.shape, width)?;
+    pass_meant(cursor, meant, width)?;
     let children = meant.children;
     if !is_function(meant.tag) {
         return Ok(Next::Passed { children });
@@ -121,28 +120,32 @@ fn next_first<'a>(
     head: Head,
     abbrevs: AbbrevTable<'_, 'a>,
     layouts: &mut Layouts<'a>,
-    width: Width,
     last: &mut Option<Last<'a>>,
 ) -> Result<Next, FormFault>
     ensures layouts { AreOf (declarations_of abbrevs.entry) layouts.old
         → AreOf (declarations_of abbrevs.entry) layouts.new }
+    ensures width { layouts.new.width ≡ layouts.old.width }
     ensures next { AreOf (declarations_of abbrevs.entry) layouts.old
         → (p : Place) → IsHead head p cursor.old
         → ReadsNext (ranged_at (declarations_of abbrevs.entry) p) result
-        (entry_at (size_of width) (declarations_of abbrevs.entry) p) cursor.new
-        (last_in (declarations_of abbrevs.entry) (size_of width) last.new) }
+        (entry_at (size_of layouts.old.width) (declarations_of abbrevs.entry) p) cursor.new
+        (last_in (declarations_of abbrevs.entry) (size_of layouts.old.width) last.new) }
     ensures stays { OnErr result (last.new ≡ last.old) }
     ensures kept { IfOk result (λ next. KeepsLast next
-        (last_in (declarations_of abbrevs.entry) (size_of width) last.old)
-        (last_in (declarations_of abbrevs.entry) (size_of width) last.new)) }
+        (last_in (declarations_of abbrevs.entry) (size_of layouts.old.width) last.old)
+        (last_in (declarations_of abbrevs.entry) (size_of layouts.old.width) last.new)) }
     ensures last { AreOf (declarations_of abbrevs.entry) layouts.old
         → (p : Place) → IsHead head p cursor.old
-        → IsReadable (declarations_of abbrevs.entry) (size_of width) last.old
-        → IsReadable (declarations_of abbrevs.entry) (size_of width) last.new }
+        → IsReadable (declarations_of abbrevs.entry) (size_of layouts.old.width) last.old
+        → IsReadable (declarations_of abbrevs.entry) (size_of layouts.old.width) last.new }
 {
     layouts.lay_out(abbrevs, head.code);
     let meant = meaning_of(Some(layouts), abbrevs, head.code).ok_or(FormFault::Code)?;
-    next_by(cursor, head, meant, width, last)
+    let meant = Meaning {
+        size: None,
+        ..meant
+    };
+    next_by(cursor, head, meant, layouts.width, last)
 }
 
 /// The entry at the cursor, which goes just past it. After a refusal the cursor may be anywhere.
@@ -152,22 +155,22 @@ fn next_of<'a>(
     cursor: &mut Cursor<'a>,
     abbrevs: AbbrevTable<'_, 'a>,
     layouts: &mut Layouts<'a>,
-    width: Width,
     last: &mut Option<Last<'a>>,
 ) -> Result<Next, FormFault>
     ensures layouts { AreOf (declarations_of abbrevs.entry) layouts.old
         → AreOf (declarations_of abbrevs.entry) layouts.new }
+    ensures width { layouts.new.width ≡ layouts.old.width }
     ensures next { AreOf (declarations_of abbrevs.entry) layouts.old
         → ReadsNext (ranged_at (declarations_of abbrevs.entry) cursor.old) result
-        (entry_at (size_of width) (declarations_of abbrevs.entry) cursor.old) cursor.new
-        (last_in (declarations_of abbrevs.entry) (size_of width) last.new) }
+        (entry_at (size_of layouts.old.width) (declarations_of abbrevs.entry) cursor.old) cursor.new
+        (last_in (declarations_of abbrevs.entry) (size_of layouts.old.width) last.new) }
     ensures stays { OnErr result (last.new ≡ last.old) }
     ensures kept { IfOk result (λ next. KeepsLast next
-        (last_in (declarations_of abbrevs.entry) (size_of width) last.old)
-        (last_in (declarations_of abbrevs.entry) (size_of width) last.new)) }
+        (last_in (declarations_of abbrevs.entry) (size_of layouts.old.width) last.old)
+        (last_in (declarations_of abbrevs.entry) (size_of layouts.old.width) last.new)) }
     ensures last { AreOf (declarations_of abbrevs.entry) layouts.old
-        → IsReadable (declarations_of abbrevs.entry) (size_of width) last.old
-        → IsReadable (declarations_of abbrevs.entry) (size_of width) last.new }
+        → IsReadable (declarations_of abbrevs.entry) (size_of layouts.old.width) last.old
+        → IsReadable (declarations_of abbrevs.entry) (size_of layouts.old.width) last.new }
 {
     let offset = cursor.at() as u64;
     let code = cursor.uleb()?;
@@ -175,14 +178,14 @@ fn next_of<'a>(
         return Ok(Next::Null);
     }
     let head = Head { offset, code };
-    let Some(laid) = layouts.get(code) else {
+    let Some(meant) = layouts.get(code) else {
         // A cursor that is lent lies in memory; the caller's own stays in registers.
         let mut place = cursor.fork();
-        let next = next_first(&mut place, head, abbrevs, layouts, width, last)?;
+        let next = next_first(&mut place, head, abbrevs, layouts, last)?;
         *cursor = place;
         return Ok(next);
     };
-    next_by(cursor, head, laid.meaning(), width, last)
+    next_by(cursor, head, meant, layouts.width, last)
 }
 
 impl<'b, 'a> Entries<'b, 'a> {
@@ -202,8 +205,7 @@ impl<'b, 'a> Entries<'b, 'a> {
     {
         Entries {
             abbrevs,
-            width,
-            layouts: Layouts::new(alloc, cursor.left()),
+            layouts: Layouts::new(alloc, width, cursor.left()),
             last: None,
             cursor,
         }
@@ -230,13 +232,7 @@ impl<'b, 'a> Entries<'b, 'a> {
         ensures kept { IfOk result (λ next. KeepsLast next self.old.last self.new.last) }
     {
         let mut place = self.cursor.fork();
-        let next = next_of(
-            &mut place,
-            self.abbrevs,
-            &mut self.layouts,
-            self.width,
-            &mut self.last,
-        )?;
+        let next = next_of(&mut place, self.abbrevs, &mut self.layouts, &mut self.last)?;
         self.cursor = place;
         Ok(next)
     }
@@ -252,7 +248,7 @@ impl<'b, 'a> Entries<'b, 'a> {
             tag: meant.tag,
             children: meant.children,
             shape: meant.shape,
-            width: self.width,
+            width: self.layouts.width,
             offset: last.offset,
             values: last.values.fork(),
         })

@@ -1,32 +1,40 @@
 //! Declarations of a unit that were met, each with its layout.
 
-ghost use Rattle.std.specs.Prelude.{◌≡◌, ◌≤◌, ◌==◌, ◌||◌, IfSome, List, OnOk, Option, Some, length};
+ghost use Rattle.std.specs.Prelude.{◌≡◌, ◌≤◌, ◌<◌, true, ◌==◌, ◌||◌, ℕ, IfSome, List, None, OnOk, Option, Some, length, slice_get};
 ghost use Rattle.dw_model.specs.Abbrev.{Declaration, declared};
+ghost use Rattle.dw_bytes.specs.Width.{size_of};
 ghost use Rattle.dw_forms.specs.Table.{declarations_of};
-ghost use Rattle.dw_units.specs.Layouts.{AreOf, IsLaid, Means, MeansWhat};
+ghost use Rattle.dw_units.specs.Layouts.{AreOf, IsMeant, MeansWhat};
+ghost use Rattle.dw_units.specs.declared.layouts.Laid.{Laid};
 
+use dw_bytes::Width;
 use dw_forms::{AbbrevTable, Layout, Shape};
 use dw_model::dwarf::{DW_TAG_inlined_subroutine, DW_TAG_subprogram};
 use std::alloc::{AllocError, Global};
 
-/// A declaration with its layout, which has places of names for functions.
-#[derive(Drop)]
-pub(crate) struct Laid<'a> {
-    pub(crate) code: u64,
+/// A declaration that was met. It is small, so that those of a unit stay near the processor.
+#[derive(Clone, Copy)]
+pub(crate) struct Laid {
     pub(crate) tag: u64,
     pub(crate) children: bool,
-    pub(crate) layout: Layout<'a>,
+    /// How many bytes the values of an entry take, where the forms fix it.
+    pub(crate) size: Option<usize>,
+    /// Where its layout is in the list.
+    pub(crate) place: usize,
 }
 
-/// Declarations of a unit that were met, each with its layout. Those that aren't kept, because
-/// memory was refused or they would take more than the unit, are read pair by pair.
+/// Declarations of a unit that were met, each with its layout, which has places of names for
+/// functions. Those that aren't kept, because memory was refused or they would take more than the
+/// unit, are read pair by pair.
 #[derive(Drop)]
 pub struct Layouts<'a> {
     /// How many bytes the unit's entries have.
     bytes: usize,
-    /// Where those of the first codes are in the list.
-    places: Vec<u16>,
-    pub(crate) list: Vec<Laid<'a>>,
+    /// That of the unit's offsets.
+    pub(crate) width: Width,
+    /// By their codes.
+    pub(crate) met: Vec<Option<Laid>>,
+    pub(crate) list: Vec<Layout<'a>>,
 }
 
 /// What an abbreviation means, as far as entries are read by it.
@@ -34,22 +42,9 @@ pub struct Layouts<'a> {
 pub(crate) struct Meaning<'b, 'a> {
     pub(crate) tag: u64,
     pub(crate) children: bool,
+    /// How many bytes the values of an entry take, where that is known.
+    pub(crate) size: Option<usize>,
     pub(crate) shape: Shape<'b, 'a>,
-}
-
-impl<'a> Laid<'a> {
-    /// What it means.
-    #[inline(always)]
-    pub(crate) fn meaning(&self) -> Meaning<'_, 'a>
-        ensures { (found : Option Declaration) → Means found self.now.tag self.now.children self.now.layout
-            → MeansWhat (Some result) found }
-    {
-        Meaning {
-            tag: self.tag,
-            children: self.children,
-            shape: Shape::Laid(&self.layout),
-        }
-    }
 }
 
 /// Declarations with codes below this are kept.
@@ -61,6 +56,9 @@ const ATTRIBUTES: usize = 64;
 /// Of how many bytes of its unit's entries one is kept.
 const BYTES: usize = 32;
 
+/// Of how many bytes of its unit's entries there is a place for a code.
+const PLACE_BYTES: usize = 8;
+
 /// Only functions have addresses and names that are asked for.
 pub(crate) fn is_function(tag: u64) -> bool
     ensures { result ≡ (tag == DW_TAG_subprogram || tag == DW_TAG_inlined_subroutine) }
@@ -70,52 +68,62 @@ pub(crate) fn is_function(tag: u64) -> bool
 
 impl<'a> Layouts<'a> {
     /// No declaration was met yet of a unit whose entries have so many bytes.
-    pub(crate) fn new(alloc: Global, bytes: usize) -> Self
-        ensures { (declarations : List Declaration) → AreOf declarations result }
+    pub(crate) fn new(alloc: Global, width: Width, bytes: usize) -> Self
+        ensures list { (declarations : List Declaration) → AreOf declarations result }
+        ensures width { result.width ≡ width }
     {
         Layouts {
             bytes,
-            places: Vec::new(alloc),
+            width,
+            met: Vec::new(alloc),
             list: Vec::new(alloc),
         }
     }
 
-    /// The declaration of a code, where it was met.
+    /// What a code means, where its declaration was met.
     #[inline(always)]
-    pub(crate) fn get(&self, code: u64) -> Option<&Laid<'a>>
+    pub(crate) fn get(&self, code: u64) -> Option<Meaning<'_, 'a>>
         ensures { (declarations : List Declaration) → AreOf declarations self.now
-            → IfSome result (λ laid. IsLaid declarations code laid.now) }
+            → IfSome result (λ meaning. IsMeant (size_of self.now.width) meaning (declared declarations code)) }
     {
-        let place = self.places.get(code as usize)?;
-        let laid = self.list.get(*place as usize)?;
-        if laid.code != code {
-            return None;
-        }
-        Some(laid)
+        let laid = self.met.get(code as usize)?.as_ref()?;
+        let layout = self.list.get(laid.place)?;
+        Some(Meaning {
+            tag: laid.tag,
+            children: laid.children,
+            size: laid.size,
+            shape: Shape::Laid(layout),
+        })
     }
 
-    /// Makes room for the places of so many codes.
+    /// Makes room for so many codes.
     fn make_room(&mut self, codes: usize) -> Result<(), AllocError>
         ensures list { self.new.list ≡ self.old.list }
-        ensures room { OnOk result (codes ≤ length self.new.places.items) }
+        ensures width { self.new.width ≡ self.old.width }
+        ensures met { (code : ℕ) (laid : Laid) → slice_get self.new.met.items code ≡ Some (Some laid)
+            → slice_get self.old.met.items code ≡ Some (Some laid) }
+        ensures room { OnOk result (codes ≤ length self.new.met.items) }
     {
-        if codes > self.places.len() {
-            self.places.resize(codes, 0)?;
+        if codes > self.met.len() {
+            self.met.resize(codes, None)?;
         }
         Ok(())
     }
 
     /// One more may be kept of a code, so that what is kept stays in proportion to the unit.
-    fn has_room(&self, code: u64) -> bool {
-        self.list.len() < self.bytes / BYTES && code < self.bytes as u64
+    fn has_room(&self, code: u64) -> bool
+        ensures { result ≡ true → code < CODES }
+    {
+        let has_place = code < CODES && code < (self.bytes / PLACE_BYTES) as u64;
+        has_place && self.list.len() < self.bytes / BYTES
     }
 
     /// Lays out the declaration of a code, and keeps it.
     fn keep(&mut self, abbrevs: AbbrevTable<'_, 'a>, code: u64) -> Result<(), AllocError>
-        ensures { AreOf (declarations_of abbrevs.entry) self.old → AreOf (declarations_of abbrevs.entry) self.new }
+        ensures list { AreOf (declarations_of abbrevs.entry) self.old → AreOf (declarations_of abbrevs.entry) self.new }
+        ensures width { self.new.width ≡ self.old.width }
     {
-        let place = self.list.len();
-        if code >= CODES || place >= CODES as usize || !self.has_room(code) {
+        if !self.has_room(code) {
             return Ok(());
         }
         let Some(declaration) = abbrevs.get(code) else {
@@ -127,19 +135,21 @@ impl<'a> Layouts<'a> {
         let alloc = *self.list.allocator();
         let layout = Layout::of(alloc, &declaration.specs, is_function(declaration.tag))?;
         self.make_room(code as usize + 1)?;
-        self.list.push(Laid {
-            code,
+        let laid = Laid {
             tag: declaration.tag,
             children: declaration.children,
-            layout,
-        })?;
-        self.places[code as usize] = place as u16;
+            size: layout.size(self.width),
+            place: self.list.len(),
+        };
+        self.list.push(layout)?;
+        self.met[code as usize] = Some(laid);
         Ok(())
     }
 
     /// Lays out the declaration of a code and keeps it, where there is room and memory for it.
     pub(crate) fn lay_out(&mut self, abbrevs: AbbrevTable<'_, 'a>, code: u64)
-        ensures { AreOf (declarations_of abbrevs.entry) self.old → AreOf (declarations_of abbrevs.entry) self.new }
+        ensures list { AreOf (declarations_of abbrevs.entry) self.old → AreOf (declarations_of abbrevs.entry) self.new }
+        ensures width { self.new.width ≡ self.old.width }
     {
         match self.keep(abbrevs, code) {
             Ok(()) => {}
@@ -150,12 +160,14 @@ impl<'a> Layouts<'a> {
 
 /// What the declaration of a code says.
 fn declared_meaning<'b, 'a>(abbrevs: AbbrevTable<'b, 'a>, code: u64) -> Option<Meaning<'b, 'a>>
-    ensures { MeansWhat result (declared (declarations_of abbrevs.entry) code) }
+    ensures means { MeansWhat result (declared (declarations_of abbrevs.entry) code) }
+    ensures size { IfSome result (λ meaning. meaning.size ≡ None) }
 {
     let declaration = abbrevs.get(code)?;
     Some(Meaning {
         tag: declaration.tag,
         children: declaration.children,
+        size: None,
         shape: declaration.shape(),
     })
 }
@@ -174,8 +186,8 @@ pub(crate) fn meaning_of<'b, 'a>(
     let Some(layouts) = layouts else {
         return declared_meaning(abbrevs, code);
     };
-    let Some(laid) = layouts.get(code) else {
+    let Some(meaning) = layouts.get(code) else {
         return declared_meaning(abbrevs, code);
     };
-    Some(laid.meaning())
+    Some(meaning)
 }

@@ -1,10 +1,15 @@
 //! The values of entries are passed over, by section 7.5.3 of DWARF 5.
 
+ghost use Rattle.std.specs.Prelude.{ℕ, List};
+ghost use Rattle.dw_model.specs.Abbrev.{Specification};
 ghost use Rattle.dw_model.specs.Entry.{attributes_at};
 ghost use Rattle.dw_bytes.specs.Width.{size_of};
 ghost use Rattle.dw_forms.specs.Fault.{Passes};
 ghost use Rattle.dw_forms.specs.Shape.{specs_of};
+ghost use Rattle.dw_forms.specs.Size.{Skips};
+ghost use Rattle.dw_units.specs.Layouts.{IsSize};
 
+use crate::layouts::Meaning;
 use dw_bytes::{Cursor, Width};
 use dw_forms::{FormFault, Layout, Shape, Specs, read_value};
 
@@ -35,14 +40,23 @@ fn pass_each(cursor: &mut Cursor<'_>, layout: &Layout<'_>, width: Width) -> Resu
     }
 }
 
+/// Passes over values that take so many bytes.
+#[inline(always)]
+fn pass_bytes(cursor: &mut Cursor<'_>, size: usize) -> Result<(), FormFault>
+    ensures { (offset_size : ℕ) (specs : List Specification) → Skips size (attributes_at offset_size specs)
+        → Passes result (attributes_at offset_size specs cursor.old) cursor.new }
+{
+    let _values = cursor.take(size).ok_or(FormFault::End)?;
+    Ok(())
+}
+
 /// Passes over the values of an entry, in one step where its layout says how far.
 #[inline(always)]
 fn pass_laid(cursor: &mut Cursor<'_>, layout: &Layout<'_>, width: Width) -> Result<(), FormFault>
     ensures { Passes result (attributes_at (size_of width) layout.now cursor.old) cursor.new }
 {
     if let Some(size) = layout.size(width) {
-        let _values = cursor.take(size).ok_or(FormFault::End)?;
-        return Ok(());
+        return pass_bytes(cursor, size);
     }
     // A cursor that is lent lies in memory; the caller's own stays in registers.
     let mut place = cursor.fork();
@@ -69,4 +83,21 @@ pub(crate) fn pass_values(
             Ok(())
         }
     }
+}
+
+/// Passes over the values of an entry whose declaration means this, in one step where the size is
+/// known.
+#[inline(always)]
+pub(crate) fn pass_meant(
+    cursor: &mut Cursor<'_>,
+    meant: Meaning<'_, '_>,
+    width: Width,
+) -> Result<(), FormFault>
+    ensures { IsSize (size_of width) meant.entry.size (specs_of meant.entry.shape)
+        → Passes result (attributes_at (size_of width) (specs_of meant.entry.shape) cursor.old) cursor.new }
+{
+    let Some(size) = meant.size else {
+        return pass_values(cursor, meant.shape, width);
+    };
+    pass_bytes(cursor, size)
 }

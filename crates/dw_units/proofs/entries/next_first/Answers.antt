@@ -16,21 +16,22 @@ use Rattle.dw_units.proofs.entries.next_first.Goals as goal
 pub returns-in_err-meant-clause-next : goal.returns-in_err-meant-clause-next
 returns-in_err-meant-clause-next c are p h =
     let declarations = declarations_of c.args.abbrevs in
-    let none = subst (λ (meant : Option Meaning). MeansWhat meant (declared declarations c.args.head.code)) c.in_err-meant.ensures.ok_part (c.meaning_of.ensures (c.lay_out.ensures are)) in
-    let undeclared = unmeant (size_of c.args.width) declarations p c.args.cursor.now c.args.head.code h.1 h.2 none in
+    let none = subst (λ (meant : Option Meaning). MeansWhat meant (declared declarations c.args.head.code)) c.in_err-meant.ensures.ok_part (c.meaning_of.ensures (c.lay_out.ensures.list are)) in
+    let undeclared = unmeant (size_of c.args.layouts.now.width) declarations p c.args.cursor.now c.args.head.code h.1 h.2 none in
     let e = err_from_is_err_and c.from_residual.result c.from_residual.ensures.1 in
     let told = c.in_err-meant.ensures.value ∙ ap (λ (meant : Option Meaning). ok_or meant FormFault.Code) c.in_err-meant.ensures.ok_part in
     let code = subst (λ (told : Result Meaning FormFault). IfErr told (λ fault. fault ≡ FormFault.Code)) (sym told) refl in
-    rw (e.1) (subst (λ (fault : FormFault). Tells (form_fault fault) (entry_at (size_of c.args.width) declarations p)) (sym (e.2 ∙ code)) undeclared)
+    rw (e.1) (subst (λ (fault : FormFault). Tells (form_fault fault) (entry_at (size_of c.args.layouts.now.width) declarations p)) (sym (e.2 ∙ code)) undeclared)
 
 pub returns-clause-next : goal.returns-clause-next
 returns-clause-next c are p h =
     let declarations = declarations_of c.args.abbrevs in
-    let means = subst (λ (meant : Option Meaning). MeansWhat meant (declared declarations c.args.head.code)) c.in_ok-meant.ensures.ok_part (c.meaning_of.ensures (c.lay_out.ensures are)) in
-    c.next_by.ensures.next declarations p (h, means)
+    let means = subst (λ (meant : Option Meaning). MeansWhat meant (declared declarations c.args.head.code)) c.in_ok-meant.ensures.ok_part (c.meaning_of.ensures (c.lay_out.ensures.list are)) in
+    rw (← c.lay_out.ensures.width) (c.next_by.ensures.next declarations p (h, (means, tt)))
 
 pub returns-clause-last : goal.returns-clause-last
 returns-clause-last c are p h readable =
     let declarations = declarations_of c.args.abbrevs in
-    let means = subst (λ (meant : Option Meaning). MeansWhat meant (declared declarations c.args.head.code)) c.in_ok-meant.ensures.ok_part (c.meaning_of.ensures (c.lay_out.ensures are)) in
-    c.next_by.ensures.last declarations p (h, means) readable
+    let means = subst (λ (meant : Option Meaning). MeansWhat meant (declared declarations c.args.head.code)) c.in_ok-meant.ensures.ok_part (c.meaning_of.ensures (c.lay_out.ensures.list are)) in
+    let old = rw (← c.lay_out.ensures.width) at readable in
+    rw (← c.lay_out.ensures.width) (c.next_by.ensures.last declarations p (h, (means, tt)) old)
