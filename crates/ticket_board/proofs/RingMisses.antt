@@ -228,37 +228,7 @@ module _ (meaning : Meaning) (key : List ℕ) where
       ∷ Cuts 1 ∷ Cuts 0 ∷ []
 
   all-may : MayBeMade meaning small key free_words all_moves
-  all-may = (
-    (
-      (
-        (
-          (
-            (
-              (
-                (
-                  (
-                    (
-                      (small-fits, are-free),
-                      (refl, omega arith),
-                    ),
-                    (refl, omega arith),
-                  ),
-                  (refl, (omega arith, omega arith)),
-                ),
-                (refl, (refl, tt)),
-              ),
-              (refl, refl),
-            ),
-            (refl, (refl, omega arith)),
-          ),
-          (refl, (refl, refl)),
-        ),
-        (refl, refl),
-      ),
-      (refl, (refl, refl)),
-    ),
-    (refl, (refl, refl, refl)),
-  )
+  all-may = search (rules, small-fits, are-free)
 
   abbrev with_sender : Asking → Board
   with_sender asking = record {

@@ -23,9 +23,8 @@ use Rattle.ticket_board.proofs.ViewLemmas.{set_here}
 use Rattle.ticket_board.proofs.RingHomes.{get-map, set-same, home-full}
 
 pub is-sender : (role : Role) → IsSender role → role ≡ Asks (sender_of role) (asking_of role)
-is-sender (Opens cut) h = absurd h
 is-sender (Asks s asking) h = refl
-is-sender (Works w working) h = absurd h
+is-sender role h = absurd h
 
 module _ {A : Type 0} (shown : A → Shown) (meaning : Meaning) (shape : Shape) (key : List ℕ) (slots id : ℕ) (me : table.Me (Option A) Stamped)
     (sender : IsSender me.0.view.role) where

@@ -45,13 +45,16 @@ pub record Grows (old new : Asking) : Type 0 where
   pub received : List Shown
   pub received_is : new.received ≡ old.received ++ received
 
-stays : (old new : Asking) → new ≡ old → Grows old new
-stays old new is = record {
+same-lists : (old new : Asking) → new.asked ≡ old.asked → new.received ≡ old.received → Grows old new
+same-lists old new asked received = record {
   asked = [];
-  asked_is = ap (λ (x : Asking). x.asked) is ∙ sym (append-nil old.asked);
+  asked_is = asked ∙ sym (append-nil old.asked);
   received = [];
-  received_is = ap (λ (x : Asking). x.received) is ∙ sym (append-nil old.received);
+  received_is = received ∙ sym (append-nil old.received);
 }
+
+stays : (old new : Asking) → new ≡ old → Grows old new
+stays old new is = same-lists old new (ap (λ (x : Asking). x.asked) is) (ap (λ (x : Asking). x.received) is)
 
 grows-on : (old mid new : Asking) → Grows old mid → Grows mid new → Grows old new
 grows-on old mid new first second = record {
@@ -75,14 +78,7 @@ sent-grows asking (Receives answer) word home = record {
   received = answer ∷ [];
   received_is = refl;
 }
-sent-grows asking (WritesFirst first) word home =
-    record { asked = []; asked_is = sym (append-nil asking.asked); received = []; received_is = sym (append-nil asking.received) }
-sent-grows asking (WritesSecond query) word home =
-    record { asked = []; asked_is = sym (append-nil asking.asked); received = []; received_is = sym (append-nil asking.received) }
-sent-grows asking LooksNext word home =
-    record { asked = []; asked_is = sym (append-nil asking.asked); received = []; received_is = sym (append-nil asking.received) }
-sent-grows asking BringsOut word home =
-    record { asked = []; asked_is = sym (append-nil asking.asked); received = []; received_is = sym (append-nil asking.received) }
+sent-grows asking step word home = same-lists asking (asking_after asking step word home) refl refl
 
 module _ (meaning : Meaning) (shape : Shape) (key : List ℕ) where
   -- ---- one move
@@ -131,22 +127,14 @@ module _ (meaning : Meaning) (shape : Shape) (key : List ℕ) where
         let changed : times_done s n (set board.views (sender_seat t) (asker shape key t new)) + 0 ≡ times_done s n board.views + 0 =
         times-set s n board.views (sender_seat t) (asker shape key t asking) (asker shape key t new) may.0 in
         omega arith
-    times-moved (Works w working (LooksAt cell)) may s n =
-        same-times w working (working_after shape working (LooksAt cell) (get_or board.words (word_worked shape (LooksAt cell)) 0)) may.0 refl s n
-    times-moved (Works w working (Takes t m)) may s n =
-        same-times w working (working_after shape working (Takes t m) (get_or board.words (word_worked shape (Takes t m)) 0)) may.0 refl s n
-    times-moved (Works w working (ReadsFirst t m)) may s n =
-        same-times w working (working_after shape working (ReadsFirst t m) (get_or board.words (word_worked shape (ReadsFirst t m)) 0)) may.0 refl s n
-    times-moved (Works w working (ReadsSecond t m first)) may s n =
-        same-times w working (working_after shape working (ReadsSecond t m first) (get_or board.words (word_worked shape (ReadsSecond t m first)) 0)) may.0 refl s n
-    times-moved (Works w working (GivesBack t m)) may s n =
-        same-times w working (working_after shape working (GivesBack t m) (get_or board.words (word_worked shape (GivesBack t m)) 0)) may.0 refl s n
     times-moved (Works w working (Answers t m query answer)) may s n =
         let new : Working = working_after shape working (Answers t m query answer) (get_or board.words (word_worked shape (Answers t m query answer)) 0) in
         let more : times s n new.done ≡ times s n working.done + (if is_same s n (t, m) then 1 else 0) = times-append s n working.done (t, m) in
         let changed : times_done s n (set board.views (worker_seat shape w) (worker shape key w new)) + times s n working.done ≡ times_done s n board.views + times s n new.done =
         times-set s n board.views (worker_seat shape w) (worker shape key w working) (worker shape key w new) may.0 in
         omega arith
+    times-moved (Works w working step) may s n =
+        same-times w working (working_after shape working step (get_or board.words (word_worked shape step) 0)) may.0 refl s n
 
   -- ---- all moves
 

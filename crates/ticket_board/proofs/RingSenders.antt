@@ -41,47 +41,39 @@ cell-moved n next collecting place place' word word' home home' ep ew eh old =
 -- only the cell of the next number says what is collected
 pub cell-kept : (n next next' : ℕ) (collecting collecting' : Option Shown) (place : Place) (word : ℕ) (home : Home) → n ≢ next
     → CellShows n next collecting place word home → CellShows n next' collecting' place word home
-cell-kept n next next' collecting collecting' Unasked word home ne old = old
-cell-kept n next next' collecting collecting' Waiting word home ne old = old
-cell-kept n next next' collecting collecting' (Held w) word home ne old = old
 cell-kept n next next' collecting collecting' (Answered answer) word home ne old =
     ⊎_elim (λ (x : (word ≡ answered_word n) × (home ≡ Full answer)). inl x)
     (λ (x : (word ≡ collecting_word n) × (home ≡ Out) × (n ≡ next) × (collecting ≡ Some answer)). absurd (ne x.2)) old
-cell-kept n next next' collecting collecting' Collected word home ne old = old
+cell-kept n next next' collecting collecting' place word home ne old = old
 
 -- a cell whose word says that a number waits stands for that number, which waits
 pub asked-cell : (m next : ℕ) (collecting : Option Shown) (place : Place) (word : ℕ) (home : Home) (n : ℕ)
     → CellShows m next collecting place word home → word ≡ asked_word n → (m ≡ n) × (place ≡ Waiting)
-asked-cell m next collecting Unasked word home n shows e = absurd (omega (arith, shows.0, e))
 asked-cell m next collecting Waiting word home n shows e = (omega (arith, shows.0, e), refl)
-asked-cell m next collecting (Held w) word home n shows e = absurd (omega (arith, shows.0, e))
 asked-cell m next collecting (Answered answer) word home n shows e =
     ⊎_elim (λ (x : (word ≡ answered_word m) × (home ≡ Full answer)). absurd (omega (arith, x.0, e)))
     (λ (x : (word ≡ collecting_word m) × (home ≡ Out) × (m ≡ next) × (collecting ≡ Some answer)). absurd (omega (arith, x.0, e))) shows
 asked-cell m next collecting Collected word home n shows e = absurd shows
+asked-cell m next collecting place word home n shows e = absurd (omega (arith, shows.0, e))
 
 -- a cell whose word says that its number is answered has the answer
 pub answered-cell : (n next : ℕ) (collecting : Option Shown) (place : Place) (word : ℕ) (home : Home)
     → CellShows n next collecting place word home → word ≡ answered_word n
     → (home ≡ Full (answer_at_home home)) × (place ≡ Answered (answer_at_home home))
-answered-cell n next collecting Unasked word home shows e = absurd (omega (arith, shows.0, e))
-answered-cell n next collecting Waiting word home shows e = absurd (omega (arith, shows.0, e))
-answered-cell n next collecting (Held w) word home shows e = absurd (omega (arith, shows.0, e))
 answered-cell n next collecting (Answered answer) word home shows e =
     ⊎_elim (λ (x : (word ≡ answered_word n) × (home ≡ Full answer)). let full = x.1 in rw full (refl, refl))
     (λ (x : (word ≡ collecting_word n) × (home ≡ Out) × (n ≡ next) × (collecting ≡ Some answer)). absurd (omega (arith, x.0, e))) shows
 answered-cell n next collecting Collected word home shows e = absurd shows
+answered-cell n next collecting place word home shows e = absurd (omega (arith, shows.0, e))
 
 -- a cell whose word says that its answer is on its way has that answer
 pub collecting-cell : (n next : ℕ) (collecting : Option Shown) (place : Place) (word : ℕ) (home : Home) (answer : Shown)
     → CellShows n next collecting place word home → word ≡ collecting_word n → collecting ≡ Some answer → place ≡ Answered answer
-collecting-cell n next collecting Unasked word home answer shows e is = absurd (omega (arith, shows.0, e))
-collecting-cell n next collecting Waiting word home answer shows e is = absurd (omega (arith, shows.0, e))
-collecting-cell n next collecting (Held w) word home answer shows e is = absurd (omega (arith, shows.0, e))
 collecting-cell n next collecting (Answered v) word home answer shows e is =
     ⊎_elim (λ (x : (word ≡ answered_word n) × (home ≡ Full v)). absurd (omega (arith, x.0, e)))
     (λ (x : (word ≡ collecting_word n) × (home ≡ Out) × (n ≡ next) × (collecting ≡ Some v)). let same : Some v ≡ Some answer = sym x.3 ∙ is in cc) shows
 collecting-cell n next collecting Collected word home answer shows e is = absurd shows
+collecting-cell n next collecting place word home answer shows e is = absurd (omega (arith, shows.0, e))
 
 -- ---- one cell of a sender changed by a worker
 

@@ -25,20 +25,17 @@ use Rattle.ticket_board.proofs.RingMoves.{made-shows, made-on}
 use Rattle.ticket_board.proofs.RingHomes.{get-map, set-same, home-empty}
 
 is-worker : (role : Role) → IsWorker role → role ≡ Works (worker_of role) (working_of role)
-is-worker (Opens cut) h = absurd h
-is-worker (Asks s asking) h = absurd h
 is-worker (Works w working) h = refl
+is-worker role h = absurd h
 
 -- ---- the number in a state word
 
 number-of : (n next : ℕ) (collecting : Option Shown) (place : Place) (word : ℕ) (home : Home) → CellShows n next collecting place word home → word / 8 ≡ n
-number-of n next collecting Unasked word home shows = let e : word ≡ 8 * n = shows.0 in omega arith
-number-of n next collecting Waiting word home shows = let e : word ≡ 8 * n + 1 = shows.0 in omega arith
-number-of n next collecting (Held w) word home shows = let e : word ≡ 8 * n + 2 = shows.0 in omega arith
 number-of n next collecting (Answered answer) word home shows =
     ⊎_elim (λ (x : (word ≡ answered_word n) × (home ≡ Full answer)). let e : word ≡ 8 * n + 3 = x.0 in let h : word / 8 ≡ n = omega arith in h)
     (λ (x : (word ≡ collecting_word n) × (home ≡ Out) × (n ≡ next) × (collecting ≡ Some answer)). let e : word ≡ 8 * n + 4 = x.0 in let h : word / 8 ≡ n = omega arith in h) shows
 number-of n next collecting Collected word home shows = absurd shows
+number-of n next collecting place word home shows = omega (arith, shows.0)
 
 -- a cell's state word is of a number that uses the cell
 of-cell : (meaning : Meaning) (shape : Shape) (key : List ℕ) (board : Board) (state : State) → Shows meaning shape key board state

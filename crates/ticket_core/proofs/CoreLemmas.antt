@@ -18,10 +18,8 @@ use Rattle.ticket_core.proofs.StepLemmas.{step-sound}
 
 three : (a b c : Bool) → (if a then Some Closed else if b then Some Exhausted else if c then Some Full else None) ≡ None
     → (a ≡ false) × (b ≡ false) × (c ≡ false)
-three true b c e = absurd (cc)
-three false true c e = absurd (cc)
-three false false true e = absurd (cc)
 three false false false e = (refl, refl, refl)
+three a b c e = absurd (cc)
 
 pub ask-can : (shape : Shape) (sender : Sender) → ask_refusal shape sender ≡ None
     → (sender.closed ≡ false) × (length sender.asked < shape.most) × (outstanding sender < shape.window)
@@ -31,16 +29,12 @@ ask-can shape sender e =
     (each.0, leb-false shape.most (length sender.asked) each.1, leb-false shape.window (outstanding sender) each.2)
 
 two : (a b : Bool) → (if a then Some Ended else if b then None else Some NotReady) ≡ None → b ≡ true
-two true b e = absurd (cc)
 two false true e = refl
-two false false e = absurd (cc)
+two a b e = absurd (cc)
 
 answered-is : (place : Place) → is_answered place ≡ true → IsAnswered place
-answered-is Unasked e = absurd (cc)
-answered-is Waiting e = absurd (cc)
-answered-is (Held worker) e = absurd (cc)
 answered-is (Answered answer) e = tt
-answered-is Collected e = absurd (cc)
+answered-is place e = absurd (cc)
 
 pub collect-can : (sender : Sender) → collect_refusal sender ≡ None → IsAnswered (place_of sender (next_of sender))
 collect-can sender e = answered-is (place_of sender (next_of sender)) (two (has_ended sender) (is_answered (place_of sender (next_of sender))) e)
@@ -77,52 +71,6 @@ module _ {A : Type 0} (shown : A → Shown) (meaning : Meaning) (shape : Shape) 
       → sender_shown shown new ≡ change (sender_shown shown lane) → with_lane s new ≡ with_sender s (change (sender_at old s)) old
   lane-changed s lane new change h e changed =
       lane-set s new (change (sender_at old s)) (changed ∙ ap change (sym (lane-sender s lane h e)))
-
-  module _ (s : ℕ) (lane new : Lane A) (there : s < length lanes) (read : lane ≡ get_or lanes s lane) where
-    -- ---- ask
-
-    pub ask-event : (query : Query) (result : Result ℕ CoreFault) → s < shape.senders
-        → OnOk result ((f : A → Shown) → sender_shown f new ≡ asks query (sender_shown f lane))
-        → ((f : A → Shown) → MatchResult result (λ _. ask_refusal shape (sender_shown f lane) ≡ None) (λ fault. RefusesOrMemory fault (ask_refusal shape (sender_shown f lane))))
-        → OnOk result (Step meaning (Ask s query) old (with_lane s new))
-    ask-event query (Ok n) h asked refused =
-        let can : (((sender_shown shown lane).closed ≡ false) × (length (sender_shown shown lane).asked < shape.most) × (outstanding (sender_shown shown lane) < shape.window)) = ask-can shape (sender_shown shown lane) (refused shown) in
-        let e : sender_at old s ≡ sender_shown shown lane = lane-sender s lane there read in
-        ((h, rw e can.0, rw e can.1, rw e can.2), lane-changed s lane new (asks query) there read (asked shown))
-    ask-event query (Err fault) h asked refused = tt
-
-    pub ask-refused : (query : Query) (result : Result ℕ CoreFault)
-        → ((f : A → Shown) → MatchResult result (λ _. ask_refusal shape (sender_shown f lane) ≡ None) (λ fault. RefusesOrMemory fault (ask_refusal shape (sender_shown f lane))))
-        → IfErr result (λ fault. RefusesOrMemory fault (refusal (Ask s query) old))
-    ask-refused query (Ok n) refused = tt
-    ask-refused query (Err fault) refused = rw (lane-sender s lane there read) (refused shown)
-
-    pub kept : {T : Type 0} (result : Result T CoreFault) → OnErr result ((f : A → Shown) → sender_shown f new ≡ sender_shown f lane)
-        → OnErr result (with_lane s new ≡ old)
-    kept (Ok n) same = tt
-    kept (Err fault) same = lane-same s lane new there read (same shown)
-
-    -- ---- collect
-
-    pub collect-event : (result : Result ℕ CoreFault)
-        → OnOk result ((f : A → Shown) → sender_shown f new ≡ collects (sender_shown f lane))
-        → ((f : A → Shown) → MatchResult result (λ _. collect_refusal (sender_shown f lane) ≡ None) (λ fault. Refuses fault (collect_refusal (sender_shown f lane))))
-        → OnOk result (Step meaning (Collect s) old (with_lane s new))
-    collect-event (Ok n) collected refused =
-        let e : sender_at old s ≡ sender_shown shown lane = lane-sender s lane there read in
-        (rw e (collect-can (sender_shown shown lane) (refused shown)), lane-changed s lane new collects there read (collected shown))
-    collect-event (Err fault) collected refused = tt
-
-    pub collect-refused : (result : Result ℕ CoreFault)
-        → ((f : A → Shown) → MatchResult result (λ _. collect_refusal (sender_shown f lane) ≡ None) (λ fault. Refuses fault (collect_refusal (sender_shown f lane))))
-        → IfErr result (λ fault. Refuses fault (refusal (Collect s) old))
-    collect-refused (Ok n) refused = tt
-    collect-refused (Err fault) refused = rw (lane-sender s lane there read) (refused shown)
-
-    -- ---- close
-
-    pub close-event : s < shape.senders → ((f : A → Shown) → sender_shown f new ≡ closes (sender_shown f lane)) → Step meaning (Close s) old (with_lane s new)
-    close-event h closed = (h, lane-changed s lane new closes there read (closed shown))
 
 -- ---- what holds of a state holds after a call
 

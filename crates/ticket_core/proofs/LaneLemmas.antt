@@ -53,10 +53,8 @@ module _ {A : Type 0} (shown : A → Shown) where
   put_back-shown (x ∷ xs) (suc n) other slot e = ap (λ ys. x ∷ ys) (put_back-shown xs n other slot e)
 
   pub unfilled : (slot : Slot A) → ((answer : A) → slot ≡ Filled answer → ⊥) → is_answered (place_shown shown slot) ≡ false
-  unfilled Open f = refl
-  unfilled (Out worker) f = refl
   unfilled (Filled answer) f = absurd (f answer refl)
-  unfilled Spent f = refl
+  unfilled slot f = refl
 
   pub not_ready-shown : (asked : List Query) (received : List A) (closed : Bool) (slots : List (Slot A)) (slot : Slot A)
       → length slots ≡ length asked → length received < length slots → slot ≡ get_or slots (length received) slot

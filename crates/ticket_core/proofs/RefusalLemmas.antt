@@ -19,11 +19,8 @@ ask-none state sender open_ most window =
     rw (open_, m, w) refl
 
 waiting-is : (place : Place) → is_waiting place ≡ true → place ≡ Waiting
-waiting-is Unasked e = cc
 waiting-is Waiting e = refl
-waiting-is (Held worker) e = cc
-waiting-is (Answered answer) e = cc
-waiting-is Collected e = cc
+waiting-is place e = cc
 
 waits : (b : Bool) → (if b then None else Some NotAsked) ≡ None → b ≡ true
 waits true e = refl

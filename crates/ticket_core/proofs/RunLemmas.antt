@@ -14,29 +14,19 @@ use Rattle.ticket_core.proofs.EndLemmas.{step-ended}
 
 module _ (meaning : Meaning) where
   -- no event changes the shape or the key
-  shape-kept : (event : Event) (state : State) → (after meaning event state).shape ≡ state.shape
-  shape-kept (Ask s a) state = refl
-  shape-kept (Take w s n) state = refl
-  shape-kept (Finish w) state = refl
-  shape-kept (GiveBack w) state = refl
-  shape-kept (Collect s) state = refl
-  shape-kept (Close s) state = refl
+  abbrev AreAlike : State → State → Type 0
+  AreAlike new old = (new.shape ≡ old.shape) × (new.key ≡ old.key)
 
-  key-kept : (event : Event) (state : State) → (after meaning event state).key ≡ state.key
-  key-kept (Ask s a) state = refl
-  key-kept (Take w s n) state = refl
-  key-kept (Finish w) state = refl
-  key-kept (GiveBack w) state = refl
-  key-kept (Collect s) state = refl
-  key-kept (Close s) state = refl
+  event-alike : (event : Event) (state : State) → AreAlike (after meaning event state) state
+  event-alike (Ask s query) state = (refl, refl)
+  event-alike event state = (refl, refl)
 
-  pub run-shape : (events : List Event) (old new : State) → Run meaning old events new → new.shape ≡ old.shape
-  run-shape [] old new r = ap (λ x. x.shape) r
-  run-shape (event ∷ events) old new r = run-shape events (after meaning event old) new r.1 ∙ shape-kept event old
-
-  pub run-key : (events : List Event) (old new : State) → Run meaning old events new → new.key ≡ old.key
-  run-key [] old new r = ap (λ x. x.key) r
-  run-key (event ∷ events) old new r = run-key events (after meaning event old) new r.1 ∙ key-kept event old
+  run-alike : (events : List Event) (old new : State) → Run meaning old events new → AreAlike new old
+  run-alike [] old new r = (ap (λ x. x.shape) r, ap (λ x. x.key) r)
+  run-alike (event ∷ events) old new r =
+      let later : AreAlike new (after meaning event old) = run-alike events (after meaning event old) new r.1 in
+      let now : AreAlike (after meaning event old) old = event-alike event old in
+      (later.0 ∙ now.0, later.1 ∙ now.1)
 
   pub run-sound : (events : List Event) (old new : State) → IsSound meaning old → Run meaning old events new → IsSound meaning new
   run-sound [] old new sound r = rw r sound
@@ -68,7 +58,7 @@ module _ (meaning : Meaning) where
   pub reached-right : (shape : Shape) (key : List ℕ) (events : List Event) (state : State) → Reaches meaning shape key events state
       → (s : ℕ) → IsRight meaning key (sender_at state s)
   reached-right shape key events state r s =
-      let same : state.key ≡ key = run-key events (opening shape key) state r in
+      let same : state.key ≡ key = (run-alike events (opening shape key) state r).1 in
       let sound : IsSoundSender meaning state.key (sender_at state s) = (reached-sound shape key events state r).each s in
       let right : IsRight meaning state.key (sender_at state s) = (sound.within, sound.right) in
       rw (← same) right
@@ -94,7 +84,7 @@ module _ (meaning : Meaning) where
   pub reached-limits : (shape : Shape) (key : List ℕ) (events : List Event) (state : State) → Reaches meaning shape key events state
       → (s : ℕ) → (length (sender_at state s).asked ≤ shape.most) × (outstanding (sender_at state s) ≤ shape.window)
   reached-limits shape key events state r s =
-      let same : state.shape ≡ shape = run-shape events (opening shape key) state r in
+      let same : state.shape ≡ shape = (run-alike events (opening shape key) state r).0 in
       let sound : IsSound meaning state = reached-sound shape key events state r in
       let window : length (sender_at state s).asked ≤ length (sender_at state s).received + state.shape.window = sound.window s in
       (rw (← same) (sound.most s), rw (← same) (omega (arith, window)))

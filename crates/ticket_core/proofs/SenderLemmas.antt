@@ -59,7 +59,6 @@ module _ (meaning : Meaning) (key : List ℕ) where
   pub collects-sound : (sender : Sender) (answer : Shown) → IsSoundSender meaning key sender
       → place_of sender (next_of sender) ≡ Answered answer → IsSoundSender meaning key (collects sender)
   collects-sound sender answer s at =
-      let next : ℕ = length sender.received in
       let within : length sender.received < length sender.places = inside sender.places (length sender.received) Unasked (λ e. cc) in
       let is : answer_in (get_or sender.places (length sender.received) Unasked) ≡ answer = rw at refl in
       let longer : length (sender.received ++ answer_in (place_of sender (next_of sender)) ∷ []) ≡ length sender.received + 1 = length-append sender.received (answer_in (place_of sender (next_of sender)) ∷ []) in

@@ -31,11 +31,8 @@ NextAnswered state s =
     ≡ Answered (answer_in (place_of (sender_at state s) (next_of (sender_at state s))))
 
 answered-place : (place : Place) → IsAnswered place → place ≡ Answered (answer_in place)
-answered-place Unasked h = absurd h
-answered-place Waiting h = absurd h
-answered-place (Held worker) h = absurd h
 answered-place (Answered answer) h = refl
-answered-place Collected h = absurd h
+answered-place place h = absurd h
 
 pub next-answered : (state : State) (s : ℕ) → IsAnswered (place_of (sender_at state s) (next_of (sender_at state s))) → NextAnswered state s
 next-answered state s h = answered-place (place_of (sender_at state s) (next_of (sender_at state s))) h

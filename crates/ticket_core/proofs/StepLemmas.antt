@@ -42,7 +42,6 @@ module _ (meaning : Meaning) where
 
   ask-sound : (state : State) (s : ℕ) (query : Query) → IsSound meaning state → Can (Ask s query) state → IsSound meaning (after meaning (Ask s query) state)
   ask-sound state s query sound can =
-      let sender : Sender = sender_at state s in
       let longer : length ((sender_at state s).asked ++ query ∷ []) ≡ length (sender_at state s).asked + 1 = length-append (sender_at state s).asked (query ∷ []) in
       with_sender-sound state s (asks query (sender_at state s)) sound can.0 (asks-sound meaning state.key query (sender_at state s) (sound.each s))
       (let r : length (sender_at state s).received ≤ length (sender_at state s).asked = (sound.each s).within in omega (arith, longer, can.3))
@@ -55,7 +54,6 @@ module _ (meaning : Meaning) where
 
   collect-sound : (state : State) (s : ℕ) → IsSound meaning state → NextAnswered state s → IsSound meaning (after meaning (Collect s) state)
   collect-sound state s sound can =
-      let next : ℕ = next_of (sender_at state s) in
       let was : place_at state s (next_of (sender_at state s)) ≡ Unasked → ⊥ = λ e. cc in
       let there : s < length state.senders = sender_there state s (next_of (sender_at state s)) was in
       let within : next_of (sender_at state s) < length (sender_at state s).places = inside (sender_at state s).places (next_of (sender_at state s)) Unasked was in
@@ -76,34 +74,42 @@ module _ (meaning : Meaning) where
 
   -- ---- a number goes into a hand, or out of it
 
+  -- the hand has no other number, and no other hand has this one
+  moved-sound : (state : State) (w s n : ℕ) (place : Place) (hand : Option Ticket) → IsSound meaning state → w < length state.hands
+      → (place_at state s n ≡ Unasked → ⊥) → IsSoundSender meaning state.key (puts n place (sender_at state s))
+      → ((t m : ℕ) → hand_at state w ≡ Some (t, m) → (t ≡ s) × (m ≡ n)) → ((v : ℕ) → hand_at state v ≡ Some (s, n) → v ≡ w)
+      → ((t m : ℕ) → hand ≡ Some (t, m) → (t ≡ s) × (m ≡ n) × (place ≡ Held w)) → ((v : ℕ) → place ≡ Held v → (v ≡ w) × (hand ≡ Some (s, n)))
+      → IsSound meaning (with_hand w hand (with_sender s (puts n place (sender_at state s)) state))
+  moved-sound state w s n place hand sound hand_is asked put only no_other holds held =
+      let there : s < length state.senders = sender_there state s n asked in
+      record {
+        senders = omega (arith, length-set state.senders s (puts n place (sender_at state s)), sound.senders);
+        workers = omega (arith, length-set state.hands w hand, sound.workers);
+        each = λ t. sender_changed state s (puts n place (sender_at state s)) t (IsSoundSender meaning state.key) there (λ _. put) (λ _. sound.each t);
+        window = λ t. sender_changed state s (puts n place (sender_at state s)) t (λ x. length x.asked ≤ length x.received + state.shape.window) there (λ _. sound.window s) (λ _. sound.window t);
+        most = λ t. sender_changed state s (puts n place (sender_at state s)) t (λ x. length x.asked ≤ state.shape.most) there (λ _. sound.most s) (λ _. sound.most t);
+        held = λ v t m. hand_changed state w hand v (λ x. x ≡ Some (t, m) → place_at (with_sender s (puts n place (sender_at state s)) state) t m ≡ Held v) hand_is
+            (λ same e. let it : (t ≡ s) × (m ≡ n) × (place ≡ Held w) = holds t m e in
+            place_changed state s n place t m (λ p. p ≡ Held v) asked (λ _ _. it.2 ∙ ap Held (sym same)) (λ ne. absurd (ne it.0 it.1)))
+            (λ ne e. place_changed state s n place t m (λ p. p ≡ Held v) asked (λ ts ns. absurd (ne (no_other v (rw (← ts, ← ns) e)))) (λ _. sound.held v t m e));
+        in_hand = λ v t m. place_changed state s n place t m (λ p. p ≡ Held v → hand_at (with_hand w hand state) v ≡ Some (t, m)) asked
+            (λ ts ns e. hand_changed state w hand v (λ x. x ≡ Some (t, m)) hand_is (λ _. rw (ts, ns) (held v e).1) (λ ne. absurd (ne (held v e).0)))
+            (λ ne e. hand_changed state w hand v (λ x. x ≡ Some (t, m)) hand_is
+            (λ same. absurd (let old : hand_at state v ≡ Some (t, m) = sound.in_hand v t m e in
+            let it : (t ≡ s) × (m ≡ n) = only t m (rw (← same) old) in ne it.0 it.1))
+            (λ _. sound.in_hand v t m e));
+      }
+
   take-sound : (state : State) (w s n : ℕ) → IsSound meaning state → Can (Take w s n) state → IsSound meaning (after meaning (Take w s n) state)
   take-sound state w s n sound can =
       let waits : place_at state s n ≡ Waiting = can.2 in
       let empty : hand_at state w ≡ None = can.1 in
       let asked : place_at state s n ≡ Unasked → ⊥ = λ e. cc in
-      let there : s < length state.senders = sender_there state s n asked in
-      let hand : w < length state.hands = omega (arith, can.0, sound.workers) in
-      let put : IsSoundSender meaning state.key (puts n (Held w) (sender_at state s)) =
-      puts-sound meaning state.key n (Held w) (sender_at state s) (sound.each s) asked (λ e. cc) (λ e. cc) (λ e. cc) (λ answer e. absurd (cc)) in
-      record {
-        senders = omega (arith, length-set state.senders s (puts n (Held w) (sender_at state s)), sound.senders);
-        workers = omega (arith, length-set state.hands w (Some (s, n)), sound.workers);
-        each = λ t. sender_changed state s (puts n (Held w) (sender_at state s)) t (IsSoundSender meaning state.key) there (λ _. put) (λ _. sound.each t);
-        window = λ t. sender_changed state s (puts n (Held w) (sender_at state s)) t (λ x. length x.asked ≤ length x.received + state.shape.window) there (λ _. sound.window s) (λ _. sound.window t);
-        most = λ t. sender_changed state s (puts n (Held w) (sender_at state s)) t (λ x. length x.asked ≤ state.shape.most) there (λ _. sound.most s) (λ _. sound.most t);
-        held = λ v t m. hand_changed state w (Some (s, n)) v (λ x. x ≡ Some (t, m) → place_at (with_sender s (puts n (Held w) (sender_at state s)) state) t m ≡ Held v) hand
-            (λ same e. let parts : (s ≡ t) × (n ≡ m) = ticket_parts s n t m e in
-            place_changed state s n (Held w) t m (λ p. p ≡ Held v) asked (λ _ _. ap Held (sym same)) (λ ne. absurd (ne (sym parts.0) (sym parts.1))))
-            (λ ne e. place_changed state s n (Held w) t m (λ p. p ≡ Held v) asked
-            (λ ts ns. absurd (let old : place_at state t m ≡ Held v = sound.held v t m e in let old2 : place_at state s n ≡ Held v = rw (← ts, ← ns) old in cc))
-            (λ _. sound.held v t m e));
-        in_hand = λ v t m. place_changed state s n (Held w) t m (λ p. p ≡ Held v → hand_at (with_hand w (Some (s, n)) state) v ≡ Some (t, m)) asked
-            (λ ts ns e. hand_changed state w (Some (s, n)) v (λ x. x ≡ Some (t, m)) hand
-            (λ _. rw (ts, ns) refl) (λ ne. absurd (ne (let same : Held w ≡ Held v = e in cc))))
-            (λ ne e. hand_changed state w (Some (s, n)) v (λ x. x ≡ Some (t, m)) hand
-            (λ same. absurd (let old : hand_at state v ≡ Some (t, m) = sound.in_hand v t m e in let old2 : hand_at state w ≡ Some (t, m) = rw (← same) old in cc))
-            (λ _. sound.in_hand v t m e));
-      }
+      moved-sound state w s n (Held w) (Some (s, n)) sound (omega (arith, can.0, sound.workers)) asked
+      (puts-sound meaning state.key n (Held w) (sender_at state s) (sound.each s) asked (λ e. cc) (λ e. cc) (λ e. cc) (λ answer e. absurd (cc)))
+      (λ t m e. absurd (cc)) (λ v e. absurd (let held : place_at state s n ≡ Held v = sound.held v s n e in cc))
+      (λ t m e. let parts : (s ≡ t) × (n ≡ m) = ticket_parts s n t m e in (sym parts.0, sym parts.1, refl))
+      (λ v e. (let same : Held w ≡ Held v = e in cc, refl))
 
   -- what is put down isn't held, and is right where it is an answer
   put_down-sound : (state : State) (w s n : ℕ) (place : Place) → IsSound meaning state → hand_at state w ≡ Some (s, n)
@@ -113,31 +119,11 @@ module _ (meaning : Meaning) where
   put_down-sound state w s n place sound holds asked2 not free right =
       let held : place_at state s n ≡ Held w = sound.held w s n holds in
       let asked : place_at state s n ≡ Unasked → ⊥ = λ e. cc in
-      let there : s < length state.senders = sender_there state s n asked in
-      let hand : w < length state.hands = hand_there state w (s, n) holds in
-      let put : IsSoundSender meaning state.key (puts n place (sender_at state s)) =
-      puts-sound meaning state.key n place (sender_at state s) (sound.each s) asked (λ e. cc) asked2 not right in
-      record {
-        senders = omega (arith, length-set state.senders s (puts n place (sender_at state s)), sound.senders);
-        workers = omega (arith, length-set state.hands w None, sound.workers);
-        each = λ t. sender_changed state s (puts n place (sender_at state s)) t (IsSoundSender meaning state.key) there (λ _. put) (λ _. sound.each t);
-        window = λ t. sender_changed state s (puts n place (sender_at state s)) t (λ x. length x.asked ≤ length x.received + state.shape.window) there (λ _. sound.window s) (λ _. sound.window t);
-        most = λ t. sender_changed state s (puts n place (sender_at state s)) t (λ x. length x.asked ≤ state.shape.most) there (λ _. sound.most s) (λ _. sound.most t);
-        held = λ v t m. hand_changed state w None v (λ x. x ≡ Some (t, m) → place_at (with_sender s (puts n place (sender_at state s)) state) t m ≡ Held v) hand
-            (λ _ e. absurd (cc))
-            (λ ne e. place_changed state s n place t m (λ p. p ≡ Held v) asked
-            (λ ts ns. absurd (ne (let old : place_at state t m ≡ Held v = sound.held v t m e in let old2 : place_at state s n ≡ Held v = rw (← ts, ← ns) old in cc)))
-            (λ _. sound.held v t m e));
-        in_hand = λ v t m. place_changed state s n place t m (λ p. p ≡ Held v → hand_at (with_hand w None state) v ≡ Some (t, m)) asked
-            (λ _ _ e. absurd (free v e))
-            (λ ne e. hand_changed state w None v (λ x. x ≡ Some (t, m)) hand
-            (λ same. absurd (let old : hand_at state v ≡ Some (t, m) = sound.in_hand v t m e in
-            let here : hand_at state w ≡ Some (t, m) = rw (← same) old in
-            let same_ticket = sym holds ∙ here in
-            let parts : (s ≡ t) × (n ≡ m) = ticket_parts s n t m same_ticket in
-            ne (sym parts.0) (sym parts.1)))
-            (λ _. sound.in_hand v t m e));
-      }
+      moved-sound state w s n place None sound (hand_there state w (s, n) holds) asked
+      (puts-sound meaning state.key n place (sender_at state s) (sound.each s) asked (λ e. cc) asked2 not right)
+      (λ t m e. let parts : (s ≡ t) × (n ≡ m) = ticket_parts s n t m (sym holds ∙ e) in (sym parts.0, sym parts.1))
+      (λ v e. let held2 : place_at state s n ≡ Held v = sound.held v s n e in cc)
+      (λ t m e. absurd (cc)) (λ v e. absurd (free v e))
 
   -- ---- each event, and the opening state
 
