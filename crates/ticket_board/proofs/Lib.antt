@@ -15,5 +15,6 @@ pub mod RingMoves
 pub mod RingRuns
 pub mod RingMisses
 pub mod RingTable
+pub mod RingSeat
 pub mod RingRule
 pub mod RingWorkerRule

@@ -103,7 +103,7 @@ module _ (meaning : Meaning) where
         (made.0, made.1, made.2.may, subst (λ (x : Board). Sits x (seat_of shape role) (record { shape = shape; key = key; role = role })) made.2.is sits)
 
   -- so does what a seat that is cut off knows, and what the opening one knows then
-  stands-seat : (shape : Shape) (seats seat : ℕ) (role : Role) → StandsAt shape seats seat role → seat_of shape role ≡ seat
+  pub stands-seat : (shape : Shape) (seats seat : ℕ) (role : Role) → StandsAt shape seats seat role → seat_of shape role ≡ seat
   stands-seat shape seats seat (Opens cut) stands = sym stands.0
   stands-seat shape seats seat (Asks s asking) stands = sym stands.0
   stands-seat shape seats seat (Views.Works w working) stands = sym stands.0

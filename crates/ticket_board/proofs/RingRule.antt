@@ -18,9 +18,9 @@ use Rattle.ticket_board.specs.Ring.Steps.{SenderStep, MaySend, words_sent, homes
 use Rattle.ticket_board.specs.Ring.Moves.{Sends, IsMade, Occurs}
 use Rattle.ticket_board.specs.Ring.Rule.{home_shown, board_shown, views_of, lasts_of, Holds, sender_of, IsSender, ahead_of, collecting_of, KnowsSent, KnowsAnswer}
 use Rattle.ticket_board.proofs.RingSenderSteps.{has-answer, right-answer}
-use Rattle.ticket_board.proofs.RingMoves.{made-shows, made-on, made-occurs}
-use Rattle.ticket_board.proofs.ViewLemmas.{set_here}
-use Rattle.ticket_board.proofs.RingHomes.{get-map, set-same, home-full}
+use Rattle.ticket_board.proofs.RingMoves.{made-on}
+use Rattle.ticket_board.proofs.RingSeat.{core, seated, known, MadeWith, Ends, put-back, sits-as, sits-there, made-with, occurs}
+use Rattle.ticket_board.proofs.RingHomes.{set-same, home-full}
 
 pub is-sender : (role : Role) → IsSender role → role ≡ Asks (sender_of role) (asking_of role)
 is-sender (Asks s asking) h = refl
@@ -37,95 +37,63 @@ module _ {A : Type 0} (shown : A → Shown) (meaning : Meaning) (shape : Shape) 
   abbrev Allowed : ℕ → (ℕ → ℕ) → (ℕ → table.Me (Option A) Stamped → Type 0) → Type 0
   Allowed place change told = table.Allows (Holds shown meaning shape key) slots id me place change told
 
-  -- the view of the seat, under the shape and the key of the rule
-  view-is : (seats : ℕ) → Seated shape key seats id me.0.view → me.0.view ≡ asker shape key s asking
-  view-is seats seated = λ i. record { shape = seated.shape_is i; key = seated.key_is i; role = is-sender me.0.view.role sender i }
+  role-is : me.0.view.role ≡ Asks s asking
+  role-is = is-sender me.0.view.role sender
 
-  after-is : (seats : ℕ) (new : Asking) → Seated shape key seats id me.0.view → asker shape key s new ≡ asker me.0.view.shape me.0.view.key s new
-  after-is seats new seated = λ i. asker (sym seated.shape_is i) (sym seated.key_is i) s new
+  -- ---- any step
 
-  -- the words, the slots and this seat's view
-  abbrev MadeWith : table.State (Option A) Stamped → ℕ → List ℕ → List Home → Asking → Type 0
-  MadeWith state last words homes new =
-      IsMade meaning shape key (record { words = words; homes = homes; views = views_of (set state.views id (stamped (asker shape key s new) last)) })
-      (lasts_of (set state.views id (stamped (asker shape key s new) last)))
+  module _ (state : table.State (Option A) Stamped) (holds : Holds shown meaning shape key state) (sits : get_elem? state.views id ≡ maybe.some me.0) where
+    mine : Seated shape key (length (views_of state.views)) id me.0.view
+    mine = seated shown meaning shape key id me state holds sits
 
-  -- a state of the core that the table shows
-  abbrev now : (state : table.State (Option A) Stamped) → Holds shown meaning shape key state → (core : State) × Shows meaning shape key (board_shown shown state) core
-  now state holds = made-shows meaning shape key (board_shown shown state) (lasts_of state.views) holds
+    abbrev Made : List ℕ → List Home → Asking → Type 0
+    Made words homes new = MadeWith shown meaning shape key id me state holds sits words homes (Asks s new)
 
-  -- the view of the seat, as the table shows it
-  stands-in : (state : table.State (Option A) Stamped) → get_elem? state.views id ≡ maybe.some me.0 → Sits (board_shown shown state) id me.0.view
-  stands-in state sits = get-map (λ (x : Stamped). x.view) state.views id me.0 sits
+    place-is : (at : Shape → ℕ → ℕ → ℕ) (place n : ℕ) → place ≡ at me.0.view.shape s n → place ≡ at shape s n
+    place-is at place n is = is ∙ ap (λ (x : Shape). at x s n) mine.shape_is
 
-  sits-as : (state : table.State (Option A) Stamped) → Seated shape key (length (views_of state.views)) id me.0.view → get_elem? state.views id ≡ maybe.some me.0
-      → Sits (board_shown shown state) id (asker shape key s asking)
-  sits-as state seated sits = stands-in state sits ∙ ap maybe.some (view-is (length (views_of state.views)) seated)
+    -- a step that leaves the words and the slots as the move does
+    sends-on : (place word : ℕ) (step : SenderStep) (act : table.Act (Option A)) (carried : List (ℕ × Option A)) (found : ℕ) (home : Home)
+        → MaySend shape asking step → table.Valid state.homes me.1 act
+        → set state.words place word ≡ words_sent shape s asking step state.words
+        → map (home_shown shown) (table.homes_after state.homes me.1 act) ≡ homes_sent shape s asking step (map (home_shown shown) state.homes)
+        → asking_after asking step found home
+        ≡ asking_after asking step (state_at shape state.words s (next_received asking)) (home_at shape (map (home_shown shown) state.homes) s (next_received asking))
+        → table.carried_after me.1 act ≡ carried
+        → Ends shown meaning shape key id me state holds sits place word (λ new. KnowsSent step found home carried me new × Occurs meaning new.0.view)
+    sends-on place word step act carried found home may valid words homes same slots_are =
+        let new : Asking = asking_after asking step found home in
+        let made : Made (set state.words place word) (map (home_shown shown) (table.homes_after state.homes me.1 act)) (asking_after asking step found home) =
+        subst (λ (x : List ℕ × List Home × Asking). Made x.0 x.1 x.2) (λ i. (sym words i, sym homes i, sym same i))
+        (made-with shown meaning shape key id me state holds sits (Asks s asking) role-is _ _ _
+        (made-on meaning shape key (board_shown shown state) (lasts_of state.views) holds (Sends s asking step)
+        (sits-there shown meaning shape key id me state holds sits (Asks s asking) role-is, may))) in (
+          known shown meaning shape key id me state holds sits (Asks s new),
+          act,
+          valid,
+          made,
+          (
+            ((λ i. asker (sym mine.shape_is i) (sym mine.key_is i) s new), slots_are),
+            occurs shown meaning shape key id me state holds sits (Asks s asking) role-is _ _ (Asks s new) refl made,
+          ),
+        )
 
-  -- it is the seat of this sender
-  seat-is : (seats : ℕ) → Seated shape key seats id me.0.view → id ≡ sender_seat s
-  seat-is seats seated = (subst (StandsAt shape seats id) (is-sender me.0.view.role sender) seated.stands).0
-
-  -- a step of the seat is a move more
-  sends : (state : table.State (Option A) Stamped) → (holds : Holds shown meaning shape key state) → Seated shape key (length (views_of state.views)) id me.0.view
-      → get_elem? state.views id ≡ maybe.some me.0 → (step : SenderStep) → MaySend shape asking step
-      → MadeWith state (suc (length holds.1)) (words_sent shape s asking step state.words) (homes_sent shape s asking step (map (home_shown shown) state.homes))
-      (asking_after asking step (state_at shape state.words s (next_received asking)) (home_at shape (map (home_shown shown) state.homes) s (next_received asking)))
-  sends state holds seated sits step may =
-      let new : Stamped = stamped (asker shape key s
-      (asking_after asking step (state_at shape state.words s (next_received asking)) (home_at shape (map (home_shown shown) state.homes) s (next_received asking))))
-      (suc (length holds.1)) in
-      let here : id ≡ sender_seat s = seat-is (length (views_of state.views)) seated in
-      let board : Board = board_shown shown state in
-      subst (λ (x : List View × List ℕ). IsMade meaning shape key (record {
-        words = words_sent shape s asking step state.words;
-        homes = homes_sent shape s asking step (map (home_shown shown) state.homes);
-        views = x.0;
-      }) x.1)
-      (λ i. (sym (map-set (λ (x : Stamped). x.view) state.views id new) i, sym (map-set (λ (x : Stamped). x.last) state.views id new) i))
-      (subst (λ (x : ℕ). IsMade meaning shape key (sent shape key x s asking step board) (set (lasts_of state.views) x (suc (length holds.1)))) (sym here)
-      (made-on meaning shape key board (lasts_of state.views) holds (Sends s asking step)
-      (subst (λ (x : ℕ). Sits board x (asker shape key s asking)) here (sits-as state seated sits), may)))
-
-  -- and what it knows then occurs
-  occurs : (state : table.State (Option A) Stamped) → Seated shape key (length (views_of state.views)) id me.0.view → get_elem? state.views id ≡ maybe.some me.0
-      → (last : ℕ) (words : List ℕ) (homes : List Home) (new : Asking) → MadeWith state last words homes new → Occurs meaning (asker shape key s new)
-  occurs state seated sits last words homes new made =
-      let known : Stamped = stamped (asker shape key s new) last in
-      let board : Board = record { words = words; homes = homes; views = views_of (set state.views id known) } in
-      made-occurs meaning shape key board (lasts_of (set state.views id known)) (Asks s new) made
-      (subst (λ (x : ℕ). Sits board x (asker shape key s new)) (seat-is (length (views_of state.views)) seated)
-      (get-map (λ (x : Stamped). x.view) (set state.views id known) id known (set_here state.views id me.0 known sits)))
+  -- ---- a number is asked
 
   pub first-allowed : (place word : ℕ) → HasRoom me.0.view.shape asking → place ≡ first_place me.0.view.shape s (next_asked asking)
       → Allowed place (λ _. word) (λ _. KnowsSent (WritesFirst word) 0 Out me.1 me)
   first-allowed place word room at state holds deep sits fits =
-      let seated : Seated shape key (length (views_of state.views)) id me.0.view = (now state holds).1.seated id me.0.view (stands-in state sits) in
-      let room' : HasRoom shape asking = subst (λ (x : Shape). HasRoom x asking) seated.shape_is room in
-      let at' : place ≡ first_place shape s (next_asked asking) = at ∙ ap (λ (x : Shape). first_place x s (next_asked asking)) seated.shape_is in
-      let made = sends state holds seated sits (WritesFirst word) room' in (
-        stamped (asker shape key s (asking_after asking (WritesFirst word) 0 Out)) (suc (length holds.1)),
-        table.keeps,
-        tt,
-        subst (λ (x : ℕ). MadeWith state (suc (length holds.1)) (set state.words x word) (map (home_shown shown) state.homes) (asking_after asking (WritesFirst word) 0 Out))
-            (sym at') made,
-        (after-is (length (views_of state.views)) (asking_after asking (WritesFirst word) 0 Out) seated, refl),
-      )
+      let it = sends-on state holds sits place word (WritesFirst word) table.keeps me.1 0 Out (subst (λ (x : Shape). HasRoom x asking) (mine state holds sits).shape_is room) tt
+      (ap (λ (x : ℕ). set state.words x word) (place-is state holds sits first_place place (next_asked asking) at)) refl refl refl in
+      (it.0, it.1, it.2, it.3, it.4.0)
 
   pub second-allowed : (place word : ℕ) (query : Query) → asking.ahead ≡ FirstWord (first_word query) → IsQuery query → word ≡ second_word query
       → place ≡ second_place me.0.view.shape s (next_asked asking)
       → Allowed place (λ _. word) (λ _. KnowsSent (WritesSecond query) 0 Out me.1 me)
   second-allowed place word query written valid is at state holds deep sits fits =
-      let seated : Seated shape key (length (views_of state.views)) id me.0.view = (now state holds).1.seated id me.0.view (stands-in state sits) in
-      let at' : place ≡ second_place shape s (next_asked asking) = at ∙ ap (λ (x : Shape). second_place x s (next_asked asking)) seated.shape_is in
-      let made = sends state holds seated sits (WritesSecond query) (written, valid) in (
-        stamped (asker shape key s (asking_after asking (WritesSecond query) 0 Out)) (suc (length holds.1)),
-        table.keeps,
-        tt,
-        subst (λ (x : ℕ × ℕ). MadeWith state (suc (length holds.1)) (set state.words x.0 x.1) (map (home_shown shown) state.homes) (asking_after asking (WritesSecond query) 0 Out))
-            (λ i. (sym at' i, sym is i)) made,
-        (after-is (length (views_of state.views)) (asking_after asking (WritesSecond query) 0 Out) seated, refl),
-      )
+      let at' : place ≡ second_place shape s (next_asked asking) = place-is state holds sits second_place place (next_asked asking) at in
+      let it = sends-on state holds sits place word (WritesSecond query) table.keeps me.1 0 Out (written, valid) tt (λ i. set state.words (at' i) (is i)) refl refl refl in
+      (it.0, it.1, it.2, it.3, it.4.0)
 
   -- the query is told by its words
   pub ahead-is : (word : ℕ) (query : Query) → asking.ahead ≡ FirstWord (first_word query) → IsQuery query → word ≡ second_word query
@@ -143,99 +111,46 @@ module _ {A : Type 0} (shown : A → Shown) (meaning : Meaning) (shape : Shape) 
       → word ≡ asked_word (next_asked asking)
       → Allowed place (λ _. word) (λ _ new. KnowsSent (Publishes (ahead_of me.0.view.role)) 0 Out me.1 me new × Occurs meaning new.0.view)
   publishes-allowed place word written at is state holds deep sits fits =
-      let seated : Seated shape key (length (views_of state.views)) id me.0.view = (now state holds).1.seated id me.0.view (stands-in state sits) in
-      let at' : place ≡ state_place shape s (next_asked asking) = at ∙ ap (λ (x : Shape). state_place x s (next_asked asking)) seated.shape_is in
-      let made = sends state holds seated sits (Publishes (ahead_of me.0.view.role)) written in
-      let kept : MadeWith state (suc (length holds.1)) (set state.words place word) (map (home_shown shown) state.homes) (asking_after asking (Publishes (ahead_of me.0.view.role)) 0 Out) =
-      subst (λ (x : ℕ × ℕ). MadeWith state (suc (length holds.1)) (set state.words x.0 x.1) (map (home_shown shown) state.homes)
-      (asking_after asking (Publishes (ahead_of me.0.view.role)) 0 Out)) (λ i. (sym at' i, sym is i)) made in (
-        stamped (asker shape key s (asking_after asking (Publishes (ahead_of me.0.view.role)) 0 Out)) (suc (length holds.1)),
-        table.keeps,
-        tt,
-        kept,
-        (
-          (after-is (length (views_of state.views)) (asking_after asking (Publishes (ahead_of me.0.view.role)) 0 Out) seated, refl),
-          occurs state seated sits (suc (length holds.1)) (set state.words place word) (map (home_shown shown) state.homes) (asking_after asking (Publishes (ahead_of me.0.view.role)) 0 Out) kept,
-        ),
-      )
+      let at' : place ≡ state_place shape s (next_asked asking) = place-is state holds sits state_place place (next_asked asking) at in
+      sends-on state holds sits place word (Publishes (ahead_of me.0.view.role)) table.keeps me.1 0 Out written tt (λ i. set state.words (at' i) (is i)) refl refl refl
+
+  -- ---- an answer is looked for, brought out and received
 
   pub looks-allowed : (place : ℕ) → asking.collecting ≡ None → place ≡ state_place me.0.view.shape s (next_received asking)
       → Allowed place (λ word. word) (λ word new. KnowsSent LooksNext word Out me.1 me new × Occurs meaning new.0.view)
   looks-allowed place idle at state holds deep sits fits =
-      let seated : Seated shape key (length (views_of state.views)) id me.0.view = (now state holds).1.seated id me.0.view (stands-in state sits) in
-      let at' : place ≡ state_place shape s (next_received asking) = at ∙ ap (λ (x : Shape). state_place x s (next_received asking)) seated.shape_is in
-      let word : ℕ = get_or state.words place 0 in
-      let made = sends state holds seated sits LooksNext idle in
-      let kept : MadeWith state (suc (length holds.1)) (set state.words place word) (map (home_shown shown) state.homes) (asking_after asking LooksNext word Out) =
-      subst (λ (x : List ℕ × ℕ). MadeWith state (suc (length holds.1)) x.0 (map (home_shown shown) state.homes) (asking_after asking LooksNext (get_or state.words x.1 0) Out))
-      (λ i. (sym (set-same state.words place) i, sym at' i)) made in (
-        stamped (asker shape key s (asking_after asking LooksNext word Out)) (suc (length holds.1)),
-        table.keeps,
-        tt,
-        kept,
-        (
-          (after-is (length (views_of state.views)) (asking_after asking LooksNext word Out) seated, refl),
-          occurs state seated sits (suc (length holds.1)) (set state.words place word) (map (home_shown shown) state.homes) (asking_after asking LooksNext word Out) kept,
-        ),
-      )
+      sends-on state holds sits place (get_or state.words place 0) LooksNext table.keeps me.1 (get_or state.words place 0) Out idle tt (set-same state.words place) refl
+      (ap (λ (x : ℕ). asking_after asking LooksNext (get_or state.words x 0) Out) (place-is state holds sits state_place place (next_received asking) at)) refl
 
   pub brings-allowed : (place word : ℕ) → asking.found ≡ true → place ≡ state_place me.0.view.shape s (next_received asking)
       → word ≡ collecting_word (next_received asking)
       → Allowed place (λ _. word) (λ _ new. (answer : A) × KnowsAnswer shown meaning answer me new)
   brings-allowed place word found at is state holds deep sits fits =
-      let seated : Seated shape key (length (views_of state.views)) id me.0.view = (now state holds).1.seated id me.0.view (stands-in state sits) in
-      let at' : place ≡ state_place shape s (next_received asking) = at ∙ ap (λ (x : Shape). state_place x s (next_received asking)) seated.shape_is in
-      let sits' = sits-as state seated sits in
-      let there = has-answer meaning shape key (board_shown shown state) (now state holds).0 id s asking (now state holds).1 sits' found in
+      let at' : place ≡ state_place shape s (next_received asking) = place-is state holds sits state_place place (next_received asking) at in
+      let now = core shown meaning shape key id me state holds sits in
+      let mine-sits = sits-as shown meaning shape key id me state holds sits (Asks s asking) role-is in
+      let there = has-answer meaning shape key (board_shown shown state) now.0 id s asking now.1 mine-sits found in
       let stood = home-full shown state.homes (cell_of shape s (next_received asking)) (answer_at_home (home_at shape (map (home_shown shown) state.homes) s (next_received asking))) there.0 in
-      let right = right-answer meaning shape key (board_shown shown state) (now state holds).0 id s asking (now state holds).1 sits' found in
-      let out : Asking = asking_after asking BringsOut 0 (Full (shown stood.0)) in
-      let made = sends state holds seated sits BringsOut found in (
-        stamped (asker shape key s out) (suc (length holds.1)),
-        table.takes (cell_of shape s (next_received asking)) (Some stood.0),
-        stood.1,
-        subst (λ (x : ℕ × ℕ × List Home × Shown). MadeWith state (suc (length holds.1)) (set state.words x.0 x.1) x.2 (asking_after asking BringsOut 0 (Full x.3)))
-            (λ i. (
-              sym at' i,
-              sym is i,
-              sym (map-set (home_shown shown) state.homes (cell_of shape s (next_received asking)) maybe.none) i,
-              sym stood.2 i,
-            )) made,
+      let right = right-answer meaning shape key (board_shown shown state) now.0 id s asking now.1 mine-sits found in
+      let it = sends-on state holds sits place word BringsOut (table.takes (cell_of shape s (next_received asking)) (Some stood.0))
+      ((cell_of me.0.view.shape s (next_received asking), Some stood.0) ∷ me.1) 0 (Full (shown stood.0)) found stood.1 (λ i. set state.words (at' i) (is i))
+      (map-set (home_shown shown) state.homes (cell_of shape s (next_received asking)) maybe.none) (λ i. asking_after asking BringsOut 0 (Full (stood.2 i)))
+      (ap (λ (x : Shape). (cell_of x s (next_received asking), Some stood.0) ∷ me.1) (sym (mine state holds sits).shape_is)) in
+      (it.0, it.1, it.2, it.3, (
+        stood.0,
         (
-          stood.0,
-          (
-            right.0,
-            stood.2 ∙ right.1 ∙ (λ i. meaning (sym seated.key_is i) (get_or asking.asked (next_received asking) (Address 0))),
-            (
-              after-is (length (views_of state.views)) out seated,
-              (λ i. (cell_of (sym seated.shape_is i) s (next_received asking), Some stood.0) ∷ me.1),
-            ),
-          ),
+          right.0,
+          stood.2 ∙ right.1 ∙ (λ i. meaning (sym (mine state holds sits).key_is i) (get_or asking.asked (next_received asking) (Address 0))),
+          it.4.0,
         ),
-      )
+      ))
 
   pub receives-allowed : (place word : ℕ) → asking.collecting ≡ Some (collecting_of me.0.view.role)
       → me.1 ≡ (cell_of me.0.view.shape s (next_received asking), None) ∷ table.rest me.1
       → place ≡ state_place me.0.view.shape s (next_received asking) → word ≡ free_word (next_received asking + me.0.view.shape.window)
       → Allowed place (λ _. word) (λ _ new. KnowsSent (Receives (collecting_of me.0.view.role)) 0 Out (table.rest me.1) me new × Occurs meaning new.0.view)
   receives-allowed place word out carries at is state holds deep sits fits =
-      let seated : Seated shape key (length (views_of state.views)) id me.0.view = (now state holds).1.seated id me.0.view (stands-in state sits) in
-      let at' : place ≡ state_place shape s (next_received asking) = at ∙ ap (λ (x : Shape). state_place x s (next_received asking)) seated.shape_is in
-      let is' : word ≡ free_word (next_received asking + shape.window) = is ∙ ap (λ (x : Shape). free_word (next_received asking + x.window)) seated.shape_is in
-      let home : map (home_shown shown) (table.put_back state.homes me.1) ≡ set (map (home_shown shown) state.homes) (cell_of shape s (next_received asking)) Empty =
-      ap (λ (x : List (ℕ × Option A)). map (home_shown shown) (table.put_back state.homes x)) carries
-      ∙ map-set (home_shown shown) state.homes (cell_of me.0.view.shape s (next_received asking)) (maybe.some None)
-      ∙ ap (λ (x : Shape). set (map (home_shown shown) state.homes) (cell_of x s (next_received asking)) Empty) seated.shape_is in
-      let new : Asking = asking_after asking (Receives (collecting_of me.0.view.role)) 0 Out in
-      let made = sends state holds seated sits (Receives (collecting_of me.0.view.role)) out in
-      let kept : MadeWith state (suc (length holds.1)) (set state.words place word) (map (home_shown shown) (table.put_back state.homes me.1)) new =
-      subst (λ (x : ℕ × ℕ × List Home). MadeWith state (suc (length holds.1)) (set state.words x.0 x.1) x.2 new) (λ i. (sym at' i, sym is' i, sym home i)) made in (
-        stamped (asker shape key s new) (suc (length holds.1)),
-        table.gives,
-        tt,
-        kept,
-        (
-          (after-is (length (views_of state.views)) new seated, refl),
-          occurs state seated sits (suc (length holds.1)) (set state.words place word) (map (home_shown shown) (table.put_back state.homes me.1)) new kept,
-        ),
-      )
+      let at' : place ≡ state_place shape s (next_received asking) = place-is state holds sits state_place place (next_received asking) at in
+      let is' : word ≡ free_word (next_received asking + shape.window) = is ∙ ap (λ (x : Shape). free_word (next_received asking + x.window)) (mine state holds sits).shape_is in
+      sends-on state holds sits place word (Receives (collecting_of me.0.view.role)) table.gives (table.rest me.1) 0 Out out tt
+      (λ i. set state.words (at' i) (is' i)) (put-back shown meaning shape key id me state holds sits s (next_received asking) None carries) refl refl

@@ -21,8 +21,9 @@ use Rattle.ticket_board.specs.Ring.Moves.{IsMade}
 use Rattle.ticket_board.specs.Ring.Rule.{home_shown, board_shown, views_of, lasts_of, Holds, worker_of, IsWorker, IsOfCell, KnowsWorked, KnowsLooked, KnowsTried, KnowsSecond}
 use Rattle.ticket_board.proofs.RingPlaces.{standing}
 use Rattle.ticket_board.proofs.RingWorkerSteps.{are-words, slot-waits}
-use Rattle.ticket_board.proofs.RingMoves.{made-shows, made-on}
-use Rattle.ticket_board.proofs.RingHomes.{get-map, set-same, home-empty}
+use Rattle.ticket_board.proofs.RingMoves.{made-on}
+use Rattle.ticket_board.proofs.RingSeat.{core, seated, known, MadeWith, Ends, put-back, sits-as, sits-there, made-with}
+use Rattle.ticket_board.proofs.RingHomes.{set-same, home-empty}
 
 is-worker : (role : Role) → IsWorker role → role ≡ Works (worker_of role) (working_of role)
 is-worker (Works w working) h = refl
@@ -62,80 +63,62 @@ module _ {A : Type 0} (shown : A → Shown) (meaning : Meaning) (shape : Shape) 
   abbrev Allowed : ℕ → (ℕ → ℕ) → (ℕ → table.Me (Option A) Stamped → Type 0) → Type 0
   Allowed place change told = table.Allows (Holds shown meaning shape key) slots id me place change told
 
-  view-is : (seats : ℕ) → Seated shape key seats id me.0.view → me.0.view ≡ worker shape key w working
-  view-is seats seated = λ i. record { shape = seated.shape_is i; key = seated.key_is i; role = is-worker me.0.view.role works i }
+  role-is : me.0.view.role ≡ Works w working
+  role-is = is-worker me.0.view.role works
 
-  after-is : (seats : ℕ) (new : Working) → Seated shape key seats id me.0.view → worker shape key w new ≡ worker me.0.view.shape me.0.view.key w new
-  after-is seats new seated = λ i. worker (sym seated.shape_is i) (sym seated.key_is i) w new
+  -- ---- any step
 
-  -- the words, the slots and this seat's view
-  abbrev MadeWith : table.State (Option A) Stamped → ℕ → List ℕ → List Home → Working → Type 0
-  MadeWith state last words homes new =
-      IsMade meaning shape key (record { words = words; homes = homes; views = views_of (set state.views id (stamped (worker shape key w new) last)) })
-      (lasts_of (set state.views id (stamped (worker shape key w new) last)))
+  module _ (state : table.State (Option A) Stamped) (holds : Holds shown meaning shape key state) (sits : get_elem? state.views id ≡ maybe.some me.0) where
+    now : (core : State) × Shows meaning shape key (board_shown shown state) core
+    now = core shown meaning shape key id me state holds sits
 
-  -- a state of the core that the table shows
-  abbrev now : (state : table.State (Option A) Stamped) → Holds shown meaning shape key state → (core : State) × Shows meaning shape key (board_shown shown state) core
-  now state holds = made-shows meaning shape key (board_shown shown state) (lasts_of state.views) holds
+    mine : Seated shape key (length (views_of state.views)) id me.0.view
+    mine = seated shown meaning shape key id me state holds sits
 
-  -- the view of the seat, as the table shows it
-  stands-in : (state : table.State (Option A) Stamped) → get_elem? state.views id ≡ maybe.some me.0 → Sits (board_shown shown state) id me.0.view
-  stands-in state sits = get-map (λ (x : Stamped). x.view) state.views id me.0 sits
+    mine-sits : Sits (board_shown shown state) id (worker shape key w working)
+    mine-sits = sits-as shown meaning shape key id me state holds sits (Works w working) role-is
 
-  sits-as : (state : table.State (Option A) Stamped) → Seated shape key (length (views_of state.views)) id me.0.view → get_elem? state.views id ≡ maybe.some me.0
-      → Sits (board_shown shown state) id (worker shape key w working)
-  sits-as state seated sits = stands-in state sits ∙ ap maybe.some (view-is (length (views_of state.views)) seated)
+    place-is : (place : ℕ) (step : WorkerStep) → place ≡ word_worked me.0.view.shape step → place ≡ word_worked shape step
+    place-is place step at = at ∙ ap (λ (x : Shape). word_worked x step) mine.shape_is
 
-  -- it is the seat of this worker
-  seat-is : (seats : ℕ) → Seated shape key seats id me.0.view → id ≡ worker_seat shape w
-  seat-is seats seated = (subst (StandsAt shape seats id) (is-worker me.0.view.role works) seated.stands).0
+    abbrev Made : List ℕ → List Home → Working → Type 0
+    Made words homes new = MadeWith shown meaning shape key id me state holds sits words homes (Works w new)
 
-  -- a step of the seat is a move more
-  works-on : (state : table.State (Option A) Stamped) → (holds : Holds shown meaning shape key state) → Seated shape key (length (views_of state.views)) id me.0.view
-      → get_elem? state.views id ≡ maybe.some me.0 → (step : WorkerStep) → MayWork meaning shape key working step
-      → MadeWith state (suc (length holds.1)) (words_worked shape step (get_or state.words (word_worked shape step) 0) state.words)
-      (homes_worked shape step (get_or state.words (word_worked shape step) 0) (map (home_shown shown) state.homes))
-      (working_after shape working step (get_or state.words (word_worked shape step) 0))
-  works-on state holds seated sits step may =
-      let found : ℕ = get_or state.words (word_worked shape step) 0 in
-      let new : Stamped = stamped (worker shape key w (working_after shape working step found)) (suc (length holds.1)) in
-      let here : id ≡ worker_seat shape w = seat-is (length (views_of state.views)) seated in
-      let board : Board = board_shown shown state in
-      subst (λ (x : List View × List ℕ). IsMade meaning shape key (record {
-        words = words_worked shape step found state.words;
-        homes = homes_worked shape step found (map (home_shown shown) state.homes);
-        views = x.0;
-      }) x.1)
-      (λ i. (sym (map-set (λ (x : Stamped). x.view) state.views id new) i, sym (map-set (λ (x : Stamped). x.last) state.views id new) i))
-      (subst (λ (x : ℕ). IsMade meaning shape key (worked shape key x w working step board) (set (lasts_of state.views) x (suc (length holds.1)))) (sym here)
-      (made-on meaning shape key board (lasts_of state.views) holds (Moves.Works w working step)
-      (subst (λ (x : ℕ). Sits board x (worker shape key w working)) here (sits-as state seated sits), may)))
+    -- a step that leaves the words and the slots as the move does
+    works-on : (place word : ℕ) (step : WorkerStep) (act : table.Act (Option A)) (carried : List (ℕ × Option A))
+        → place ≡ word_worked me.0.view.shape step → MayWork meaning shape key working step → table.Valid state.homes me.1 act
+        → set state.words place word ≡ words_worked shape step (get_or state.words place 0) state.words
+        → map (home_shown shown) (table.homes_after state.homes me.1 act) ≡ homes_worked shape step (get_or state.words place 0) (map (home_shown shown) state.homes)
+        → table.carried_after me.1 act ≡ carried
+        → Ends shown meaning shape key id me state holds sits place word (KnowsWorked step (get_or state.words place 0) carried me)
+    works-on place word step act carried at may valid words homes slots_are = (
+      known shown meaning shape key id me state holds sits (Works w (working_after shape working step (get_or state.words place 0))),
+      act,
+      valid,
+      subst (λ (x : List ℕ × List Home). Made x.0 x.1 (working_after shape working step (get_or state.words place 0))) (λ i. (sym words i, sym homes i))
+          (subst (λ (x : ℕ). Made (words_worked shape step (get_or state.words x 0) state.words) (homes_worked shape step (get_or state.words x 0) (map (home_shown shown) state.homes))
+          (working_after shape working step (get_or state.words x 0))) (sym (place-is place step at))
+          (made-with shown meaning shape key id me state holds sits (Works w working) role-is _ _ _
+          (made-on meaning shape key (board_shown shown state) (lasts_of state.views) holds (Moves.Works w working step)
+          (sits-there shown meaning shape key id me state holds sits (Works w working) role-is, may)))),
+      ((λ i. worker (sym mine.shape_is i) (sym mine.key_is i) w (working_after (sym mine.shape_is i) working step (get_or state.words place 0))), slots_are),
+    )
+
+  -- ---- a cell is looked at
 
   pub looks-allowed : (place cell : ℕ) → working.hand ≡ None → cell < cells_in me.0.view.shape → place ≡ word_of cell state_field
       → Allowed place (λ word. word) (λ word. KnowsLooked cell word me)
   looks-allowed place cell empty within at state holds deep sits fits =
-      let seated : Seated shape key (length (views_of state.views)) id me.0.view = (now state holds).1.seated id me.0.view (stands-in state sits) in
-      let within' : cell < cells_in shape = subst (λ (x : Shape). cell < cells_in x) seated.shape_is within in
-      let word : ℕ = get_or state.words place 0 in
-      let made = works-on state holds seated sits (LooksAt cell) (empty, within') in
-      let of : IsOfCell shape cell (get_or state.words (word_of cell state_field) 0) = of-cell meaning shape key (board_shown shown state) (now state holds).0 (now state holds).1 cell within' in (
-        stamped (worker shape key w (working_after shape working (LooksAt cell) word)) (suc (length holds.1)),
-        table.keeps,
-        tt,
-        subst (λ (x : List ℕ × ℕ). MadeWith state (suc (length holds.1)) x.0 (map (home_shown shown) state.homes) (working_after shape working (LooksAt cell) (get_or state.words x.1 0)))
-            (λ i. (sym (set-same state.words place) i, sym at i)) made,
-        (
-          ((λ i. worker (sym seated.shape_is i) (sym seated.key_is i) w (working_after (sym seated.shape_is i) working (LooksAt cell) word)), refl),
-          subst (λ (x : Shape × ℕ). IsOfCell x.0 cell (get_or state.words x.1 0)) (λ i. (sym seated.shape_is i, sym at i)) of,
-        ),
-      )
+      let shape_is : me.0.view.shape ≡ shape = (mine state holds sits).shape_is in
+      let within' : cell < cells_in shape = subst (λ (x : Shape). cell < cells_in x) shape_is within in
+      let of : IsOfCell shape cell (get_or state.words (word_of cell state_field) 0) =
+      of-cell meaning shape key (board_shown shown state) (now state holds sits).0 (now state holds sits).1 cell within' in
+      let it = works-on state holds sits place (get_or state.words place 0) (LooksAt cell) table.keeps me.1 at (empty, within') tt (set-same state.words place) refl refl in
+      (it.0, it.1, it.2, it.3, (it.4, subst (λ (x : Shape × ℕ). IsOfCell x.0 cell (get_or state.words x.1 0)) (λ i. (sym shape_is i, sym at i)) of))
 
   -- the cell is told by the word's place
-  cell-is : (cell : ℕ) → word_of cell state_field / cell_words ≡ cell
-  cell-is cell = omega arith
-
-  pub cell-of-word : (place cell : ℕ) → place ≡ word_of cell state_field → place / cell_words ≡ cell
-  cell-of-word place cell at = ap (λ (x : ℕ). x / cell_words) at ∙ cell-is cell
+  cell-of-word : (place cell : ℕ) → place ≡ word_of cell state_field → place / cell_words ≡ cell
+  cell-of-word place cell at = omega arith
 
   pub looks-at-word : (place cell : ℕ) → working.hand ≡ None → cell < cells_in me.0.view.shape → place ≡ word_of cell state_field
       → Allowed place (λ word. word) (λ word. KnowsLooked (place / cell_words) word me)
@@ -146,128 +129,54 @@ module _ {A : Type 0} (shown : A → Shown) (meaning : Meaning) (shape : Shape) 
 
   module _ (place s n : ℕ) (empty : working.hand ≡ None) (saw : working.seen ≡ Some (s, n)) (at : place ≡ state_place me.0.view.shape s n)
       (state : table.State (Option A) Stamped) (holds : Holds shown meaning shape key state) (sits : get_elem? state.views id ≡ maybe.some me.0) where
-    seated : Seated shape key (length (views_of state.views)) id me.0.view
-    seated = (now state holds).1.seated id me.0.view (stands-in state sits)
-
-    at' : place ≡ state_place shape s n
-    at' = at ∙ ap (λ (x : Shape). state_place x s n) seated.shape_is
-
-    sits' : Sits (board_shown shown state) id (worker shape key w working)
-    sits' = sits-as state seated sits
-
     abbrev word : ℕ
     word = get_or state.words place 0
 
-    found : word ≡ state_at shape state.words s n
-    found = ap (λ (x : ℕ). get_or state.words x 0) at'
+    -- a step that keeps the rule, where it hits and where it misses
+    abbrev Tries : Bool → Type 0
+    Tries hit = Ends shown meaning shape key id me state holds sits place (either hit (taken_word n) word)
+        (KnowsWorked (Takes s n) word (if hit then (cell_of me.0.view.shape s n, None) ∷ me.1 else me.1) me)
 
-    abbrev tried : Bool → Working
-    tried hit = record working {
-      hand = if hit then Some (s, n) else None;
-      read = Nothing;
-      seen = None;
-      missed = if hit then working.missed else working.missed ++ cell_of shape s n ∷ [];
-    }
+    at' : place ≡ state_place shape s n
+    at' = place-is state holds sits place (Takes s n) at
 
-    -- a step that keeps the rule, and the slots that are out with the seat then
-    abbrev Ends : Bool → Type 0
-    Ends hit =
-        (act : table.Act (Option A)) × table.Valid state.homes me.1 act
-        × Holds shown meaning shape key (table.stepped state place (either hit (taken_word n) word) id me.1 (stamped (worker shape key w (tried hit)) (suc (length holds.1))) act)
-        × (table.carried_after me.1 act ≡ (if hit then (cell_of shape s n, None) ∷ me.1 else me.1))
-
-    -- what the move makes of the table, where it hits and where it misses
-    abbrev MadeBy : Bool → Type 0
-    MadeBy hit =
-        MadeWith state (suc (length holds.1)) (if hit then set state.words (state_place shape s n) (taken_word n) else state.words)
-        (if hit then set (map (home_shown shown) state.homes) (cell_of shape s n) Out else map (home_shown shown) state.homes) (tried hit)
-
-    made : MadeBy (eqb (state_at shape state.words s n) (asked_word n))
-    made = works-on state holds seated sits (Takes s n) (empty, saw)
-
-    ends-taken : word ≡ asked_word n → Ends true
-    ends-taken is = (
-      table.takes (cell_of shape s n) None,
-      home-empty shown state.homes (cell_of shape s n) (slot-waits meaning shape key (board_shown shown state) (now state holds).0 (now state holds).1 id w working sits' s n empty saw (sym found ∙ is)),
-      subst (λ (x : ℕ × List Home). MadeWith state (suc (length holds.1)) (set state.words x.0 (taken_word n)) x.1 (tried true))
-          (λ i. (sym at' i, sym (map-set (home_shown shown) state.homes (cell_of shape s n) maybe.none) i))
-          (subst MadeBy (eq-eqb (state_at shape state.words s n) (asked_word n) (sym found ∙ is)) made),
-      refl,
-    )
-
-    ends-missed : word ≢ asked_word n → Ends false
-    ends-missed ne = (
-      table.keeps,
-      tt,
-      subst (λ (x : List ℕ). MadeWith state (suc (length holds.1)) x (map (home_shown shown) state.homes) (tried false)) (sym (set-same state.words place))
-          (subst MadeBy (ne_eqb (state_at shape state.words s n) (asked_word n) (λ e. ne (found ∙ e))) made),
-      refl,
-    )
-
-    ends : Ends (eqb word (asked_word n))
-    ends = elim (cases_eq word (asked_word n)) [
-      | inl is ↦ subst Ends (sym (eq-eqb word (asked_word n) is)) (ends-taken is)
-      | inr ne ↦ subst Ends (sym (ne_eqb word (asked_word n) ne)) (ends-missed ne)
+    tries : Tries (eqb word (asked_word n))
+    tries = elim (cases_eq word (asked_word n)) [
+      | inl is ↦ (
+          let yes : eqb word (asked_word n) ≡ true = eq-eqb word (asked_word n) is in
+          let waits : state_at shape state.words s n ≡ asked_word n = ap (λ (x : ℕ). get_or state.words x 0) (sym at') ∙ is in
+          subst Tries (sym yes)
+          (works-on state holds sits place (taken_word n) (Takes s n) (table.takes (cell_of shape s n) None) ((cell_of me.0.view.shape s n, None) ∷ me.1) at (empty, saw)
+          (home-empty shown state.homes (cell_of shape s n)
+          (slot-waits meaning shape key (board_shown shown state) (now state holds sits).0 (now state holds sits).1 id w working (mine-sits state holds sits) s n empty saw waits))
+          (rw yes (ap (λ (x : ℕ). set state.words x (taken_word n)) at')) (rw yes (map-set (home_shown shown) state.homes (cell_of shape s n) maybe.none))
+          (ap (λ (x : Shape). (cell_of x s n, None) ∷ me.1) (sym (mine state holds sits).shape_is))))
+      | inr ne ↦ (
+          let no : eqb word (asked_word n) ≡ false = ne_eqb word (asked_word n) ne in
+          subst Tries (sym no)
+          (works-on state holds sits place word (Takes s n) table.keeps me.1 at (empty, saw) tt (rw no (set-same state.words place)) (rw no refl) refl))
     ]
-
-  pub takes-allowed : (place s n : ℕ) → working.hand ≡ None → working.seen ≡ Some (s, n) → place ≡ state_place me.0.view.shape s n
-      → Allowed place (λ word. either (eqb word (asked_word n)) (taken_word n) word) (λ word. KnowsTried (s, n) word me)
-  takes-allowed place s n empty saw at state holds deep sits fits =
-      let seat = seated place s n empty saw at state holds sits in
-      let done = ends place s n empty saw at state holds sits in
-      let word : ℕ = get_or state.words place 0 in
-      let slots_are : table.carried_after me.1 done.0 ≡ (if eqb word (asked_word n) then (cell_of me.0.view.shape s n, None) ∷ me.1 else me.1) =
-      done.3 ∙ ap (λ (x : Shape). if eqb word (asked_word n) then (cell_of x s n, None) ∷ me.1 else me.1) (sym seat.shape_is) in (
-        stamped (worker shape key w (working_after shape working (Takes s n) word)) (suc (length holds.1)),
-        done.0,
-        done.1,
-        done.2,
-        ((λ i. worker (sym seat.shape_is i) (sym seat.key_is i) w (working_after (sym seat.shape_is i) working (Takes s n) word)), slots_are),
-      )
 
   pub tries-allowed : (place asked taken s n : ℕ) → working.hand ≡ None → working.seen ≡ Some (s, n) → place ≡ state_place me.0.view.shape s n
       → asked ≡ asked_word n → taken ≡ taken_word n
       → Allowed place (λ word. either (eqb word asked) taken word) (λ word. KnowsTried (s, n) word me)
   tries-allowed place asked taken s n empty saw at is is' =
       subst (λ (x : ℕ × ℕ). Allowed place (λ word. either (eqb word x.0) x.1 word) (λ word. KnowsTried (s, n) word me))
-      (λ i. (sym is i, sym is' i)) (takes-allowed place s n empty saw at)
+      (λ i. (sym is i, sym is' i)) (λ state holds deep sits fits. tries place s n empty saw at state holds sits)
 
   -- ---- the query of the number in its hand
 
   pub first-allowed : (place s n : ℕ) → working.hand ≡ Some (s, n) → place ≡ first_place me.0.view.shape s n
       → Allowed place (λ word. word) (λ word. KnowsWorked (ReadsFirst s n) word me.1 me)
   first-allowed place s n holding at state holds deep sits fits =
-      let seated : Seated shape key (length (views_of state.views)) id me.0.view = (now state holds).1.seated id me.0.view (stands-in state sits) in
-      let at' : place ≡ first_place shape s n = at ∙ ap (λ (x : Shape). first_place x s n) seated.shape_is in
-      let word : ℕ = get_or state.words place 0 in
-      let made = works-on state holds seated sits (ReadsFirst s n) holding in (
-        stamped (worker shape key w (working_after shape working (ReadsFirst s n) word)) (suc (length holds.1)),
-        table.keeps,
-        tt,
-        subst (λ (x : List ℕ × ℕ). MadeWith state (suc (length holds.1)) x.0 (map (home_shown shown) state.homes) (working_after shape working (ReadsFirst s n) (get_or state.words x.1 0)))
-            (λ i. (sym (set-same state.words place) i, sym at' i)) made,
-        ((λ i. worker (sym seated.shape_is i) (sym seated.key_is i) w (working_after (sym seated.shape_is i) working (ReadsFirst s n) word)), refl),
-      )
+      works-on state holds sits place (get_or state.words place 0) (ReadsFirst s n) table.keeps me.1 at holding tt (set-same state.words place) refl refl
 
   pub second-allowed : (place s n first : ℕ) → working.hand ≡ Some (s, n) → working.read ≡ FirstWord first → place ≡ second_place me.0.view.shape s n
       → Allowed place (λ word. word) (λ word. KnowsSecond (s, n) first word me)
   second-allowed place s n first holding read at state holds deep sits fits =
-      let seated : Seated shape key (length (views_of state.views)) id me.0.view = (now state holds).1.seated id me.0.view (stands-in state sits) in
-      let sits' = sits-as state seated sits in
-      let at' : place ≡ second_place shape s n = at ∙ ap (λ (x : Shape). second_place x s n) seated.shape_is in
-      let word : ℕ = get_or state.words place 0 in
-      let made = works-on state holds seated sits (ReadsSecond s n first) (holding, read) in
-      let both = are-words meaning shape key (board_shown shown state) (now state holds).0 (now state holds).1 id w working sits' s n first holding read in (
-        stamped (worker shape key w (working_after shape working (ReadsSecond s n first) word)) (suc (length holds.1)),
-        table.keeps,
-        tt,
-        subst (λ (x : List ℕ × ℕ). MadeWith state (suc (length holds.1)) x.0 (map (home_shown shown) state.homes) (working_after shape working (ReadsSecond s n first) (get_or state.words x.1 0)))
-            (λ i. (sym (set-same state.words place) i, sym at' i)) made,
-        (
-          ((λ i. worker (sym seated.shape_is i) (sym seated.key_is i) w (working_after (sym seated.shape_is i) working (ReadsSecond s n first) word)), refl),
-          subst (λ (x : ℕ). AreWords first (get_or state.words x 0)) (sym at') both,
-        ),
-      )
+      let both = are-words meaning shape key (board_shown shown state) (now state holds sits).0 (now state holds sits).1 id w working (mine-sits state holds sits) s n first holding read in
+      let it = works-on state holds sits place (get_or state.words place 0) (ReadsSecond s n first) table.keeps me.1 at (holding, read) tt (set-same state.words place) refl refl in
+      (it.0, it.1, it.2, it.3, (it.4, subst (λ (x : ℕ). AreWords first (get_or state.words x 0)) (sym (place-is state holds sits place (ReadsSecond s n first) at)) both))
 
   -- ---- the number in its hand is put down
 
@@ -275,37 +184,15 @@ module _ {A : Type 0} (shown : A → Shown) (meaning : Meaning) (shape : Shape) 
       → me.1 ≡ (cell_of me.0.view.shape s n, Some answer) ∷ table.rest me.1 → place ≡ state_place me.0.view.shape s n → word ≡ answered_word n
       → Allowed place (λ _. word) (λ _. KnowsWorked (Answers s n query (shown answer)) 0 (table.rest me.1) me)
   answers-allowed place word s n query answer holding read right carries at is state holds deep sits fits =
-      let seated : Seated shape key (length (views_of state.views)) id me.0.view = (now state holds).1.seated id me.0.view (stands-in state sits) in
-      let at' : place ≡ state_place shape s n = at ∙ ap (λ (x : Shape). state_place x s n) seated.shape_is in
-      let right' : shown answer ≡ meaning key query = right ∙ ap (λ (x : List ℕ). meaning x query) seated.key_is in
-      let home : map (home_shown shown) (table.put_back state.homes me.1) ≡ set (map (home_shown shown) state.homes) (cell_of shape s n) (Full (shown answer)) =
-      ap (λ (x : List (ℕ × Option A)). map (home_shown shown) (table.put_back state.homes x)) carries
-      ∙ map-set (home_shown shown) state.homes (cell_of me.0.view.shape s n) (maybe.some (Some answer))
-      ∙ ap (λ (x : Shape). set (map (home_shown shown) state.homes) (cell_of x s n) (Full (shown answer))) seated.shape_is in
-      let new : Working = working_after shape working (Answers s n query (shown answer)) 0 in
-      let made = works-on state holds seated sits (Answers s n query (shown answer)) (holding, read, right') in (
-        stamped (worker shape key w new) (suc (length holds.1)),
-        table.gives,
-        tt,
-        subst (λ (x : ℕ × ℕ × List Home). MadeWith state (suc (length holds.1)) (set state.words x.0 x.1) x.2 new) (λ i. (sym at' i, sym is i, sym home i)) made,
-        (after-is (length (views_of state.views)) new seated, refl),
-      )
+      let right' : shown answer ≡ meaning key query = right ∙ ap (λ (x : List ℕ). meaning x query) (mine state holds sits).key_is in
+      let at' : place ≡ state_place shape s n = place-is state holds sits place (GivesBack s n) at in
+      works-on state holds sits place word (Answers s n query (shown answer)) table.gives (table.rest me.1) at (holding, read, right') tt
+      (λ i. set state.words (at' i) (is i)) (put-back shown meaning shape key id me state holds sits s n (Some answer) carries) refl
 
   pub gives-allowed : (place word s n : ℕ) → working.hand ≡ Some (s, n)
       → me.1 ≡ (cell_of me.0.view.shape s n, None) ∷ table.rest me.1 → place ≡ state_place me.0.view.shape s n → word ≡ asked_word n
       → Allowed place (λ _. word) (λ _. KnowsWorked (GivesBack s n) 0 (table.rest me.1) me)
   gives-allowed place word s n holding carries at is state holds deep sits fits =
-      let seated : Seated shape key (length (views_of state.views)) id me.0.view = (now state holds).1.seated id me.0.view (stands-in state sits) in
-      let at' : place ≡ state_place shape s n = at ∙ ap (λ (x : Shape). state_place x s n) seated.shape_is in
-      let home : map (home_shown shown) (table.put_back state.homes me.1) ≡ set (map (home_shown shown) state.homes) (cell_of shape s n) Empty =
-      ap (λ (x : List (ℕ × Option A)). map (home_shown shown) (table.put_back state.homes x)) carries
-      ∙ map-set (home_shown shown) state.homes (cell_of me.0.view.shape s n) (maybe.some None)
-      ∙ ap (λ (x : Shape). set (map (home_shown shown) state.homes) (cell_of x s n) Empty) seated.shape_is in
-      let new : Working = working_after shape working (GivesBack s n) 0 in
-      let made = works-on state holds seated sits (GivesBack s n) holding in (
-        stamped (worker shape key w new) (suc (length holds.1)),
-        table.gives,
-        tt,
-        subst (λ (x : ℕ × ℕ × List Home). MadeWith state (suc (length holds.1)) (set state.words x.0 x.1) x.2 new) (λ i. (sym at' i, sym is i, sym home i)) made,
-        (after-is (length (views_of state.views)) new seated, refl),
-      )
+      let at' : place ≡ state_place shape s n = place-is state holds sits place (GivesBack s n) at in
+      works-on state holds sits place word (GivesBack s n) table.gives (table.rest me.1) at holding tt
+      (λ i. set state.words (at' i) (is i)) (put-back shown meaning shape key id me state holds sits s n None carries) refl
