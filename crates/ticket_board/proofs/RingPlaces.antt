@@ -45,7 +45,7 @@ module _ (shape : Shape) (some_room : 0 < shape.window) where
 
   module _ (words : List ℕ) (s n x : ℕ) where
     -- of another cell, and of another word
-    word-else : (field other t m : ℕ) → field < cell_words → other < cell_words → (cell_of shape t m ≡ cell_of shape s n → other ≡ field → ⊥)
+    pub word-else : (field other t m : ℕ) → field < cell_words → other < cell_words → (cell_of shape t m ≡ cell_of shape s n → other ≡ field → ⊥)
         → get_or (set words (word_of (cell_of shape s n) field) x) (word_of (cell_of shape t m) other) 0 ≡ get_or words (word_of (cell_of shape t m) other) 0
     word-else field other t m h h' apart =
         get_or-set_other words (word_of (cell_of shape s n) field) (word_of (cell_of shape t m) other) x 0
@@ -54,14 +54,6 @@ module _ (shape : Shape) (some_room : 0 < shape.window) where
     pub state-else : (field t m : ℕ) → field < cell_words → cell_of shape t m ≢ cell_of shape s n
         → state_at shape (set words (word_of (cell_of shape s n) field) x) t m ≡ state_at shape words t m
     state-else field t m h ne = word-else field state_field t m h (omega arith) (λ e _. ne e)
-
-    pub first-else : (t m : ℕ) → cell_of shape t m ≢ cell_of shape s n
-        → first_at shape (set words (first_place shape s n) x) t m ≡ first_at shape words t m
-    first-else t m ne = word-else first_field first_field t m (omega arith) (omega arith) (λ e _. ne e)
-
-    pub second-else : (t m : ℕ) → cell_of shape t m ≢ cell_of shape s n
-        → second_at shape (set words (second_place shape s n) x) t m ≡ second_at shape words t m
-    second-else t m ne = word-else second_field second_field t m (omega arith) (omega arith) (λ e _. ne e)
 
     pub state-beside : (field t m : ℕ) → 0 < field → field < cell_words
         → state_at shape (set words (word_of (cell_of shape s n) field) x) t m ≡ state_at shape words t m

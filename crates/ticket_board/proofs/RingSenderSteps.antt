@@ -1,25 +1,26 @@
 -- Each step of a sender keeps what the ring shows.
-use Rattle.std.proofs.Common.{◌≡◌, ◌≢◌, ℕ, ◌+◌, ◌*◌, ◌<◌, ◌≤◌, true, false, eqb, List, [], ◌∷◌, ◌++◌, length, get_or, set, Some, None, inl, inr, refl, sym, ◌∙◌, ap, subst, arith}
+use Rattle.std.proofs.Common.{◌≡◌, ◌≢◌, ℕ, ◌+◌, ◌*◌, ◌<◌, ◌≤◌, true, false, eqb, if◌then◌else◌, List, [], ◌∷◌, ◌++◌, length, get_or, set, Some, None, inl, inr, refl, sym, ◌∙◌, ap, subst, arith}
 use Rattle.std.proofs.lemmas.Bool.{cases_eq, ne_eqb}
 use Rattle.std.proofs.lemmas.List.{length-set, length-append, get_or_append_left, get_or_past, get_or-set_other}
 use Rattle.ticket_core.specs.declared.query.Query.{Query}
 use Rattle.ticket_core.specs.declared.query.QueryKind.TheVariants.{Address}
 use Rattle.ticket_core.specs.declared.shape.Shape.{Shape}
 use Rattle.ticket_core.specs.Query.{IsQuery, first_word, second_word}
-use Rattle.ticket_core.specs.State.{Shown, Meaning, Unasked, Waiting, Answered, Collected, Sender, State, sender_at, place_of, query_of, next_of}
-use Rattle.ticket_core.specs.Events.{Ask, Collect, asks, collects, answer_in, IsAnswered, Can, after}
-use Rattle.ticket_core.specs.Runs.{once_finished}
+use Rattle.ticket_core.specs.State.{Shown, Meaning, Place, Unasked, Waiting, Answered, Collected, Sender, State, sender_at, place_of, query_of, next_of}
+use Rattle.ticket_core.specs.Events.{Event, Ask, Collect, asks, collects, answer_in, IsAnswered, with_sender, Can, after}
+use Rattle.ticket_core.specs.Sound.{IsSound}
+use Rattle.ticket_core.specs.Runs.{finishes, once_finished}
 use Rattle.ticket_core.proofs.ReadLemmas.{appended, inside}
 use Rattle.ticket_core.proofs.StateLemmas.{sender_changed}
 use Rattle.ticket_core.proofs.StepLemmas.{step-sound}
 use Rattle.ticket_core.proofs.CountLemmas.{step-counted}
-use Rattle.ticket_board.specs.Ring.Layout.{cell_of, words_in, word_of, state_field, first_field, second_field, state_place, first_place, second_place, state_at, first_at, second_at, free_word, asked_word, answered_word, collecting_word}
+use Rattle.ticket_board.specs.Ring.Layout.{cell_of, cells_in, words_in, word_of, state_field, first_field, second_field, state_place, first_place, second_place, state_at, first_at, second_at, free_word, asked_word, answered_word, collecting_word}
 use Rattle.ticket_board.specs.Ring.Homes.{Home, Out, Empty, Full, home_at, answer_at_home}
-use Rattle.ticket_board.specs.Ring.Views.{Nothing, FirstWord, Whole, Asking, asker, next_asked, next_received, HasRoom}
+use Rattle.ticket_board.specs.Ring.Views.{Known, Nothing, FirstWord, Whole, Asking, asker, next_asked, next_received, HasRoom}
 use Rattle.ticket_board.specs.Ring.Shows.{Board, CellShows, HasWords, IsAhead, SenderShows, Sits, Shows}
 use Rattle.ticket_board.specs.Ring.Steps.{WritesFirst, WritesSecond, Publishes, LooksNext, BringsOut, Receives, asking_after, sent}
 use Rattle.ticket_board.specs.Ring.Laws.{ShowsAfter}
-use Rattle.ticket_board.proofs.RingPlaces.{numbers-apart, senders-apart, state-else, first-else, second-else, state-beside, first-beside, second-beside, first-stays, second-stays, word-here, home-else, home-here, around}
+use Rattle.ticket_board.proofs.RingPlaces.{numbers-apart, senders-apart, word-else, state-else, first-stays, second-stays, word-here, home-else, home-here, around}
 use Rattle.ticket_board.proofs.RingSenders.{words-moved, ahead-moved, cell-moved, cell-kept, answered-cell, collecting-cell}
 use Rattle.ticket_board.proofs.RingFrames.{asker-frame, asker-seated, sender-shows}
 
@@ -78,89 +79,135 @@ module _ (meaning : Meaning) (shape : Shape) (key : List ℕ) (board : Board) (s
   sender-there : s < length state.senders
   sender-there = let e : state.shape.senders ≡ shape.senders = ap (λ x. x.senders) shows.shape_is in omega (arith, there, shows.sound.senders)
 
+  -- a step that is an event of this sender
+  happens : (event : Event) (sender : Sender) (words : List ℕ) (homes' : List Home) (asking' : Asking) → Can event state
+      → with_sender s sender state ≡ after meaning event state → ((t n : ℕ) → ◌≡◌ {A = ℕ} (if finishes event state t n then 1 else 0) 0)
+      → length words ≡ words_in shape → length homes' ≡ cells_in shape
+      → SenderShows shape (state_at shape words s) (first_at shape words s) (second_at shape words s) (home_at shape homes' s) asking' sender
+      → ((n : ℕ) → n < length (sender_at state s).asked → query_of sender n ≡ query_of (sender_at state s) n)
+      → ((t n : ℕ) → t ≢ s → (state_at shape words t n ≡ state_at shape board.words t n) × (first_at shape words t n ≡ first_at shape board.words t n)
+      × (second_at shape words t n ≡ second_at shape board.words t n) × (home_at shape homes' t n ≡ home_at shape board.homes t n))
+      → ShowsAfter meaning shape key (Some event) state (record { words = words; homes = homes'; views = set board.views seat (asker shape key s asking') })
+  happens event sender words homes' asking' can is none in_words in_homes new queries others =
+      let here : sender_at (with_sender s sender state) s ≡ sender = sender_changed state s sender s (λ x. x ≡ sender) sender-there (λ _. refl) (λ ne. absurd (ne refl)) in (
+        with_sender s sender state,
+        (can, is),
+        asker-frame meaning shape key board state shows seat s asking sits words homes' asking' (with_sender s sender state)
+            shows.shape_is shows.key_is (subst (IsSound meaning) (sym is) (step-sound meaning event state shows.sound can)) in_words in_homes
+            (subst (λ (x : Sender). SenderShows shape (state_at shape words s) (first_at shape words s) (second_at shape words s) (home_at shape homes' s) asking' x) (sym here) new)
+            others
+            (λ t ne. sender_changed state s sender t (λ x. x ≡ sender_at state t) sender-there (λ e. absurd (ne e)) (λ _. refl))
+            (λ _. refl)
+            (λ n h. ap (λ x. query_of x n) here ∙ queries n h)
+            (λ t n. let c : (if finishes event state t n then 1 else 0) + once_finished (place_of (sender_at state t) n) ≡ once_finished (place_of (sender_at (with_sender s sender state) t) n) =
+            subst (λ (x : State). (if finishes event state t n then 1 else 0) + once_finished (place_of (sender_at state t) n) ≡ once_finished (place_of (sender_at x t) n)) (sym is)
+            (step-counted meaning event state t n shows.sound can) in omega (arith, none t n)),
+      )
+
+  -- ---- a word of one of its cells is written
+
+  module _ (m field x : ℕ) (some : field < 3) where
+    abbrev wrote : List ℕ
+    wrote = set board.words (word_of (cell_of shape s m) field) x
+
+    wrote-size : length wrote ≡ words_in shape
+    wrote-size = length-set board.words (word_of (cell_of shape s m) field) x ∙ shows.words
+
+    -- another word, and each word of another cell
+    beside : (other t n : ℕ) → other < 3 → (cell_of shape t n ≡ cell_of shape s m → other ≡ field → ⊥)
+        → get_or wrote (word_of (cell_of shape t n) other) 0 ≡ get_or board.words (word_of (cell_of shape t n) other) 0
+    beside other t n h apart = word-else shape some_room board.words s m x field other t n some h apart
+
+    elsewhere : (t n : ℕ) → cell_of shape t n ≢ cell_of shape s m
+        → (state_at shape wrote t n ≡ state_at shape board.words t n) × (first_at shape wrote t n ≡ first_at shape board.words t n)
+        × (second_at shape wrote t n ≡ second_at shape board.words t n)
+    elsewhere t n ne = (
+      beside state_field t n (omega arith) (λ e _. ne e),
+      beside first_field t n (omega arith) (λ e _. ne e),
+      beside second_field t n (omega arith) (λ e _. ne e),
+    )
+
+    here : get_or wrote (word_of (cell_of shape s m) field) 0 ≡ x
+    here = word-here shape some_room board.words s m x field some there shows.words
+
   -- ---- a word of a query is written ahead
 
-  -- the number that is asked next, and one that was asked
-  apart-ahead : HasRoom shape asking → (n : ℕ) → next_received asking ≤ n → n < next_asked asking
-      → cell_of shape s n ≢ cell_of shape s (next_asked asking)
-  apart-ahead room n from below =
-      numbers-apart shape some_room s (next_received asking) (next_asked asking) n ordered room.0 from (omega (arith, room.0)) (λ e. omega arith)
+  module _ (field x : ℕ) (some : 0 < field) (few : field < 3) (room : HasRoom shape asking) where
+    abbrev words_ahead : List ℕ
+    words_ahead = wrote (next_asked asking) field x few
 
-  -- a word of a query doesn't change the state words
-  cells-ahead : (field x n : ℕ) → 0 < field → field < 3 → next_received asking ≤ n → n < next_received asking + shape.window
-      → CellShows n (next_received asking) asking.collecting (place_of (sender_at state s) n)
-      (state_at shape (set board.words (word_of (cell_of shape s (next_asked asking)) field) x) s n) (homes n)
-  cells-ahead field x n some h from below =
-      cell-moved n (next_received asking) asking.collecting (place_of (sender_at state s) n) (place_of (sender_at state s) n)
-      (states n) (state_at shape (set board.words (word_of (cell_of shape s (next_asked asking)) field) x) s n) (homes n) (homes n)
-      refl (state-beside shape some_room board.words s (next_asked asking) x field s n some h) refl (mine.cells n from below)
+    still : (n : ℕ) → state_at shape words_ahead s n ≡ states n
+    still n = beside (next_asked asking) field x few state_field s n (omega arith) (λ _ e. omega arith)
+
+    writes-ahead : (ahead : Known) → IsAhead ahead (first_at shape words_ahead s (next_asked asking)) (second_at shape words_ahead s (next_asked asking))
+        → Shows meaning shape key
+        (record { words = words_ahead; homes = board.homes; views = set board.views seat (asker shape key s (record asking { ahead = ahead })) }) state
+    writes-ahead ahead is =
+        note words_ahead (record asking { ahead = ahead }) (wrote-size (next_asked asking) field x few)
+        (record {
+          asked = mine.asked;
+          received = mine.received;
+          stays_open = mine.stays_open;
+          cells = λ n from below.
+              cell-moved n (next_received asking) asking.collecting (place_of (sender_at state s) n) (place_of (sender_at state s) n)
+              (states n) (state_at shape words_ahead s n) (homes n) (homes n) refl (still n) refl (mine.cells n from below);
+          words = λ n from below.
+              let apart : cell_of shape s n ≢ cell_of shape s (next_asked asking) =
+              numbers-apart shape some_room s (next_received asking) (next_asked asking) n ordered room.0 from (omega (arith, room.0)) (λ e. omega arith) in
+              let e = elsewhere (next_asked asking) field x few s n apart in
+              words-moved (query_of (sender_at state s) n) (query_of (sender_at state s) n) (firsts n) (first_at shape words_ahead s n) (seconds n)
+              (second_at shape words_ahead s n) refl e.1 e.2 (mine.words n from below);
+          ahead = is;
+          room = λ _. room;
+          found = λ f. still (next_received asking) ∙ mine.found f;
+          collecting = λ answer e. still (next_received asking) ∙ mine.collecting answer e;
+        })
+        (λ t n ne. elsewhere (next_asked asking) field x few t n (senders-apart shape some_room s (next_asked asking) t n ne))
 
   pub writes-first : (word : ℕ) → HasRoom shape asking
       → Shows meaning shape key (sent shape key seat s asking (WritesFirst word) board) state
   writes-first word room =
-      let still : (t n : ℕ) → state_at shape (set board.words (first_place shape s (next_asked asking)) word) t n ≡ state_at shape board.words t n =
-      λ t n. state-beside shape some_room board.words s (next_asked asking) word first_field t n (omega arith) (omega arith) in
-      let kept : (t n : ℕ) → second_at shape (set board.words (first_place shape s (next_asked asking)) word) t n ≡ second_at shape board.words t n =
-      λ t n. second-beside shape some_room board.words s (next_asked asking) word first_field t n (omega arith) (λ e. omega arith) in
-      note (set board.words (first_place shape s (next_asked asking)) word) (record asking { ahead = FirstWord word })
-      (length-set board.words (first_place shape s (next_asked asking)) word ∙ shows.words)
-      (record {
-        asked = mine.asked;
-        received = mine.received;
-        stays_open = mine.stays_open;
-        cells = λ n from below. cells-ahead first_field word n (omega arith) (omega arith) from below;
-        words = λ n from below.
-            words-moved (query_of (sender_at state s) n) (query_of (sender_at state s) n) (firsts n)
-            (first_at shape (set board.words (first_place shape s (next_asked asking)) word) s n) (seconds n)
-            (second_at shape (set board.words (first_place shape s (next_asked asking)) word) s n) refl
-            (first-else shape some_room board.words s (next_asked asking) word s n (apart-ahead room n from below)) (kept s n) (mine.words n from below);
-        ahead = word-here shape some_room board.words s (next_asked asking) word first_field (omega arith) there shows.words;
-        room = λ some. room;
-        found = λ f. still s (next_received asking) ∙ mine.found f;
-        collecting = λ answer e. still s (next_received asking) ∙ mine.collecting answer e;
-      })
-      (λ t n ne. (
-        still t n,
-        first-else shape some_room board.words s (next_asked asking) word t n (senders-apart shape some_room s (next_asked asking) t n ne),
-        kept t n,
-      ))
+      writes-ahead first_field word (omega arith) (omega arith) room (FirstWord word) (here (next_asked asking) first_field word (omega arith))
 
   pub writes-second : (query : Query) → asking.ahead ≡ FirstWord (first_word query) → IsQuery query
       → Shows meaning shape key (sent shape key seat s asking (WritesSecond query) board) state
   writes-second query written is =
-      let room : HasRoom shape asking = mine.room (λ e. cc) in
       let first : firsts (next_asked asking) ≡ first_word query =
       subst (λ known. IsAhead known (firsts (next_asked asking)) (seconds (next_asked asking))) written mine.ahead in
-      let still : (t n : ℕ) → state_at shape (set board.words (second_place shape s (next_asked asking)) (second_word query)) t n ≡ state_at shape board.words t n =
-      λ t n. state-beside shape some_room board.words s (next_asked asking) (second_word query) second_field t n (omega arith) (omega arith) in
-      let kept : (t n : ℕ) → first_at shape (set board.words (second_place shape s (next_asked asking)) (second_word query)) t n ≡ first_at shape board.words t n =
-      λ t n. first-beside shape some_room board.words s (next_asked asking) (second_word query) second_field t n (omega arith) (λ e. omega arith) in
-      note (set board.words (second_place shape s (next_asked asking)) (second_word query)) (record asking { ahead = Whole query })
-      (length-set board.words (second_place shape s (next_asked asking)) (second_word query) ∙ shows.words)
-      (record {
-        asked = mine.asked;
-        received = mine.received;
-        stays_open = mine.stays_open;
-        cells = λ n from below. cells-ahead second_field (second_word query) n (omega arith) (omega arith) from below;
-        words = λ n from below.
-            words-moved (query_of (sender_at state s) n) (query_of (sender_at state s) n) (firsts n)
-            (first_at shape (set board.words (second_place shape s (next_asked asking)) (second_word query)) s n) (seconds n)
-            (second_at shape (set board.words (second_place shape s (next_asked asking)) (second_word query)) s n) refl (kept s n)
-            (second-else shape some_room board.words s (next_asked asking) (second_word query) s n (apart-ahead room n from below)) (mine.words n from below);
-        ahead = (
-          kept s (next_asked asking) ∙ first,
-          word-here shape some_room board.words s (next_asked asking) (second_word query) second_field (omega arith) there shows.words,
-          is,
-        );
-        room = λ some. room;
-        found = λ f. still s (next_received asking) ∙ mine.found f;
-        collecting = λ answer e. still s (next_received asking) ∙ mine.collecting answer e;
-      })
-      (λ t n ne. (
-        still t n,
-        kept t n,
-        second-else shape some_room board.words s (next_asked asking) (second_word query) t n (senders-apart shape some_room s (next_asked asking) t n ne),
-      ))
+      writes-ahead second_field (second_word query) (omega arith) (omega arith) (mine.room (λ e. cc)) (Whole query) (
+        beside (next_asked asking) second_field (second_word query) (omega arith) first_field s (next_asked asking) (omega arith) (λ _ e. omega arith) ∙ first,
+        here (next_asked asking) second_field (second_word query) (omega arith),
+        is,
+      )
+
+  -- ---- the state word of a number is written: the words of queries stay
+
+  module _ (m x : ℕ) where
+    abbrev marked : List ℕ
+    marked = set board.words (state_place shape s m) x
+
+    words-stay : (query : Query) (n : ℕ) → HasWords query (firsts n) (seconds n) → HasWords query (first_at shape marked s n) (second_at shape marked s n)
+    words-stay query n old =
+        words-moved query query (firsts n) (first_at shape marked s n) (seconds n) (second_at shape marked s n) refl
+        (first-stays shape some_room board.words s m x s n) (second-stays shape some_room board.words s m x s n) old
+
+    ahead-stays : (n : ℕ) → IsAhead asking.ahead (firsts n) (seconds n) → IsAhead asking.ahead (first_at shape marked s n) (second_at shape marked s n)
+    ahead-stays n old =
+        ahead-moved asking.ahead (firsts n) (first_at shape marked s n) (seconds n) (second_at shape marked s n)
+        (first-stays shape some_room board.words s m x s n) (second-stays shape some_room board.words s m x s n) old
+
+    -- with the slot of its cell
+    of-others : (home : Home) (t n : ℕ) → t ≢ s
+        → (state_at shape marked t n ≡ state_at shape board.words t n) × (first_at shape marked t n ≡ first_at shape board.words t n)
+        × (second_at shape marked t n ≡ second_at shape board.words t n) × (home_at shape (set board.homes (cell_of shape s m) home) t n ≡ home_at shape board.homes t n)
+    of-others home t n ne =
+        let apart : cell_of shape t n ≢ cell_of shape s m = senders-apart shape some_room s m t n ne in
+        let e = elsewhere m state_field x (omega arith) t n apart in (e.0, e.1, e.2, home-else shape some_room board.homes s m home t n apart)
+
+  -- the cells of two numbers of the window
+  apart-next : (n : ℕ) → next_received asking ≤ n → n < next_received asking + shape.window → n ≢ next_received asking
+      → cell_of shape s n ≢ cell_of shape s (next_received asking)
+  apart-next n from below ne = numbers-apart shape some_room s (next_received asking) (next_received asking) n (omega arith) (omega (arith, some_room)) from below ne
 
   -- ---- a number is asked
 
@@ -173,9 +220,6 @@ module _ (meaning : Meaning) (shape : Shape) (key : List ℕ) (board : Board) (s
 
     abbrev words_asked : List ℕ
     words_asked = set board.words (state_place shape s (next_asked asking)) (asked_word (next_asked asking))
-
-    abbrev now_asked : State
-    now_asked = after meaning (Ask s query) state
 
     can-ask : Can (Ask s query) state
     can-ask =
@@ -197,9 +241,8 @@ module _ (meaning : Meaning) (shape : Shape) (key : List ℕ) (board : Board) (s
         (λ h. absurd (omega (arith, placed)))
 
     was-free : (states (next_asked asking) ≡ free_word (next_asked asking)) × (homes (next_asked asking) ≡ Empty)
-    was-free = cell-moved (next_asked asking) (next_received asking) asking.collecting (place_of (sender_at state s) (next_asked asking)) Unasked
-        (states (next_asked asking)) (states (next_asked asking)) (homes (next_asked asking)) (homes (next_asked asking))
-        (sym (unasked (next_asked asking) (omega arith))) refl refl (mine.cells (next_asked asking) ordered room.0)
+    was-free = subst (λ (place : Place). CellShows (next_asked asking) (next_received asking) asking.collecting place (states (next_asked asking)) (homes (next_asked asking)))
+        (unasked (next_asked asking) (omega arith)) (mine.cells (next_asked asking) ordered room.0)
 
     state-asked : (n : ℕ) → next_received asking ≤ n → n < next_received asking + shape.window → n ≢ next_asked asking
         → state_at shape words_asked s n ≡ states n
@@ -207,22 +250,21 @@ module _ (meaning : Meaning) (shape : Shape) (key : List ℕ) (board : Board) (s
         state-else shape some_room board.words s (next_asked asking) (asked_word (next_asked asking)) state_field s n (omega arith)
         (numbers-apart shape some_room s (next_received asking) (next_asked asking) n ordered room.0 from below ne)
 
-    first-asked : (t n : ℕ) → first_at shape words_asked t n ≡ first_at shape board.words t n
-    first-asked t n = first-stays shape some_room board.words s (next_asked asking) (asked_word (next_asked asking)) t n
-
-    second-asked : (t n : ℕ) → second_at shape words_asked t n ≡ second_at shape board.words t n
-    second-asked t n = second-stays shape some_room board.words s (next_asked asking) (asked_word (next_asked asking)) t n
+    -- an answered number is asked already
+    still-asked : (x : ℕ) → free_word (next_received asking) < x → states (next_received asking) ≡ x → state_at shape words_asked s (next_received asking) ≡ x
+    still-asked x more was = elim (cases_eq (next_received asking) (next_asked asking)) [
+      | inl e ↦ absurd (let free : states (next_received asking) ≡ free_word (next_received asking) = subst (λ (n : ℕ). states n ≡ free_word n) (sym e) was-free.0 in omega arith)
+      | inr ne ↦ state-asked (next_received asking) (omega arith) (omega (arith, some_room)) ne ∙ was
+    ]
 
     -- what is asked is in the words of its number
     words-asked : (n : ℕ) → next_received asking ≤ n → n < length (asking.asked ++ query ∷ [])
         → HasWords (query_of (asks query (sender_at state s)) n) (first_at shape words_asked s n) (second_at shape words_asked s n)
     words-asked n from below = appended (sender_at state s).asked query (Address 0) n
         (λ x. HasWords x (first_at shape words_asked s n) (second_at shape words_asked s n))
-        (λ h. words-moved (query_of (sender_at state s) n) (query_of (sender_at state s) n) (firsts n) (first_at shape words_asked s n) (seconds n)
-        (second_at shape words_asked s n) refl (first-asked s n) (second-asked s n) (mine.words n from (omega (arith, asked-is))))
+        (λ h. words-stay (next_asked asking) (asked_word (next_asked asking)) (query_of (sender_at state s) n) n (mine.words n from (omega (arith, asked-is))))
         (λ e. let q : next_asked asking ≡ n = omega (arith, asked-is) in
-        words-moved query query (firsts n) (first_at shape words_asked s n) (seconds n) (second_at shape words_asked s n) refl (first-asked s n) (second-asked s n)
-        (subst (λ (x : ℕ). HasWords query (firsts x) (seconds x)) q words-ahead))
+        words-stay (next_asked asking) (asked_word (next_asked asking)) query n (subst (λ (x : ℕ). HasWords query (firsts x) (seconds x)) q words-ahead))
         (λ h. absurd (omega (arith, asked-is, length-append asking.asked (query ∷ []))))
 
     shows-asked : SenderShows shape (state_at shape words_asked s) (first_at shape words_asked s) (second_at shape words_asked s) homes
@@ -243,44 +285,16 @@ module _ (meaning : Meaning) (shape : Shape) (key : List ℕ) (board : Board) (s
       words = words-asked;
       ahead = tt;
       room = λ some. absurd (some refl);
-      found = λ f. elim (cases_eq (next_received asking) (next_asked asking)) [
-        | inl e ↦ absurd (let was : states (next_received asking) ≡ answered_word (next_received asking) = mine.found f in
-            let is : states (next_asked asking) ≡ answered_word (next_asked asking) = subst (λ (x : ℕ). states x ≡ answered_word x) e was in omega (arith, was-free.0))
-        | inr ne ↦ state-asked (next_received asking) (omega arith) (omega (arith, some_room)) ne ∙ mine.found f
-      ];
-      collecting = λ answer f. elim (cases_eq (next_received asking) (next_asked asking)) [
-        | inl e ↦ absurd (let was : states (next_received asking) ≡ collecting_word (next_received asking) = mine.collecting answer f in
-            let is : states (next_asked asking) ≡ collecting_word (next_asked asking) = subst (λ (x : ℕ). states x ≡ collecting_word x) e was in omega (arith, was-free.0))
-        | inr ne ↦ state-asked (next_received asking) (omega arith) (omega (arith, some_room)) ne ∙ mine.collecting answer f
-      ];
+      found = λ f. still-asked (answered_word (next_received asking)) (omega arith) (mine.found f);
+      collecting = λ answer f. still-asked (collecting_word (next_received asking)) (omega arith) (mine.collecting answer f);
     }
 
-    sender-asked : sender_at now_asked s ≡ asks query (sender_at state s)
-    sender-asked = sender_changed state s (asks query (sender_at state s)) s (λ x. x ≡ asks query (sender_at state s)) sender-there (λ _. refl) (λ ne. absurd (ne refl))
-
     pub publishes : ShowsAfter meaning shape key (Some (Ask s query)) state (sent shape key seat s asking (Publishes query) board)
-    publishes = (
-      now_asked,
-      (can-ask, refl),
-      asker-frame meaning shape key board state shows seat s asking sits words_asked board.homes
-          (record asking { asked = asking.asked ++ query ∷ []; ahead = Nothing }) now_asked
-          shows.shape_is shows.key_is (step-sound meaning (Ask s query) state shows.sound can-ask)
-          (length-set board.words (state_place shape s (next_asked asking)) (asked_word (next_asked asking)) ∙ shows.words) shows.homes
-          (subst (λ (x : Sender). SenderShows shape (state_at shape words_asked s) (first_at shape words_asked s) (second_at shape words_asked s) homes
-          (record asking { asked = asking.asked ++ query ∷ []; ahead = Nothing }) x) (sym sender-asked) shows-asked)
-          (λ t n ne. (
-            state-else shape some_room board.words s (next_asked asking) (asked_word (next_asked asking)) state_field t n (omega arith)
-                (senders-apart shape some_room s (next_asked asking) t n ne),
-            first-asked t n,
-            second-asked t n,
-            refl,
-          ))
-          (λ t ne. sender_changed state s (asks query (sender_at state s)) t (λ x. x ≡ sender_at state t) sender-there (λ e. absurd (ne e)) (λ _. refl))
-          (λ _. refl)
-          (λ n h. ap (λ x. query_of x n) sender-asked ∙ get_or_append_left (sender_at state s).asked (query ∷ []) (Address 0) n h)
-          (λ t n. let c : 0 + once_finished (place_of (sender_at state t) n) ≡ once_finished (place_of (sender_at now_asked t) n) =
-          step-counted meaning (Ask s query) state t n shows.sound can-ask in omega arith),
-    )
+    publishes =
+        happens (Ask s query) (asks query (sender_at state s)) words_asked board.homes (record asking { asked = asking.asked ++ query ∷ []; ahead = Nothing })
+        can-ask refl (λ _ _. refl) (wrote-size (next_asked asking) state_field (asked_word (next_asked asking)) (omega arith)) shows.homes shows-asked
+        (λ n h. get_or_append_left (sender_at state s).asked (query ∷ []) (Address 0) n h)
+        (λ t n ne. let e = of-others (next_asked asking) (asked_word (next_asked asking)) Empty t n ne in (e.0, e.1, e.2, refl))
 
   -- ---- it looks for the next answer
 
@@ -335,19 +349,8 @@ module _ (meaning : Meaning) (shape : Shape) (key : List ℕ) (board : Board) (s
               ∙ (λ i. meaning (shows.key_is i) (get_or (mine.asked i) (next_received asking) (Address 0))),
         )
 
-    -- the cells of two numbers of the window
-    apart-out : (n : ℕ) → next_received asking ≤ n → n < next_received asking + shape.window → n ≢ next_received asking
-        → cell_of shape s n ≢ cell_of shape s (next_received asking)
-    apart-out n from below ne = numbers-apart shape some_room s (next_received asking) (next_received asking) n (omega arith) (omega (arith, some_room)) from below ne
-
     state-out : state_at shape words_out s (next_received asking) ≡ collecting_word (next_received asking)
     state-out = word-here shape some_room board.words s (next_received asking) (collecting_word (next_received asking)) state_field (omega arith) there shows.words
-
-    first-out : (t n : ℕ) → first_at shape words_out t n ≡ first_at shape board.words t n
-    first-out t n = first-stays shape some_room board.words s (next_received asking) (collecting_word (next_received asking)) t n
-
-    second-out : (t n : ℕ) → second_at shape words_out t n ≡ second_at shape board.words t n
-    second-out t n = second-stays shape some_room board.words s (next_received asking) (collecting_word (next_received asking)) t n
 
     shows-out : SenderShows shape (state_at shape words_out s) (first_at shape words_out s) (second_at shape words_out s) (home_at shape homes_out s) asking_out (sender_at state s)
     shows-out = record {
@@ -362,15 +365,12 @@ module _ (meaning : Meaning) (shape : Shape) (key : List ℕ) (board : Board) (s
             (home-here shape some_room board.homes s (next_received asking) Out there shows.homes) (inr (refl, refl, refl, refl)))
         | inr ne ↦ cell-moved n (next_received asking) asking_out.collecting (place_of (sender_at state s) n) (place_of (sender_at state s) n)
             (states n) (state_at shape words_out s n) (homes n) (home_at shape homes_out s n) refl
-            (state-else shape some_room board.words s (next_received asking) (collecting_word (next_received asking)) state_field s n (omega arith) (apart-out n from below ne))
-            (home-else shape some_room board.homes s (next_received asking) Out s n (apart-out n from below ne))
+            (state-else shape some_room board.words s (next_received asking) (collecting_word (next_received asking)) state_field s n (omega arith) (apart-next n from below ne))
+            (home-else shape some_room board.homes s (next_received asking) Out s n (apart-next n from below ne))
             (cell-kept n (next_received asking) (next_received asking) asking.collecting asking_out.collecting (place_of (sender_at state s) n) (states n) (homes n) ne (mine.cells n from below))
       ];
-      words = λ n from below.
-          words-moved (query_of (sender_at state s) n) (query_of (sender_at state s) n) (firsts n) (first_at shape words_out s n) (seconds n)
-          (second_at shape words_out s n) refl (first-out s n) (second-out s n) (mine.words n from below);
-      ahead = ahead-moved asking.ahead (firsts (next_asked asking)) (first_at shape words_out s (next_asked asking)) (seconds (next_asked asking))
-          (second_at shape words_out s (next_asked asking)) (first-out s (next_asked asking)) (second-out s (next_asked asking)) mine.ahead;
+      words = λ n from below. words-stay (next_received asking) (collecting_word (next_received asking)) (query_of (sender_at state s) n) n (mine.words n from below);
+      ahead = ahead-stays (next_received asking) (collecting_word (next_received asking)) (next_asked asking) mine.ahead;
       room = mine.room;
       found = λ f. absurd (cc);
       collecting = λ answer e. state-out;
@@ -380,16 +380,9 @@ module _ (meaning : Meaning) (shape : Shape) (key : List ℕ) (board : Board) (s
     brings-out =
         asker-frame meaning shape key board state shows seat s asking sits words_out homes_out asking_out state
         shows.shape_is shows.key_is shows.sound
-        (length-set board.words (state_place shape s (next_received asking)) (collecting_word (next_received asking)) ∙ shows.words)
+        (wrote-size (next_received asking) state_field (collecting_word (next_received asking)) (omega arith))
         (length-set board.homes (cell_of shape s (next_received asking)) Out ∙ shows.homes) shows-out
-        (λ t n ne. (
-          state-else shape some_room board.words s (next_received asking) (collecting_word (next_received asking)) state_field t n (omega arith)
-              (senders-apart shape some_room s (next_received asking) t n ne),
-          first-out t n,
-          second-out t n,
-          home-else shape some_room board.homes s (next_received asking) Out t n (senders-apart shape some_room s (next_received asking) t n ne),
-        ))
-        (λ _ _. refl) (λ _. refl) (λ _ _. refl) (λ _ _. refl)
+        (of-others (next_received asking) (collecting_word (next_received asking)) Out) (λ _ _. refl) (λ _. refl) (λ _ _. refl) (λ _ _. refl)
 
   -- ---- an answer is received
 
@@ -402,9 +395,6 @@ module _ (meaning : Meaning) (shape : Shape) (key : List ℕ) (board : Board) (s
 
     abbrev asking_received : Asking
     asking_received = record asking { received = asking.received ++ answer ∷ []; collecting = None }
-
-    abbrev now_received : State
-    now_received = after meaning (Collect s) state
 
     longer : length (asking.received ++ answer ∷ []) ≡ next_received asking + 1
     longer = length-append asking.received (answer ∷ [])
@@ -423,10 +413,6 @@ module _ (meaning : Meaning) (shape : Shape) (key : List ℕ) (board : Board) (s
     place-received : (n : ℕ) → n ≢ next_received asking → place_of (collects (sender_at state s)) n ≡ place_of (sender_at state s) n
     place-received n ne = get_or-set_other (sender_at state s).places (next_of (sender_at state s)) n Collected Unasked (λ e. ne (e ∙ received-is))
 
-    apart-received : (n : ℕ) → next_received asking ≤ n → n < next_received asking + shape.window → n ≢ next_received asking
-        → cell_of shape s n ≢ cell_of shape s (next_received asking)
-    apart-received n from below ne = numbers-apart shape some_room s (next_received asking) (next_received asking) n (omega arith) (omega (arith, some_room)) from below ne
-
     -- the cell of the received number stands for the one a window later
     later-cell : cell_of shape s (next_received asking + shape.window) ≡ cell_of shape s (next_received asking)
     later-cell = ap (λ (k : ℕ). s * shape.window + k) (around shape some_room (next_received asking))
@@ -440,12 +426,6 @@ module _ (meaning : Meaning) (shape : Shape) (key : List ℕ) (board : Board) (s
     home-received =
         ap (λ (cell : ℕ). get_or homes_received cell Out) later-cell
         ∙ home-here shape some_room board.homes s (next_received asking) Empty there shows.homes
-
-    first-received : (t n : ℕ) → first_at shape words_received t n ≡ first_at shape board.words t n
-    first-received t n = first-stays shape some_room board.words s (next_received asking) (free_word (next_received asking + shape.window)) t n
-
-    second-received : (t n : ℕ) → second_at shape words_received t n ≡ second_at shape board.words t n
-    second-received t n = second-stays shape some_room board.words s (next_received asking) (free_word (next_received asking + shape.window)) t n
 
     shows-received : SenderShows shape (state_at shape words_received s) (first_at shape words_received s) (second_at shape words_received s) (home_at shape homes_received s)
         asking_received (collects (sender_at state s))
@@ -468,45 +448,23 @@ module _ (meaning : Meaning) (shape : Shape) (key : List ℕ) (board : Board) (s
             let other : n ≢ next_received asking = λ same. omega (arith, longer) in
             cell-moved n (length (asking.received ++ answer ∷ [])) None (place_of (sender_at state s) n) (place_of (collects (sender_at state s)) n)
             (states n) (state_at shape words_received s n) (homes n) (home_at shape homes_received s n) (place-received n other)
-            (state-else shape some_room board.words s (next_received asking) (free_word (next_received asking + shape.window)) state_field s n (omega arith) (apart-received n still within other))
-            (home-else shape some_room board.homes s (next_received asking) Empty s n (apart-received n still within other))
+            (state-else shape some_room board.words s (next_received asking) (free_word (next_received asking + shape.window)) state_field s n (omega arith) (apart-next n still within other))
+            (home-else shape some_room board.homes s (next_received asking) Empty s n (apart-next n still within other))
             (cell-kept n (next_received asking) (length (asking.received ++ answer ∷ [])) asking.collecting None (place_of (sender_at state s) n) (states n) (homes n) other (mine.cells n still within))
             )
       ];
       words = λ n from below.
-          words-moved (query_of (sender_at state s) n) (query_of (sender_at state s) n) (firsts n) (first_at shape words_received s n) (seconds n)
-          (second_at shape words_received s n) refl (first-received s n) (second-received s n) (mine.words n (omega (arith, longer)) below);
-      ahead = ahead-moved asking.ahead (firsts (next_asked asking)) (first_at shape words_received s (next_asked asking)) (seconds (next_asked asking))
-          (second_at shape words_received s (next_asked asking)) (first-received s (next_asked asking)) (second-received s (next_asked asking)) mine.ahead;
+          words-stay (next_received asking) (free_word (next_received asking + shape.window)) (query_of (sender_at state s) n) n (mine.words n (omega (arith, longer)) below);
+      ahead = ahead-stays (next_received asking) (free_word (next_received asking + shape.window)) (next_asked asking) mine.ahead;
       room = λ some. (omega (arith, longer, (mine.room some).0), (mine.room some).1);
       found = λ f. absurd (let was : states (next_received asking) ≡ answered_word (next_received asking) = mine.found f in
           let is : states (next_received asking) ≡ collecting_word (next_received asking) = mine.collecting answer out in omega arith);
       collecting = λ other e. absurd (cc);
     }
 
-    sender-received : sender_at now_received s ≡ collects (sender_at state s)
-    sender-received = sender_changed state s (collects (sender_at state s)) s (λ x. x ≡ collects (sender_at state s)) sender-there (λ _. refl) (λ ne. absurd (ne refl))
-
     pub receives : ShowsAfter meaning shape key (Some (Collect s)) state (sent shape key seat s asking (Receives answer) board)
-    receives = (
-      now_received,
-      (can-collect, refl),
-      asker-frame meaning shape key board state shows seat s asking sits words_received homes_received asking_received now_received
-          shows.shape_is shows.key_is (step-sound meaning (Collect s) state shows.sound can-collect)
-          (length-set board.words (state_place shape s (next_received asking)) (free_word (next_received asking + shape.window)) ∙ shows.words)
-          (length-set board.homes (cell_of shape s (next_received asking)) Empty ∙ shows.homes)
-          (subst (λ (x : Sender). SenderShows shape (state_at shape words_received s) (first_at shape words_received s) (second_at shape words_received s) (home_at shape homes_received s) asking_received x)
-          (sym sender-received) shows-received)
-          (λ t n ne. (
-            state-else shape some_room board.words s (next_received asking) (free_word (next_received asking + shape.window)) state_field t n (omega arith)
-                (senders-apart shape some_room s (next_received asking) t n ne),
-            first-received t n,
-            second-received t n,
-            home-else shape some_room board.homes s (next_received asking) Empty t n (senders-apart shape some_room s (next_received asking) t n ne),
-          ))
-          (λ t ne. sender_changed state s (collects (sender_at state s)) t (λ x. x ≡ sender_at state t) sender-there (λ e. absurd (ne e)) (λ _. refl))
-          (λ _. refl)
-          (λ n h. ap (λ x. query_of x n) sender-received)
-          (λ t n. let c : 0 + once_finished (place_of (sender_at state t) n) ≡ once_finished (place_of (sender_at now_received t) n) =
-          step-counted meaning (Collect s) state t n shows.sound can-collect in omega arith),
-    )
+    receives =
+        happens (Collect s) (collects (sender_at state s)) words_received homes_received asking_received can-collect refl (λ _ _. refl)
+        (wrote-size (next_received asking) state_field (free_word (next_received asking + shape.window)) (omega arith))
+        (length-set board.homes (cell_of shape s (next_received asking)) Empty ∙ shows.homes) shows-received (λ _ _. refl)
+        (of-others (next_received asking) (free_word (next_received asking + shape.window)) Empty)

@@ -7,12 +7,12 @@ use Rattle.ticket_core.specs.declared.query.Query.{Query}
 use Rattle.ticket_core.specs.declared.shape.Shape.{Shape}
 use Rattle.ticket_core.specs.Query.{first_word, AreWords, of_words}
 use Rattle.ticket_core.specs.State.{Shown, Meaning, Place, Unasked, Waiting, Held, Answered, Collected, Sender, Ticket, State, sender_at, hand_at, place_of, query_of}
-use Rattle.ticket_core.specs.Events.{Event, Take, Finish, GiveBack, puts, with_sender, ticket_in, meaning_of, puts_down, Can, after}
+use Rattle.ticket_core.specs.Events.{Event, Take, Finish, GiveBack, puts, with_sender, with_hand, ticket_in, meaning_of, puts_down, Can, after}
 use Rattle.ticket_core.specs.Sound.{IsSound}
 use Rattle.ticket_core.specs.Runs.{is_ticket, once_finished, finishes}
 use Rattle.ticket_core.proofs.ReadLemmas.{inside}
 use Rattle.ticket_core.proofs.StateLemmas.{sender_changed, hand_changed}
-use Rattle.ticket_core.proofs.StepLemmas.{step-sound}
+use Rattle.ticket_core.proofs.StepLemmas.{step-sound, ticket_parts}
 use Rattle.ticket_core.proofs.CountLemmas.{step-counted}
 use Rattle.ticket_core.proofs.CallerLemmas.{held-sender, held-asked}
 use Rattle.ticket_core.proofs.QueryLemmas.{of_words-words, words-allowed}
@@ -33,18 +33,6 @@ seen-below : (found : Bool) (q m bound s n : ℕ) → q < bound
 seen-below true q m bound s n h e = let same : q ≡ s = ap (λ (ticket : Option Ticket). (ticket_in ticket).0) e in omega arith
 seen-below false q m bound s n h e = absurd (cc)
 
-ticket-parts : (s n t m : ℕ) → ◌≡◌ {A = Option Ticket} (Some (s, n)) (Some (t, m)) → (s ≡ t) × (n ≡ m)
-ticket-parts s n t m e = (ap (λ x. (ticket_in x).0) e, ap (λ x. (ticket_in x).1) e)
-
--- a cell whose number is in a hand
-held-cell : (n next : ℕ) (collecting : Option Shown) (w : ℕ) (word : ℕ) (home : Home) → CellShows n next collecting (Held w) word home
-    → (word ≡ taken_word n) × (home ≡ Out)
-held-cell n next collecting w word home shows = shows
-
--- a cell whose number waits
-waiting-cell : (n next : ℕ) (collecting : Option Shown) (word : ℕ) (home : Home) → CellShows n next collecting Waiting word home → home ≡ Empty
-waiting-cell n next collecting word home shows = shows.1
-
 module _ (meaning : Meaning) (shape : Shape) (key : List ℕ) (board : Board) (state : State) (shows : Shows meaning shape key board state) where
   some_room : 0 < shape.window
   some_room = shows.fits.4
@@ -64,10 +52,7 @@ module _ (meaning : Meaning) (shape : Shape) (key : List ℕ) (board : Board) (s
   -- ---- a number in a hand
 
   module _ (w s n : ℕ) (holds : hand_at state w ≡ Some (s, n)) where
-    abbrev held-place : Type 0
-    held-place = place_of (sender_at state s) n ≡ Held w
-
-    held-is : held-place
+    held-is : place_of (sender_at state s) n ≡ Held w
     held-is = shows.sound.held w s n holds
 
     held-of : s < shape.senders
@@ -97,10 +82,8 @@ module _ (meaning : Meaning) (shape : Shape) (key : List ℕ) (board : Board) (s
         omega (arith, shows.sound.window s)
 
     held-word : (states s n ≡ taken_word n) × (home_at shape board.homes s n ≡ Out)
-    held-word = held-cell n (next_received (asking s)) (asking s).collecting w (states s n) (home_at shape board.homes s n)
-        (cell-moved n (next_received (asking s)) (asking s).collecting (place_of (sender_at state s) n) (Held w) (states s n) (states s n)
-        (home_at shape board.homes s n) (home_at shape board.homes s n) (sym held-is) refl refl
-        ((shows.senders s held-of).cells n held-from held-window))
+    held-word = subst (λ (place : Place). CellShows n (next_received (asking s)) (asking s).collecting place (states s n) (home_at shape board.homes s n)) held-is
+        ((shows.senders s held-of).cells n held-from held-window)
 
     held-words : HasWords (query_of (sender_at state s) n) (first_at shape board.words s n) (second_at shape board.words s n)
     held-words = (shows.senders s held-of).words n held-from held-below
@@ -193,7 +176,7 @@ module _ (meaning : Meaning) (shape : Shape) (key : List ℕ) (board : Board) (s
         note (working_after shape working (ReadsFirst s n) (first_at shape board.words s n)) (record {
           hand = mine.hand;
           read = λ t m held.
-              let parts : (s ≡ t) × (n ≡ m) = ticket-parts s n t m (sym holds ∙ held) in
+              let parts : (s ≡ t) × (n ≡ m) = ticket_parts s n t m (sym holds ∙ held) in
               (held-words w s n (mine.hand ∙ holds)).0 ∙ (λ i. first_word (query_of (sender_at state (parts.0 i)) (parts.1 i)));
           seen = mine.seen;
         }) refl
@@ -223,10 +206,52 @@ module _ (meaning : Meaning) (shape : Shape) (key : List ℕ) (board : Board) (s
           note (working_after shape working (ReadsSecond s n first) (second_at shape board.words s n)) (record {
             hand = mine.hand;
             read = λ t m held.
-                let parts : (s ≡ t) × (n ≡ m) = ticket-parts s n t m (sym holds ∙ held) in
+                let parts : (s ≡ t) × (n ≡ m) = ticket_parts s n t m (sym holds ∙ held) in
                 query-read ∙ (λ i. query_of (sender_at state (parts.0 i)) (parts.1 i));
             seen = mine.seen;
           }) refl
+
+    -- ---- a number goes into the hand, or out of it: a step that is an event of this worker
+
+    happens : (event : Event) (s n x : ℕ) (home : Home) (place : Place) (hand seen : Option Ticket) (done returned : List Ticket) → Can event state
+        → with_hand w hand (with_sender s (puts n place (sender_at state s)) state) ≡ after meaning event state
+        → s < shape.senders → next_received (asking s) ≤ n → n < next_received (asking s) + shape.window → states s n < answered_word n
+        → (place_of (sender_at state s) n ≡ Unasked → ⊥) → CellShows n (next_received (asking s)) (asking s).collecting place x home
+        → ((t m : ℕ) → seen ≡ Some (t, m) → t < shape.senders)
+        → ((t m : ℕ) → times t m done ≡ times t m working.done + (if finishes event state t m then 1 else 0))
+        → ShowsAfter meaning shape key (Some event) state (record {
+          words = set board.words (state_place shape s n) x;
+          homes = set board.homes (cell_of shape s n) home;
+          views = set board.views seat (worker shape key w (record working { hand = hand; read = Nothing; seen = seen; done = done; returned = returned }));
+        })
+    happens event s n x home place hand seen done returned can is of from below early was cell saw more =
+        let with_place : State = with_sender s (puts n place (sender_at state s)) state in
+        let new : State = with_hand w hand with_place in
+        let changed : sender_at new s ≡ puts n place (sender_at state s) =
+        sender_changed state s (puts n place (sender_at state s)) s (λ y. y ≡ puts n place (sender_at state s)) (sender-there' s of) (λ _. refl) (λ ne. absurd (ne refl)) in
+        let others : (t : ℕ) → t ≢ s → sender_at new t ≡ sender_at state t =
+        λ t ne. sender_changed state s (puts n place (sender_at state s)) t (λ y. y ≡ sender_at state t) (sender-there' s of) (λ e. absurd (ne e)) (λ _. refl) in (
+          new,
+          (can, is),
+          worker-frame meaning shape key board state shows seat w working sits
+              (set board.words (state_place shape s n) x) (set board.homes (cell_of shape s n) home)
+              (record working { hand = hand; read = Nothing; seen = seen; done = done; returned = returned }) new
+              shows.shape_is shows.key_is (subst (IsSound meaning) (sym is) (step-sound meaning event state shows.sound can))
+              (length-set board.words (state_place shape s n) x ∙ shows.words) (length-set board.homes (cell_of shape s n) home ∙ shows.homes)
+              (put-senders s n x home place new of from below early was cell changed others)
+              (record {
+                hand = hand_changed with_place w hand w (λ y. y ≡ hand) hand-there (λ _. refl) (λ ne. absurd (ne refl));
+                read = λ t m held. tt;
+                seen = saw;
+              })
+              (λ v ne. hand_changed with_place w hand v (λ y. y ≡ hand_at state v) hand-there (λ e. absurd (ne e)) (λ _. refl))
+              (put-queries s n x home place new of from below early was cell changed others)
+              (λ t m.
+              let c : (if finishes event state t m then 1 else 0) + once_finished (place_of (sender_at state t) m) ≡ once_finished (place_of (sender_at new t) m) =
+              subst (λ (y : State). (if finishes event state t m then 1 else 0) + once_finished (place_of (sender_at state t) m) ≡ once_finished (place_of (sender_at y t) m)) (sym is)
+              (step-counted meaning event state t m shows.sound can) in
+              omega (arith, more t m)),
+        )
 
     -- ---- a number is taken
 
@@ -241,54 +266,23 @@ module _ (meaning : Meaning) (shape : Shape) (key : List ℕ) (board : Board) (s
             (shows.senders s of-sender) n some_room
             (λ m e. ap (λ (k : ℕ). get_or board.words (word_of (s * shape.window + k) state_field) 0) e) found
 
-        abbrev taken : State
-        taken = after meaning (Take w s n) state
-
         can-take : Can (Take w s n) state
         can-take = let e : state.shape.workers ≡ shape.workers = ap (λ x. x.workers) shows.shape_is in
             (omega (arith, there), mine.hand ∙ empty, stands.2)
 
-        shows-taken : Shows meaning shape key (record {
-          words = set board.words (state_place shape s n) (taken_word n);
-          homes = set board.homes (cell_of shape s n) Out;
-          views = set board.views seat (worker shape key w (record working { hand = Some (s, n); read = Nothing; seen = None }));
-        }) taken
-        shows-taken =
-            let was : place_of (sender_at state s) n ≡ Unasked → ⊥ = λ e. let waiting : place_of (sender_at state s) n ≡ Waiting = stands.2 in cc in
-            let changed : sender_at taken s ≡ puts n (Held w) (sender_at state s) =
-            sender_changed state s (puts n (Held w) (sender_at state s)) s (λ x. x ≡ puts n (Held w) (sender_at state s)) (sender-there' s of-sender) (λ _. refl) (λ ne. absurd (ne refl)) in
-            let others : (t : ℕ) → t ≢ s → sender_at taken t ≡ sender_at state t =
-            λ t ne. sender_changed state s (puts n (Held w) (sender_at state s)) t (λ x. x ≡ sender_at state t) (sender-there' s of-sender) (λ e. absurd (ne e)) (λ _. refl) in
-            let early : states s n < answered_word n = omega (arith, found) in
-            worker-frame meaning shape key board state shows seat w working sits
-            (set board.words (state_place shape s n) (taken_word n)) (set board.homes (cell_of shape s n) Out)
-            (record working { hand = Some (s, n); read = Nothing; seen = None }) taken
-            shows.shape_is shows.key_is (step-sound meaning (Take w s n) state shows.sound can-take)
-            (length-set board.words (state_place shape s n) (taken_word n) ∙ shows.words) (length-set board.homes (cell_of shape s n) Out ∙ shows.homes)
-            (put-senders s n (taken_word n) Out (Held w) taken of-sender stands.0 stands.1 early was (refl, refl) changed others)
-            (record {
-              hand = hand_changed (with_sender s (puts n (Held w) (sender_at state s)) state) w (Some (s, n)) w (λ x. x ≡ Some (s, n)) hand-there (λ _. refl) (λ ne. absurd (ne refl));
-              read = λ t m held. tt;
-              seen = λ t m is. absurd (cc);
-            })
-            (λ v ne. hand_changed (with_sender s (puts n (Held w) (sender_at state s)) state) w (Some (s, n)) v (λ x. x ≡ hand_at state v) hand-there (λ e. absurd (ne e)) (λ _. refl))
-            (put-queries s n (taken_word n) Out (Held w) taken of-sender stands.0 stands.1 early was (refl, refl) changed others)
-            (λ t m. let c : 0 + once_finished (place_of (sender_at state t) m) ≡ once_finished (place_of (sender_at taken t) m) =
-            step-counted meaning (Take w s n) state t m shows.sound can-take in omega arith)
-
         -- its slot is empty
         pub slot-waits : home_at shape board.homes s n ≡ Empty
-        slot-waits = waiting-cell n (next_received (asking s)) (asking s).collecting (states s n) (home_at shape board.homes s n)
-            (cell-moved n (next_received (asking s)) (asking s).collecting (place_of (sender_at state s) n) Waiting (states s n) (states s n)
-            (home_at shape board.homes s n) (home_at shape board.homes s n) (sym stands.2) refl refl
-            ((shows.senders s of-sender).cells n stands.0 stands.1))
+        slot-waits = (subst (λ (place : Place). CellShows n (next_received (asking s)) (asking s).collecting place (states s n) (home_at shape board.homes s n)) stands.2
+            ((shows.senders s of-sender).cells n stands.0 stands.1)).1
 
         pub hits : ShowsAfter meaning shape key (Some (Take w s n)) state (record {
           words = set board.words (state_place shape s n) (taken_word n);
           homes = set board.homes (cell_of shape s n) Out;
           views = set board.views seat (worker shape key w (record working { hand = Some (s, n); read = Nothing; seen = None }));
         })
-        hits = (taken, (can-take, refl), shows-taken)
+        hits =
+            happens (Take w s n) s n (taken_word n) Out (Held w) (Some (s, n)) None working.done working.returned can-take refl of-sender stands.0 stands.1 (omega (arith, found))
+            (λ e. let waiting : place_of (sender_at state s) n ≡ Waiting = stands.2 in cc) (refl, refl) (λ t m is. absurd (cc)) (λ t m. omega arith)
 
       pub misses : Shows meaning shape key (record {
         words = board.words;
@@ -322,54 +316,25 @@ module _ (meaning : Meaning) (shape : Shape) (key : List ℕ) (board : Board) (s
       holds-now : hand_at state w ≡ Some (s, n)
       holds-now = mine.hand ∙ holds
 
-      module _ (event : Event) (can : Can event state) (x : ℕ) (home : Home) (place : Place) (done returned : List Ticket)
-          (is : after meaning event state ≡ puts_down w (s, n) place state)
-          (cell : CellShows n (next_received (asking s)) (asking s).collecting place x home)
-          (more : (t m : ℕ) → times t m done ≡ times t m working.done + (if finishes event state t m then 1 else 0)) where
-        abbrev down : State
-        down = puts_down w (s, n) place state
+      some-hand : IsSome (hand_at state w)
+      some-hand = subst (λ (hand : Option Ticket). IsSome hand) (sym holds-now) refl
 
-        puts-down : ShowsAfter meaning shape key (Some event) state (record {
-          words = set board.words (state_place shape s n) x;
-          homes = set board.homes (cell_of shape s n) home;
-          views = set board.views seat (worker shape key w (record working { hand = None; read = Nothing; done = done; returned = returned }));
-        })
-        puts-down =
-            let from : next_received (asking s) ≤ n = held-from w s n holds-now in
-            let below : n < next_received (asking s) + shape.window = held-window w s n holds-now in
-            let of : s < shape.senders = held-of w s n holds-now in
-            let word : states s n ≡ taken_word n = (held-word w s n holds-now).0 in
-            let early : states s n < answered_word n = omega arith in
-            let was : place_of (sender_at state s) n ≡ Unasked → ⊥ = λ e. let held : place_of (sender_at state s) n ≡ Held w = held-is w s n holds-now in cc in
-            let changed : sender_at down s ≡ puts n place (sender_at state s) =
-            sender_changed state s (puts n place (sender_at state s)) s (λ y. y ≡ puts n place (sender_at state s)) (sender-there' s of) (λ _. refl) (λ ne. absurd (ne refl)) in
-            let others : (t : ℕ) → t ≢ s → sender_at down t ≡ sender_at state t =
-            λ t ne. sender_changed state s (puts n place (sender_at state s)) t (λ y. y ≡ sender_at state t) (sender-there' s of) (λ e. absurd (ne e)) (λ _. refl) in (
-              down,
-              (can, sym is),
-              worker-frame meaning shape key board state shows seat w working sits
-                  (set board.words (state_place shape s n) x) (set board.homes (cell_of shape s n) home)
-                  (record working { hand = None; read = Nothing; done = done; returned = returned }) down
-                  shows.shape_is shows.key_is (subst (IsSound meaning) is (step-sound meaning event state shows.sound can))
-                  (length-set board.words (state_place shape s n) x ∙ shows.words) (length-set board.homes (cell_of shape s n) home ∙ shows.homes)
-                  (put-senders s n x home place down of from below early was cell changed others)
-                  (record {
-                    hand = hand_changed (with_sender s (puts n place (sender_at state s)) state) w None w (λ y. y ≡ None) hand-there (λ _. refl) (λ ne. absurd (ne refl));
-                    read = λ t m held. tt;
-                    seen = mine.seen;
-                  })
-                  (λ v ne. hand_changed (with_sender s (puts n place (sender_at state s)) state) w None v (λ y. y ≡ hand_at state v) hand-there (λ e. absurd (ne e)) (λ _. refl))
-                  (put-queries s n x home place down of from below early was cell changed others)
-                  (λ t m.
-                  let c : (if finishes event state t m then 1 else 0) + once_finished (place_of (sender_at state t) m) ≡ once_finished (place_of (sender_at down t) m) =
-                  subst (λ (y : State). (if finishes event state t m then 1 else 0) + once_finished (place_of (sender_at state t) m) ≡ once_finished (place_of (sender_at y t) m)) is
-                  (step-counted meaning event state t m shows.sound can) in
-                  omega (arith, more t m)),
-            )
+      puts-down : (event : Event) (x : ℕ) (home : Home) (place : Place) (done returned : List Ticket) → Can event state
+          → after meaning event state ≡ puts_down w (s, n) place state → CellShows n (next_received (asking s)) (asking s).collecting place x home
+          → ((t m : ℕ) → times t m done ≡ times t m working.done + (if finishes event state t m then 1 else 0))
+          → ShowsAfter meaning shape key (Some event) state (record {
+            words = set board.words (state_place shape s n) x;
+            homes = set board.homes (cell_of shape s n) home;
+            views = set board.views seat (worker shape key w (record working { hand = None; read = Nothing; done = done; returned = returned }));
+          })
+      puts-down event x home place done returned can is cell more =
+          let word : states s n ≡ taken_word n = (held-word w s n holds-now).0 in
+          happens event s n x home place None working.seen done returned can (sym is) (held-of w s n holds-now) (held-from w s n holds-now) (held-window w s n holds-now) (omega arith)
+          (λ e. let held : place_of (sender_at state s) n ≡ Held w = held-is w s n holds-now in cc) cell mine.seen more
 
       pub gives-back : ShowsAfter meaning shape key (Some (GiveBack w)) state (worked shape key seat w working (GivesBack s n) board)
       gives-back =
-          puts-down (GiveBack w) (subst (λ (hand : Option Ticket). IsSome hand) (sym holds-now) refl) (asked_word n) Empty Waiting working.done (working.returned ++ (s, n) ∷ [])
+          puts-down (GiveBack w) (asked_word n) Empty Waiting working.done (working.returned ++ (s, n) ∷ []) some-hand
           (ap (λ (hand : Option Ticket). puts_down w (ticket_in hand) Waiting state) holds-now) (refl, refl) (λ t m. omega arith)
 
       pub answers : (query : Query) (answer : Shown) → working.read ≡ Whole query → answer ≡ meaning key query
@@ -377,8 +342,7 @@ module _ (meaning : Meaning) (shape : Shape) (key : List ℕ) (board : Board) (s
       answers query answer read right =
           let asked : query ≡ query_of (sender_at state s) n = subst (λ known. IsKnown known (query_of (sender_at state s) n)) read (mine.read s n holds) in
           let means : answer ≡ meaning_of meaning state (s, n) = right ∙ (λ i. meaning (sym shows.key_is i) (asked i)) in
-          puts-down (Finish w) (subst (λ (hand : Option Ticket). IsSome hand) (sym holds-now) refl) (answered_word n) (Full answer)
-          (Answered (meaning_of meaning state (s, n))) (working.done ++ (s, n) ∷ []) working.returned
+          puts-down (Finish w) (answered_word n) (Full answer) (Answered (meaning_of meaning state (s, n))) (working.done ++ (s, n) ∷ []) working.returned some-hand
           (ap (λ (hand : Option Ticket). puts_down w (ticket_in hand) (Answered (meaning_of meaning state (ticket_in hand))) state) holds-now)
           (inl (refl, ap Full means))
           (λ t m. subst (λ (hand : Option Ticket). times t m (working.done ++ (s, n) ∷ []) ≡ times t m working.done + (if is_ticket hand t m then 1 else 0)) (sym holds-now)

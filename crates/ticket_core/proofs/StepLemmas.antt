@@ -11,7 +11,7 @@ use Rattle.ticket_core.proofs.ReadLemmas.{appended, replaced, inside}
 use Rattle.ticket_core.proofs.SenderLemmas.{fresh-sound, asks-sound, puts-sound, collects-sound, closes-sound}
 use Rattle.ticket_core.proofs.StateLemmas.{NextAnswered, next-answered, place_at, sender_changed, hand_changed, sender_there, hand_there, place_changed}
 
-ticket_parts : (s n t m : ℕ) → ◌≡◌ {A = Option Ticket} (Some (s, n)) (Some (t, m)) → (s ≡ t) × (n ≡ m)
+pub ticket_parts : (s n t m : ℕ) → ◌≡◌ {A = Option Ticket} (Some (s, n)) (Some (t, m)) → (s ≡ t) × (n ≡ m)
 ticket_parts s n t m e = (ap (λ x. (ticket_in x).0) e, ap (λ x. (ticket_in x).1) e)
 
 module _ (meaning : Meaning) where
