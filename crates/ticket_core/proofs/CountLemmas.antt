@@ -29,25 +29,6 @@ same_count : (state : State) (s n : ℕ) (was : Place) → place_at state s n �
 same_count state s n was e none p h = rw e (omega (arith, none, h))
 
 module _ (meaning : Meaning) where
-  ask-counted : (state : State) (s : ℕ) (query : Query) (t m : ℕ) → IsSound meaning state → Can (Ask s query) state
-      → 0 + once_finished (place_at state t m) ≡ once_finished (place_at (after meaning (Ask s query) state) t m)
-  ask-counted state s query t m sound can =
-      sender_changed state s (asks query (sender_at state s)) t (λ x. 0 + once_finished (place_at state t m) ≡ once_finished (place_of x m))
-      (omega (arith, can.0, sound.senders))
-      (λ ts. rw ts (appended (sender_at state s).places Waiting Unasked m (λ p. 0 + once_finished (place_at state s m) ≡ once_finished p)
-      (λ _. omega arith)
-      (λ at. same_count state s m Unasked (get_or_past (sender_at state s).places m Unasked (omega arith)) refl Waiting refl)
-      (λ past. same_count state s m Unasked (get_or_past (sender_at state s).places m Unasked (omega arith)) refl Unasked refl)))
-      (λ _. omega arith)
-
-  take-counted : (state : State) (w s n t m : ℕ) → Can (Take w s n) state
-      → 0 + once_finished (place_at state t m) ≡ once_finished (place_at (after meaning (Take w s n) state) t m)
-  take-counted state w s n t m can =
-      place_changed state s n (Held w) t m (λ p. 0 + once_finished (place_at state t m) ≡ once_finished p)
-      (λ e. let waits : place_at state s n ≡ Waiting = can.2 in cc)
-      (λ ts ns. rw (ts, ns) (same_count state s n Waiting can.2 refl (Held w) refl))
-      (λ _. omega arith)
-
   -- a number goes out of a hand, and counts one more where it is finished
   put_down-counted : (state : State) (w s n : ℕ) (place : Place) (t m : ℕ) → IsSound meaning state → hand_at state w ≡ Some (s, n)
       → (b : Bool) → (t ≡ s → m ≡ n → (if b then 1 else 0) ≡ once_finished place) → ((t ≡ s → m ≡ n → ⊥) → b ≡ false)
@@ -59,47 +40,43 @@ module _ (meaning : Meaning) where
       (λ ts ns. let none : once_finished (place_at state t m) ≡ 0 = rw (ts, ns, held) refl in omega (arith, here ts ns, none))
       (λ ne. rw (other ne) (omega arith))
 
-  collect-counted : (state : State) (s t m : ℕ) → IsSound meaning state → NextAnswered state s
-      → 0 + once_finished (place_at state t m) ≡ once_finished (place_at (after meaning (Collect s) state) t m)
-  collect-counted state s t m sound can =
-      let was : place_at state s (next_of (sender_at state s)) ≡ Unasked → ⊥ = λ e. cc in
-      let within : next_of (sender_at state s) < length (sender_at state s).places = inside (sender_at state s).places (next_of (sender_at state s)) Unasked was in
-      sender_changed state s (collects (sender_at state s)) t (λ x. 0 + once_finished (place_at state t m) ≡ once_finished (place_of x m))
-      (sender_there state s (next_of (sender_at state s)) was)
-      (λ ts. rw ts (replaced (sender_at state s).places (next_of (sender_at state s)) Collected Unasked m (λ p. 0 + once_finished (place_at state s m) ≡ once_finished p) within
-      (λ at. let once : once_finished (place_at state s m) ≡ 1 = rw (at, can) refl in omega (arith, once))
-      (λ _. omega arith)))
+  pub step-counted : (event : Event) (state : State) (t m : ℕ) → IsSound meaning state → Can event state
+      → (if finishes event state t m then 1 else 0) + once_finished (place_at state t m) ≡ once_finished (place_at (after meaning event state) t m)
+  step-counted (Ask s query) state t m sound can =
+      sender_changed state s (asks query (sender_at state s)) t (λ x. 0 + once_finished (place_at state t m) ≡ once_finished (place_of x m))
+      (omega (arith, can.0, sound.senders))
+      (λ ts. rw ts (appended (sender_at state s).places Waiting Unasked m (λ p. 0 + once_finished (place_at state s m) ≡ once_finished p)
       (λ _. omega arith)
-
-  close-counted : (state : State) (s t m : ℕ) → IsSound meaning state → Can (Close s) state
-      → 0 + once_finished (place_at state t m) ≡ once_finished (place_at (after meaning (Close s) state) t m)
-  close-counted state s t m sound can =
-      sender_changed state s (closes (sender_at state s)) t (λ x. 0 + once_finished (place_at state t m) ≡ once_finished (place_of x m))
-      (omega (arith, can, sound.senders))
-      (λ ts. rw ts (omega arith))
+      (λ at. same_count state s m Unasked (get_or_past (sender_at state s).places m Unasked (omega arith)) refl Waiting refl)
+      (λ past. same_count state s m Unasked (get_or_past (sender_at state s).places m Unasked (omega arith)) refl Unasked refl)))
       (λ _. omega arith)
-
-  finish-counted : (state : State) (w t m : ℕ) → IsSound meaning state → Can (Finish w) state
-      → (if is_ticket (hand_at state w) t m then 1 else 0) + once_finished (place_at state t m) ≡ once_finished (place_at (after meaning (Finish w) state) t m)
-  finish-counted state w t m sound can =
+  step-counted (Take w s n) state t m sound can =
+      place_changed state s n (Held w) t m (λ p. 0 + once_finished (place_at state t m) ≡ once_finished p)
+      (λ e. let waits : place_at state s n ≡ Waiting = can.2 in cc)
+      (λ ts ns. rw (ts, ns) (same_count state s n Waiting can.2 refl (Held w) refl))
+      (λ _. omega arith)
+  step-counted (Finish w) state t m sound can =
       let holds : hand_at state w ≡ Some ((ticket_in (hand_at state w)).0, (ticket_in (hand_at state w)).1) = some_ticket meaning (hand_at state w) can in
       put_down-counted state w (ticket_in (hand_at state w)).0 (ticket_in (hand_at state w)).1 (Answered (meaning_of meaning state (ticket_in (hand_at state w)))) t m sound holds
       (is_ticket (hand_at state w) t m)
       (λ ts ns. rw (is_ticket-same (hand_at state w) (ticket_in (hand_at state w)).0 (ticket_in (hand_at state w)).1 t m holds ts ns) refl)
       (λ ne. is_ticket-other (hand_at state w) (ticket_in (hand_at state w)).0 (ticket_in (hand_at state w)).1 t m holds ne)
-
-  give_back-counted : (state : State) (w t m : ℕ) → IsSound meaning state → Can (GiveBack w) state
-      → 0 + once_finished (place_at state t m) ≡ once_finished (place_at (after meaning (GiveBack w) state) t m)
-  give_back-counted state w t m sound can =
+  step-counted (GiveBack w) state t m sound can =
       let holds : hand_at state w ≡ Some ((ticket_in (hand_at state w)).0, (ticket_in (hand_at state w)).1) = some_ticket meaning (hand_at state w) can in
       put_down-counted state w (ticket_in (hand_at state w)).0 (ticket_in (hand_at state w)).1 Waiting t m sound holds false
       (λ _ _. refl) (λ _. refl)
-
-  pub step-counted : (event : Event) (state : State) (t m : ℕ) → IsSound meaning state → Can event state
-      → (if finishes event state t m then 1 else 0) + once_finished (place_at state t m) ≡ once_finished (place_at (after meaning event state) t m)
-  step-counted (Ask s query) state t m sound can = ask-counted state s query t m sound can
-  step-counted (Take w s n) state t m sound can = take-counted state w s n t m can
-  step-counted (Finish w) state t m sound can = finish-counted state w t m sound can
-  step-counted (GiveBack w) state t m sound can = give_back-counted state w t m sound can
-  step-counted (Collect s) state t m sound can = collect-counted state s t m sound (next-answered state s can)
-  step-counted (Close s) state t m sound can = close-counted state s t m sound can
+  step-counted (Collect s) state t m sound can =
+      let answered : NextAnswered state s = next-answered state s can in
+      let was : place_at state s (next_of (sender_at state s)) ≡ Unasked → ⊥ = λ e. cc in
+      let within : next_of (sender_at state s) < length (sender_at state s).places = inside (sender_at state s).places (next_of (sender_at state s)) Unasked was in
+      sender_changed state s (collects (sender_at state s)) t (λ x. 0 + once_finished (place_at state t m) ≡ once_finished (place_of x m))
+      (sender_there state s (next_of (sender_at state s)) was)
+      (λ ts. rw ts (replaced (sender_at state s).places (next_of (sender_at state s)) Collected Unasked m (λ p. 0 + once_finished (place_at state s m) ≡ once_finished p) within
+      (λ at. let once : once_finished (place_at state s m) ≡ 1 = rw (at, answered) refl in omega (arith, once))
+      (λ _. omega arith)))
+      (λ _. omega arith)
+  step-counted (Close s) state t m sound can =
+      sender_changed state s (closes (sender_at state s)) t (λ x. 0 + once_finished (place_at state t m) ≡ once_finished (place_of x m))
+      (omega (arith, can, sound.senders))
+      (λ ts. rw ts (omega arith))
+      (λ _. omega arith)

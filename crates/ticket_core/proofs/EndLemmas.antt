@@ -39,19 +39,6 @@ module _ (meaning : Meaning) where
       let same : (b : Bool) → b ≡ true → record { asked = sender.asked; received = sender.received; closed = true; places = sender.places } ≡ record { asked = sender.asked; received = sender.received; closed = b; places = sender.places } = λ b f. ap (λ x. record { asked = sender.asked; received = sender.received; closed = x; places = sender.places }) (sym f) in
       same sender.closed e
 
-  ask-ended : (state : State) (s : ℕ) (query : Query) (t : ℕ) → IsSound meaning state → Can (Ask s query) state → HasEnded (sender_at state t)
-      → sender_at (after meaning (Ask s query) state) t ≡ sender_at state t
-  ask-ended state s query t sound can ended =
-      other-kept state s (asks query (sender_at state s)) t (omega (arith, can.0, sound.senders))
-      (λ same. absurd (let open_ : (sender_at state s).closed ≡ false = can.1 in let shut : (sender_at state s).closed ≡ true = rw (← same) ended.0 in cc))
-
-  take-ended : (state : State) (w s n t : ℕ) → IsSound meaning state → Can (Take w s n) state → HasEnded (sender_at state t)
-      → sender_at (after meaning (Take w s n) state) t ≡ sender_at state t
-  take-ended state w s n t sound can ended =
-      other-kept state s (puts n (Held w) (sender_at state s)) t
-      (sender_there state s n (let waits : place_at state s n ≡ Waiting = can.2 in λ e. cc))
-      (λ same. absurd (unsettled-other state t s n Waiting sound ended can.2 (λ e. cc) (λ e. cc) same))
-
   put_down-ended : (state : State) (w s n : ℕ) (place : Place) (t : ℕ) → IsSound meaning state → hand_at state w ≡ Some (s, n) → HasEnded (sender_at state t)
       → sender_at (with_sender s (puts n place (sender_at state s)) state) t ≡ sender_at state t
   put_down-ended state w s n place t sound holds ended =
@@ -59,25 +46,23 @@ module _ (meaning : Meaning) where
       other-kept state s (puts n place (sender_at state s)) t (sender_there state s n (λ e. cc))
       (λ same. absurd (unsettled-other state t s n (Held w) sound ended held (λ e. cc) (λ e. cc) same))
 
-  collect-ended : (state : State) (s t : ℕ) → IsSound meaning state → NextAnswered state s → HasEnded (sender_at state t)
-      → sender_at (after meaning (Collect s) state) t ≡ sender_at state t
-  collect-ended state s t sound can ended =
-      other-kept state s (collects (sender_at state s)) t (sender_there state s (next_of (sender_at state s)) (λ e. cc))
-      (λ same. absurd (unsettled-other state t s (next_of (sender_at state s)) (Answered (answer_in (place_of (sender_at state s) (next_of (sender_at state s))))) sound ended can (λ e. cc) (λ e. cc) same))
-
-  close-ended : (state : State) (s t : ℕ) → IsSound meaning state → Can (Close s) state → HasEnded (sender_at state t)
-      → sender_at (after meaning (Close s) state) t ≡ sender_at state t
-  close-ended state s t sound can ended =
-      other-kept state s (closes (sender_at state s)) t (omega (arith, can, sound.senders))
-      (λ same. rw same (closed_again (sender_at state s) (rw (← same) ended.0)))
-
   pub step-ended : (event : Event) (state : State) (t : ℕ) → IsSound meaning state → Can event state → HasEnded (sender_at state t)
       → sender_at (after meaning event state) t ≡ sender_at state t
-  step-ended (Ask s query) state t sound can ended = ask-ended state s query t sound can ended
-  step-ended (Take w s n) state t sound can ended = take-ended state w s n t sound can ended
+  step-ended (Ask s query) state t sound can ended =
+      other-kept state s (asks query (sender_at state s)) t (omega (arith, can.0, sound.senders))
+      (λ same. absurd (let open_ : (sender_at state s).closed ≡ false = can.1 in let shut : (sender_at state s).closed ≡ true = rw (← same) ended.0 in cc))
+  step-ended (Take w s n) state t sound can ended =
+      other-kept state s (puts n (Held w) (sender_at state s)) t
+      (sender_there state s n (let waits : place_at state s n ≡ Waiting = can.2 in λ e. cc))
+      (λ same. absurd (unsettled-other state t s n Waiting sound ended can.2 (λ e. cc) (λ e. cc) same))
   step-ended (Finish w) state t sound can ended =
       put_down-ended state w (ticket_in (hand_at state w)).0 (ticket_in (hand_at state w)).1 (Answered (meaning_of meaning state (ticket_in (hand_at state w)))) t sound (some_ticket meaning (hand_at state w) can) ended
   step-ended (GiveBack w) state t sound can ended =
       put_down-ended state w (ticket_in (hand_at state w)).0 (ticket_in (hand_at state w)).1 Waiting t sound (some_ticket meaning (hand_at state w) can) ended
-  step-ended (Collect s) state t sound can ended = collect-ended state s t sound (next-answered state s can) ended
-  step-ended (Close s) state t sound can ended = close-ended state s t sound can ended
+  step-ended (Collect s) state t sound can ended =
+      let answered : NextAnswered state s = next-answered state s can in
+      other-kept state s (collects (sender_at state s)) t (sender_there state s (next_of (sender_at state s)) (λ e. cc))
+      (λ same. absurd (unsettled-other state t s (next_of (sender_at state s)) (Answered (answer_in (place_of (sender_at state s) (next_of (sender_at state s))))) sound ended answered (λ e. cc) (λ e. cc) same))
+  step-ended (Close s) state t sound can ended =
+      other-kept state s (closes (sender_at state s)) t (omega (arith, can, sound.senders))
+      (λ same. rw same (closed_again (sender_at state s) (rw (← same) ended.0)))

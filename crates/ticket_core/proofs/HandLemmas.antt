@@ -24,6 +24,9 @@ module _ {A : Type 0} (shown : A → Shown) (meaning : Meaning) (shape : Shape) 
   abbrev later : ℕ → Lane A → Option Ticket → State
   later s new hand = state_shown shown shape key (set lanes s new) (set hands w hand)
 
+  sound-now : IsSound meaning now
+  sound-now = rw (← is) sound
+
   worker_there : w < length hands
   worker_there = let e : shape ≡ now.shape = ap (λ state. state.shape) is in let h : w < shape.workers = rw e placed in omega (arith, h, sound.workers)
 
@@ -40,23 +43,20 @@ module _ {A : Type 0} (shown : A → Shown) (meaning : Meaning) (shape : Shape) 
         let h : s < shape.senders = rw e sender_placed in
         omega (arith, h, sound.senders, length-map lanes (sender_shown shown))
 
-    take-step : ((f : A → Shown) → sender_shown f new ≡ puts n (Held w) (sender_shown f lane))
-        → ((f : A → Shown) → place_of (sender_shown f lane) n ≡ Waiting) → Step meaning (Take w s n) old (later s new (Some (s, n)))
-    take-step put waits =
+    pub take-event : ((f : A → Shown) → sender_shown f new ≡ puts n (Held w) (sender_shown f lane))
+        → ((f : A → Shown) → place_of (sender_shown f lane) n ≡ Waiting) → Step meaning (Take w s n) now (later s new (Some (s, n)))
+    take-event put waits =
         let e : sender_at old s ≡ sender_shown shown lane = core.lane-sender shown meaning shape key lanes hands s lane there read in
         let e2 : shape ≡ now.shape = ap (λ state. state.shape) is in
-        let h : w < shape.workers = rw e2 placed in (
+        let h : w < shape.workers = rw e2 placed in
+        rw (← is) (
           (h, hand-is None empty, rw e (waits shown)),
           ap (with_hand w (Some (s, n))) (core.lane-changed shown meaning shape key lanes hands s lane new (puts n (Held w)) there read (put shown)),
         )
 
-    pub take-event : ((f : A → Shown) → sender_shown f new ≡ puts n (Held w) (sender_shown f lane))
-        → ((f : A → Shown) → place_of (sender_shown f lane) n ≡ Waiting) → Step meaning (Take w s n) now (later s new (Some (s, n)))
-    take-event put waits = rw (← is) (take-step put waits)
-
     pub take-sound : ((f : A → Shown) → sender_shown f new ≡ puts n (Held w) (sender_shown f lane))
         → ((f : A → Shown) → place_of (sender_shown f lane) n ≡ Waiting) → IsSound meaning (later s new (Some (s, n)))
-    take-sound put waits = core.event-sound meaning (Take w s n) old (later s new (Some (s, n))) sound (take-step put waits)
+    take-sound put waits = core.event-sound meaning (Take w s n) now (later s new (Some (s, n))) sound-now (take-event put waits)
 
     pub take-refused : (fault : CoreFault) → ((f : A → Shown) → (fault ≡ NotAsked) × (is_waiting (place_of (sender_shown f lane) n) ≡ false))
         → Refuses fault (refusal (Take w s n) now)
@@ -96,30 +96,25 @@ module _ {A : Type 0} (shown : A → Shown) (meaning : Meaning) (shape : Shape) 
       put_down-is place put =
           ap (with_hand w None) (core.lane-changed shown meaning shape key lanes hands s lane new (puts n place) lane-there read put)
 
-      finish-step : (answer : A) → IfSome (hand_at now w) (λ ticket. shown answer ≡ meaning_of meaning now ticket)
-          → ((f : A → Shown) → sender_shown f new ≡ puts n (Answered (f answer)) (sender_shown f lane)) → Step meaning (Finish w) old (later s new None)
-      finish-step answer right put =
+      pub finish-event : (answer : A) → IfSome (hand_at now w) (λ ticket. shown answer ≡ meaning_of meaning now ticket)
+          → ((f : A → Shown) → sender_shown f new ≡ puts n (Answered (f answer)) (sender_shown f lane)) → Step meaning (Finish w) now (later s new None)
+      finish-event answer right put =
           let ticket : hand_at old w ≡ Some (s, n) = hand-is (Some (s, n)) holds in
           let right2 : IfSome (hand_at old w) (λ ticket. shown answer ≡ meaning_of meaning old ticket) =
           subst (λ (state : State). IfSome (hand_at state w) (λ ticket. shown answer ≡ meaning_of meaning state ticket)) (sym is) right in
           let right3 : shown answer ≡ meaning_of meaning old (s, n) = rw ticket at right2 in
-          (rw ticket refl, rw (ticket, ← right3) (put_down-is (Answered (shown answer)) (put shown)))
-
-      pub finish-event : (answer : A) → IfSome (hand_at now w) (λ ticket. shown answer ≡ meaning_of meaning now ticket)
-          → ((f : A → Shown) → sender_shown f new ≡ puts n (Answered (f answer)) (sender_shown f lane)) → Step meaning (Finish w) now (later s new None)
-      finish-event answer right put = rw (← is) (finish-step answer right put)
+          let step : Step meaning (Finish w) old (later s new None) = (rw ticket refl, rw (ticket, ← right3) (put_down-is (Answered (shown answer)) (put shown))) in
+          rw (← is) step
 
       pub finish-sound : (answer : A) → IfSome (hand_at now w) (λ ticket. shown answer ≡ meaning_of meaning now ticket)
           → ((f : A → Shown) → sender_shown f new ≡ puts n (Answered (f answer)) (sender_shown f lane)) → IsSound meaning (later s new None)
-      finish-sound answer right put = core.event-sound meaning (Finish w) old (later s new None) sound (finish-step answer right put)
-
-      give_back-step : ((f : A → Shown) → sender_shown f new ≡ puts n Waiting (sender_shown f lane)) → Step meaning (GiveBack w) old (later s new None)
-      give_back-step put =
-          let ticket : hand_at old w ≡ Some (s, n) = hand-is (Some (s, n)) holds in
-          (rw ticket refl, rw ticket (put_down-is Waiting (put shown)))
+      finish-sound answer right put = core.event-sound meaning (Finish w) now (later s new None) sound-now (finish-event answer right put)
 
       pub give_back-event : ((f : A → Shown) → sender_shown f new ≡ puts n Waiting (sender_shown f lane)) → Step meaning (GiveBack w) now (later s new None)
-      give_back-event put = rw (← is) (give_back-step put)
+      give_back-event put =
+          let ticket : hand_at old w ≡ Some (s, n) = hand-is (Some (s, n)) holds in
+          let step : Step meaning (GiveBack w) old (later s new None) = (rw ticket refl, rw ticket (put_down-is Waiting (put shown))) in
+          rw (← is) step
 
       pub give_back-sound : ((f : A → Shown) → sender_shown f new ≡ puts n Waiting (sender_shown f lane)) → IsSound meaning (later s new None)
-      give_back-sound put = core.event-sound meaning (GiveBack w) old (later s new None) sound (give_back-step put)
+      give_back-sound put = core.event-sound meaning (GiveBack w) now (later s new None) sound-now (give_back-event put)

@@ -40,38 +40,6 @@ module _ (meaning : Meaning) where
             (λ _ e. sound.in_hand w t n e);
       }
 
-  ask-sound : (state : State) (s : ℕ) (query : Query) → IsSound meaning state → Can (Ask s query) state → IsSound meaning (after meaning (Ask s query) state)
-  ask-sound state s query sound can =
-      let longer : length ((sender_at state s).asked ++ query ∷ []) ≡ length (sender_at state s).asked + 1 = length-append (sender_at state s).asked (query ∷ []) in
-      with_sender-sound state s (asks query (sender_at state s)) sound can.0 (asks-sound meaning state.key query (sender_at state s) (sound.each s))
-      (let r : length (sender_at state s).received ≤ length (sender_at state s).asked = (sound.each s).within in omega (arith, longer, can.3))
-      (omega (arith, longer, can.2))
-      (λ n w e. appended (sender_at state s).places Waiting Unasked n (λ p. p ≡ Held w) (λ _. e)
-      (λ at. absurd (let none : place_at state s n ≡ Unasked = get_or_past (sender_at state s).places n Unasked (omega arith) in cc))
-      (λ past. absurd (let none : place_at state s n ≡ Unasked = get_or_past (sender_at state s).places n Unasked (omega arith) in cc)))
-      (λ n w. appended (sender_at state s).places Waiting Unasked n (λ p. p ≡ Held w → place_at state s n ≡ Held w)
-      (λ _ e. e) (λ _ e. absurd (cc)) (λ _ e. absurd (cc)))
-
-  collect-sound : (state : State) (s : ℕ) → IsSound meaning state → NextAnswered state s → IsSound meaning (after meaning (Collect s) state)
-  collect-sound state s sound can =
-      let was : place_at state s (next_of (sender_at state s)) ≡ Unasked → ⊥ = λ e. cc in
-      let there : s < length state.senders = sender_there state s (next_of (sender_at state s)) was in
-      let within : next_of (sender_at state s) < length (sender_at state s).places = inside (sender_at state s).places (next_of (sender_at state s)) Unasked was in
-      let longer : length (collects (sender_at state s)).received ≡ length (sender_at state s).received + 1 = length-append (sender_at state s).received (answer_in (place_of (sender_at state s) (next_of (sender_at state s))) ∷ []) in
-      with_sender-sound state s (collects (sender_at state s)) sound (omega (arith, sound.senders))
-      (collects-sound meaning state.key (sender_at state s) (answer_in (place_of (sender_at state s) (next_of (sender_at state s)))) (sound.each s) can)
-      (omega (arith, longer, sound.window s))
-      (sound.most s)
-      (λ n w e. replaced (sender_at state s).places (next_of (sender_at state s)) Collected Unasked n (λ p. p ≡ Held w) within
-      (λ at. absurd (let old : place_at state s (next_of (sender_at state s)) ≡ Held w = rw (← at) e in cc)) (λ _. e))
-      (λ n w. replaced (sender_at state s).places (next_of (sender_at state s)) Collected Unasked n (λ p. p ≡ Held w → place_at state s n ≡ Held w) within
-      (λ _ e. absurd (cc)) (λ _ e. e))
-
-  close-sound : (state : State) (s : ℕ) → IsSound meaning state → Can (Close s) state → IsSound meaning (after meaning (Close s) state)
-  close-sound state s sound can =
-      with_sender-sound state s (closes (sender_at state s)) sound can (closes-sound meaning state.key (sender_at state s) (sound.each s))
-      (sound.window s) (sound.most s) (λ n w e. e) (λ n w e. e)
-
   -- ---- a number goes into a hand, or out of it
 
   -- the hand has no other number, and no other hand has this one
@@ -100,17 +68,6 @@ module _ (meaning : Meaning) where
             (λ _. sound.in_hand v t m e));
       }
 
-  take-sound : (state : State) (w s n : ℕ) → IsSound meaning state → Can (Take w s n) state → IsSound meaning (after meaning (Take w s n) state)
-  take-sound state w s n sound can =
-      let waits : place_at state s n ≡ Waiting = can.2 in
-      let empty : hand_at state w ≡ None = can.1 in
-      let asked : place_at state s n ≡ Unasked → ⊥ = λ e. cc in
-      moved-sound state w s n (Held w) (Some (s, n)) sound (omega (arith, can.0, sound.workers)) asked
-      (puts-sound meaning state.key n (Held w) (sender_at state s) (sound.each s) asked (λ e. cc) (λ e. cc) (λ e. cc) (λ answer e. absurd (cc)))
-      (λ t m e. absurd (cc)) (λ v e. absurd (let held : place_at state s n ≡ Held v = sound.held v s n e in cc))
-      (λ t m e. let parts : (s ≡ t) × (n ≡ m) = ticket_parts s n t m e in (sym parts.0, sym parts.1, refl))
-      (λ v e. (let same : Held w ≡ Held v = e in cc, refl))
-
   -- what is put down isn't held, and is right where it is an answer
   put_down-sound : (state : State) (w s n : ℕ) (place : Place) → IsSound meaning state → hand_at state w ≡ Some (s, n)
       → (place ≡ Unasked → ⊥) → (place ≡ Collected → ⊥) → ((v : ℕ) → place ≡ Held v → ⊥)
@@ -131,23 +88,49 @@ module _ (meaning : Meaning) where
   some_ticket None h = cc
   some_ticket (Some ticket) h = refl
 
-  finish-sound : (state : State) (w : ℕ) → IsSound meaning state → Can (Finish w) state → IsSound meaning (after meaning (Finish w) state)
-  finish-sound state w sound can =
+  pub step-sound : (event : Event) (state : State) → IsSound meaning state → Can event state → IsSound meaning (after meaning event state)
+  step-sound (Ask s query) state sound can =
+      let longer : length ((sender_at state s).asked ++ query ∷ []) ≡ length (sender_at state s).asked + 1 = length-append (sender_at state s).asked (query ∷ []) in
+      with_sender-sound state s (asks query (sender_at state s)) sound can.0 (asks-sound meaning state.key query (sender_at state s) (sound.each s))
+      (let r : length (sender_at state s).received ≤ length (sender_at state s).asked = (sound.each s).within in omega (arith, longer, can.3))
+      (omega (arith, longer, can.2))
+      (λ n w e. appended (sender_at state s).places Waiting Unasked n (λ p. p ≡ Held w) (λ _. e)
+      (λ at. absurd (let none : place_at state s n ≡ Unasked = get_or_past (sender_at state s).places n Unasked (omega arith) in cc))
+      (λ past. absurd (let none : place_at state s n ≡ Unasked = get_or_past (sender_at state s).places n Unasked (omega arith) in cc)))
+      (λ n w. appended (sender_at state s).places Waiting Unasked n (λ p. p ≡ Held w → place_at state s n ≡ Held w)
+      (λ _ e. e) (λ _ e. absurd (cc)) (λ _ e. absurd (cc)))
+  step-sound (Take w s n) state sound can =
+      let waits : place_at state s n ≡ Waiting = can.2 in
+      let empty : hand_at state w ≡ None = can.1 in
+      let asked : place_at state s n ≡ Unasked → ⊥ = λ e. cc in
+      moved-sound state w s n (Held w) (Some (s, n)) sound (omega (arith, can.0, sound.workers)) asked
+      (puts-sound meaning state.key n (Held w) (sender_at state s) (sound.each s) asked (λ e. cc) (λ e. cc) (λ e. cc) (λ answer e. absurd (cc)))
+      (λ t m e. absurd (cc)) (λ v e. absurd (let held : place_at state s n ≡ Held v = sound.held v s n e in cc))
+      (λ t m e. let parts : (s ≡ t) × (n ≡ m) = ticket_parts s n t m e in (sym parts.0, sym parts.1, refl))
+      (λ v e. (let same : Held w ≡ Held v = e in cc, refl))
+  step-sound (Finish w) state sound can =
       put_down-sound state w (ticket_in (hand_at state w)).0 (ticket_in (hand_at state w)).1 (Answered (meaning_of meaning state (ticket_in (hand_at state w)))) sound
       (some_ticket (hand_at state w) can) (λ e. cc) (λ e. cc) (λ v e. cc) (λ answer e. sym (ap answer_in e))
-
-  give_back-sound : (state : State) (w : ℕ) → IsSound meaning state → Can (GiveBack w) state → IsSound meaning (after meaning (GiveBack w) state)
-  give_back-sound state w sound can =
+  step-sound (GiveBack w) state sound can =
       put_down-sound state w (ticket_in (hand_at state w)).0 (ticket_in (hand_at state w)).1 Waiting sound
       (some_ticket (hand_at state w) can) (λ e. cc) (λ e. cc) (λ v e. cc) (λ answer e. absurd (cc))
-
-  pub step-sound : (event : Event) (state : State) → IsSound meaning state → Can event state → IsSound meaning (after meaning event state)
-  step-sound (Ask s query) state sound can = ask-sound state s query sound can
-  step-sound (Take w s n) state sound can = take-sound state w s n sound can
-  step-sound (Finish w) state sound can = finish-sound state w sound can
-  step-sound (GiveBack w) state sound can = give_back-sound state w sound can
-  step-sound (Collect s) state sound can = collect-sound state s sound (next-answered state s can)
-  step-sound (Close s) state sound can = close-sound state s sound can
+  step-sound (Collect s) state sound can =
+      let answered : NextAnswered state s = next-answered state s can in
+      let was : place_at state s (next_of (sender_at state s)) ≡ Unasked → ⊥ = λ e. cc in
+      let there : s < length state.senders = sender_there state s (next_of (sender_at state s)) was in
+      let within : next_of (sender_at state s) < length (sender_at state s).places = inside (sender_at state s).places (next_of (sender_at state s)) Unasked was in
+      let longer : length (collects (sender_at state s)).received ≡ length (sender_at state s).received + 1 = length-append (sender_at state s).received (answer_in (place_of (sender_at state s) (next_of (sender_at state s))) ∷ []) in
+      with_sender-sound state s (collects (sender_at state s)) sound (omega (arith, sound.senders))
+      (collects-sound meaning state.key (sender_at state s) (answer_in (place_of (sender_at state s) (next_of (sender_at state s)))) (sound.each s) answered)
+      (omega (arith, longer, sound.window s))
+      (sound.most s)
+      (λ n w e. replaced (sender_at state s).places (next_of (sender_at state s)) Collected Unasked n (λ p. p ≡ Held w) within
+      (λ at. absurd (let old : place_at state s (next_of (sender_at state s)) ≡ Held w = rw (← at) e in cc)) (λ _. e))
+      (λ n w. replaced (sender_at state s).places (next_of (sender_at state s)) Collected Unasked n (λ p. p ≡ Held w → place_at state s n ≡ Held w) within
+      (λ _ e. absurd (cc)) (λ _ e. e))
+  step-sound (Close s) state sound can =
+      with_sender-sound state s (closes (sender_at state s)) sound can (closes-sound meaning state.key (sender_at state s) (sound.each s))
+      (sound.window s) (sound.most s) (λ n w e. e) (λ n w e. e)
 
   pub read_replicate : {A : Type 0} (n i : ℕ) (x : A) → get_or (replicate n x) i x ≡ x
   read_replicate n i x = elim (cases_order i n) [
