@@ -92,15 +92,10 @@ module _ (meaning : Meaning) (shape : Shape) (key : List ℕ) (fits : Fits shape
 -- ---- a seat is cut off
 
 -- the new seat knows what a seat that isn't there knows
-next-asking : (shape : Shape) (key : List ℕ) (cut : ℕ) (b : Bool)
-    → asking_of (if b then Asks cut new_asking else Works (cut - shape.senders) new_working) ≡ new_asking
-next-asking shape key cut true = refl
-next-asking shape key cut false = refl
-
-next-working : (shape : Shape) (key : List ℕ) (cut : ℕ) (b : Bool)
-    → working_of (if b then Asks cut new_asking else Works (cut - shape.senders) new_working) ≡ new_working
-next-working shape key cut true = refl
-next-working shape key cut false = refl
+next-new : (shape : Shape) (cut : ℕ) (b : Bool) (role : Role) → role ≡ (if b then Asks cut new_asking else Works (cut - shape.senders) new_working)
+    → (asking_of role ≡ new_asking) × (working_of role ≡ new_working)
+next-new shape cut true role is = (ap asking_of is, ap working_of is)
+next-new shape cut false role is = (ap asking_of is, ap working_of is)
 
 next-stands : (shape : Shape) (cut seats : ℕ) → cut < shape.senders + shape.workers
     → StandsAt shape seats (suc cut) (if ltb cut shape.senders then Asks cut new_asking else Works (cut - shape.senders) new_working)
@@ -136,10 +131,10 @@ module _ (meaning : Meaning) (shape : Shape) (key : List ℕ) (board : Board) (s
       (λ past. ap (λ (view : View). read view.role) (sym (get_or_past board.views (suc i) nobody (omega (arith, length-set board.views seat (opener shape key (suc cut)))))))
 
   pub asking-cut : (s : ℕ) → asking_at views_cut s ≡ asking_at board.views s
-  asking-cut s = same_view asking_of (next-asking shape key cut (ltb cut shape.senders)) s
+  asking-cut s = same_view asking_of (next-new shape cut (ltb cut shape.senders) (next_seat shape key cut).role refl).0 s
 
   working-same : (w : ℕ) → working_at shape views_cut w ≡ working_at shape board.views w
-  working-same w = same_view working_of (next-working shape key cut (ltb cut shape.senders)) (shape.senders + w)
+  working-same w = same_view working_of (next-new shape cut (ltb cut shape.senders) (next_seat shape key cut).role refl).1 (shape.senders + w)
 
   size : length views_cut ≡ suc (suc cut)
   size = omega (arith, length-append told (next_seat shape key cut ∷ []), length-set board.views seat (opener shape key (suc cut)), opens-at.1)
@@ -168,7 +163,7 @@ module _ (meaning : Meaning) (shape : Shape) (key : List ℕ) (board : Board) (s
   pub times-cut : (s n : ℕ) → times_done s n views_cut ≡ times_done s n board.views
   times-cut s n =
       let more : times_done s n views_cut ≡ times_done s n told + times s n (working_of (next_seat shape key cut).role).done = times-more s n told (next_seat shape key cut) in
-      let none : times s n (working_of (next_seat shape key cut).role).done ≡ 0 = ap (λ (working : Working). times s n working.done) (next-working shape key cut (ltb cut shape.senders)) in
+      let none : times s n (working_of (next_seat shape key cut).role).done ≡ 0 = ap (λ (working : Working). times s n working.done) (next-new shape cut (ltb cut shape.senders) (next_seat shape key cut).role refl).1 in
       let same : times_done s n told + 0 ≡ times_done s n board.views + 0 = times-set s n board.views seat (opener shape key cut) (opener shape key (suc cut)) sits in
       omega arith
 

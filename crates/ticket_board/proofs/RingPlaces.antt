@@ -5,7 +5,7 @@ use Rattle.std.proofs.lemmas.List.{get_or-set_same, get_or-set_other}
 use Rattle.std.proofs.lemmas.Nat.{same_from_place, mul-add-lt, mod_below, mod-mul-add, div-add-mod'}
 use Rattle.atomic_table.proofs.Lists.{one_turn}
 use Rattle.ticket_core.specs.declared.shape.Shape.{Shape}
-use Rattle.ticket_board.specs.Ring.Layout.{cells_in, cell_of, cell_words, state_field, first_field, second_field, word_of, words_in, state_place, first_place, second_place, state_at, first_at, second_at}
+use Rattle.ticket_board.specs.Ring.Layout.{cells_in, cell_of, cell_words, state_field, first_field, second_field, word_of, words_in, state_place, state_at, first_at, second_at}
 use Rattle.ticket_board.specs.Ring.Homes.{Home, Out, home_at}
 
 -- two words of cells are one only where the cells and the fields are
@@ -55,24 +55,12 @@ module _ (shape : Shape) (some_room : 0 < shape.window) where
         → state_at shape (set words (word_of (cell_of shape s n) field) x) t m ≡ state_at shape words t m
     state-else field t m h ne = word-else field state_field t m h (omega arith) (λ e _. ne e)
 
-    pub state-beside : (field t m : ℕ) → 0 < field → field < cell_words
-        → state_at shape (set words (word_of (cell_of shape s n) field) x) t m ≡ state_at shape words t m
-    state-beside field t m some h = word-else field state_field t m h (omega arith) (λ _ e. omega arith)
-
-    pub first-beside : (field t m : ℕ) → field < cell_words → first_field ≢ field
-        → first_at shape (set words (word_of (cell_of shape s n) field) x) t m ≡ first_at shape words t m
-    first-beside field t m h ne = word-else field first_field t m h (omega arith) (λ _ e. ne e)
-
-    pub second-beside : (field t m : ℕ) → field < cell_words → second_field ≢ field
-        → second_at shape (set words (word_of (cell_of shape s n) field) x) t m ≡ second_at shape words t m
-    second-beside field t m h ne = word-else field second_field t m h (omega arith) (λ _ e. ne e)
-
     -- what a state word leaves of the other two
     pub first-stays : (t m : ℕ) → first_at shape (set words (state_place shape s n) x) t m ≡ first_at shape words t m
-    first-stays t m = first-beside state_field t m (omega arith) (λ e. omega arith)
+    first-stays t m = word-else state_field first_field t m (omega arith) (omega arith) (λ _ e. omega arith)
 
     pub second-stays : (t m : ℕ) → second_at shape (set words (state_place shape s n) x) t m ≡ second_at shape words t m
-    second-stays t m = second-beside state_field t m (omega arith) (λ e. omega arith)
+    second-stays t m = word-else state_field second_field t m (omega arith) (omega arith) (λ _ e. omega arith)
 
     -- of what was written
     pub word-here : (field : ℕ) → field < cell_words → s < shape.senders → length words ≡ words_in shape

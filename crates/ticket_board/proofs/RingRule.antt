@@ -1,5 +1,5 @@
 -- Each step of a sender keeps the rule of the ring's table.
-use Rattle.std.proofs.Common.{◌≡◌, ℕ, suc, ◌+◌, true, List, ◌∷◌, length, map, get_or, set, Option, Some, None, refl, sym, ◌∙◌, ap, subst}
+use Rattle.std.proofs.Common.{◌≡◌, ℕ, ◌+◌, true, List, ◌∷◌, length, map, get_or, set, Option, Some, None, refl, sym, ◌∙◌, ap, subst}
 use Rattle.std.proofs.lemmas.List.{map-set}
 use mathlib.Core.Option as maybe
 use lib.ListN.{get_elem?}
@@ -8,14 +8,14 @@ use Rattle.ticket_core.specs.declared.query.Query.{Query}
 use Rattle.ticket_core.specs.declared.query.QueryKind.TheVariants.{Address}
 use Rattle.ticket_core.specs.declared.shape.Shape.{Shape}
 use Rattle.ticket_core.specs.Query.{IsQuery, first_word, second_word, of_words}
-use Rattle.ticket_core.specs.State.{Shown, Meaning, State}
+use Rattle.ticket_core.specs.State.{Shown, Meaning}
 use Rattle.ticket_core.proofs.QueryLemmas.{of_words-words}
 use Rattle.ticket_board.specs.Ring.Layout.{cell_of, state_place, first_place, second_place, state_at, free_word, asked_word, collecting_word}
-use Rattle.ticket_board.specs.Ring.Homes.{Home, Out, Empty, Full, home_at, answer_at_home}
-use Rattle.ticket_board.specs.Ring.Views.{FirstWord, Whole, first_known, Asking, Role, Opens, Asks, Works, View, Stamped, stamped, asker, sender_seat, asking_of, next_asked, next_received, HasRoom}
-use Rattle.ticket_board.specs.Ring.Shows.{Board, StandsAt, Seated, Sits, Shows}
-use Rattle.ticket_board.specs.Ring.Steps.{SenderStep, MaySend, words_sent, homes_sent, WritesFirst, WritesSecond, Publishes, LooksNext, BringsOut, Receives, asking_after, sent}
-use Rattle.ticket_board.specs.Ring.Moves.{Sends, IsMade, Occurs}
+use Rattle.ticket_board.specs.Ring.Homes.{Home, Out, Full, home_at, answer_at_home}
+use Rattle.ticket_board.specs.Ring.Views.{FirstWord, Whole, first_known, Asking, Role, Asks, Stamped, asker, asking_of, next_asked, next_received, HasRoom}
+use Rattle.ticket_board.specs.Ring.Shows.{Seated}
+use Rattle.ticket_board.specs.Ring.Steps.{SenderStep, MaySend, words_sent, homes_sent, WritesFirst, WritesSecond, Publishes, LooksNext, BringsOut, Receives, asking_after}
+use Rattle.ticket_board.specs.Ring.Moves.{Sends, Occurs}
 use Rattle.ticket_board.specs.Ring.Rule.{home_shown, board_shown, views_of, lasts_of, Holds, sender_of, IsSender, ahead_of, collecting_of, KnowsSent, KnowsAnswer}
 use Rattle.ticket_board.proofs.RingSenderSteps.{has-answer, right-answer}
 use Rattle.ticket_board.proofs.RingMoves.{made-on}

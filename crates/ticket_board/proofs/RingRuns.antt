@@ -13,7 +13,7 @@ use Rattle.ticket_board.specs.Ring.Layout.{state_at}
 use Rattle.ticket_board.specs.Ring.Homes.{Home, home_at}
 use Rattle.ticket_board.specs.Ring.Views.{Asking, Working, asker, worker, sender_seat, worker_seat, asking_at, next_asked, next_received}
 use Rattle.ticket_board.specs.Ring.Shows.{Board, Sits, is_same, times, times_done, Shows}
-use Rattle.ticket_board.specs.Ring.Steps.{SenderStep, WritesFirst, WritesSecond, Publishes, LooksNext, BringsOut, Receives, LooksAt, Takes, ReadsFirst, ReadsSecond, Answers, GivesBack, asking_after, working_after, word_worked}
+use Rattle.ticket_board.specs.Ring.Steps.{SenderStep, Publishes, Receives, Answers, asking_after, working_after, word_worked}
 use Rattle.ticket_board.specs.Ring.Laws.{IsServed, answers, times_answered, IsAtEnd}
 use Rattle.ticket_board.specs.Ring.Moves.{Move, Cuts, Sends, Works, MayMove, moved, board_after, MayBeMade}
 use Rattle.ticket_board.proofs.RingViews.{times-set, times-append}

@@ -14,7 +14,7 @@ use Rattle.ticket_core.proofs.ReadLemmas.{appended, inside}
 use Rattle.ticket_core.proofs.StateLemmas.{sender_changed}
 use Rattle.ticket_core.proofs.StepLemmas.{step-sound}
 use Rattle.ticket_core.proofs.CountLemmas.{step-counted}
-use Rattle.ticket_board.specs.Ring.Layout.{cell_of, cells_in, words_in, word_of, state_field, first_field, second_field, state_place, first_place, second_place, state_at, first_at, second_at, free_word, asked_word, answered_word, collecting_word}
+use Rattle.ticket_board.specs.Ring.Layout.{cell_of, cells_in, words_in, word_of, state_field, first_field, second_field, state_place, state_at, first_at, second_at, free_word, asked_word, answered_word, collecting_word}
 use Rattle.ticket_board.specs.Ring.Homes.{Home, Out, Empty, Full, home_at, answer_at_home}
 use Rattle.ticket_board.specs.Ring.Views.{Known, Nothing, FirstWord, Whole, Asking, asker, next_asked, next_received, HasRoom}
 use Rattle.ticket_board.specs.Ring.Shows.{Board, CellShows, HasWords, IsAhead, SenderShows, Sits, Shows}

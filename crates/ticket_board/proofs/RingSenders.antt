@@ -6,7 +6,7 @@ use Rattle.std.proofs.lemmas.Nat.{mod_below}
 use mathlib.Core.Path.{fun_ext}
 use Rattle.ticket_core.specs.declared.query.Query.{Query}
 use Rattle.ticket_core.specs.declared.shape.Shape.{Shape}
-use Rattle.ticket_core.specs.State.{Shown, Place, Unasked, Waiting, Held, Answered, Collected, Sender, place_of}
+use Rattle.ticket_core.specs.State.{Shown, Place, Unasked, Waiting, Answered, Collected, Sender, place_of}
 use Rattle.ticket_core.specs.Events.{puts}
 use Rattle.ticket_board.specs.Ring.Layout.{asked_word, answered_word, collecting_word}
 use Rattle.ticket_board.specs.Ring.Homes.{Home, Out, Full, answer_at_home}

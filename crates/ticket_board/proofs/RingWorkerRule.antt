@@ -1,5 +1,5 @@
 -- Each step of a worker keeps the rule of the ring's table.
-use Rattle.std.proofs.Common.{◌≡◌, ◌≢◌, ℕ, suc, ◌+◌, ◌*◌, ◌/◌, ◌%◌, ◌<◌, Bool, true, false, eqb, if◌then◌else◌, List, [], ◌∷◌, ◌++◌, length, map, get_or, set, Option, Some, None, inl, inr, ⊎_elim, refl, sym, ◌∙◌, ap, subst, eq-eqb, arith}
+use Rattle.std.proofs.Common.{◌≡◌, ℕ, ◌+◌, ◌*◌, ◌/◌, ◌%◌, ◌<◌, Bool, true, false, eqb, if◌then◌else◌, List, ◌∷◌, length, map, get_or, set, Option, Some, None, inl, inr, ⊎_elim, refl, sym, ◌∙◌, ap, subst, eq-eqb, arith}
 use Rattle.std.proofs.lemmas.Bool.{cases_eq, ne_eqb}
 use Rattle.std.proofs.lemmas.List.{map-set}
 use Rattle.std.proofs.lemmas.Nat.{div_below, mod_below, div-add-mod'}
@@ -10,12 +10,12 @@ use Rattle.atomic_table.specs.Table as table
 use Rattle.ticket_core.specs.declared.query.Query.{Query}
 use Rattle.ticket_core.specs.declared.shape.Shape.{Shape}
 use Rattle.ticket_core.specs.Query.{AreWords}
-use Rattle.ticket_core.specs.State.{Shown, Meaning, Place, Unasked, Waiting, Held, Answered, Collected, State, sender_at, place_of}
+use Rattle.ticket_core.specs.State.{Shown, Meaning, Place, Answered, Collected, State, sender_at, place_of}
 use Rattle.ticket_board.specs.Ring.Layout.{cell_of, cells_in, cell_words, state_field, word_of, state_place, first_place, second_place, state_at, asked_word, taken_word, answered_word, collecting_word}
-use Rattle.ticket_board.specs.Ring.Homes.{Home, Out, Empty, Full, home_at}
-use Rattle.ticket_board.specs.Ring.Views.{Nothing, FirstWord, Whole, Working, Role, Opens, Asks, Works, View, Stamped, stamped, worker, worker_seat, working_of, next_received, asking_at}
-use Rattle.ticket_board.specs.Ring.Shows.{Board, CellShows, StandsAt, Seated, Sits, Shows}
-use Rattle.ticket_board.specs.Ring.Steps.{WorkerStep, MayWork, word_worked, words_worked, homes_worked, LooksAt, Takes, ReadsFirst, ReadsSecond, Answers, GivesBack, working_after, worked}
+use Rattle.ticket_board.specs.Ring.Homes.{Home, Out, Full, home_at}
+use Rattle.ticket_board.specs.Ring.Views.{FirstWord, Whole, Working, Role, Works, Stamped, worker, working_of, next_received, asking_at}
+use Rattle.ticket_board.specs.Ring.Shows.{Board, CellShows, Seated, Sits, Shows}
+use Rattle.ticket_board.specs.Ring.Steps.{WorkerStep, MayWork, word_worked, words_worked, homes_worked, LooksAt, Takes, ReadsFirst, ReadsSecond, Answers, GivesBack, working_after}
 use Rattle.ticket_board.specs.Ring.Moves as Moves
 use Rattle.ticket_board.specs.Ring.Moves.{IsMade}
 use Rattle.ticket_board.specs.Ring.Rule.{home_shown, board_shown, views_of, lasts_of, Holds, worker_of, IsWorker, IsOfCell, KnowsWorked, KnowsLooked, KnowsTried, KnowsSecond}
