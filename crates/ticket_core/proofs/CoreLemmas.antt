@@ -1,15 +1,14 @@
 -- What a core shows after a call, from what its lanes and hands show.
-use Rattle.std.proofs.Common.{◌≡◌, ℕ, ◌<◌, leb, if◌then◌else◌, Bool, true, false, List, length, map, get_or, set, Option, Some, None, Result, Ok, Err, MatchResult, OnOk, OnErr, IfErr, refl, sym, ◌∙◌, ap}
+use Rattle.std.proofs.Common.{◌≡◌, ℕ, ◌<◌, leb, if◌then◌else◌, Bool, true, false, List, length, map, get_or, set, Option, Some, None, Result, Ok, Err, OnOk, OnErr, refl, sym, ◌∙◌, ap}
 use Rattle.std.proofs.lemmas.Bool.{leb-false}
 use Rattle.std.proofs.lemmas.List.{map-set, set-get_or, get_or-map}
 use Rattle.ticket_core.specs.declared.shape.Shape.{Shape}
 use Rattle.ticket_core.specs.declared.fault.CoreFault.{CoreFault}
 use Rattle.ticket_core.specs.declared.fault.CoreFault.TheVariants.{Full, Closed, Exhausted, NotReady, Ended}
 use Rattle.ticket_core.specs.declared.lane.Lane.{Lane}
-use Rattle.ticket_core.specs.declared.query.Query.{Query}
-use Rattle.ticket_core.specs.State.{Shown, Meaning, Place, Unasked, Waiting, Held, Answered, Collected, Sender, fresh, Ticket, State, sender_at, place_of, next_of, outstanding}
-use Rattle.ticket_core.specs.Events.{Event, Ask, Collect, Close, asks, collects, closes, with_sender, Step, IsAnswered}
-use Rattle.ticket_core.specs.Refusals.{refusal, ask_refusal, collect_refusal, is_answered, has_ended, RefusesOrMemory, Refuses}
+use Rattle.ticket_core.specs.State.{Shown, Meaning, Place, Answered, Sender, fresh, Ticket, State, sender_at, place_of, next_of, outstanding}
+use Rattle.ticket_core.specs.Events.{Event, with_sender, Step, IsAnswered}
+use Rattle.ticket_core.specs.Refusals.{ask_refusal, collect_refusal, is_answered, has_ended}
 use Rattle.ticket_core.specs.Sound.{IsSound}
 use Rattle.ticket_core.specs.Shown.{sender_shown, state_shown}
 use Rattle.ticket_core.proofs.StepLemmas.{step-sound}

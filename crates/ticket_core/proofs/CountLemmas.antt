@@ -2,7 +2,6 @@
 use Rattle.std.proofs.Common.{◌≡◌, ℕ, ◌+◌, ◌<◌, inl, inr, Bool, true, false, eqb, length, Option, Some, refl, sym, eq-eqb, arith, if◌then◌else◌}
 use Rattle.std.proofs.lemmas.Bool.{ne_eqb, cases_eq}
 use Rattle.std.proofs.lemmas.List.{get_or_past}
-use Rattle.ticket_core.specs.declared.query.Query.{Query}
 use Rattle.ticket_core.specs.State.{Meaning, Place, Unasked, Waiting, Held, Answered, Collected, Ticket, State, sender_at, hand_at, place_of, next_of}
 use Rattle.ticket_core.specs.Events.{Event, Ask, Take, Finish, GiveBack, Collect, Close, asks, collects, closes, puts, with_sender, ticket_in, meaning_of, Can, after}
 use Rattle.ticket_core.specs.Runs.{is_ticket, finishes, once_finished}

@@ -3,7 +3,7 @@ use Rattle.std.proofs.Common.{◌≡◌, ℕ, zero, suc, ◌<◌, eqb, arith, So
 use Rattle.std.proofs.lemmas.Bool.{ne_eqb}
 use Rattle.std.proofs.lemmas.List.{map-set, map-append, get_or-map, length-map}
 use Rattle.ticket_core.specs.declared.lane.Slot.{Slot}
-use Rattle.ticket_core.specs.declared.lane.Slot.TheVariants.{Open, Out, Filled, Spent}
+use Rattle.ticket_core.specs.declared.lane.Slot.TheVariants.{Filled, Spent}
 use Rattle.ticket_core.specs.declared.query.Query.{Query}
 use Rattle.ticket_core.specs.State.{Shown, Place, Unasked, Answered, Collected, Sender}
 use Rattle.ticket_core.specs.Events.{puts, collects, answer_in}

@@ -2,7 +2,7 @@
 use Rattle.std.proofs.Common.{◌≡◌, ℕ, ◌<◌, leb, eqb, Bool, true, false, length, Option, Some, None, IsSome, if◌then◌else◌, refl, arith, List}
 use Rattle.std.proofs.lemmas.Bool.{lt-leb, ne_eqb}
 use Rattle.ticket_core.specs.declared.fault.CoreFault.TheVariants.{NotAsked}
-use Rattle.ticket_core.specs.State.{Meaning, Place, Unasked, Waiting, Held, Answered, Collected, Sender, Ticket, State, sender_at, hand_at, place_of, next_of, outstanding}
+use Rattle.ticket_core.specs.State.{Meaning, Place, Unasked, Waiting, Answered, Sender, Ticket, State, sender_at, hand_at, place_of, next_of, outstanding}
 use Rattle.ticket_core.specs.Events.{Event, Ask, Take, Finish, GiveBack, Collect, Close, Can, answer_in}
 use Rattle.ticket_core.specs.Refusals.{refusal, IsOfShape, ask_refusal, take_refusal, hand_refusal, is_waiting, has_ended}
 use Rattle.ticket_core.specs.Sound.{IsSoundSender, IsSound}

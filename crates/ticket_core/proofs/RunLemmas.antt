@@ -4,7 +4,7 @@ use Rattle.std.proofs.lemmas.Bool.{cases_lt}
 use Rattle.std.proofs.lemmas.List.{get_or_past}
 use Rattle.ticket_core.specs.declared.shape.Shape.{Shape}
 use Rattle.ticket_core.specs.State.{Meaning, Unasked, Sender, State, sender_at, outstanding, opening}
-use Rattle.ticket_core.specs.Events.{Event, Ask, Take, Finish, GiveBack, Collect, Close, after}
+use Rattle.ticket_core.specs.Events.{Event, Ask, after}
 use Rattle.ticket_core.specs.Runs.{Run, Reaches, IsRight, times_finished, once_finished, finishes, HandsAgree, PlacesAgree, HasEnded}
 use Rattle.ticket_core.specs.Sound.{IsSoundSender, IsSound}
 use Rattle.ticket_core.proofs.StateLemmas.{place_at}

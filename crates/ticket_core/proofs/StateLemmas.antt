@@ -1,6 +1,6 @@
 -- What is read of a state in which one sender or one hand is changed, told by cases.
 use Rattle.std.proofs.Common.{◌≡◌, ℕ, ◌<◌, length, Option, Some, None, refl, ap, subst}
-use Rattle.ticket_core.specs.State.{Place, Unasked, Waiting, Held, Answered, Collected, Sender, fresh, Ticket, State, sender_at, hand_at, place_of, next_of}
+use Rattle.ticket_core.specs.State.{Place, Unasked, Answered, Sender, fresh, Ticket, State, sender_at, hand_at, place_of, next_of}
 use Rattle.ticket_core.specs.Events.{puts, with_sender, with_hand, IsAnswered, answer_in}
 use Rattle.ticket_core.proofs.ReadLemmas.{replaced, inside}
 

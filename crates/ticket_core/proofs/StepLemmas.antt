@@ -2,7 +2,6 @@
 use Rattle.std.proofs.Common.{◌≡◌, ℕ, ◌+◌, ◌<◌, ◌≤◌, inl, inr, List, [], ◌∷◌, ◌++◌, length, replicate, get_or, IsSome, Option, Some, None, refl, sym, ◌∙◌, ap, subst, arith}
 use Rattle.std.proofs.lemmas.Bool.{cases_order}
 use Rattle.std.proofs.lemmas.List.{length-append, length-set, length-replicate, get_or-replicate, get_or_past}
-use Rattle.ticket_core.specs.declared.query.Query.{Query}
 use Rattle.ticket_core.specs.declared.shape.Shape.{Shape}
 use Rattle.ticket_core.specs.State.{Shown, Meaning, Place, Unasked, Waiting, Held, Answered, Collected, Sender, fresh, Ticket, State, sender_at, hand_at, place_of, next_of, opening}
 use Rattle.ticket_core.specs.Events.{Event, Ask, Take, Finish, GiveBack, Collect, Close, asks, puts, collects, closes, answer_in, with_sender, with_hand, ticket_in, meaning_of, puts_down, Can, after}
