@@ -1,4 +1,3 @@
-use Rattle.ticket_board.specs.Ring.Rule.{hand_of, read_of}
 use Rattle.ticket_board.proofs.RingWorkerRule.{answers-allowed}
 use Rattle.ticket_board.proofs.ring.steps.finish.Goals as goal
 
@@ -6,8 +5,7 @@ pub store-requires : goal.store-requires
 store-requires g c = (
   c.requires.table.0,
   c.requires.table.1,
-  answers-allowed g.S.Solver.shown g.S.Solver.meaning c.args.shelf.now.key.shape c.args.shelf.now.key.key.now c.args.shelf.now.table_id.slots
-      c.args.seat.now.id c.args.seat.now.me c.requires.held.0 c.args.word c.args.answered
-      (hand_of c.args.seat.now.me.0.view.role).0 (hand_of c.args.seat.now.me.0.view.role).1 (read_of c.args.seat.now.me.0.view.role) c.requires.slot.0
-      c.requires.held.1 c.requires.read c.requires.slot.2 c.requires.slot.1 c.requires.held.2 c.requires.answered,
+  answers-allowed _ _ _ _ _ _ c.args.seat.now.me c.requires.held.0 c.args.word c.args.answered _ _ _
+      c.requires.slot.0 c.requires.held.1 c.requires.read c.requires.slot.2 c.requires.slot.1 c.requires.held.2
+      c.requires.answered,
 )

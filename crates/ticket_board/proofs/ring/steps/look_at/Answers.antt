@@ -7,6 +7,6 @@ pub load-requires : goal.load-requires
 load-requires g c = (
   c.requires.table,
   c.requires.words,
-  looks-at-word g.S.Solver.shown g.S.Solver.meaning c.args.shelf.now.key.shape c.args.shelf.now.key.key.now c.args.shelf.now.table_id.slots
-      c.args.seat.now.id c.args.seat.now.me c.requires.worker (word_of c.args.cell state_field) c.args.cell c.requires.empty c.requires.within refl,
+  looks-at-word _ _ _ _ _ _ c.args.seat.now.me c.requires.worker (word_of c.args.cell state_field) c.args.cell
+      c.requires.empty c.requires.within refl,
 )

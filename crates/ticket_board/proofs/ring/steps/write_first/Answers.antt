@@ -5,6 +5,6 @@ pub store-requires : goal.store-requires
 store-requires g c = (
   c.requires.table.0,
   c.requires.table.1,
-  first-allowed g.S.Solver.shown g.S.Solver.meaning c.args.shelf.now.key.shape c.args.shelf.now.key.key.now c.args.shelf.now.table_id.slots
-      c.args.seat.now.id c.args.seat.now.me c.requires.sender.0 c.args.word c.args.first c.requires.room c.requires.sender.1,
+  first-allowed _ _ _ _ _ _ c.args.seat.now.me c.requires.sender.0 c.args.word c.args.first c.requires.room
+      c.requires.sender.1,
 )
