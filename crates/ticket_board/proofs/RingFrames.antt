@@ -80,9 +80,8 @@ module _ (meaning : Meaning) (shape : Shape) (key : List ℕ) (board : Board) (s
         senders = λ t h. elim (cases_eq t s) [
           | inl e ↦ subst (λ (x : ℕ). SenderShows shape (state_at shape words x) (first_at shape words x) (second_at shape words x) (home_at shape homes x) (asking_at views_sent x) (sender_at new x)) (sym e)
               (subst (λ (x : Asking). SenderShows shape (state_at shape words s) (first_at shape words s) (second_at shape words s) (home_at shape homes s) x (sender_at new s)) (sym asking-here) mine)
-          | inr ne ↦ carried shape (state_at shape board.words t) (state_at shape words t) (first_at shape board.words t) (first_at shape words t)
-              (second_at shape board.words t) (second_at shape words t) (home_at shape board.homes t) (home_at shape homes t) (asking_at board.views t) (asking_at views_sent t) (sender_at state t) (sender_at new t)
-              (λ n. (others t n ne).0) (λ n. (others t n ne).1) (λ n. (others t n ne).2) (λ n. (others t n ne).3) (asking-else t ne) (senders t ne) (shows.senders t h)
+          | inr ne ↦ carried shape (λ n. (others t n ne).0) (λ n. (others t n ne).1) (λ n. (others t n ne).2) (λ n. (others t n ne).3)
+              (asking-else t ne) (senders t ne) (shows.senders t h)
         ];
         workers = λ w. subst (λ (x : Working). WorkerShows shape new w x) (sym (working-same w)) (record {
           hand = hands w ∙ (shows.workers w).hand;

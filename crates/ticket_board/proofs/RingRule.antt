@@ -135,15 +135,20 @@ module _ {A : Type 0} (shown : A → Shown) (meaning : Meaning) (shape : Shape) 
       let it = sends-on state holds sits place word BringsOut (table.takes (cell_of shape s (next_received asking)) (Some stood.0))
       ((cell_of me.0.view.shape s (next_received asking), Some stood.0) ∷ me.1) 0 (Full (shown stood.0)) found stood.1 (λ i. set state.words (at' i) (is i))
       (map-set (home_shown shown) state.homes (cell_of shape s (next_received asking)) maybe.none) (λ i. asking_after asking BringsOut 0 (Full (stood.2 i)))
-      (ap (λ (x : Shape). (cell_of x s (next_received asking), Some stood.0) ∷ me.1) (sym (mine state holds sits).shape_is)) in
-      (it.0, it.1, it.2, it.3, (
-        stood.0,
+      (ap (λ (x : Shape). (cell_of x s (next_received asking), Some stood.0) ∷ me.1) (sym (mine state holds sits).shape_is)) in (
+        it.0,
+        it.1,
+        it.2,
+        it.3,
         (
-          right.0,
-          stood.2 ∙ right.1 ∙ (λ i. meaning (sym (mine state holds sits).key_is i) (get_or asking.asked (next_received asking) (Address 0))),
-          it.4.0,
+          stood.0,
+          (
+            right.0,
+            stood.2 ∙ right.1 ∙ (λ i. meaning (sym (mine state holds sits).key_is i) (get_or asking.asked (next_received asking) (Address 0))),
+            it.4.0,
+          ),
         ),
-      ))
+      )
 
   pub receives-allowed : (place word : ℕ) → asking.collecting ≡ Some (collecting_of me.0.view.role)
       → me.1 ≡ (cell_of me.0.view.shape s (next_received asking), None) ∷ table.rest me.1

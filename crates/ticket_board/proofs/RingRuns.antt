@@ -88,11 +88,9 @@ module _ (meaning : Meaning) (shape : Shape) (key : List ℕ) where
     asking-grows : (move : Move) → MayMove meaning shape key board move → (t : ℕ) → t < shape.senders
         → Grows (asking_at board.views t) (asking_at (moved shape key board move).views t)
     asking-grows (Cuts cut) may t below =
-        stays (asking_at board.views t) (asking_at (moved shape key board (Cuts cut)).views t)
-        (asking-cut meaning shape key board state shows 0 cut may.0 may.1 t)
+        stays _ _ (asking-cut meaning shape key board state shows 0 cut may.0 may.1 t)
     asking-grows (Works w working step) may t below =
-        stays (asking_at board.views t) (asking_at (moved shape key board (Works w working step)).views t)
-        (asking-same meaning shape key board state shows (worker_seat shape w) w working may.0 board.words board.homes
+        stays _ _ (asking-same meaning shape key board state shows (worker_seat shape w) w working may.0 board.words board.homes
         (working_after shape working step (get_or board.words (word_worked shape step) 0)) state t below)
     asking-grows (Sends s asking step) may t below =
         let new : Asking = asking_after asking step (state_at shape board.words s (next_received asking)) (home_at shape board.homes s (next_received asking)) in
@@ -103,8 +101,7 @@ module _ (meaning : Meaning) (shape : Shape) (key : List ℕ) where
                 sym (asking-is meaning shape key board state shows (sender_seat s) s asking may.0) i,
                 sym (asking-here meaning shape key board state shows (sender_seat s) s asking may.0 board.words board.homes new state) i,
               )) (sent-grows asking step (state_at shape board.words s (next_received asking)) (home_at shape board.homes s (next_received asking))))
-          | inr ne ↦ stays (asking_at board.views t) (asking_at (moved shape key board (Sends s asking step)).views t)
-              (asking-else meaning shape key board state shows (sender_seat s) s asking may.0 board.words board.homes new state t ne)
+          | inr ne ↦ stays _ _ (asking-else meaning shape key board state shows (sender_seat s) s asking may.0 board.words board.homes new state t ne)
         ]
 
     -- a worker's step that answers nothing
@@ -153,9 +150,7 @@ module _ (meaning : Meaning) (shape : Shape) (key : List ℕ) where
         let same : Asking = asking_at (board_after shape key words moves).views s in stays same same refl
     grows-all (move ∷ more) moves may s below =
         let before = moves-show meaning shape key words (more ++ moves) may.0 in
-        grows-on (asking_at (board_after shape key words moves).views s) (asking_at (board_after shape key words (more ++ moves)).views s)
-        (asking_at (board_after shape key words (move ∷ more ++ moves)).views s)
-        (grows-all more moves may.0 s below)
+        grows-on _ _ _ (grows-all more moves may.0 s below)
         (asking-grows (board_after shape key words (more ++ moves)) before.0 before.1 move may.1 s below)
 
   -- what holds of a sender of the core holds of its view

@@ -155,8 +155,7 @@ module _ (meaning : Meaning) (shape : Shape) (key : List ℕ) (board : Board) (s
               let apart : cell_of shape s n ≢ cell_of shape s (next_asked asking) =
               numbers-apart shape some_room s (next_received asking) (next_asked asking) n ordered room.0 from (omega (arith, room.0)) (λ e. omega arith) in
               let e = elsewhere (next_asked asking) field x few s n apart in
-              words-moved (query_of (sender_at state s) n) (query_of (sender_at state s) n) (firsts n) (first_at shape words_ahead s n) (seconds n)
-              (second_at shape words_ahead s n) refl e.1 e.2 (mine.words n from below);
+              words-moved (query_of (sender_at state s) n) (query_of (sender_at state s) n) _ _ _ _ refl e.1 e.2 (mine.words n from below);
           ahead = is;
           room = λ _. room;
           found = λ f. still (next_received asking) ∙ mine.found f;
@@ -188,13 +187,11 @@ module _ (meaning : Meaning) (shape : Shape) (key : List ℕ) (board : Board) (s
 
     words-stay : (query : Query) (n : ℕ) → HasWords query (firsts n) (seconds n) → HasWords query (first_at shape marked s n) (second_at shape marked s n)
     words-stay query n old =
-        words-moved query query (firsts n) (first_at shape marked s n) (seconds n) (second_at shape marked s n) refl
-        (first-stays shape some_room board.words s m x s n) (second-stays shape some_room board.words s m x s n) old
+        words-moved query query _ _ _ _ refl (first-stays shape some_room board.words s m x s n) (second-stays shape some_room board.words s m x s n) old
 
     ahead-stays : (n : ℕ) → IsAhead asking.ahead (firsts n) (seconds n) → IsAhead asking.ahead (first_at shape marked s n) (second_at shape marked s n)
     ahead-stays n old =
-        ahead-moved asking.ahead (firsts n) (first_at shape marked s n) (seconds n) (second_at shape marked s n)
-        (first-stays shape some_room board.words s m x s n) (second-stays shape some_room board.words s m x s n) old
+        ahead-moved asking.ahead _ _ _ _ (first-stays shape some_room board.words s m x s n) (second-stays shape some_room board.words s m x s n) old
 
     -- with the slot of its cell
     of-others : (home : Home) (t n : ℕ) → t ≢ s

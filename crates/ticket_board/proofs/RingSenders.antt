@@ -14,11 +14,11 @@ use Rattle.ticket_board.specs.Ring.Views.{Known, Asking, next_received}
 use Rattle.ticket_board.specs.Ring.Shows.{CellShows, HasWords, IsAhead, SenderShows}
 use Rattle.ticket_board.proofs.RingPlaces.{standing}
 
-pub carried : (shape : Shape) (state state' first first' second second' : ℕ → ℕ) (home home' : ℕ → Home) (asking asking' : Asking) (sender sender' : Sender)
+pub carried : (shape : Shape) {state state' first first' second second' : ℕ → ℕ} {home home' : ℕ → Home} {asking asking' : Asking} {sender sender' : Sender}
     → ((n : ℕ) → state' n ≡ state n) → ((n : ℕ) → first' n ≡ first n) → ((n : ℕ) → second' n ≡ second n) → ((n : ℕ) → home' n ≡ home n)
     → asking' ≡ asking → sender' ≡ sender
     → SenderShows shape state first second home asking sender → SenderShows shape state' first' second' home' asking' sender'
-carried shape state state' first first' second second' home home' asking asking' sender sender' es ef e2 eh e e' old =
+carried shape es ef e2 eh e e' old =
     subst (λ (x : (ℕ → ℕ) × (ℕ → ℕ) × (ℕ → ℕ) × (ℕ → Home) × Asking × Sender). SenderShows shape x.0 x.1 x.2 x.3 x.4 x.5)
     (λ i. (sym (fun_ext es) i, sym (fun_ext ef) i, sym (fun_ext e2) i, sym (fun_ext eh) i, sym e i, sym e' i)) old
 

@@ -103,10 +103,7 @@ module _ (meaning : Meaning) (shape : Shape) (key : List ℕ) (board : Board) (s
     put-sender : SenderShows shape (state_at shape words_put s) (first_at shape words_put s) (second_at shape words_put s) (home_at shape homes_put s) (asking s) (puts n place (sender_at state s))
     put-sender =
         let old : SenderNow s = shows.senders s there in
-        carried shape (state_at shape words_put s) (state_at shape words_put s) (first_at shape board.words s) (first_at shape words_put s)
-        (second_at shape board.words s) (second_at shape words_put s)
-        (home_at shape homes_put s) (home_at shape homes_put s) (asking s) (asking s) (puts n place (sender_at state s)) (puts n place (sender_at state s))
-        (λ _. refl) (λ m. first-stays shape some_room board.words s n x s m) (λ m. second-stays shape some_room board.words s n x s m) (λ _. refl) refl refl
+        carried shape (λ _. refl) (λ m. first-stays shape some_room board.words s n x s m) (λ m. second-stays shape some_room board.words s n x s m) (λ _. refl) refl refl
         (put-there shape (states s) (first_at shape board.words s) (second_at shape board.words s) (home_at shape board.homes s) (asking s) (sender_at state s) old
         (state_at shape words_put s) (home_at shape homes_put s) n place from below early
         (λ m m_from m_below ne. (
@@ -125,9 +122,7 @@ module _ (meaning : Meaning) (shape : Shape) (key : List ℕ) (board : Board) (s
     put-senders t h = elim (cases_eq t s) [
       | inl e ↦ subst (λ (y : ℕ). SenderShows shape (state_at shape words_put y) (first_at shape words_put y) (second_at shape words_put y) (home_at shape homes_put y) (asking y) (sender_at new y)) (sym e)
           (subst (λ (y : Sender). SenderShows shape (state_at shape words_put s) (first_at shape words_put s) (second_at shape words_put s) (home_at shape homes_put s) (asking s) y) (sym changed) put-sender)
-      | inr ne ↦ carried shape (states t) (state_at shape words_put t) (first_at shape board.words t) (first_at shape words_put t)
-          (second_at shape board.words t) (second_at shape words_put t)
-          (home_at shape board.homes t) (home_at shape homes_put t) (asking t) (asking t) (sender_at state t) (sender_at new t)
+      | inr ne ↦ carried shape
           (λ m. state-else shape some_room board.words s n x state_field t m (omega arith) (senders-apart shape some_room s n t m ne))
           (λ m. first-stays shape some_room board.words s n x t m) (λ m. second-stays shape some_room board.words s n x t m)
           (λ m. home-else shape some_room board.homes s n home t m (senders-apart shape some_room s n t m ne)) refl (others t ne) (shows.senders t h)
