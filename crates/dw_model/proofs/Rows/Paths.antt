@@ -25,49 +25,37 @@ abbrev of_no_formats : List ℕ
 of_no_formats = hex (codes "23 00 00 00 05 00 08 00 1b 00 00 00 01 01 01 fb 0e 0d 00 01 01 01 01 00 00 00 01 00 00 01 00 02 00 02")
 
 file_0 : path_in inlined_line None 0 ≡ Some (codes "/w/z.c")
-unfolding on_samples
-file_0 = refl
+file_0 = unfold on_samples in refl
 
 file_1 : path_in inlined_line None 1 ≡ Some (codes "/w/a.c")
-unfolding on_samples
-file_1 = refl
+file_1 = unfold on_samples in refl
 
 file_2 : path_in inlined_line None 2 ≡ None
-unfolding on_samples
-file_2 = refl
+file_2 = unfold on_samples in refl
 
 in_a_directory : path_in (path_table (w ∷ codes "src" ∷ []) ((codes "b.c", 1) ∷ [])) None 0 ≡ Some (codes "/w/src/b.c")
-unfolding on_samples
-in_a_directory = refl
+in_a_directory = unfold on_samples in refl
 
 in_an_absolute_directory : path_in (path_table (w ∷ codes "/abs" ∷ []) ((codes "b.c", 1) ∷ [])) None 0 ≡ Some (codes "/abs/b.c")
-unfolding on_samples
-in_an_absolute_directory = refl
+in_an_absolute_directory = unfold on_samples in refl
 
 from_comp_dir : path_in (path_table [] ((codes "b.c", 0) ∷ [])) (Some (codes "/w/")) 0 ≡ Some (codes "/w/b.c")
-unfolding on_samples
-from_comp_dir = refl
+from_comp_dir = unfold on_samples in refl
 
 from_nothing : path_in (path_table [] ((codes "b.c", 0) ∷ [])) None 0 ≡ Some (codes "b.c")
-unfolding on_samples
-from_nothing = refl
+from_nothing = unfold on_samples in refl
 
 absolute_name : path_in (path_table (w ∷ []) ((codes "/b.c", 0) ∷ [])) None 0 ≡ Some (codes "/b.c")
-unfolding on_samples
-absolute_name = refl
+absolute_name = unfold on_samples in refl
 
 directory_0_before_comp_dir : path_in (path_table (w ∷ []) ((codes "b.c", 0) ∷ [])) (Some (codes "/x")) 0 ≡ Some (codes "/w/b.c")
-unfolding on_samples
-directory_0_before_comp_dir = refl
+directory_0_before_comp_dir = unfold on_samples in refl
 
 directory_that_is_not_there : path_in (path_table (w ∷ []) ((codes "b.c", 7) ∷ [])) None 0 ≡ Some (codes "/w/b.c")
-unfolding on_samples
-directory_that_is_not_there = refl
+directory_that_is_not_there = unfold on_samples in refl
 
 relative_directory_0 : path_in (path_table (codes "src" ∷ []) ((codes "b.c", 0) ∷ [])) (Some (codes "/x")) 0 ≡ Some (codes "src/b.c")
-unfolding on_samples
-relative_directory_0 = refl
+relative_directory_0 = unfold on_samples in refl
 
 files_without_names : path_in of_no_formats None 1 ≡ None
-unfolding on_samples
-files_without_names = refl
+files_without_names = unfold on_samples in refl

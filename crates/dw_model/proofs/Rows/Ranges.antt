@@ -37,113 +37,85 @@ abbrev of_attributes : List Attribute → Result (List Range) Bad
 of_attributes attributes = ranges_of (tables []) bases None (entry attributes)
 
 bases_and_pairs : listed (values.address 0x400000) (hex (codes "01 00 04 10 20 03 01 08 04 30 30 07 ff ff ff ff ff ff ff ff 08 00")) ≡ Ok (range 0x1010 0x1020 ∷ range 0x2000 0x2008 ∷ [])
-unfolding on_samples
-bases_and_pairs = refl
+bases_and_pairs = unfold on_samples in refl
 
 list_without_an_end : listed (values.address 0x400000) (hex (codes "01 00 04 10 20 03 01 08 04 30 30 07 ff ff ff ff ff ff ff ff 08")) ≡ Err bad
-unfolding on_samples
-list_without_an_end = refl
+list_without_an_end = unfold on_samples in refl
 
 end_past_64_bits : listed (values.address 0x400000) (hex (codes "07 f0 ff ff ff ff ff ff ff 10 00")) ≡ Ok []
-unfolding on_samples
-end_past_64_bits = refl
+end_past_64_bits = unfold on_samples in refl
 
 end_at_the_last_address : listed (values.address 0x400000) (hex (codes "07 f0 ff ff ff ff ff ff ff 0f 00")) ≡ Ok (range 0xfffffffffffffff0 0xffffffffffffffff ∷ [])
-unfolding on_samples
-end_at_the_last_address = refl
+end_at_the_last_address = unfold on_samples in refl
 
 last_address_not_covered : covers 0xffffffffffffffff (range 0xfffffffffffffff0 0xffffffffffffffff ∷ []) ≡ false
-unfolding on_samples
-last_address_not_covered = refl
+last_address_not_covered = unfold on_samples in refl
 
 pair_from_the_first_entry : listed (values.address 0x400000) (hex (codes "04 10 20 00")) ≡ Ok (range 0x400010 0x400020 ∷ [])
-unfolding on_samples
-pair_from_the_first_entry = refl
+pair_from_the_first_entry = unfold on_samples in refl
 
 pair_from_0 : ranges_of (tables (hex (codes "04 10 20 00"))) bases (Some (entry [])) (entry (pair 0x55 (values.section_offset 0) ∷ [])) ≡ Ok (range 0x10 0x20 ∷ [])
-unfolding on_samples
-pair_from_0 = refl
+pair_from_0 = unfold on_samples in refl
 
 pair_from_an_unknown_base : listed (values.address_index 9) (hex (codes "04 10 20 00")) ≡ Err bad
-unfolding on_samples
-pair_from_an_unknown_base = refl
+pair_from_an_unknown_base = unfold on_samples in refl
 
 unknown_base_not_used : listed (values.address_index 9) (hex (codes "05 00 10 00 00 00 00 00 00 04 10 20 00")) ≡ Ok (range 0x1010 0x1020 ∷ [])
-unfolding on_samples
-unknown_base_not_used = refl
+unknown_base_not_used = unfold on_samples in refl
 
 between_indexes : listed (values.address 0x400000) (hex (codes "02 00 01 00")) ≡ Ok (range 0x1000 0x2000 ∷ [])
-unfolding on_samples
-between_indexes = refl
+between_indexes = unfold on_samples in refl
 
 index_past_the_end : listed (values.address 0x400000) (hex (codes "02 00 02 00")) ≡ Err bad
-unfolding on_samples
-index_past_the_end = refl
+index_past_the_end = unfold on_samples in refl
 
 between_addresses : listed (values.address 0x400000) (hex (codes "06 01 00 00 00 00 00 00 00 03 00 00 00 00 00 00 00 00")) ≡ Ok (range 1 3 ∷ [])
-unfolding on_samples
-between_addresses = refl
+between_addresses = unfold on_samples in refl
 
 empty_ranges_dropped : listed (values.address 0x400000) (hex (codes "06 03 00 00 00 00 00 00 00 03 00 00 00 00 00 00 00 04 05 04 00")) ≡ Ok []
-unfolding on_samples
-empty_ranges_dropped = refl
+empty_ranges_dropped = unfold on_samples in refl
 
 unknown_entry : listed (values.address 0x400000) (hex (codes "08 00")) ≡ Err bad
-unfolding on_samples
-unknown_entry = refl
+unknown_entry = unfold on_samples in refl
 
 wide_operand : listed (values.address 0x400000) (hex (codes "04 ff ff ff ff ff ff ff ff ff 02 00 00")) ≡ Err bad
-unfolding on_samples
-wide_operand = refl
+wide_operand = unfold on_samples in refl
 
 list_past_the_section : ranges_of (tables []) bases None (entry (pair 0x55 (values.section_offset 5) ∷ [])) ≡ Err bad
-unfolding on_samples
-list_past_the_section = refl
+list_past_the_section = unfold on_samples in refl
 
 list_by_index : ranges_of (tables (hex (codes "00 00 00 00 08 00 00 00 05 00 00 00 06 01 00 00 00 00 00 00 00 03 00 00 00 00 00 00 00 00"))) bases None (entry (pair 0x55 (values.range_index 0) ∷ [])) ≡ Ok (range 1 3 ∷ [])
-unfolding on_samples
-list_by_index = refl
+list_by_index = unfold on_samples in refl
 
 list_by_index_past_the_end : ranges_of (tables (hex (codes "00 00 00 00 08 00 00 00"))) bases None (entry (pair 0x55 (values.range_index 1) ∷ [])) ≡ Err bad
-unfolding on_samples
-list_by_index_past_the_end = refl
+list_by_index_past_the_end = unfold on_samples in refl
 
 list_of_another_class : ranges_of (tables []) bases None (entry (pair 0x55 (values.unsigned 5) ∷ pair 0x11 (values.address 1) ∷ pair 0x12 (values.unsigned 4) ∷ [])) ≡ Ok (range 1 5 ∷ [])
-unfolding on_samples
-list_of_another_class = refl
+list_of_another_class = unfold on_samples in refl
 
 constant_high_pc : of_attributes (pair 0x11 (values.address 0x1000) ∷ pair 0x12 (values.unsigned 0x10) ∷ []) ≡ Ok (range 0x1000 0x1010 ∷ [])
-unfolding on_samples
-constant_high_pc = refl
+constant_high_pc = unfold on_samples in refl
 
 address_high_pc : of_attributes (pair 0x11 (values.address 0x1000) ∷ pair 0x12 (values.address_index 1) ∷ []) ≡ Ok (range 0x1000 0x2000 ∷ [])
-unfolding on_samples
-address_high_pc = refl
+address_high_pc = unfold on_samples in refl
 
 negative_high_pc : of_attributes (pair 0x11 (values.address 0x1000) ∷ pair 0x12 (values.signed (negsuc 0)) ∷ []) ≡ Ok []
-unfolding on_samples
-negative_high_pc = refl
+negative_high_pc = unfold on_samples in refl
 
 low_pc_alone : of_attributes (pair 0x11 (values.address 0x1000) ∷ []) ≡ Ok []
-unfolding on_samples
-low_pc_alone = refl
+low_pc_alone = unfold on_samples in refl
 
 high_pc_alone : of_attributes (pair 0x12 (values.unsigned 0x10) ∷ []) ≡ Ok []
-unfolding on_samples
-high_pc_alone = refl
+high_pc_alone = unfold on_samples in refl
 
 unknown_low_pc_alone : of_attributes (pair 0x11 (values.address_index 9) ∷ []) ≡ Ok []
-unfolding on_samples
-unknown_low_pc_alone = refl
+unknown_low_pc_alone = unfold on_samples in refl
 
 unknown_low_pc : of_attributes (pair 0x11 (values.address_index 9) ∷ pair 0x12 (values.unsigned 4) ∷ []) ≡ Err bad
-unfolding on_samples
-unknown_low_pc = refl
+unknown_low_pc = unfold on_samples in refl
 
 dropped_by_the_linker : of_attributes (pair 0x11 (values.address 0xffffffffffffffff) ∷ pair 0x12 (values.unsigned 4) ∷ []) ≡ Ok []
-unfolding on_samples
-dropped_by_the_linker = refl
+dropped_by_the_linker = unfold on_samples in refl
 
 from_0 : of_attributes (pair 0x11 (values.address 0) ∷ pair 0x12 (values.unsigned 4) ∷ []) ≡ Ok (range 0 4 ∷ [])
-unfolding on_samples
-from_0 = refl
+from_0 = unfold on_samples in refl

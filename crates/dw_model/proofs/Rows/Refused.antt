@@ -7,36 +7,28 @@ use Rattle.dw_model.proofs.Samples.{hex, poke, smallest, inlined_info, inlined, 
 use Rattle.dw_model.proofs.OnSamples.{on_samples}
 
 inlined_length : length inlined ≡ 686
-unfolding on_samples
-inlined_length = refl
+inlined_length = unfold on_samples in refl
 
 inlined_accepted : refusal inlined ≡ None
-unfolding on_samples
-inlined_accepted = refl
+inlined_accepted = unfold on_samples in refl
 
 inlined_listing : listing inlined ≡ codes "0x0 version 5 compile\n0x5b version 5 partial\n"
-unfolding on_samples
-inlined_listing = refl
+inlined_listing = unfold on_samples in refl
 
 smallest_accepted : refusal smallest ≡ None
-unfolding on_samples
-smallest_accepted = refl
+smallest_accepted = unfold on_samples in refl
 
 smallest_listing : listing smallest ≡ []
-unfolding on_samples
-smallest_listing = refl
+smallest_listing = unfold on_samples in refl
 
 mixed_versions_accepted : refusal mixed_versions ≡ None
-unfolding on_samples
-mixed_versions_accepted = refl
+mixed_versions_accepted = unfold on_samples in refl
 
 mixed_versions_listing : listing mixed_versions ≡ codes "0x0 version 4 skipped\n0xb version 5 compile\n0x66 version 5 partial\n"
-unfolding on_samples
-mixed_versions_listing = refl
+mixed_versions_listing = unfold on_samples in refl
 
 cut_header : refusal (take 63 smallest) ≡ Some not_elf
-unfolding on_samples
-cut_header = refl
+cut_header = unfold on_samples in refl
 
 -- why n beginnings of the sample are refused, from one of this length on
 refusals_from : ℕ → ℕ → List (Option Refusal)
@@ -44,97 +36,73 @@ refusals_from size zero = []
 refusals_from size (suc n) = refusal (take size inlined) ∷ refusals_from (size + 1) n
 
 each_cut_header : refusals_from 0 64 ≡ replicate 64 (Some not_elf)
-unfolding on_samples refusals_from
-each_cut_header = refl
+each_cut_header = unfold on_samples refusals_from in refl
 
 each_cut_file : refusals_from 64 622 ≡ replicate 622 (Some section_table)
-unfolding on_samples refusals_from
-each_cut_file = refl
+each_cut_file = unfold on_samples refusals_from in refl
 
 no_magic : refusal (poke inlined 0 (hex (codes "00"))) ≡ Some not_elf
-unfolding on_samples
-no_magic = refl
+no_magic = unfold on_samples in refl
 
 class_32 : refusal (poke inlined 4 (hex (codes "01"))) ≡ Some not_elf64_little
-unfolding on_samples
-class_32 = refl
+class_32 = unfold on_samples in refl
 
 big_endian : refusal (poke inlined 5 (hex (codes "02"))) ≡ Some not_elf64_little
-unfolding on_samples
-big_endian = refl
+big_endian = unfold on_samples in refl
 
 object_file : refusal (poke inlined 16 (hex (codes "01"))) ≡ Some relocatable
-unfolding on_samples
-object_file = refl
+object_file = unfold on_samples in refl
 
 header_size : refusal (poke inlined 58 (hex (codes "3f"))) ≡ Some section_table
-unfolding on_samples
-header_size = refl
+header_size = unfold on_samples in refl
 
 abbrev_past_the_end : refusal (poke inlined 527 (hex (codes "04"))) ≡ Some (section_range (codes ".debug_abbrev"))
-unfolding on_samples
-abbrev_past_the_end = refl
+abbrev_past_the_end = unfold on_samples in refl
 
 compressed_line : refusal (poke inlined 567 (hex (codes "08"))) ≡ Some (compressed (codes ".debug_line"))
-unfolding on_samples
-compressed_line = refl
+compressed_line = unfold on_samples in refl
 
 renamed_line : refusal (poke inlined 354 (hex (codes "78"))) ≡ None
-unfolding on_samples
-renamed_line = refl
+renamed_line = unfold on_samples in refl
 
 unit_too_long : refusal (poke inlined 64 (hex (codes "58"))) ≡ Some (unit_header 0x5c)
-unfolding on_samples
-unit_too_long = refl
+unit_too_long = unfold on_samples in refl
 
 wide_length_too_long : refusal (poke inlined 64 (hex (codes "ff ff ff ff"))) ≡ Some (unit_header 0)
-unfolding on_samples
-wide_length_too_long = refl
+wide_length_too_long = unfold on_samples in refl
 
 wide_length_cut : refusal (with_info (hex (codes "ff ff ff ff 00 00 00 00 00 00 00"))) ≡ Some (unit_header 0)
-unfolding on_samples
-wide_length_cut = refl
+wide_length_cut = unfold on_samples in refl
 
 wide_padding_listing : listing (with_info (hex (codes "ff ff ff ff 00 00 00 00 00 00 00 00") ++ inlined_info)) ≡ codes "0xc version 5 compile\n0x67 version 5 partial\n"
-unfolding on_samples
-wide_padding_listing = refl
+wide_padding_listing = unfold on_samples in refl
 
 wide_unit_64_listing : listing (overlapping (wide_unit_64 ++ narrow_unit)) ≡ codes "0x0 version 5 compile\n0x25 version 5 compile\n"
-unfolding on_samples
-wide_unit_64_listing = refl
+wide_unit_64_listing = unfold on_samples in refl
 
 narrow_unit_64_listing : listing (overlapping (narrow_unit_64 ++ wide_unit)) ≡ codes "0x0 version 5 compile\n0x2d version 5 compile\n"
-unfolding on_samples
-narrow_unit_64_listing = refl
+narrow_unit_64_listing = unfold on_samples in refl
 
 wide_skeleton_cut : refusal (with_info (hex (codes "ff ff ff ff 13 00 00 00 00 00 00 00 05 00 04 08 00 00 00 00 00 00 00 00 00 00 00 00 00 00 00"))) ≡ Some (unit_header 0)
-unfolding on_samples
-wide_skeleton_cut = refl
+wide_skeleton_cut = unfold on_samples in refl
 
 reserved_length : refusal (poke inlined 64 (hex (codes "f0 ff ff ff"))) ≡ Some (unit_header 0)
-unfolding on_samples
-reserved_length = refl
+reserved_length = unfold on_samples in refl
 
 short_addresses : refusal (poke inlined 71 (hex (codes "04"))) ≡ Some (address_size 0)
-unfolding on_samples
-short_addresses = refl
+short_addresses = unfold on_samples in refl
 
 root_undeclared : refusal (poke inlined 174 (hex (codes "08"))) ≡ Some (root 0)
-unfolding on_samples
-root_undeclared = refl
+root_undeclared = unfold on_samples in refl
 
 root_undeclared_listed : listing_refusal (poke inlined 174 (hex (codes "08"))) ≡ Some (root 0)
-unfolding on_samples
-root_undeclared_listed = refl
+root_undeclared_listed = unfold on_samples in refl
 
 root_without_base : refusal (poke inlined 180 (hex (codes "1b"))) ≡ Some (root_ranges 0)
-unfolding on_samples
-root_without_base = refl
+root_without_base = unfold on_samples in refl
 
 root_without_base_listed : listing_refusal (poke inlined 180 (hex (codes "1b"))) ≡ None
-unfolding on_samples
-root_without_base_listed = refl
+root_without_base_listed = unfold on_samples in refl
 
 root_without_base_listing : listing (poke inlined 180 (hex (codes "1b"))) ≡ codes "0x0 version 5 compile\n0x5b version 5 partial\n"
-unfolding on_samples
-root_without_base_listing = refl
+root_without_base_listing = unfold on_samples in refl

@@ -21,73 +21,55 @@ abbrev no_bases : Bases
 no_bases = record { str_offsets = None; addr = None; rnglists = None; offset_size = 4 }
 
 inline : text tables bases (values.inline (codes "x")) ≡ Some (codes "x")
-unfolding on_samples
-inline = refl
+inline = unfold on_samples in refl
 
 first_text : text tables bases (values.str 0) ≡ Some (codes "main")
-unfolding on_samples
-first_text = refl
+first_text = unfold on_samples in refl
 
 from_within_a_text : text tables bases (values.str 6) ≡ Some (codes "eaf")
-unfolding on_samples
-from_within_a_text = refl
+from_within_a_text = unfold on_samples in refl
 
 without_an_end : text tables bases (values.str 10) ≡ None
-unfolding on_samples
-without_an_end = refl
+without_an_end = unfold on_samples in refl
 
 past_the_section : text tables bases (values.str 15) ≡ None
-unfolding on_samples
-past_the_section = refl
+past_the_section = unfold on_samples in refl
 
 empty_text : text tables bases (values.str 4) ≡ Some []
-unfolding on_samples
-empty_text = refl
+empty_text = unfold on_samples in refl
 
 line_text : text tables bases (values.line_str 0) ≡ Some (codes "/w")
-unfolding on_samples
-line_text = refl
+line_text = unfold on_samples in refl
 
 by_index : text tables bases (values.str_index 0) ≡ Some (codes "leaf")
-unfolding on_samples
-by_index = refl
+by_index = unfold on_samples in refl
 
 by_the_next_index : text tables bases (values.str_index 1) ≡ Some (codes "ain")
-unfolding on_samples
-by_the_next_index = refl
+by_the_next_index = unfold on_samples in refl
 
 by_an_index_to_nothing : text tables bases (values.str_index 3) ≡ None
-unfolding on_samples
-by_an_index_to_nothing = refl
+by_an_index_to_nothing = unfold on_samples in refl
 
 by_an_index_past_the_end : text tables bases (values.str_index 4) ≡ None
-unfolding on_samples
-by_an_index_past_the_end = refl
+by_an_index_past_the_end = unfold on_samples in refl
 
 by_index_without_a_base : text tables no_bases (values.str_index 0) ≡ None
-unfolding on_samples
-by_index_without_a_base = refl
+by_index_without_a_base = unfold on_samples in refl
 
 number_is_no_text : text tables bases (values.unsigned 0) ≡ None
-unfolding on_samples
-number_is_no_text = refl
+number_is_no_text = unfold on_samples in refl
 
 an_address : address tables bases (values.address 7) ≡ Some 7
-unfolding on_samples
-an_address = refl
+an_address = unfold on_samples in refl
 
 address_by_index : address tables bases (values.address_index 1) ≡ Some 0x2000
-unfolding on_samples
-address_by_index = refl
+address_by_index = unfold on_samples in refl
 
 address_past_the_end : address tables bases (values.address_index 2) ≡ None
-unfolding on_samples
-address_past_the_end = refl
+address_past_the_end = unfold on_samples in refl
 
 address_without_a_base : address tables no_bases (values.address_index 0) ≡ None
-unfolding on_samples
-address_without_a_base = refl
+address_without_a_base = unfold on_samples in refl
 
 number_is_no_address : address tables bases (values.unsigned 7) ≡ None
-unfolding on_samples
-number_is_no_address = refl
+number_is_no_address = unfold on_samples in refl

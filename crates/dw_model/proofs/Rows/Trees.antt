@@ -26,66 +26,50 @@ functions_at file a =
     (slice_get (units (sections file).info) 0)
 
 depths_of_entries : depths inlined ≡ Some (Ok ((0x0c, 0) ∷ (0x1d, 1) ∷ (0x23, 1) ∷ (0x35, 2) ∷ (0x36, 3) ∷ (0x47, 4) ∷ []))
-unfolding on_samples
-depths_of_entries = refl
+depths_of_entries = unfold on_samples in refl
 
 three_functions : functions_at inlined 0x401004 ≡ Some (Ok ((0x47, Some (codes "leaf")) ∷ (0x36, Some (codes "mid")) ∷ (0x23, Some (codes "main")) ∷ []))
-unfolding on_samples
-three_functions = refl
+three_functions = unfold on_samples in refl
 
 one_function : functions_at inlined 0x401000 ≡ Some (Ok ((0x23, Some (codes "main")) ∷ []))
-unfolding on_samples
-one_function = refl
+one_function = unfold on_samples in refl
 
 two_functions : functions_at inlined 0x401006 ≡ Some (Ok ((0x36, Some (codes "mid")) ∷ (0x23, Some (codes "main")) ∷ []))
-unfolding on_samples
-two_functions = refl
+two_functions = unfold on_samples in refl
 
 no_function : functions_at inlined 0x40100e ≡ Some (Ok [])
-unfolding on_samples
-no_function = refl
+no_function = unfold on_samples in refl
 
 entry_that_names_itself : functions_at (with_info (poke inlined_info 0x48 (0x47 ∷ []))) 0x401004 ≡ Some (Ok ((0x47, None) ∷ (0x36, Some (codes "mid")) ∷ (0x23, Some (codes "main")) ∷ []))
-unfolding on_samples
-entry_that_names_itself = refl
+entry_that_names_itself = unfold on_samples in refl
 
 entry_without_declaration : is_readable (with_info (poke inlined_info 0x23 (0x63 ∷ []))) ≡ Some (Err entry_fault)
-unfolding on_samples
-entry_without_declaration = refl
+entry_without_declaration = unfold on_samples in refl
 
 depth_512 : is_readable (deep 0x219 512) ≡ Some (Ok tt)
-unfolding on_samples
-depth_512 = refl
+depth_512 = unfold on_samples in refl
 
 depth_513 : is_readable (deep 0x21a 513) ≡ Some (Err depth_fault)
-unfolding on_samples
-depth_513 = refl
+depth_513 = unfold on_samples in refl
 
 lists_ended_by_the_unit : is_readable (deep 0x1c 3) ≡ Some (Ok tt)
-unfolding on_samples
-lists_ended_by_the_unit = refl
+lists_ended_by_the_unit = unfold on_samples in refl
 
 -- the function's low_pc is an index, without a base
 ranges_of_a_function : is_readable (three_sections inlined_info (poke inlined_abbrev 17 (0x1b ∷ [])) []) ≡ Some (Err ranges_fault)
-unfolding on_samples
-ranges_of_a_function = refl
+ranges_of_a_function = unfold on_samples in refl
 
 name_16_references_away : functions_at (far_name 16) 0x1000 ≡ Some (Ok ((0x19, Some (codes "deep")) ∷ []))
-unfolding on_samples
-name_16_references_away = refl
+name_16_references_away = unfold on_samples in refl
 
 name_17_references_away : functions_at (far_name 17) 0x1000 ≡ Some (Ok ((0x19, None) ∷ []))
-unfolding on_samples
-name_17_references_away = refl
+name_17_references_away = unfold on_samples in refl
 
 entries_that_name_each_other : functions_at (three_sections (hex (codes "2c 00 00 00 05 00 01 08 00 00 00 00") ++ hex (codes "01 00 10 00 00 00 00 00 00 10 00 00 00") ++ hex (codes "02 2a 00 00 00 00 10 00 00 00 00 00 00 10 00 00 00") ++ hex (codes "03 19 00 00 00 00")) (hex (codes "01 11 01 11 01 12 06 00 00 02 2e 00 31 13 11 01 12 06 00 00 03 2e 00 31 13 00 00 00")) []) 0x1000 ≡ Some (Ok ((0x19, None) ∷ []))
-unfolding on_samples
-entries_that_name_each_other = refl
+entries_that_name_each_other = unfold on_samples in refl
 
 nothing_behind_the_last_list : depths (with_info (hex (codes "1e 00 00 00 05 00 01 08 00 00 00 00") ++ hex (codes "01 00 00 00 00 00 10 40 00 00 00 00 00 0e 00 00 00") ++ hex (codes "04 00 00 63 63"))) ≡ Some (Ok ((0x0c, 0) ∷ (0x1d, 1) ∷ []))
-unfolding on_samples
-nothing_behind_the_last_list = refl
+nothing_behind_the_last_list = unfold on_samples in refl
 
 root_without_children : depths (with_info (hex (codes "10 00 00 00 05 00 01 08 00 00 00 00") ++ hex (codes "03 6d 00 63 63 63 63 63"))) ≡ Some (Ok ((0x0c, 0) ∷ []))
-unfolding on_samples
-root_without_children = refl
+root_without_children = unfold on_samples in refl
