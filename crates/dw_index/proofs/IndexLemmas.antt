@@ -1,7 +1,7 @@
 -- The segments of one range, and of several.
 use Rattle.std.proofs.Common.{◌≡◌, inl, inr, ◌≤◌, ◌<◌, ℕ, Bool, true, false, cond, List, [], ◌∷◌, ◌++◌, length, Some, None, refl, sym, ap, ◌∙◌, arith, length-append}
-use Rattle.std.specs.Prelude.{nat_le, ◌&&◌}
-use Rattle.std.proofs.lemmas.Bool.{cases_lt, le-leb, lt-leb, lt-ltb, le-ltb}
+use Rattle.std.specs.Prelude.{nat_le, nat_lt, ◌&&◌}
+use Rattle.std.proofs.lemmas.Bool.{cases_lt, le-leb, lt-leb, lt-ltb, le-ltb, and_right, cond-false}
 use Rattle.dw_model.specs.Ranges as model
 use Rattle.dw_index.specs.declared.range.Range.{Range}
 use Rattle.dw_index.specs.declared.segment.Segment.{Segment}
@@ -29,12 +29,8 @@ module _ (begin end owner : ℕ) where
   pub below : (a : ℕ) → a < begin → owner_in a pair ≡ None
   below a h = rw (lt-leb begin a h) refl
 
-  behind_test : (test : Bool) → cond (test && false) (Some owner) None ≡ None
-  behind_test true = refl
-  behind_test false = refl
-
   pub behind : (a : ℕ) → end ≤ a → owner_in a pair ≡ None
-  behind a h = rw (le-ltb a end h) (behind_test (nat_le begin a))
+  behind a h = cond-false (nat_le begin a && nat_lt a end) (Some owner) None (and_right (nat_le begin a) (nat_lt a end) (le-ltb a end h))
 
   pub index_of_empty : end ≤ begin → AreIndexOf (pair ∷ []) []
   index_of_empty h = record {

@@ -2,7 +2,7 @@
 use Rattle.std.proofs.Common.{◌≡◌, inl, inr, ◌≤◌, ℕ, suc, ◌+◌, Bool, true, false, cond, min, List, [], ◌∷◌, map, Option, Some, None, refl, sym, ap, subst, ◌∙◌, arith}
 use Rattle.std.specs.Prelude.{◌||◌}
 use Rattle.std.specs.List.{All, Any, position, position_from}
-use Rattle.std.proofs.lemmas.Bool.{cases_lt, true≢false}
+use Rattle.std.proofs.lemmas.Bool.{cases_lt, cases_cond, true≢false}
 use Rattle.std.proofs.lemmas.Option.{same_Some}
 use Rattle.std.proofs.lemmas.List.Elements.{All-cons, All-tail}
 use Rattle.std.proofs.lemmas.Iterator.Adapters.{position_from-zero}
@@ -121,39 +121,39 @@ from_least pairs a owner is = from_found pairs a owner (least_owner pairs a) ref
 
 -- ---- places of lists as owners
 
-least-same : (test : Bool) (n : ℕ) → least (Some n) (cond test (Some n) None) ≡ Some n
-least-same true n = ap Some (omega arith)
-least-same false n = refl
-
 of_list : (ranges : List Range) (place a : ℕ) → least_owner (map (λ range. (range, place)) ranges) a ≡ cond (covers a ranges) (Some place) None
 unfolding least_owner
 of_list [] place a = refl
-of_list (range ∷ ranges) place a = rw (of_list ranges place a) (by_test (holds a range))
+of_list (range ∷ ranges) place a = rw (of_list ranges place a) (by_test (holds a range) (covers a ranges))
   where
-    by_test : (test : Bool) → least (cond test (Some place) None) (cond (covers a ranges) (Some place) None) ≡ cond (test || covers a ranges) (Some place) None
-    by_test true = least-same (covers a ranges) place
-    by_test false = refl
+    by_test : (here there : Bool) → least (cond here (Some place) None) (cond there (Some place) None) ≡ cond (here || there) (Some place) None
+    by_test true true = ap Some (omega arith)
+    by_test true false = refl
+    by_test false there = refl
 
--- owners after a first one are above it
-above : (lists : List (List Range)) (a place : ℕ) (n : ℕ) → position_from (covers a) place lists ≡ Some n → place ≤ n
-above [] a place n e = absurd cc
-above (ranges ∷ lists) a place n e = above_test (covers a ranges) (λ f. above lists a (place + 1) n f) e
-  where
-    above_test : (test : Bool) → (position_from (covers a) (place + 1) lists ≡ Some n → place + 1 ≤ n) → cond test (Some place) (position_from (covers a) (place + 1) lists) ≡ Some n → place ≤ n
-    above_test true later e = omega (arith, same_Some place n e)
-    above_test false later e = omega (arith, later e)
+-- places after a first one are above it
+above : {X : Type 0} (test : X → Bool) (place : ℕ) (xs : List X) (n : ℕ) → position_from test place xs ≡ Some n → place ≤ n
+above test place [] n e = absurd cc
+above test place (x ∷ xs) n e = elim (cases_cond (test x) (Some place) (position_from test (place + 1) xs) (Some n) (sym e)) [
+  | inl here ↦ omega (arith, same_Some n place here)
+  | inr there ↦ omega (arith, above test (place + 1) xs n (sym there))
+]
 
 first_of_two : (test : Bool) (place : ℕ) (later : Option ℕ) → ((n : ℕ) → later ≡ Some n → place ≤ n) → least (cond test (Some place) None) later ≡ cond test (Some place) later
 first_of_two true place None h = refl
 first_of_two true place (Some n) h = let b = h n refl in ap Some (omega arith)
 first_of_two false place later h = refl
 
+-- the least of an owner and of those after it is the first
+pub least-first : {X : Type 0} (test : X → Bool) (here : Bool) (place : ℕ) (xs : List X) → least (cond here (Some place) None) (position_from test (place + 1) xs) ≡ cond here (Some place) (position_from test (place + 1) xs)
+least-first test here place xs = first_of_two here place (position_from test (place + 1) xs) (λ n e. omega (arith, above test (place + 1) xs n e))
+
 from_place : (lists : List (List Range)) (place a : ℕ) → least_owner (numbered place lists) a ≡ position_from (covers a) place lists
 unfolding least_owner
 from_place [] place a = refl
 from_place (ranges ∷ lists) place a =
     least_owner-append (map (λ range. (range, place)) ranges) (numbered (place + 1) lists) a
-    ∙ rw (of_list ranges place a, from_place lists (place + 1) a) (first_of_two (covers a ranges) place (position_from (covers a) (place + 1) lists) (λ n e. omega (arith, above lists a (place + 1) n e)))
+    ∙ rw (of_list ranges place a, from_place lists (place + 1) a) (least-first (covers a) (covers a ranges) place lists)
 
 pub first_list : (lists : List (List Range)) (a : ℕ) → least_owner (numbered 0 lists) a ≡ position (covers a) lists
 first_list lists a = from_place lists 0 a ∙ sym (position_from-zero (covers a) lists)

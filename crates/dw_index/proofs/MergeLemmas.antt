@@ -2,7 +2,7 @@
 use Rattle.std.proofs.Common.{◌≡◌, ◌≢◌, inl, inr, ◌≤◌, ◌<◌, ℕ, ◌+◌, Bool, true, false, cond, List, [], ◌∷◌, ◌++◌, length, Option, Some, None, min, refl, sym, ap, subst, ◌∙◌, arith, length-append}
 use Rattle.std.specs.Prelude.{◌==◌, nat_eq}
 use Rattle.std.specs.Option.{option_eq}
-use Rattle.std.proofs.lemmas.Bool.{eqb-true, eqb-false, cases_lt, le-leb, lt-leb}
+use Rattle.std.proofs.lemmas.Bool.{eqb-true, eqb-false, eq-eqb, ne_eqb, cases_eq, cases_lt, cond_both, le-leb, lt-leb}
 use Rattle.std.proofs.lemmas.Option.{same_Some}
 use Rattle.dw_index.specs.declared.segment.Segment.{Segment}
 use Rattle.dw_index.specs.Owners.{least}
@@ -22,28 +22,21 @@ from_border bound at owner (segment ∷ segments) s h = (h, s.1, s.2)
 
 past_rises : (bound at : ℕ) (owner : Option ℕ) (rest : List Segment) → AreSegments bound owner rest → IsFrom at rest → AreSegments (at + 1) (past_owner at owner rest) (past_rest at rest)
 past_rises bound at owner [] s h = tt
-past_rises bound at owner (segment ∷ segments) s h = by_test (segment.begin == at) refl
-  where
-    by_test : (test : Bool) → (segment.begin == at) ≡ test → AreSegments (at + 1) (cond test segment.owner owner) (cond test segments (segment ∷ segments))
-    by_test true e = subst (λ n. AreSegments (n + 1) segment.owner segments) (eqb-true segment.begin at e) s.2
-    by_test false e = (let other = eqb-false segment.begin at e in omega arith, s.1, s.2)
+past_rises bound at owner (segment ∷ segments) s h = elim (cases_eq segment.begin at) [
+  | inl e ↦ rw (eq-eqb segment.begin at e) (subst (λ n. AreSegments (n + 1) segment.owner segments) e s.2)
+  | inr e ↦ rw (ne_eqb segment.begin at e) (omega arith, s.1, s.2)
+]
 
 past_behind : (at : ℕ) (owner : Option ℕ) (rest : List Segment) (a : ℕ) → at ≤ a → owner_from (past_owner at owner rest) (past_rest at rest) a ≡ owner_from owner rest a
 past_behind at owner [] a h = refl
-past_behind at owner (segment ∷ segments) a h = by_test (segment.begin == at) refl
-  where
-    by_test : (test : Bool) → (segment.begin == at) ≡ test → owner_from (cond test segment.owner owner) (cond test segments (segment ∷ segments)) a ≡ owner_from owner (segment ∷ segments) a
-    by_test true e =
-        sym (behind_border segment segments owner a (let same = eqb-true segment.begin at e in omega arith))
-    by_test false e = refl
+past_behind at owner (segment ∷ segments) a h = elim (cases_eq segment.begin at) [
+  | inl e ↦ rw (eq-eqb segment.begin at e) (sym (behind_border segment segments owner a (omega arith)))
+  | inr e ↦ rw (ne_eqb segment.begin at e) refl
+]
 
 past_length : (at : ℕ) (rest : List Segment) → length (past_rest at rest) ≤ length rest
 past_length at [] = omega arith
-past_length at (segment ∷ segments) = by_test (segment.begin == at)
-  where
-    by_test : (test : Bool) → length (cond test segments (segment ∷ segments)) ≤ length (segment ∷ segments)
-    by_test true = omega arith
-    by_test false = omega arith
+past_length at (segment ∷ segments) = cond_both (segment.begin == at) segments (segment ∷ segments) (λ rest. length rest ≤ length (segment ∷ segments)) (λ e. omega arith) (λ e. omega arith)
 
 -- ---- the next border
 
@@ -51,11 +44,7 @@ abbrev Next : (at : ℕ) → (first second : List Segment) → Type 0
 Next at first second = IsFrom at first × IsFrom at second × (length (past_rest at first) + length (past_rest at second) + 1 ≤ length first + length second)
 
 past_shorter : (at : ℕ) (segment : Segment) (segments : List Segment) → segment.begin ≡ at → length (past_rest at (segment ∷ segments)) + 1 ≤ length (segment ∷ segments)
-past_shorter at segment segments e = by_test (segment.begin == at) refl
-  where
-    by_test : (test : Bool) → (segment.begin == at) ≡ test → length (cond test segments (segment ∷ segments)) + 1 ≤ length (segment ∷ segments)
-    by_test true t = omega arith
-    by_test false t = absurd (eqb-false segment.begin at t e)
+past_shorter at segment segments e = rw (eq-eqb segment.begin at e) (omega arith)
 
 pub next : (at : ℕ) (first second : List Segment) → Some at ≡ least (border first) (border second) → Next at first second
 next at [] [] e = absurd cc
