@@ -2,6 +2,7 @@
 use Rattle.std.proofs.Common.{◌≡◌, inl, inr, ◌≤◌, ◌<◌, ℕ, Bool, true, false, cond, List, [], ◌∷◌, ◌++◌, length, Some, None, refl, sym, ap, ◌∙◌, arith, length-append}
 use Rattle.std.specs.Prelude.{nat_le, nat_lt, ◌&&◌}
 use Rattle.std.proofs.lemmas.Bool.{cases_lt, le-leb, lt-leb, lt-ltb, le-ltb, and_right, cond-false}
+use Rattle.std.proofs.lemmas.Bool.Decides.{nat_tests}
 use Rattle.dw_model.specs.Ranges as model
 use Rattle.dw_index.specs.declared.range.Range.{Range}
 use Rattle.dw_index.specs.declared.segment.Segment.{Segment}
@@ -44,13 +45,7 @@ module _ (begin end owner : ℕ) where
       record { begin = begin; owner = Some owner } ∷ record { begin = end; owner = None } ∷ []
 
   at_each : begin < end → (a : ℕ) → owner_at two_segments a ≡ owner_in a pair
-  at_each h a = elim (cases_lt a begin) [
-    | inl b ↦ rw (below a b, lt-leb begin a b, lt-leb end a (omega arith)) refl
-    | inr b ↦ elim (cases_lt a end) [
-      | inl e ↦ rw (held a b e, le-leb begin a b, lt-leb end a e) refl
-      | inr e ↦ rw (behind a e, le-leb end a e) refl
-    ]
-  ]
+  at_each h a = grind (arith, nat_tests)
 
   pub index_of_one : begin < end → AreIndexOf (pair ∷ []) two_segments
   index_of_one h = record {

@@ -3,6 +3,7 @@ use Rattle.std.proofs.Common.{◌≡◌, ◌≢◌, inl, inr, ◌≤◌, ◌<◌
 use Rattle.std.specs.Prelude.{◌==◌, nat_eq}
 use Rattle.std.specs.Option.{option_eq}
 use Rattle.std.proofs.lemmas.Bool.{eqb-true, eqb-false, eq-eqb, ne_eqb, cases_eq, cases_lt, cond_both, le-leb, lt-leb}
+use Rattle.std.proofs.lemmas.Bool.Decides.{nat_tests}
 use Rattle.std.proofs.lemmas.Option.{same_Some}
 use Rattle.dw_index.specs.declared.segment.Segment.{Segment}
 use Rattle.dw_index.specs.Owners.{least}
@@ -29,14 +30,11 @@ past_rises bound at owner (segment ∷ segments) s h = elim (cases_eq segment.be
 
 past_behind : (at : ℕ) (owner : Option ℕ) (rest : List Segment) (a : ℕ) → at ≤ a → owner_from (past_owner at owner rest) (past_rest at rest) a ≡ owner_from owner rest a
 past_behind at owner [] a h = refl
-past_behind at owner (segment ∷ segments) a h = elim (cases_eq segment.begin at) [
-  | inl e ↦ rw (eq-eqb segment.begin at e) (sym (behind_border segment segments owner a (omega arith)))
-  | inr e ↦ rw (ne_eqb segment.begin at e) refl
-]
+past_behind at owner (segment ∷ segments) a h = grind (arith, nat_tests)
 
 past_length : (at : ℕ) (rest : List Segment) → length (past_rest at rest) ≤ length rest
 past_length at [] = omega arith
-past_length at (segment ∷ segments) = cond_both (segment.begin == at) segments (segment ∷ segments) (λ rest. length rest ≤ length (segment ∷ segments)) (λ e. omega arith) (λ e. omega arith)
+past_length at (segment ∷ segments) = grind (arith, nat_tests)
 
 -- ---- the next border
 
