@@ -9,6 +9,7 @@ use Rattle.std.proofs.lemmas.Iterator.Adapters.{position_from-zero}
 use Rattle.dw_model.specs.Ranges.{Range, holds, covers}
 use Rattle.dw_index.specs.Owners.{least, owner_in, least_owner, IsLeastOwner, numbered}
 use Rattle.dw_index.proofs.OwnerLemmas.{least_owner-append}
+use Rattle.std.proofs.lemmas.Bool.Decides.{nat_tests}
 
 abbrev Pair : Type 0
 Pair = Range × ℕ
@@ -104,10 +105,7 @@ is_least (pair ∷ pairs) a owner e =
     by_later pair pairs a owner (holds a pair.0) (least_owner pairs a) refl refl (λ other. is_least pairs a other) e
 
 only_one : (pairs : List Pair) (a one other : ℕ) → IsLeastOwner pairs a one → IsLeastOwner pairs a other → one ≡ other
-only_one pairs a one other x y =
-    let low = both (NotLess a one) (Owns a other) pairs x.none_less y.owns in
-    let high = both (NotLess a other) (Owns a one) pairs y.none_less x.owns in
-    omega (arith, low.1 low.2.0, low.2.1, high.1 high.2.0, high.2.1)
+only_one pairs a one other x y = grind (arith, nat_tests)
 
 from_found : (pairs : List Pair) (a owner : ℕ) (found : Option ℕ) → least_owner pairs a ≡ found → IsLeastOwner pairs a owner → found ≡ Some owner
 from_found pairs a owner None e is =

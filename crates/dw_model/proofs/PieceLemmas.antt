@@ -3,8 +3,10 @@ use Rattle.std.proofs.Common.{◌≡◌, ◌≢◌, ◌≤◌, ◌<◌, ℕ, zer
 use Rattle.std.specs.Prelude.{◌&&◌, nat_le, nat_lt, nat_eq, ◌==◌, IsOk}
 use Rattle.std.specs.Cmp.Lexicographic.{pointwise, bytes_decides}
 use Rattle.std.proofs.Math.Nat.{eq-or-lt_of_le}
-use Rattle.std.proofs.lemmas.Bool.{eqb-true, eq-eqb, le-leb, lt-ltb, le-ltb, lt-leb, ltb-true, ltb-false, and_parts, true≢false}
+use Rattle.std.proofs.lemmas.Bool.{eqb-true, eq-eqb, le-leb, lt-ltb, and_parts, and_from, both_ways, cond_both, cases_Bool, cases_eq, cases_lt}
+use Rattle.std.proofs.lemmas.Bool.Decides.{nat_tests}
 use Rattle.dw_model.specs.Results.{◌>>=◌}
+use Rattle.dw_model.proofs.StepLemmas.{bind_ok, bind_err, ok_is}
 use Rattle.dw_model.specs.Answer.{Location, Piece}
 use Rattle.dw_model.specs.Pieces.{UnitFault, is_same_number, is_same_path, is_same, with_address, pieces_from, IsApart, AreInOrder, location_in, ArePieces, IsFirstFault, with_piece, HaveLocation}
 
@@ -30,12 +32,7 @@ own_path : (p : Option (List ℕ)) → is_same_path p p ≡ true
 own_path None = refl
 own_path (Some p) = (bytes_decides p p).1 refl
 
-both : (a b : Bool) → a ≡ true → b ≡ true → (a && b) ≡ true
-both true true e f = refl
-both true false e f = absurd cc
-both false b e f = absurd cc
-
-pub same_location : (p q : Location) → is_same p q ≡ true → p ≡ q
+same_location : (p q : Location) → is_same p q ≡ true → p ≡ q
 same_location p q e =
     let parts = and_parts (is_same_path p.path q.path) (is_same_number p.line q.line && is_same_number p.column q.column) e in
     let numbers = and_parts (is_same_number p.line q.line) (is_same_number p.column q.column) parts.1 in
@@ -46,11 +43,18 @@ same_location p q e =
 
 own_location : (p : Location) → is_same p p ≡ true
 own_location p =
-    both (is_same_path p.path p.path) (is_same_number p.line p.line && is_same_number p.column p.column) (own_path p.path)
-    (both (is_same_number p.line p.line) (is_same_number p.column p.column) (own_number p.line) (own_number p.column))
+    and_from (is_same_path p.path p.path) (is_same_number p.line p.line && is_same_number p.column p.column) (own_path p.path)
+    (and_from (is_same_number p.line p.line) (is_same_number p.column p.column) (own_number p.line) (own_number p.column))
 
-pub other_location : (p q : Location) → is_same p q ≡ false → p ≢ q
-other_location p q e = λ same. true≢false (sym (own_location p) ∙ ap (is_same p) same ∙ e)
+-- what the test says, whether a location goes on where another piece begins
+goes_on : (m n : ℕ) (p q : Location) → (m == n && is_same p q) ≡ true → (m ≡ n) × (p ≡ q)
+goes_on m n p q e =
+    let parts = and_parts (m == n) (is_same p q) e in
+    (eqb-true m n parts.0, same_location p q parts.1)
+
+parts_there : (m n : ℕ) (p q : Location) → (m == n && is_same p q) ≡ false → m ≡ n → p ≢ q
+parts_there m n p q e touches same =
+    both_ways (m == n && is_same p q) e (and_from (m == n) (is_same p q) (eq-eqb m n touches) (ap (is_same p) (sym same) ∙ own_location p))
 
 -- ---- the piece of an address
 
@@ -58,19 +62,10 @@ pub held : (piece : Piece) (pieces : List Piece) (a : ℕ) → piece.begin ≤ a
 held piece pieces a from before = rw (le-leb piece.begin a from, lt-ltb a piece.end before) refl
 
 pub after : (piece : Piece) (pieces : List Piece) (a : ℕ) → piece.end ≤ a → location_in (piece ∷ pieces) a ≡ location_in pieces a
-after piece pieces a past = by (nat_le piece.begin a) (nat_lt a piece.end) (le-ltb a piece.end past)
-  where
-    by : (b c : Bool) → c ≡ false → cond {A = Option Location} (b && c) (Some piece.location) (location_in pieces a) ≡ location_in pieces a
-    by true true e = absurd cc
-    by true false e = refl
-    by false c e = refl
+after piece pieces a past = grind (arith, nat_tests)
 
 pub ahead : (piece : Piece) (pieces : List Piece) (a : ℕ) → a < piece.begin → location_in (piece ∷ pieces) a ≡ location_in pieces a
-ahead piece pieces a before = by (nat_le piece.begin a) (lt-leb piece.begin a before)
-  where
-    by : (b : Bool) → b ≡ false → cond {A = Option Location} (b && nat_lt a piece.end) (Some piece.location) (location_in pieces a) ≡ location_in pieces a
-    by true e = absurd cc
-    by false e = refl
+ahead piece pieces a before = grind (arith, nat_tests)
 
 -- before all pieces lies none
 pub before_all : (low high : ℕ) (pieces : List Piece) (a : ℕ) → AreInOrder low high pieces → a < low → location_in pieces a ≡ None
@@ -85,22 +80,14 @@ in_order_from earlier low high (piece ∷ pieces) e order = (omega (arith, e, or
 
 -- ---- an address before the pieces of those after it
 
-decide : (m n : ℕ) → (m < n) ⊎ (n ≤ m)
-decide m n = by (nat_lt m n) refl
-  where
-    by : (b : Bool) → nat_lt m n ≡ b → (m < n) ⊎ (n ≤ m)
-    by true e = inl (ltb-true m n e)
-    by false e = inr (ltb-false m n e)
-
 module _ (location : ℕ → Result (Option Location) UnitFault) where
   -- what holds of an address and of those after it holds from it on
   each_from : (a high : ℕ) (pieces : List Piece) → location a ≡ Ok (location_in pieces a) → ((b : ℕ) → a + 1 ≤ b → b < high → location b ≡ Ok (location_in pieces b))
       → (b : ℕ) → a ≤ b → b < high → location b ≡ Ok (location_in pieces b)
-  each_from a high pieces here others b from before = by (eq-or-lt_of_le from)
-    where
-      by : (a ≡ b) ⊎ (a < b) → location b ≡ Ok (location_in pieces b)
-      by (inl same) = subst (λ (b : ℕ). location b ≡ Ok (location_in pieces b)) same here
-      by (inr less) = others b (omega (arith, less)) before
+  each_from a high pieces here others b from before = elim (eq-or-lt_of_le from) [
+    | inl same ↦ subst (λ (b : ℕ). location b ≡ Ok (location_in pieces b)) same here
+    | inr less ↦ others b (omega (arith, less)) before
+  ]
 
   none_before : (a high : ℕ) (later : List Piece) → location a ≡ Ok None → ArePieces location (a + 1) high later → ArePieces location a high later
   none_before a high later here are = record {
@@ -122,11 +109,7 @@ module _ (location : ℕ → Result (Option Location) UnitFault) where
 
   -- a piece that begins one address earlier has the others too
   in_longer : (a b : ℕ) (piece : Piece) (later : List Piece) → piece.begin ≤ b → a ≤ b → location_in (piece ∷ later) b ≡ location_in (longer a piece ∷ later) b
-  in_longer a b piece later from order = by (decide b piece.end)
-    where
-      by : (b < piece.end) ⊎ (piece.end ≤ b) → location_in (piece ∷ later) b ≡ location_in (longer a piece ∷ later) b
-      by (inl less) = held piece later b from less ∙ sym (held (longer a piece) later b order less)
-      by (inr more) = after piece later b more ∙ sym (after (longer a piece) later b more)
+  in_longer a b piece later from order = grind (arith, nat_tests)
 
   joined_before : (a high : ℕ) (here : Location) (piece : Piece) (later : List Piece) → location a ≡ Ok (Some here) → ArePieces location (a + 1) high (piece ∷ later) → piece.begin ≡ a + 1 → here ≡ piece.location → ArePieces location a high (longer a piece ∷ later)
   joined_before a high here piece later is are begins same = record {
@@ -140,33 +123,19 @@ module _ (location : ℕ → Result (Option Location) UnitFault) where
   with_one a high None later within is are = none_before a high later is are
   with_one a high (Some here) [] within is are = one_before a high here [] within is are tt
   with_one a high (Some here) (piece ∷ later) within is are =
-      by (piece.begin == a + 1) (is_same here piece.location) refl refl
-    where
-      by : (b c : Bool) → (piece.begin == a + 1) ≡ b → is_same here piece.location ≡ c
-          → ArePieces location a high (cond (b && c) (longer a piece ∷ later) (lone a here ∷ piece ∷ later))
-      by true true e f = joined_before a high here piece later is are (eqb-true piece.begin (a + 1) e) (same_location here piece.location f)
-      by true false e f = one_before a high here (piece ∷ later) within is are (λ touches. other_location here piece.location f)
-      by false c e f = one_before a high here (piece ∷ later) within is are (λ touches. absurd (true≢false (sym (eq-eqb piece.begin (a + 1) (sym touches)) ∙ e)))
+      cond_both (piece.begin == a + 1 && is_same here piece.location) (longer a piece ∷ later) (lone a here ∷ piece ∷ later) (ArePieces location a high)
+      (λ e. let on = goes_on piece.begin (a + 1) here piece.location e in joined_before a high here piece later is are on.0 on.1)
+      (λ e. one_before a high here (piece ∷ later) within is are (λ touches. parts_there piece.begin (a + 1) here piece.location e (sym touches)))
 
   pub are_pieces : (count a high : ℕ) (found : List Piece) → high ≡ a + count → pieces_from location a count ≡ Ok found → ArePieces location a high found
   unfolding pieces_from
   are_pieces zero a high [] end e = record { order = tt; each = λ b from before. absurd (omega (arith, end, from, before)) }
   are_pieces zero a high (piece ∷ found) end e = absurd cc
   are_pieces (suc count) a high found end e =
-      by (location a) refl e (λ rest f. are_pieces count (a + 1) high rest (omega (arith, end)) f)
-    where
-      Rest : Type 0
-      Rest = (rest : List Piece) → pieces_from location (a + 1) count ≡ Ok rest → ArePieces location (a + 1) high rest
-
-      later : (here : Option Location) → location a ≡ Ok here → (rest : Result (List Piece) UnitFault) → pieces_from location (a + 1) count ≡ rest → (rest >>= λ later. Ok (with_address a here later)) ≡ Ok found → Rest → ArePieces location a high found
-      later here is (Err fault) are e on = absurd cc
-      later here is (Ok rest) are e on =
-          let same : with_address a here rest ≡ found = cc in
-          subst (ArePieces location a high) same (with_one a high here rest (omega (arith, end)) is (on rest are))
-
-      by : (here : Result (Option Location) UnitFault) → location a ≡ here → (here >>= λ here. pieces_from location (a + 1) count >>= λ later. Ok (with_address a here later)) ≡ Ok found → Rest → ArePieces location a high found
-      by (Err fault) is e on = absurd cc
-      by (Ok here) is e on = later here is (pieces_from location (a + 1) count) refl e on
+      let here = bind_ok (location a) (λ here. pieces_from location (a + 1) count >>= λ later. Ok (with_address a here later)) found e in
+      let rest = bind_ok (pieces_from location (a + 1) count) (λ later. Ok (with_address a here.0 later)) found here.2 in
+      subst (ArePieces location a high) (ok_is (with_address a here.0 rest.0) found rest.2)
+      (with_one a high here.0 rest.0 (omega (arith, end)) here.1 (are_pieces count (a + 1) high rest.0 (omega (arith, end)) rest.1))
 
   -- ---- the pieces without their first address
 
@@ -198,13 +167,10 @@ module _ (location : ℕ → Result (Option Location) UnitFault) where
 
   lone_whole : (a : ℕ) (piece : Piece) (pieces : List Piece) → piece.begin ≡ a → piece.end ≡ a + 1 → IsApart piece.end piece.location pieces → with_address a (Some piece.location) pieces ≡ piece ∷ pieces
   lone_whole a piece [] begins ends apart = λ i. record { begin = sym begins i; end = sym ends i; location = piece.location } ∷ []
-  lone_whole a piece (next ∷ pieces) begins ends apart = by (next.begin == a + 1) (is_same piece.location next.location) refl refl
-    where
-      by : (b c : Bool) → (next.begin == a + 1) ≡ b → is_same piece.location next.location ≡ c
-          → cond (b && c) (longer a next ∷ pieces) (lone a piece.location ∷ next ∷ pieces) ≡ piece ∷ next ∷ pieces
-      by true true e f = absurd (apart (ends ∙ sym (eqb-true next.begin (a + 1) e)) (same_location piece.location next.location f))
-      by true false e f = λ i. record { begin = sym begins i; end = sym ends i; location = piece.location } ∷ next ∷ pieces
-      by false c e f = λ i. record { begin = sym begins i; end = sym ends i; location = piece.location } ∷ next ∷ pieces
+  lone_whole a piece (next ∷ pieces) begins ends apart = elim (cases_Bool (next.begin == a + 1 && is_same piece.location next.location)) [
+    | inl e ↦ (let on = goes_on next.begin (a + 1) piece.location next.location e in absurd (apart (ends ∙ sym on.0) on.1))
+    | inr e ↦ rw e (λ i. record { begin = sym begins i; end = sym ends i; location = piece.location } ∷ next ∷ pieces)
+  ]
 
   -- the first piece has this address alone
   split_lone : (a high : ℕ) (piece : Piece) (pieces : List Piece) → ArePieces location a high (piece ∷ pieces) → piece.begin ≡ a → piece.end ≡ a + 1 → IsSplit a high (piece ∷ pieces) pieces
@@ -219,13 +185,7 @@ module _ (location : ℕ → Result (Option Location) UnitFault) where
       }
 
   joined_whole : (a : ℕ) (piece : Piece) (pieces : List Piece) → piece.begin ≡ a → with_address a (Some piece.location) (longer (a + 1) piece ∷ pieces) ≡ piece ∷ pieces
-  joined_whole a piece pieces begins = by ((a + 1) == (a + 1)) (is_same piece.location piece.location) (eq-eqb (a + 1) (a + 1) refl) (own_location piece.location)
-    where
-      by : (b c : Bool) → b ≡ true → c ≡ true
-          → cond (b && c) (longer a piece ∷ pieces) (lone a piece.location ∷ longer (a + 1) piece ∷ pieces) ≡ piece ∷ pieces
-      by true true e f = λ i. record { begin = sym begins i; end = piece.end; location = piece.location } ∷ pieces
-      by true false e f = absurd cc
-      by false c e f = absurd cc
+  joined_whole a piece pieces begins = rw (eq-eqb (a + 1) (a + 1) refl, own_location piece.location) (λ i. record { begin = sym begins i; end = piece.end; location = piece.location } ∷ pieces)
 
   -- the first piece has others beside this address
   split_longer : (a high : ℕ) (piece : Piece) (pieces : List Piece) → ArePieces location a high (piece ∷ pieces) → piece.begin ≡ a → a + 1 < piece.end → IsSplit a high (piece ∷ pieces) (longer (a + 1) piece ∷ pieces)
@@ -247,15 +207,13 @@ module _ (location : ℕ → Result (Option Location) UnitFault) where
 
   split : (a high : ℕ) (pieces : List Piece) → ArePieces location a high pieces → Split a high pieces
   split a high [] are = record { later = []; is = record { whole = refl; are = record { order = tt; each = λ b from before. are.each b (omega (arith, from)) before } } }
-  split a high (piece ∷ pieces) are = by (eq-or-lt_of_le are.order.0)
-    where
-      one : a ≡ piece.begin → (a + 1 ≡ piece.end) ⊎ (a + 1 < piece.end) → Split a high (piece ∷ pieces)
-      one same (inl ends) = record { later = pieces; is = split_lone a high piece pieces are (sym same) (sym ends) }
-      one same (inr less) = record { later = longer (a + 1) piece ∷ pieces; is = split_longer a high piece pieces are (sym same) less }
-
-      by : (a ≡ piece.begin) ⊎ (a < piece.begin) → Split a high (piece ∷ pieces)
-      by (inl same) = one same (eq-or-lt_of_le (omega (arith, same, are.order.1)))
-      by (inr less) = record { later = piece ∷ pieces; is = split_ahead a high piece pieces are less }
+  split a high (piece ∷ pieces) are = elim (eq-or-lt_of_le are.order.0) [
+    | inl same ↦ elim (cases_eq (a + 1) piece.end) [
+      | inl ends ↦ record { later = pieces; is = split_lone a high piece pieces are (sym same) (sym ends) }
+      | inr more ↦ record { later = longer (a + 1) piece ∷ pieces; is = split_longer a high piece pieces are (sym same) (omega (arith, same, are.order.1)) }
+    ]
+    | inr less ↦ record { later = piece ∷ pieces; is = split_ahead a high piece pieces are less }
+  ]
 
   pub pieces_are : (count a high : ℕ) (found : List Piece) → high ≡ a + count → ArePieces location a high found → pieces_from location a count ≡ Ok found
   unfolding pieces_from
@@ -269,53 +227,41 @@ module _ (location : ℕ → Result (Option Location) UnitFault) where
 
   -- ---- the first fault
 
+  later_fault : (later : Result (List Piece) UnitFault) (make : List Piece → List Piece) (fault : UnitFault) → (later >>= λ later. Ok (make later)) ≡ Err fault → later ≡ Err fault
+  later_fault (Ok later) make fault e = absurd cc
+  later_fault (Err other) make fault e = cc
+
   pub first_fault : (count a high : ℕ) (fault : UnitFault) → high ≡ a + count → pieces_from location a count ≡ Err fault → IsFirstFault location a high fault
   unfolding pieces_from
   first_fault zero a high fault end e = absurd cc
-  first_fault (suc count) a high fault end e =
-      by (location a) refl e (λ f. first_fault count (a + 1) high fault (omega (arith, end)) f)
-    where
-      Rest : Type 0
-      Rest = pieces_from location (a + 1) count ≡ Err fault → IsFirstFault location (a + 1) high fault
-
-      earlier : (here : Option Location) → location a ≡ Ok here → (rest : Result (List Piece) UnitFault) → pieces_from location (a + 1) count ≡ rest → (rest >>= λ later. Ok (with_address a here later)) ≡ Err fault → Rest → IsFirstFault location a high fault
-      earlier here is (Ok rest) are e on = absurd cc
-      earlier here is (Err other) are e on =
-          let same : other ≡ fault = cc in
-          let found = on (are ∙ ap Err same) in
-          record {
-            address = found.address;
-            from = omega (arith, found.from);
-            before = found.before;
-            is = found.is;
-            first = λ b from before. first_is b (eq-or-lt_of_le from) (λ less. found.first b (omega (arith, less)) before);
-          }
-        where
-          first_is : (b : ℕ) → (a ≡ b) ⊎ (a < b) → (a < b → IsOk (location b)) → IsOk (location b)
-          first_is b (inl same) later = subst (λ (b : ℕ). IsOk (location b)) same (rw is refl)
-          first_is b (inr less) later = later less
-
-      by : (here : Result (Option Location) UnitFault) → location a ≡ here → (here >>= λ here. pieces_from location (a + 1) count >>= λ later. Ok (with_address a here later)) ≡ Err fault → Rest → IsFirstFault location a high fault
-      by (Err other) is e on =
-          let same : other ≡ fault = cc in
-          record { address = a; from = omega arith; before = omega (arith, end); is = is ∙ ap Err same; first = λ b from before. absurd (omega (arith, from, before)) }
-      by (Ok here) is e on = earlier here is (pieces_from location (a + 1) count) refl e on
+  first_fault (suc count) a high fault end e = elim (bind_err (location a) (λ here. pieces_from location (a + 1) count >>= λ later. Ok (with_address a here later)) fault e) [
+    | inl here ↦ record { address = a; from = omega arith; before = omega (arith, end); is = here; first = λ b from before. absurd (omega (arith, from, before)) }
+    | inr here ↦ (
+        let found = first_fault count (a + 1) high fault (omega (arith, end)) (later_fault (pieces_from location (a + 1) count) (with_address a here.0) fault here.2) in
+        record {
+          address = found.address;
+          from = omega (arith, found.from);
+          before = found.before;
+          is = found.is;
+          first = λ b from before. elim (eq-or-lt_of_le from) [
+            | inl same ↦ subst (λ (b : ℕ). IsOk (location b)) same (rw here.1 refl)
+            | inr less ↦ found.first b (omega (arith, less)) before
+          ];
+        })
+  ]
 
   pub fault_first : (count a high : ℕ) (fault : UnitFault) → high ≡ a + count → IsFirstFault location a high fault → pieces_from location a count ≡ Err fault
   unfolding pieces_from
   fault_first zero a high fault end found = absurd (omega (arith, end, found.from, found.before))
-  fault_first (suc count) a high fault end found =
-      by (eq-or-lt_of_le found.from) (λ rest. fault_first count (a + 1) high fault (omega (arith, end)) rest)
+  fault_first (suc count) a high fault end found = elim (eq-or-lt_of_le found.from) [
+    | inl same ↦ rw (ap location same ∙ found.is) refl
+    | inr less ↦ not_first (location a) refl (found.first a (omega arith) less)
+        (fault_first count (a + 1) high fault (omega (arith, end)) (record { address = found.address; from = omega (arith, less); before = found.before; is = found.is; first = λ b from before. found.first b (omega (arith, from)) before }))
+  ]
     where
       not_first : (at : Result (Option Location) UnitFault) → location a ≡ at → IsOk at → pieces_from location (a + 1) count ≡ Err fault → (location a >>= λ here. pieces_from location (a + 1) count >>= λ later. Ok (with_address a here later)) ≡ Err fault
       not_first (Err other) is ok rest = absurd cc
       not_first (Ok here) is ok rest = rw (is, rest) refl
-
-      by : (a ≡ found.address) ⊎ (a < found.address) → (IsFirstFault location (a + 1) high fault → pieces_from location (a + 1) count ≡ Err fault)
-          → (location a >>= λ here. pieces_from location (a + 1) count >>= λ later. Ok (with_address a here later)) ≡ Err fault
-      by (inl same) on = rw (ap location same ∙ found.is) refl
-      by (inr less) on = not_first (location a) refl (found.first a (omega arith) less)
-          (on (record { address = found.address; from = omega (arith, less); before = found.before; is = found.is; first = λ b from before. found.first b (omega (arith, from)) before }))
 
 -- ---- one piece more
 
@@ -327,26 +273,16 @@ grown piece next = record { begin = piece.begin; end = next.end; location = piec
 
 apart_more : (end : ℕ) (here : Location) (other : Piece) (pieces : List Piece) (next : Piece) → IsApart end here (other ∷ pieces) → IsApart end here (with_piece (other ∷ pieces) next)
 unfolding with_piece
-apart_more end here other [] next apart = by (other.end == next.begin && is_same other.location next.location)
-  where
-    by : (b : Bool) → IsApart end here (cond b (grown other next ∷ []) (other ∷ next ∷ []))
-    by true = apart
-    by false = apart
+apart_more end here other [] next apart = cond_both (other.end == next.begin && is_same other.location next.location) (grown other next ∷ []) (other ∷ next ∷ []) (IsApart end here) (λ e. apart) (λ e. apart)
 apart_more end here other (piece ∷ pieces) next apart = apart
 
 order_more : (low : ℕ) (pieces : List Piece) (next : Piece) → AreInOrder low next.begin pieces → low ≤ next.begin → next.begin < next.end → AreInOrder low next.end (with_piece pieces next)
 unfolding with_piece
 order_more low [] next order from rises = (from, rises, omega arith, tt, tt)
 order_more low (piece ∷ []) next order from rises =
-    by (piece.end == next.begin) (is_same piece.location next.location) refl refl
-  where
-    two : IsApart piece.end piece.location (next ∷ []) → AreInOrder low next.end (piece ∷ next ∷ [])
-    two apart = (order.0, order.1, omega (arith, order.2, rises), apart, (order.2, rises, omega arith, tt, tt))
-
-    by : (b c : Bool) → (piece.end == next.begin) ≡ b → is_same piece.location next.location ≡ c → AreInOrder low next.end (cond (b && c) (grown piece next ∷ []) (piece ∷ next ∷ []))
-    by true true e f = (order.0, omega (arith, order.1, order.2, rises), omega arith, tt, tt)
-    by true false e f = two (λ touches. other_location piece.location next.location f)
-    by false c e f = two (λ touches. absurd (true≢false (sym (eq-eqb piece.end next.begin touches) ∙ e)))
+    cond_both (piece.end == next.begin && is_same piece.location next.location) (grown piece next ∷ []) (piece ∷ next ∷ []) (AreInOrder low next.end)
+    (λ e. (order.0, omega (arith, order.1, order.2, rises), omega arith, tt, tt))
+    (λ e. (order.0, order.1, omega (arith, order.2, rises), parts_there piece.end next.begin piece.location next.location e, (order.2, rises, omega arith, tt, tt)))
 order_more low (piece ∷ other ∷ pieces) next order from rises =
     (order.0, order.1, omega (arith, order.2, rises), apart_more piece.end piece.location other pieces next order.3, order_more piece.end (other ∷ pieces) next order.4 order.2 rises)
 
@@ -354,19 +290,12 @@ before_more : (low : ℕ) (pieces : List Piece) (next : Piece) (a : ℕ) → Are
 unfolding with_piece
 before_more low [] next a order rises before = ahead next [] a before
 before_more low (piece ∷ []) next a order rises before =
-    by (piece.end == next.begin) (is_same piece.location next.location) refl
+    cond_both (piece.end == next.begin && is_same piece.location next.location) (grown piece next ∷ []) (piece ∷ next ∷ []) (λ pieces. location_in pieces a ≡ location_in (piece ∷ []) a)
+    (λ e. one (goes_on piece.end next.begin piece.location next.location e).0)
+    (λ e. same_tail piece (next ∷ []) [] a (ahead next [] a before))
   where
-    two : location_in (piece ∷ next ∷ []) a ≡ location_in (piece ∷ []) a
-    two = same_tail piece (next ∷ []) [] a (ahead next [] a before)
-
-    one : (a < piece.begin) ⊎ (piece.begin ≤ a) → piece.end ≡ next.begin → location_in (grown piece next ∷ []) a ≡ location_in (piece ∷ []) a
-    one (inl less) e = ahead (grown piece next) [] a less ∙ sym (ahead piece [] a less)
-    one (inr more) e = held (grown piece next) [] a more (omega (arith, before, rises)) ∙ sym (held piece [] a more (omega (arith, before, e)))
-
-    by : (b c : Bool) → (piece.end == next.begin) ≡ b → location_in (cond (b && c) (grown piece next ∷ []) (piece ∷ next ∷ [])) a ≡ location_in (piece ∷ []) a
-    by true true e = one (decide a piece.begin) (eqb-true piece.end next.begin e)
-    by true false e = two
-    by false c e = two
+    one : piece.end ≡ next.begin → location_in (grown piece next ∷ []) a ≡ location_in (piece ∷ []) a
+    one touches = grind (arith, nat_tests)
 before_more low (piece ∷ other ∷ pieces) next a order rises before =
     same_tail piece (with_piece (other ∷ pieces) next) (other ∷ pieces) a (before_more piece.end (other ∷ pieces) next a order.4 rises before)
 
@@ -374,27 +303,20 @@ in_more : (low : ℕ) (pieces : List Piece) (next : Piece) (a : ℕ) → AreInOr
 unfolding with_piece
 in_more low [] next a order from before = held next [] a from before
 in_more low (piece ∷ []) next a order from before =
-    by (piece.end == next.begin) (is_same piece.location next.location) refl
-  where
-    two : location_in (piece ∷ next ∷ []) a ≡ Some next.location
-    two = after piece (next ∷ []) a (omega (arith, order.2, from)) ∙ held next [] a from before
-
-    by : (b c : Bool) → is_same piece.location next.location ≡ c → location_in (cond (b && c) (grown piece next ∷ []) (piece ∷ next ∷ [])) a ≡ Some next.location
-    by true true f = held (grown piece next) [] a (omega (arith, order.1, order.2, from)) before ∙ ap Some (same_location piece.location next.location f)
-    by true false f = two
-    by false c f = two
+    cond_both (piece.end == next.begin && is_same piece.location next.location) (grown piece next ∷ []) (piece ∷ next ∷ []) (λ pieces. location_in pieces a ≡ Some next.location)
+    (λ e. held (grown piece next) [] a (omega (arith, order.1, order.2, from)) before ∙ ap Some (goes_on piece.end next.begin piece.location next.location e).1)
+    (λ e. after piece (next ∷ []) a (omega (arith, order.2, from)) ∙ held next [] a from before)
 in_more low (piece ∷ other ∷ pieces) next a order from before =
     after piece (with_piece (other ∷ pieces) next) a (omega (arith, order.2, from)) ∙ in_more piece.end (other ∷ pieces) next a order.4 from before
 
 pub one_more : (location : ℕ → Result (Option Location) UnitFault) (low : ℕ) (pieces : List Piece) (next : Piece) → ArePieces location low next.begin pieces → low ≤ next.begin → next.begin < next.end → HaveLocation location next.begin next.end (Some next.location) → ArePieces location low next.end (with_piece pieces next)
 one_more location low pieces next are from rises have = record {
   order = order_more low pieces next are.order from rises;
-  each = λ a above below. by a above below (decide a next.begin);
+  each = λ a above below. elim (cases_lt a next.begin) [
+    | inl less ↦ are.each a above less ∙ ap Ok (sym (before_more low pieces next a are.order rises less))
+    | inr more ↦ have a more below ∙ ap Ok (sym (in_more low pieces next a are.order more below))
+  ];
 }
-  where
-    by : (a : ℕ) → low ≤ a → a < next.end → (a < next.begin) ⊎ (next.begin ≤ a) → location a ≡ Ok (location_in (with_piece pieces next) a)
-    by a above below (inl less) = are.each a above less ∙ ap Ok (sym (before_more low pieces next a are.order rises less))
-    by a above below (inr more) = have a more below ∙ ap Ok (sym (in_more low pieces next a are.order more below))
 
 -- after all pieces lies none
 after_all : (low high : ℕ) (pieces : List Piece) (a : ℕ) → AreInOrder low high pieces → high ≤ a → location_in pieces a ≡ None
@@ -409,9 +331,8 @@ in_order_to low high later (piece ∷ pieces) e order = (order.0, order.1, omega
 pub none_more : (location : ℕ → Result (Option Location) UnitFault) (low high later : ℕ) (pieces : List Piece) → ArePieces location low high pieces → high ≤ later → HaveLocation location high later None → ArePieces location low later pieces
 none_more location low high later pieces are order have = record {
   order = in_order_to low high later pieces order are.order;
-  each = λ a above below. by a above below (decide a high);
+  each = λ a above below. elim (cases_lt a high) [
+    | inl less ↦ are.each a above less
+    | inr more ↦ have a more below ∙ ap Ok (sym (after_all low high pieces a are.order more))
+  ];
 }
-  where
-    by : (a : ℕ) → low ≤ a → a < later → (a < high) ⊎ (high ≤ a) → location a ≡ Ok (location_in pieces a)
-    by a above below (inl less) = are.each a above less
-    by a above below (inr more) = have a more below ∙ ap Ok (sym (after_all low high pieces a are.order more))
