@@ -3,10 +3,10 @@ use Rattle.std.proofs.Common.{◌≡◌, ℕ, zero, suc, ◌+◌, ◌-◌, ◌*�
 use Rattle.std.specs.Prelude.{nat_le, nat_lt, ◌&&◌, IfSome, MatchOption, option_map, slice_get}
 use Rattle.std.specs.List.Sorted.{IsNonDecreasingBy, IsPartitionPoint}
 use Rattle.std.proofs.Math.Seq.{drop-nil}
-use Rattle.std.proofs.lemmas.Bool.{cases_lt, leb-true, leb-false, lt-ltb, le-leb, le-ltb, ltb-true, ltb-false, and_parts}
+use Rattle.std.proofs.lemmas.Bool.{cases_lt, leb-true, leb-false, lt-ltb, le-leb, lt-leb, le-ltb, ltb-true, and_parts, and_right}
 use Rattle.std.proofs.lemmas.List.{drop-drop, length-drop}
 use Rattle.std.proofs.lemmas.List.Sorted.{IsNonDecreasingBy-from_all_adjacent}
-use Rattle.std.proofs.lemmas.Option.{slice_get_read}
+use Rattle.std.proofs.lemmas.Option.{slice_get-get_or}
 use Rattle.dw_model.specs.LineHeader.{LineHeader}
 use Rattle.dw_model.specs.Matrix.{Row, never_falls, is_used, first_address, last_address, row_in}
 use Rattle.dw_line.specs.declared.checkpoints.Checkpoint.{Checkpoint}
@@ -33,12 +33,8 @@ later_rises (suc n) [] e = refl
 later_rises (suc n) (r ∷ rows) e = later_rises n rows (tail_rises r rows e)
 
 first_below : (n : ℕ) (r s : Row) (rows rest : List Row) → never_falls (r ∷ rows) ≡ true → s ∷ rest ≡ drop n (r ∷ rows) → r.address ≤ s.address
-first_below zero r s rows rest e h =
-    let same : s.address ≡ r.address = ap first_address h in
-    omega (arith, same)
-first_below (suc n) r s [] rest e h =
-    let none : s ∷ rest ≡ [] = h ∙ drop-nil n in
-    absurd cc
+first_below zero r s rows rest e h = omega (arith, ap first_address h)
+first_below (suc n) r s [] rest e h = absurd (cc (h, drop-nil {A = Row} n))
 first_below (suc n) r s (t ∷ rows) rest e h =
     let one = next_above r t rows e in
     let others = first_below n t s rows rest (tail_rises r (t ∷ rows) e) h in
@@ -47,28 +43,22 @@ first_below (suc n) r s (t ∷ rows) rest e h =
 last_later : (n : ℕ) (rows : List Row) (s : Row) (rest : List Row) → s ∷ rest ≡ drop n rows → last_address (s ∷ rest) ≡ last_address rows
 last_later zero rows s rest h = ap last_address h
 last_later (suc n) [] s rest h = absurd cc
-last_later (suc n) (r ∷ []) s rest h =
-    let none : s ∷ rest ≡ [] = h ∙ drop-nil n in
-    absurd cc
+last_later (suc n) (r ∷ []) s rest h = absurd (cc (h, drop-nil {A = Row} n))
 last_later (suc n) (r ∷ t ∷ rows) s rest h = last_later n (t ∷ rows) s rest h
 
--- rows in front of one at or before the address don't matter
-row_later : (n a : ℕ) (rows : List Row) (s : Row) (rest : List Row) → never_falls rows ≡ true → s ∷ rest ≡ drop n rows → s.address ≤ a → row_in a rows ≡ row_in a (s ∷ rest)
+-- a row whose next one isn't above the address doesn't matter
+passed_row : (a : ℕ) (r t : Row) (rows : List Row) → t.address ≤ a → row_in a (r ∷ t ∷ rows) ≡ row_in a (t ∷ rows)
 unfolding row_in
+passed_row a r t rows h = rw (and_right (nat_le r.address a) (nat_lt a t.address) (le-ltb a t.address h)) refl
+
+-- nor do rows in front of one at or before the address
+row_later : (n a : ℕ) (rows : List Row) (s : Row) (rest : List Row) → never_falls rows ≡ true → s ∷ rest ≡ drop n rows → s.address ≤ a → row_in a rows ≡ row_in a (s ∷ rest)
 row_later zero a rows s rest e h below = ap (row_in a) (sym h)
 row_later (suc n) a [] s rest e h below = absurd cc
-row_later (suc n) a (r ∷ []) s rest e h below =
-    let none : s ∷ rest ≡ [] = h ∙ drop-nil n in
-    absurd cc
+row_later (suc n) a (r ∷ []) s rest e h below = absurd (cc (h, drop-nil {A = Row} n))
 row_later (suc n) a (r ∷ t ∷ rows) s rest e h below =
     let next = first_below n t s rows rest (tail_rises r (t ∷ rows) e) h in
-    let behind : nat_lt a t.address ≡ false = le-ltb a t.address (omega (arith, next, below)) in
-    by (nat_le r.address a) (nat_lt a t.address) behind (row_later n a (t ∷ rows) s rest (tail_rises r (t ∷ rows) e) h below)
-  where
-    by : (b c : Bool) → c ≡ false → row_in a (t ∷ rows) ≡ row_in a (s ∷ rest) → cond (b && c) (Some r) (row_in a (t ∷ rows)) ≡ row_in a (s ∷ rest)
-    by true true f e = absurd cc
-    by true false f e = e
-    by false c f e = e
+    passed_row a r t rows (omega (arith, next, below)) ∙ row_later n a (t ∷ rows) s rest (tail_rises r (t ∷ rows) e) h below
 
 -- an address before the first row has none
 none_below : (a : ℕ) (rows : List Row) → never_falls rows ≡ true → a < first_address rows → row_in a rows ≡ None
@@ -77,27 +67,22 @@ none_below a [] e h = refl
 none_below a (r ∷ []) e h = refl
 none_below a (r ∷ t ∷ rows) e h =
     let next = next_above r t rows e in
-    by (nat_le r.address a) (nat_lt a t.address) (lt-leb r.address a h) (none_below a (t ∷ rows) (tail_rises r (t ∷ rows) e) (omega (arith, h, next)))
-  where
-    lt-leb : (x y : ℕ) → y < x → nat_le x y ≡ false
-    lt-leb x y h = grind (arith, h)
+    rw (lt-leb r.address a h) (none_below a (t ∷ rows) (tail_rises r (t ∷ rows) e) (omega (arith, h, next)))
 
-    by : (b c : Bool) → b ≡ false → row_in a (t ∷ rows) ≡ None → cond (b && c) (Some r) (row_in a (t ∷ rows)) ≡ None
-    by true c f e = absurd cc
-    by false c f e = e
+-- a row before whose next one the address lies is its own
+own_row : (a : ℕ) (r : Row) (own : List Row) → r.address ≤ a → a < first_address own → row_in a (r ∷ own) ≡ Some r
+unfolding row_in
+own_row a r [] below above = absurd (omega (arith, above))
+own_row a r (s ∷ own) below above = rw (le-leb r.address a below, lt-ltb a s.address above) refl
 
 -- an address from the first row on and before the last has a row
 pub has_row : (a : ℕ) (rows : List Row) → never_falls rows ≡ true → first_address rows ≤ a → a < last_address rows → row_in a rows ≡ None → ⊥
-unfolding row_in
 has_row a [] never from below none = absurd (omega (arith, below))
 has_row a (r ∷ []) never from below none = absurd (omega (arith, from, below))
-has_row a (r ∷ t ∷ rows) never from below none =
-    by (nat_le r.address a) (nat_lt a t.address) (le-leb r.address a from) refl none (λ after none. has_row a (t ∷ rows) (tail_rises r (t ∷ rows) never) after below none)
-  where
-    by : (b c : Bool) → b ≡ true → nat_lt a t.address ≡ c → cond (b && c) (Some r) (row_in a (t ∷ rows)) ≡ None → (t.address ≤ a → row_in a (t ∷ rows) ≡ None → ⊥) → ⊥
-    by true true h e none later = cc
-    by true false h e none later = later (ltb-false a t.address e) none
-    by false c h e none later = cc
+has_row a (r ∷ t ∷ rows) never from below none = elim (cases_lt a t.address) [
+  | inl here ↦ cc (own_row a r (t ∷ rows) from here, none)
+  | inr after ↦ has_row a (t ∷ rows) (tail_rises r (t ∷ rows) never) after below (sym (passed_row a r t rows after) ∙ none)
+]
 
 short : (a : ℕ) (rows : List Row) → length rows ≤ 1 → row_in a rows ≡ None
 unfolding row_in
@@ -137,12 +122,6 @@ none_before header (c ∷ checkpoints) rows a d has point =
     let above = leb-false c.registers.address a (point.1 0 d (omega arith) (omega arith)) in
     none_below a rows never (omega (arith, first, above))
 
--- a row before whose next one the address lies is its own
-own_row : (a : ℕ) (r : Row) (own : List Row) → r.address ≤ a → a < first_address own → row_in a (r ∷ own) ≡ Some r
-unfolding row_in
-own_row a r [] below above = absurd (omega (arith, above))
-own_row a r (s ∷ own) below above = rw (le-leb r.address a below, lt-ltb a s.address above) refl
-
 -- the row of an address at one of the rows or after it, and before the next
 pub row_on : (header : LineHeader) (rows : List Row) (a : ℕ) (last : Reached) → never_falls rows ≡ true → IsReached header rows last → last.row.address ≤ a → a < last.next.registers.address → row_in a rows ≡ Some (kept_row last.row)
 row_on header rows a last never is below above =
@@ -164,27 +143,20 @@ Before checkpoints number a = (d : Checkpoint) → number < length checkpoints �
 pub split_before : (checkpoints : List Checkpoint) (a next : ℕ) → Splits checkpoints a next → Before checkpoints next a
 split_before checkpoints a next point = λ d h. leb-false (get_or checkpoints next d).registers.address a (point.1 next d (omega arith) h)
 
-any : (checkpoints : List Checkpoint) (number : ℕ) (d e : Checkpoint) → number < length checkpoints → get_or checkpoints number d ≡ get_or checkpoints number e
-any [] number d e h = absurd (omega (arith, h))
-any (c ∷ checkpoints) zero d e h = refl
-any (c ∷ checkpoints) (suc number) d e h = any checkpoints number d e (omega (arith, h))
-
 pub is_before_all : (checkpoints : List Checkpoint) (number a : ℕ) → is_before a (slice_get checkpoints number) ≡ true → Before checkpoints number a
 is_before_all checkpoints number a e = λ d h.
-    let there = slice_get_read checkpoints (length checkpoints) number (get_or checkpoints number d) refl h (any checkpoints number d (get_or checkpoints number d) h) in
-    ltb-true a (get_or checkpoints number d).registers.address (sym (ap (is_before a) there) ∙ e)
+    ltb-true a (get_or checkpoints number d).registers.address (sym (ap (is_before a) (slice_get-get_or checkpoints number d h)) ∙ e)
 
 -- a row above the address isn't in front of one that isn't
 not_below : (rows : List Row) (place stop a : ℕ) (r s : Row) (own rest : List Row) → never_falls rows ≡ true → r ∷ own ≡ drop place rows → s ∷ rest ≡ drop stop rows → r.address ≤ a → a < s.address → place ≤ stop
-not_below rows place stop a r s own rest e h there below above = by (cases_lt stop place)
-  where
-    by : (stop < place) ⊎ (place ≤ stop) → place ≤ stop
-    by (inr more) = more
-    by (inl less) =
-        let places : stop + (place - stop) ≡ place = omega (arith, less) in
-        let same = h ∙ ap (λ (n : ℕ). drop n rows) (sym places) ∙ sym (drop-drop (place - stop) stop rows) ∙ ap (drop (place - stop)) (sym there) in
-        let order = first_below (place - stop) s r rest own (subst (λ (rows : List Row). never_falls rows ≡ true) (sym there) (later_rises stop rows e)) same in
-        absurd (omega (arith, order, below, above))
+not_below rows place stop a r s own rest e h there below above = elim (cases_lt stop place) [
+  | inl less ↦ (
+      let places : stop + (place - stop) ≡ place = omega (arith, less) in
+      let same = h ∙ ap (λ (n : ℕ). drop n rows) (sym places) ∙ sym (drop-drop (place - stop) stop rows) ∙ ap (drop (place - stop)) (sym there) in
+      let order = first_below (place - stop) s r rest own (subst (λ (rows : List Row). never_falls rows ≡ true) (sym there) (later_rises stop rows e)) same in
+      absurd (omega (arith, order, below, above)))
+  | inr more ↦ more
+]
 
 -- the last of some rows
 last_first : (rows : List Row) → first_address (drop (length rows - 1) rows) ≡ last_address rows
