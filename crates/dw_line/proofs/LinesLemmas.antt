@@ -2,7 +2,7 @@
 use Rattle.std.proofs.Common.{◌≡◌, ℕ, ◌<◌, ◌≤◌, length, get_or, List, [], Option, Some, None, Result, Ok, Err, refl, sym, subst, ap, ◌∙◌, arith}
 use Rattle.std.specs.Prelude.{Bool, true, false, cond, ◌==◌, IfSome, option_map, slice_get}
 use Rattle.std.specs.Result.{result_unwrap_or}
-use Rattle.std.proofs.lemmas.Bool.{eqb-true}
+use Rattle.std.proofs.lemmas.Bool.{eqb-true, cond_both}
 use Rattle.std.proofs.lemmas.Option.{same_Some, slice_get_read, slice_get_past}
 use Rattle.dw_model.specs.Faults.{Bad, bad}
 use Rattle.dw_model.specs.Text.{Tables, Bases}
@@ -101,11 +101,9 @@ not_past header checkpoints kept read all a k are found same past =
 -- what was found last in the sequence is one of its rows
 pub last_is : (header : LineHeader) (used : List (List Row)) (k : ℕ) (rows : List Row) (last : Option Last) → slice_get used k ≡ Some rows → IsLast header used last → IfSome (last_in k last) (IsReached header rows)
 last_is header used k rows None there is = tt
-last_is header used k rows (Some last) there is = by (last.number == k) refl
-  where
-    by : (same : Bool) → last.number == k ≡ same → IfSome (cond same (Some last.reached) None) (IsReached header rows)
-    by true e = subst (λ (found : Option (List Row)). IfSome found (λ rows. IsReached header rows last.reached)) (ap (slice_get used) (eqb-true last.number k e) ∙ there) is
-    by false e = tt
+last_is header used k rows (Some last) there is =
+    cond_both (last.number == k) (Some last.reached) None (λ reached. IfSome reached (IsReached header rows))
+    (λ e. subst (λ (found : Option (List Row)). IfSome found (λ rows. IsReached header rows last.reached)) (ap (slice_get used) (eqb-true last.number k e) ∙ there) is) (λ e. tt)
 
 -- an address of a used sequence has a row
 pub finds_one : (header : LineHeader) (rows : List Row) (a : ℕ) (found : Option Reached) → found ≡ None → is_used rows ≡ true → first_address rows ≤ a → a < last_address rows → FindsIn header rows a found → ⊥

@@ -1,5 +1,5 @@
 -- One instruction more, or none: the rows that the machine appends from there on.
-use Rattle.std.proofs.Common.{◌≡◌, ℕ, ◌<◌, Bool, true, false, List, [], ◌∷◌, ◌++◌, length, true≢false, Option, Some, None, Result, Ok, Err, refl, sym, ap, ◌∙◌, append_assoc, length-append, arith}
+use Rattle.std.proofs.Common.{◌≡◌, ℕ, ◌<◌, Bool, true, false, List, [], ◌∷◌, ◌++◌, length, Option, Some, None, Result, Ok, Err, inl, inr, refl, sym, ap, ◌∙◌, append_assoc, length-append, arith}
 use Rattle.std.specs.Prelude.{option_map}
 use Rattle.dw_model.specs.Results.{◌>>=◌}
 use Rattle.dw_model.specs.Reading.{Place, start, items, onto, Spans}
@@ -8,6 +8,7 @@ use Rattle.dw_model.specs.LineHeader.{LineHeader}
 use Rattle.dw_model.specs.Instruction.{Instruction, special, copy, advance_pc, advance_line, set_file, set_column, const_add_pc, fixed_advance_pc, end_sequence, set_address, no_effect, next_instruction, instructions}
 use Rattle.dw_model.specs.Matrix.{Row, matrix, is_end, appends}
 use Rattle.dw_model.specs.Registers.{Registers, initial, step, row, run}
+use Rattle.dw_model.proofs.StepLemmas.{bind_ok, bind_err, ok_is, ok-err}
 use Rattle.dw_model.proofs.RegisterLemmas.{run-after}
 use Rattle.dw_model.proofs.ProgramLemmas.{instructions_advance}
 use Rattle.dw_model.proofs.InstructionLemmas.{instruction-spans}
@@ -55,25 +56,18 @@ shorter p q s = omega (arith, ap length s.1.0, length-append s.0 q.left, s.2)
 
 -- ---- one instruction
 
-end-appends : (i : Instruction) → is_end i ≡ true → appends i ≡ true
-end-appends end_sequence e = refl
-end-appends (special n) e = absurd cc
-end-appends copy e = absurd cc
-end-appends (advance_pc n) e = absurd cc
-end-appends (advance_line z) e = absurd cc
-end-appends (set_file n) e = absurd cc
-end-appends (set_column n) e = absurd cc
-end-appends const_add_pc e = absurd cc
-end-appends (fixed_advance_pc n) e = absurd cc
-end-appends (set_address n) e = absurd cc
-end-appends no_effect e = absurd cc
-
 no_end : (i : Instruction) → appends i ≡ false → is_end i ≡ false
-no_end i none = by (is_end i) (end-appends i)
-  where
-    by : (b : Bool) → (b ≡ true → appends i ≡ true) → b ≡ false
-    by true sure = absurd (true≢false (sym (sure refl) ∙ none))
-    by false sure = refl
+no_end end_sequence none = absurd cc
+no_end (special n) none = refl
+no_end copy none = refl
+no_end (advance_pc n) none = refl
+no_end (advance_line z) none = refl
+no_end (set_file n) none = refl
+no_end (set_column n) none = refl
+no_end const_add_pc none = refl
+no_end (fixed_advance_pc n) none = refl
+no_end (set_address n) none = refl
+no_end no_effect none = refl
 
 run-row : (header : LineHeader) (r : Registers) (i : Instruction) (list : List Instruction) → appends i ≡ true → run header r (i ∷ list) ≡ row (step header i r) (is_end i) ∷ run header (registers_behind (step header i r) (is_end i)) list
 unfolding run
@@ -110,36 +104,27 @@ appends_row header r i p q e adds =
 -- there is none
 pub ends : (header : LineHeader) (r : Registers) (p q : Place) → next_instruction header p ≡ Ok (None, q) → rows_on header (record { registers = r; place = p }) ≡ Ok []
 unfolding rows_on run
-ends header r p q e =
-    let step : items (λ q. q.left) (next_instruction header) p ≡ Ok ([], q) = rw (items-turn (next_instruction header) (λ q. q.left) (instructions_advance header) p, e) refl in
-    rw step refl
+ends header r p q e = rw (items-turn (next_instruction header) (λ q. q.left) (instructions_advance header) p, e) refl
 
 pub stops : (header : LineHeader) (r : Registers) (p : Place) → next_instruction header p ≡ Err bad → rows_on header (record { registers = r; place = p }) ≡ Err bad
 unfolding rows_on
-stops header r p e =
-    let step : items (λ q. q.left) (next_instruction header) p ≡ Err bad = rw (items-turn (next_instruction header) (λ q. q.left) (instructions_advance header) p, e) refl in
-    rw step refl
+stops header r p e = rw (items-turn (next_instruction header) (λ q. q.left) (instructions_advance header) p, e) refl
 
 -- ---- the whole program
 
 -- a program that can be read has the rows of its matrix
 pub matrix_rows : (header : LineHeader) (rows : List Row) → rows_on header (beginning header) ≡ Ok rows → (list : List Instruction) × (instructions header ≡ Ok list) × (rows ≡ matrix header list)
 unfolding rows_on instructions
-matrix_rows header rows e = by (items (λ q. q.left) (next_instruction header) (start header.program)) e
-  where
-    by : (read : Result (List Instruction × Place) Bad) → (read >>= λ found. Ok (run header initial found.0)) ≡ Ok rows → (list : List Instruction) × ((read >>= λ found. Ok found.0) ≡ Ok list) × (rows ≡ matrix header list)
-    by (Ok found) e =
-        let same : run header initial found.0 ≡ rows = cc in
-        (found.0, refl, sym same ∙ run-after header found.0 [])
-    by (Err f) e = absurd cc
+matrix_rows header rows e =
+    let found = bind_ok (items (λ q. q.left) (next_instruction header) (start header.program)) (λ found. Ok (run header initial found.0)) rows e in
+    (found.0.0, ap (λ (read : Result (List Instruction × Place) Bad). read >>= λ found. Ok found.0) found.1, sym (ok_is (run header initial found.0.0) rows found.2) ∙ run-after header found.0.0 [])
 
 pub program_bad : (header : LineHeader) → rows_on header (beginning header) ≡ Err bad → instructions header ≡ Err bad
 unfolding rows_on instructions
-program_bad header e = by (items (λ q. q.left) (next_instruction header) (start header.program)) e
-  where
-    by : (read : Result (List Instruction × Place) Bad) → (read >>= λ found. Ok (run header initial found.0)) ≡ Err bad → (read >>= λ found. Ok found.0) ≡ Err bad
-    by (Ok found) e = absurd cc
-    by (Err bad) e = refl
+program_bad header e = elim (bind_err (items (λ q. q.left) (next_instruction header) (start header.program)) (λ found. Ok (run header initial found.0)) bad e) [
+  | inl read ↦ rw read refl
+  | inr made ↦ absurd (ok-err (run header initial made.0.0) bad made.2)
+]
 
 -- ---- the next row
 

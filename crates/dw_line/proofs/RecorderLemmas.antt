@@ -1,12 +1,13 @@
 -- What is recorded of a program is of the rows that the machine has appended so far.
-use Rattle.std.proofs.Common.{◌≡◌, ℕ, zero, suc, ◌+◌, ◌*◌, ◌<◌, ◌≤◌, Bool, true, false, cond, List, [], ◌∷◌, ◌++◌, length, take, drop, filter, reverse, Option, Some, None, Ok, refl, sym, subst, ap, ◌∙◌, append_assoc, length-append, arith}
+use Rattle.std.proofs.Common.{◌≡◌, ℕ, zero, suc, ◌+◌, ◌*◌, ◌<◌, ◌≤◌, Bool, true, false, cond, List, [], ◌∷◌, ◌++◌, length, take, drop, filter, reverse, Option, Some, None, Ok, inl, inr, refl, sym, subst, ap, ◌∙◌, append_assoc, length-append, arith}
 use Rattle.std.specs.Prelude.{◌&&◌, nat_le, nat_lt, ◌==◌, slice_get, option_and_then}
 use Rattle.std.specs.List.{sum_by}
 use Rattle.std.proofs.Math.Seq.{take-length, drop-length}
 use Rattle.std.proofs.lemmas.List.{append-nil, reverse-append, reverse-reverse, drop-append-le, drop_all, drop_at, length-take-le, length-drop, nil_from_length}
 use Rattle.std.proofs.lemmas.List.Elements.{filter-append}
 use Rattle.std.proofs.lemmas.List.Sums.{sum_by_push}
-use Rattle.std.proofs.lemmas.Bool.{le-leb, le-ltb, eqb-true, eqb-false}
+use Rattle.std.proofs.Math.Bool.{and-true, and_assoc}
+use Rattle.std.proofs.lemmas.Bool.{le-leb, le-ltb, eq-eqb, ne_eqb, cases_eq}
 use Rattle.dw_model.specs.LineHeader.{LineHeader}
 use Rattle.dw_model.specs.Matrix.{Row, sequences_from, sequences, never_falls, first_address, last_address, is_used}
 use Rattle.dw_model.specs.Registers.{row}
@@ -62,17 +63,9 @@ begins header all = record {
 
 falls_push : (rows : List Row) (r : Row) → never_falls (rows ++ r ∷ []) ≡ never_falls rows && nat_le (last_address rows) r.address
 falls_push [] r = sym (le-leb 0 r.address (omega arith))
-falls_push (s ∷ []) r = by (nat_le s.address r.address)
-  where
-    by : (b : Bool) → b && true ≡ true && b
-    by true = refl
-    by false = refl
+falls_push (s ∷ []) r = and-true (nat_le s.address r.address)
 falls_push (s ∷ t ∷ rows) r =
-    ap (λ (b : Bool). nat_le s.address t.address && b) (falls_push (t ∷ rows) r) ∙ by (nat_le s.address t.address) (never_falls (t ∷ rows)) (nat_le (last_address (t ∷ rows)) r.address)
-  where
-    by : (a b c : Bool) → a && (b && c) ≡ (a && b) && c
-    by true b c = refl
-    by false b c = refl
+    ap (λ (b : Bool). nat_le s.address t.address && b) (falls_push (t ∷ rows) r) ∙ sym (and_assoc (nat_le s.address t.address) (never_falls (t ∷ rows)) (nat_le (last_address (t ∷ rows)) r.address))
 
 last_push : (rows : List Row) (r : Row) → last_address (rows ++ r ∷ []) ≡ r.address
 last_push [] r = refl
@@ -140,21 +133,15 @@ push_between header checkpoints kept first last rises room registers place all r
       enough = is.enough;
     }
 
-some_room : (n : ℕ) → (n == 0) ≡ false → 0 < n
-some_room n e =
-    let other = eqb-false n 0 e in
-    grind (arith, other)
-
 -- the place is so many bytes after the program's beginning
 pub push : (header : LineHeader) (checkpoints : List Checkpoint) (kept : List Sequence) (first last : ℕ) (rises : Bool) (room : ℕ) (registers : Registers) (place : ℕ) (all rows : List Row)
     → Records header (recorder checkpoints kept first last rises room) all (row (registers_shown registers) false ∷ rows)
     → rows_on header (state_of header (record { registers = registers; place = place })) ≡ Ok rows → place ≤ length header.program
     → Records header (pushed registers place (recorder checkpoints kept first last rises room)) all rows
-push header checkpoints kept first last rises room registers place all rows is later within = by (room == 0) refl
-  where
-    by : (due : Bool) → (room == 0) ≡ due → Records header (pushed_by due registers place (recorder checkpoints kept first last rises room)) all rows
-    by true e = push_due header checkpoints kept first last rises room registers place all rows (eqb-true room 0 e) is later within
-    by false e = push_between header checkpoints kept first last rises room registers place all rows (some_room room e) is
+push header checkpoints kept first last rises room registers place all rows is later within = elim (cases_eq room 0) [
+  | inl due ↦ rw (eq-eqb room 0 due) (push_due header checkpoints kept first last rises room registers place all rows due is later within)
+  | inr some ↦ rw (ne_eqb room 0 some) (push_between header checkpoints kept first last rises room registers place all rows (omega arith) is)
+]
 
 -- ---- the end of a sequence
 
@@ -175,12 +162,8 @@ used_is header [] pending end room last rises each count small rise is_last =
 used_is header (first ∷ own) pending end room last rises each count small rise is_last =
     let begin : first_address (pending ++ end ∷ []) ≡ first.registers.address = ap first_address (sym each.0.rest) in
     let same : (rises && nat_le last end.address && nat_lt first.registers.address end.address) ≡ is_used (pending ++ end ∷ []) =
-    rw (begin, falls_push pending end, last_push pending end, rise, is_last) (by (never_falls pending) (nat_le (last_address pending) end.address) (nat_lt first.registers.address end.address)) in
+    rw (begin, falls_push pending end, last_push pending end, rise, is_last) refl in
     ap (λ (b : Bool). cond {A = Option ℕ} b (Some first.registers.address) None) same ∙ ap (λ (n : ℕ). cond {A = Option ℕ} (is_used (pending ++ end ∷ [])) (Some n) None) (sym begin)
-  where
-    by : (a b c : Bool) → (a && b && c) ≡ ((a && b) && c)
-    by true b c = refl
-    by false b c = refl
 
 parts_closed : (all pending rows : List Row) (ended : List (List Row)) (registers : Registers) → sequences all ≡ ended ++ sequences_from (reverse pending) (row (registers_shown registers) true ∷ rows) → sequences all ≡ (ended ++ (pending ++ row (registers_shown registers) true ∷ []) ∷ []) ++ sequences_from (reverse []) rows
 unfolding sequences_from

@@ -1,6 +1,6 @@
 -- Rows that are run again, one after the other, up to the first above an address.
 use Rattle.std.proofs.Common.{◌≡◌, ℕ, ◌+◌, ◌<◌, ◌≤◌, Bool, true, false, cond, List, [], ◌∷◌, take, drop, length, Option, Some, None, Result, Ok, Err, ◌⊎◌, inl, inr, refl, sym, subst, ap, ◌∙◌, arith}
-use Rattle.std.proofs.lemmas.Bool.{cases_lt}
+use Rattle.std.proofs.lemmas.Bool.{cases_eq, cond_both}
 use Rattle.std.proofs.lemmas.Option.{same_Some}
 use Rattle.std.proofs.lemmas.List.{drop-drop, drop_all, take-append-drop, length-take-le, length-drop}
 use Rattle.dw_model.specs.Reading.{Place, start}
@@ -58,9 +58,7 @@ pub record Taken (first : Row) (others : Result (List Row) Bad) (rows : List Row
   pub whole : rows ≡ first ∷ rest
 
 taken : (first : Row) (others : Result (List Row) Bad) (rows : List Row) → row_before first others ≡ Ok rows → Taken first others rows
-taken first (Ok rest) rows e =
-    let same : first ∷ rest ≡ rows = cc in
-    record { rest = rest; behind = refl; whole = sym same }
+taken first (Ok rest) rows e = record { rest = rest; behind = refl; whole = cc }
 taken first (Err f) rows e = absurd cc
 
 up_to_end-goes : (r : Row) (rows : List Row) → r.ends ≡ false → up_to_end (r ∷ rows) ≡ r ∷ up_to_end rows
@@ -73,11 +71,7 @@ goes_row : (next : Appended) → next.ends ≡ false → appended_row next ≡ r
 goes_row next goes = ap (row (registers_shown next.registers)) goes
 
 first-up : (r : Row) (rows : List Row) → first_address (up_to_end (r ∷ rows)) ≡ r.address
-first-up r rows = by r.ends
-  where
-    by : (ends : Bool) → first_address (cond ends (r ∷ []) (r ∷ up_to_end rows)) ≡ r.address
-    by true = refl
-    by false = refl
+first-up r rows = cond_both r.ends (r ∷ []) (r ∷ up_to_end rows) (λ rows. first_address rows ≡ r.address) (λ e. refl) (λ e. refl)
 
 -- the rows after those that were run
 behind : (i : ℕ) (r : Row) (own all : List Row) → r ∷ own ≡ drop i all → own ≡ drop (i + 1) all
@@ -141,13 +135,10 @@ first_is header here rows is = ap first_address (sym is.rest)
 
 -- a row that isn't above the address isn't the one that is
 later_stop : (rows : List Row) (a i stop : ℕ) → i ≤ stop → first_address (drop i rows) ≤ a → a < first_address (drop stop rows) → i < stop
-later_stop rows a i stop order below above = by (cases_lt i stop)
-  where
-    by : (i < stop) ⊎ (stop ≤ i) → i < stop
-    by (inl less) = less
-    by (inr more) =
-        let same : stop ≡ i = omega (arith, order, more) in
-        absurd (omega (arith, below, above, ap (λ (n : ℕ). first_address (drop n rows)) same))
+later_stop rows a i stop order below above = elim (cases_eq stop i) [
+  | inl same ↦ omega (arith, ap (λ (n : ℕ). first_address (drop n rows)) same)
+  | inr other ↦ omega arith
+]
 
 -- behind all rows is none above it
 none_there : (rows : List Row) (a stop : ℕ) → length rows ≤ stop → a < first_address (drop stop rows) → ⊥
