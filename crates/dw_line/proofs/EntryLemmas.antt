@@ -1,5 +1,5 @@
 -- Reading the lists of directories and files as loops do.
-use Rattle.std.proofs.Common.{◌≡◌, Bool, true, false, cond, ℕ, zero, suc, ◌+◌, ◌<◌, ◌≤◌, List, [], ◌∷◌, ◌++◌, length, drop, get_or, map, replicate, Option, Some, None, Result, Ok, Err, refl, sym, ap, ◌∙◌, subst, arith}
+use Rattle.std.proofs.Common.{◌≡◌, Bool, true, false, cond, ℕ, zero, suc, ◌+◌, ◌<◌, ◌≤◌, List, [], ◌∷◌, ◌++◌, length, drop, get_or, map, replicate, Option, Some, None, Result, Ok, Err, inl, inr, refl, sym, ap, ◌∙◌, subst, arith}
 use Rattle.std.specs.Prelude.{nat_eq, option_map, option_and_then}
 use Rattle.std.specs.Option.{option_or, option_map_or}
 use Rattle.std.specs.Map.{lookup}
@@ -11,7 +11,7 @@ use Rattle.dw_model.specs.Faults.{Bad, bad}
 use Rattle.dw_model.specs.Leb.{uleb_at}
 use Rattle.dw_model.specs.Form.{Value, value_at}
 use Rattle.dw_model.specs.Text.{Tables, Bases, text}
-use Rattle.dw_model.proofs.StepLemmas.{ok_is, bind_ok}
+use Rattle.dw_model.proofs.StepLemmas.{ok_is, ok-err, bind_ok, bind_err}
 use Rattle.dw_model.proofs.ReadingLemmas.{between-length, between-none}
 use Rattle.dw_model.proofs.SpellingLemmas.{joined}
 use Rattle.dw_model.proofs.ValueLemmas.{value-spans}
@@ -143,20 +143,16 @@ module _ (size : ℕ) where
   }
 
   pub entry-read : (tables : Tables) (bases : Bases) (formats : List model.Format) (used : Used) (p q : Place) → used_at none_found (contents_at size formats p) ≡ Ok (used, q) → entry_at tables bases formats p ≡ Ok (entry_with tables bases used, q)
-  entry-read tables bases formats used p q e = by (contents_at size formats p) e
-    where
-      by : (contents : Result (List (ℕ × Value) × Place) Bad) → used_at none_found contents ≡ Ok (used, q) → ◌>>=◌ {B = model.LineEntry × Place} contents (λ contents. Ok (line_entry tables bases contents.0, contents.1)) ≡ Ok (entry_with tables bases used, q)
-      by (Ok contents) e =
-          let same : (used_of none_found contents.0, contents.1) ≡ (used, q) = ok_is (used_of none_found contents.0, contents.1) (used, q) e in
-          ap (λ (x : Used × Place). Ok (entry_with tables bases x.0, x.1)) same
-      by (Err e) f = absurd cc
+  entry-read tables bases formats used p q e =
+      let read = bind_ok (contents_at size formats p) (λ contents. Ok (used_of none_found contents.0, contents.1)) (used, q) e in
+      ap (λ (contents : Result (List (ℕ × Value) × Place) Bad). contents >>= λ contents. Ok (line_entry tables bases contents.0, contents.1)) read.1
+      ∙ ap (λ (x : Used × Place). Ok (entry_with tables bases x.0, x.1)) (ok_is (used_of none_found read.0.0, read.0.1) (used, q) read.2)
 
   pub entry-bad : (tables : Tables) (bases : Bases) (formats : List model.Format) (p : Place) → used_at none_found (contents_at size formats p) ≡ Err bad → entry_at tables bases formats p ≡ Err bad
-  entry-bad tables bases formats p e = by (contents_at size formats p) e
-    where
-      by : (contents : Result (List (ℕ × Value) × Place) Bad) → used_at none_found contents ≡ Err bad → ◌>>=◌ {B = model.LineEntry × Place} contents (λ contents. Ok (line_entry tables bases contents.0, contents.1)) ≡ Err bad
-      by (Ok contents) e = absurd cc
-      by (Err bad) f = refl
+  entry-bad tables bases formats p e = elim (bind_err (contents_at size formats p) (λ contents. Ok (used_of none_found contents.0, contents.1)) bad e) [
+    | inl read ↦ ap (λ (contents : Result (List (ℕ × Value) × Place) Bad). contents >>= λ contents. Ok (line_entry tables bases contents.0, contents.1)) read
+    | inr made ↦ absurd (ok-err (used_of none_found made.0.0, made.0.1) bad made.2)
+  ]
 
   pub entry-kept : (tables : Tables) (bases : Bases) (formats : List model.Format) (contents : Contents) (directory : ℕ) (p q : Place) → used_at none_found (contents_at size formats p) ≡ Ok (contents_shown contents, q)
       → directory ≡ option_map_or model.as_directory (option_map value_shown contents.directory) 0 → entry_at tables bases formats p ≡ Ok (entry_shown tables bases (record { path = contents.path; directory = directory }), q)

@@ -12,7 +12,7 @@ use Rattle.dw_line.specs.Border.{OwnerEnds, HasRowAt, IsBorder}
 use Rattle.dw_line.specs.Reached.{told_of, Stays, IsLast, IsReached}
 use Rattle.dw_line.specs.Sequences.{used_sequences, IsOwner}
 use Rattle.dw_line.specs.Walked.{IsStretch}
-use Rattle.std.proofs.lemmas.Bool.{cases_lt}
+use Rattle.std.proofs.lemmas.Bool.{cases_eq}
 use Rattle.dw_line.proofs.SequenceLemmas.{is-nowhere}
 
 -- the same owner up to an earlier end
@@ -59,31 +59,22 @@ row_border header rows number at until found named owner order above is = λ sam
 
 -- the sequence or the span ends
 pub first_border : (rows : List Row) (number : Option ℕ) (at until high end : ℕ) → IsOwner rows number at until → OwnerEnds rows number until → at < until → high ≤ last_address → end ≤ until → ((c : ℕ) → c < until → c < high → c < end) → end < high → IsBorder rows at end
-first_border rows number at until high end owner ends order last within least less = by (cases_lt end until)
-  where
-    by : (end < until) ⊎ (until ≤ end) → IsBorder rows at end
-    by (inl before) = absurd (omega (arith, least end before less))
-    by (inr after) =
-        let is : until ≡ end = omega (arith, within, after) in
-        subst (λ (e : ℕ). IsBorder rows at e) is (owner_border rows number at until owner ends order (omega (arith, is, last, less)))
+first_border rows number at until high end owner ends order last within least less = elim (cases_eq until end) [
+  | inl is ↦ subst (IsBorder rows at) is (owner_border rows number at until owner ends order (omega (arith, is, last, less)))
+  | inr other ↦ absurd (omega (arith, least end (omega arith) less))
+]
 
 -- the next row begins, or the sequence or the span ends
 pub either_border : (header : LineHeader) (rows : List Row) (number at until high first end : ℕ) (found : Last) → found.number ≡ number → IsOwner rows (Some number) at until → OwnerEnds rows (Some number) until → at < until → high ≤ last_address
     → first ≤ until → ((c : ℕ) → c < until → c < high → c < first) → at < found.reached.next.registers.address → IsLast header (used_sequences rows) (Some found)
     → end ≤ found.reached.next.registers.address → end ≤ first → ((c : ℕ) → c < found.reached.next.registers.address → c < first → c < end) → end < high → IsBorder rows at end
-either_border header rows number at until high first end found named owner ends order last within least above is next before lesser less = by (cases_lt end first)
-  where
-    here : (end < found.reached.next.registers.address) ⊎ (found.reached.next.registers.address ≤ end) → end < first → IsBorder rows at end
-    here (inl under) short = absurd (omega (arith, lesser end under short))
-    here (inr over) short =
-        let same : found.reached.next.registers.address ≡ end = omega (arith, next, over) in
-        subst (λ (e : ℕ). IsBorder rows at e) same (row_border header rows number at until found named owner order above is)
-
-    by : (end < first) ⊎ (first ≤ end) → IsBorder rows at end
-    by (inl short) = here (cases_lt end found.reached.next.registers.address) short
-    by (inr whole) =
-        let same : first ≡ end = omega (arith, before, whole) in
-        subst (λ (e : ℕ). IsBorder rows at e) same (first_border rows (Some number) at until high first owner ends order last within least (omega (arith, same, less)))
+either_border header rows number at until high first end found named owner ends order last within least above is next before lesser less = elim (cases_eq first end) [
+  | inl same ↦ subst (IsBorder rows at) same (first_border rows (Some number) at until high first owner ends order last within least (omega (arith, same, less)))
+  | inr short ↦ elim (cases_eq found.reached.next.registers.address end) [
+    | inl same ↦ subst (IsBorder rows at) same (row_border header rows number at until found named owner order above is)
+    | inr under ↦ absurd (omega (arith, lesser end (omega arith) (omega arith)))
+  ]
+]
 
 -- ---- where the row changes
 
