@@ -15,7 +15,8 @@ use Rattle.dw_model.specs.Abbrev.{Specification, Declaration, declared, next_spe
 use Rattle.dw_model.specs.Entry.{Attribute, Entry, attributes_at, entry_at}
 use Rattle.dw_model.specs.Tree.{Node, Reading, checked, depth_behind, next_node}
 use Rattle.dw_model.specs.Ranges.{Range, RangeEntry, base_addressx, startx_endx, startx_length, offset_pair, base_address, start_end, start_length, Operand, leb, eight_bytes, one, two, operands, next_range_entry}
-use Rattle.dw_model.proofs.StepLemmas.{bind_ok, ok_or-ok, ok_is}
+use Rattle.dw_model.proofs.StepLemmas.{bind_ok, ok_or-ok, ok_is, item_of}
+pub use Rattle.dw_model.proofs.StepLemmas.{past_none}
 use Rattle.dw_model.proofs.ReadingLemmas.{between-length}
 use Rattle.dw_model.proofs.ItemsLemmas.{Advances, read_by}
 use Rattle.dw_model.proofs.NumberLemmas.{number_at-spans}
@@ -40,19 +41,9 @@ pub either : {A : Type 0} (b : Bool) (x y z : A) → cond b x y ≡ z → (x ≡
 either true x y z e = inl e
 either false x y z e = inr e
 
--- where an item was read, the end wasn't there
-pub past_none : {A S E : Type 0} (b : Bool) (s : S) (r : Result (Option A × S) E) (item : A) (t : S) → cond {A = Result (Option A × S) E} b (Ok (None, s)) r ≡ Ok (Some item, t) → r ≡ Ok (Some item, t)
-past_none true s r item t e =
-    let same : None ≡ Some item = ap (λ (x : Option _ × _). x.0) (ok_is (None, s) (Some item, t) e) in
-    absurd cc
-past_none false s r item t e = e
-
 -- the place with which a step ends
 pub ends_at : {A E : Type 0} (a b : A) (s t : Place) → ◌≡◌ {A = Result (A × Place) E} (Ok (a, s)) (Ok (b, t)) → s ≡ t
 ends_at a b s t e = ap (λ (x : _ × Place). x.1) (ok_is (a, s) (b, t) e)
-
-onward_at : (p s t : Place) → s ≡ t → Onward p s → Onward p t
-onward_at p s t e h = subst (Onward p) e h
 
 -- ---- declarations
 
@@ -61,11 +52,11 @@ Pair = Option Specification × Place
 
 -- the rest of a specification, after its name and its form
 specification_rest : (a b : ℕ) (q : Place) (t : Place) (o : Option Specification) (ended constant : Bool) (make : ℤ → Option Specification) (plain : Option Specification) → cond {A = Result Pair Fault} ended (Ok (None, q)) (cond {A = Result Pair Fault} constant (sleb_at q >>= λ z. Ok (make z.0, z.1)) (Ok (plain, q))) ≡ Ok (o, t) → Onward q t
-specification_rest a b q t o true constant make plain e = onward_at q q t (ends_at None o q t e) (omega arith)
+specification_rest a b q t o true constant make plain e = subst (Onward q) (ends_at None o q t e) (omega arith)
 specification_rest a b q t o false true make plain e =
     let z = bind_ok (sleb_at q) (λ z. Ok (make z.0, z.1)) (o, t) e in
-    onward_at q z.0.1 t (ends_at (make z.0.0) o z.0.1 t z.2) (sleb-onward q z.0 z.1)
-specification_rest a b q t o false false make plain e = onward_at q q t (ends_at plain o q t e) (omega arith)
+    subst (Onward q) (ends_at (make z.0.0) o z.0.1 t z.2) (sleb-onward q z.0 z.1)
+specification_rest a b q t o false false make plain e = subst (Onward q) (ends_at plain o q t e) (omega arith)
 
 pub specification-onward : (p t : Place) (o : Option Specification) → next_specification p ≡ Ok (o, t) → length t.left < length p.left
 unfolding next_specification
@@ -96,7 +87,7 @@ declaration-onward code p x e =
     let children = bind_ok (ok_or (number_at 1 tag.0.1) ends_early) (λ children. items (λ q. q.left) next_specification children.1 >>= λ specifications. Ok (record { code = code; tag = tag.0.0; children = not (children.0 == 0); specifications = specifications.0 }, specifications.1)) x tag.2 in
     let specifications = bind_ok (items (λ q. q.left) next_specification children.0.1) (λ specifications. Ok (record { code = code; tag = tag.0.0; children = not (children.0.0 == 0); specifications = specifications.0 }, specifications.1)) x children.2 in
     let last = ends_at (record { code = code; tag = tag.0.0; children = not (children.0.0 == 0); specifications = specifications.0.0 }) x.0 specifications.0.1 x.1 specifications.2 in
-    onward_at p specifications.0.1 x.1 last (omega (arith, uleb-left p tag.0.1 tag.0.0 tag.1, number-onward 1 tag.0.1 ends_early children.0 children.1, specifications-onward children.0.1 specifications.0 specifications.1))
+    subst (Onward p) last (omega (arith, uleb-left p tag.0.1 tag.0.0 tag.1, number-onward 1 tag.0.1 ends_early children.0 children.1, specifications-onward children.0.1 specifications.0 specifications.1))
 
 pub declarations_advance : Advances (λ p. p.left) next_declaration
 unfolding next_declaration
@@ -105,10 +96,8 @@ declarations_advance p item t e =
     let more = past_none (length p.left == 0) p (uleb_at p >>= rest) item t e in
     let code = bind_ok (uleb_at p) rest (Some item, t) more in
     let declared = past_none (code.0.0 == 0) code.0.1 (declaration_behind code.0.0 code.0.1 >>= λ declaration. Ok (Some declaration.0, declaration.1)) item t code.2 in
-    let declaration = bind_ok (declaration_behind code.0.0 code.0.1) (λ declaration. Ok (Some declaration.0, declaration.1)) (Some item, t) declared in
-    let last = ends_at (Some declaration.0.0) (Some item) declaration.0.1 t declaration.2 in
-    let behind : Onward code.0.1 t = onward_at code.0.1 declaration.0.1 t last (declaration-onward code.0.0 code.0.1 declaration.0 declaration.1) in
-    omega (arith, uleb-left p code.0.1 code.0.0 code.1, behind)
+    let declaration = item_of (declaration_behind code.0.0 code.0.1) item t declared in
+    omega (arith, uleb-left p code.0.1 code.0.0 code.1, declaration-onward code.0.0 code.0.1 (item, t) declaration)
 
 -- ---- entries
 
@@ -119,19 +108,19 @@ value-onward size form constant p x e =
 
 attributes-onward : (size : ℕ) (specifications : List Specification) (p : Place) (x : List Attribute × Place) → attributes_at size specifications p ≡ Ok x → Onward p x.1
 unfolding attributes_at
-attributes-onward size [] p x e = onward_at p p x.1 (ends_at [] x.0 p x.1 e) (omega arith)
+attributes-onward size [] p x e = subst (Onward p) (ends_at [] x.0 p x.1 e) (omega arith)
 attributes-onward size (specification ∷ specifications) p x e =
     let more : Value × Place → Result (List Attribute × Place) Fault = λ value. attributes_at size specifications value.1 >>= λ others. Ok (record { name = specification.name; value = value.0 } ∷ others.0, others.1) in
     let value = bind_ok (value_at size specification.form specification.constant p) more x e in
     let others = bind_ok (attributes_at size specifications value.0.1) (λ others. Ok (record { name = specification.name; value = value.0.0 } ∷ others.0, others.1)) x value.2 in
     let last = ends_at (record { name = specification.name; value = value.0.0 } ∷ others.0.0) x.0 others.0.1 x.1 others.2 in
-    onward_at p others.0.1 x.1 last (omega (arith, value-onward size specification.form specification.constant p value.0 value.1, attributes-onward size specifications value.0.1 others.0 others.1))
+    subst (Onward p) last (omega (arith, value-onward size specification.form specification.constant p value.0 value.1, attributes-onward size specifications value.0.1 others.0 others.1))
 
 entry_behind : (size : ℕ) (at tag : ℕ) (children : Bool) (specifications : List Specification) (q : Place) (x : Option Entry × Place) → ◌>>=◌ {B = Option Entry × Place} (attributes_at size specifications q) (λ attributes. Ok (Some (record { offset = at; tag = tag; children = children; attributes = attributes.0 }), attributes.1)) ≡ Ok x → Onward q x.1
 entry_behind size at tag children specifications q x e =
     let attributes = bind_ok (attributes_at size specifications q) (λ attributes. Ok (Some (record { offset = at; tag = tag; children = children; attributes = attributes.0 }), attributes.1)) x e in
     let last = ends_at (Some (record { offset = at; tag = tag; children = children; attributes = attributes.0.0 })) x.0 attributes.0.1 x.1 attributes.2 in
-    onward_at q attributes.0.1 x.1 last (attributes-onward size specifications q attributes.0 attributes.1)
+    subst (Onward q) last (attributes-onward size specifications q attributes.0 attributes.1)
 
 pub entry-onward : (size : ℕ) (declarations : List Declaration) (p : Place) (x : Option Entry × Place) → entry_at size declarations p ≡ Ok x → length x.1.left < length p.left
 unfolding entry_at
@@ -140,7 +129,7 @@ entry-onward size declarations p x e =
     let rest : ℕ × Place → Result (Option Entry × Place) Fault = λ code. cond {A = Result (Option Entry × Place) Fault} (code.0 == 0) (Ok (None, code.1)) (ok_or (declared declarations code.0) undeclared >>= behind code.0 code.1) in
     let code = bind_ok (uleb_at p) rest x e in
     let after : Onward code.0.1 x.1 = elim (either (code.0.0 == 0) (Ok (None, code.0.1)) (ok_or (declared declarations code.0.0) undeclared >>= behind code.0.0 code.0.1) (Ok x) code.2) [
-      | inl null ↦ onward_at code.0.1 code.0.1 x.1 (ends_at None x.0 code.0.1 x.1 null) (omega arith)
+      | inl null ↦ subst (Onward code.0.1) (ends_at None x.0 code.0.1 x.1 null) (omega arith)
       | inr more ↦ (
           let declaration = bind_ok (ok_or (declared declarations code.0.0) undeclared) (behind code.0.0 code.0.1) x more in
           entry_behind size p.at declaration.0.tag declaration.0.children declaration.0.specifications code.0.1 x declaration.2)
@@ -166,13 +155,13 @@ nodes_advance ranges size declarations s item t e =
 one-onward : (first : Operand) (make : ℕ → RangeEntry) → ((p : Place) (x : ℕ × Place) → first p ≡ Ok x → Onward p x.1) → (p : Place) (x : RangeEntry × Place) → one first make p ≡ Ok x → Onward p x.1
 one-onward first make step p x e =
     let a = bind_ok (first p) (λ a. Ok (make a.0, a.1)) x e in
-    onward_at p a.0.1 x.1 (ends_at (make a.0.0) x.0 a.0.1 x.1 a.2) (step p a.0 a.1)
+    subst (Onward p) (ends_at (make a.0.0) x.0 a.0.1 x.1 a.2) (step p a.0 a.1)
 
 two-onward : (first second : Operand) (make : ℕ → ℕ → RangeEntry) → ((p : Place) (x : ℕ × Place) → first p ≡ Ok x → Onward p x.1) → ((p : Place) (x : ℕ × Place) → second p ≡ Ok x → Onward p x.1) → (p : Place) (x : RangeEntry × Place) → two first second make p ≡ Ok x → Onward p x.1
 two-onward first second make step other p x e =
     let a = bind_ok (first p) (λ a. second a.1 >>= λ b. Ok (make a.0 b.0, b.1)) x e in
     let b = bind_ok (second a.0.1) (λ b. Ok (make a.0.0 b.0, b.1)) x a.2 in
-    onward_at p b.0.1 x.1 (ends_at (make a.0.0 b.0.0) x.0 b.0.1 x.1 b.2) (omega (arith, step p a.0 a.1, other a.0.1 b.0 b.1))
+    subst (Onward p) (ends_at (make a.0.0 b.0.0) x.0 b.0.1 x.1 b.2) (omega (arith, step p a.0 a.1, other a.0.1 b.0 b.1))
 
 leb-onward : (p : Place) (x : ℕ × Place) → leb p ≡ Ok x → Onward p x.1
 leb-onward p x e = omega (arith, uleb-left p x.1 x.0 (or_fault-ok bad (uleb_at p) x e))
@@ -222,8 +211,6 @@ range_entries_advance p item t e =
     let more = past_none (code.0.0 == constants.DW_RLE_end_of_list) code.0.1 (ok_or (lookup (nat_eq code.0.0) operands) bad >>= entry code.0.1) item t code.2 in
     let read = bind_ok (ok_or (lookup (nat_eq code.0.0) operands) bad) (entry code.0.1) (Some item, t) more in
     let some = ok_or-ok (lookup (nat_eq code.0.0) operands) bad read.0 read.1 in
-    let found = bind_ok (read.0 code.0.1) (λ entry. Ok (Some entry.0, entry.1)) (Some item, t) read.2 in
     let step : StepsOnward read.0 = found_in StepsOnward (nat_eq code.0.0) operands read.0 operands-onward some in
-    let last = ends_at (Some found.0.0) (Some item) found.0.1 t found.2 in
-    let behind : Onward code.0.1 t = onward_at code.0.1 found.0.1 t last (step code.0.1 found.0 found.1) in
+    let behind = step code.0.1 (item, t) (item_of (read.0 code.0.1) item t read.2) in
     omega (arith, number-onward 1 p bad code.0 code.1, behind)

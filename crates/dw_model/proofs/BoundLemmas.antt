@@ -18,7 +18,7 @@ use Rattle.dw_model.specs.LineHeader.{LineHeader, length_of, table_behind, line_
 use Rattle.dw_model.specs.Section.{Sections}
 use Rattle.dw_model.specs.Unit.{DwarfUnit, Test, Kind, Extent, skipped_unit, dwo_id_size, is_skipped, kind_of, kept_unit, unit_of, Content, AreContents, extent_at, IsUnitOf, AreUnits, StandsIn}
 use Rattle.dw_model.specs.Root.{place_in, entry}
-use Rattle.dw_model.proofs.StepLemmas.{bind_ok, ok_or-ok, ok_is}
+use Rattle.dw_model.proofs.StepLemmas.{bind_ok, ok_or-ok, ok_is, read_of}
 use Rattle.dw_model.proofs.InitialLemmas.{initial-left}
 use Rattle.dw_model.proofs.ReadingLemmas.{between-length}
 use Rattle.dw_model.proofs.NumberLemmas.{number_at-spans, bytes_at-between}
@@ -79,16 +79,10 @@ some_code : (all : List RangeEntry) (p q : Place) → AreItems next_range_entry 
 some_code [] p q h = first_code p (None, q) h
 some_code (item ∷ all) p q h = first_code p (Some item, h.0) h.1
 
-listed : (read : Result (List RangeEntry × Place) Bad) (x : List RangeEntry) → (read >>= λ found. Ok found.0) ≡ Ok x → (q : Place) × (read ≡ Ok (x, q))
-listed (Ok y) x e =
-    let same : y.0 ≡ x = cc in
-    (y.1, ap (λ (l : List RangeEntry). Ok (l, y.1)) same)
-listed (Err f) x e = absurd cc
-
 pub range_list-bound : (section : List ℕ) (offset : ℕ) (x : List RangeEntry) → range_entries (record { at = offset; left = drop offset section }) ≡ Ok x → offset < length section
 range_list-bound section offset x e =
     let p : Place = record { at = offset; left = drop offset section } in
-    let read = listed (items (λ q. q.left) next_range_entry p) x e in
+    let read = read_of (items (λ q. q.left) next_range_entry p) x e in
     let are = ((read_by next_range_entry (λ q. q.left) range_entries_advance).read p read.0 x).0 read.1 in
     let within = left_behind section offset 1 (omega arith) (some_code x p read.0 are) in
     omega (arith, within)
@@ -120,9 +114,6 @@ pub record Within (extent : Extent) (unit : DwarfUnit) : Type 0 where
   pub first_entry : unit.first_entry ≤ extent.end
   pub behind : extent.base ≤ unit.first_entry
 
-within_same : (extent : Extent) (u v : DwarfUnit) → u ≡ v → Within extent u → Within extent v
-within_same extent u v e h = subst (Within extent) e h
-
 skipped-within : (extent : Extent) (size version : ℕ) → extent.base ≤ extent.end → Within extent (skipped_unit extent size version)
 skipped-within extent size version h = record { offset = refl; end = refl; first_entry = omega arith; behind = h }
 
@@ -150,12 +141,12 @@ kept-within extent size kind p unit ends e =
     let t = bind_ok (refuse_if (not (a.0.0 == ADDRESS_SIZE)) (address_size extent.offset)) (λ _. Ok (record { offset = extent.offset; end = extent.end; version = DWARF_VERSION; kind = kind; offset_size = size; debug_abbrev_offset = o.0.0; first_entry = extent.base + d.0.1.at })) unit d.2 in
     let made : DwarfUnit = record { offset = extent.offset; end = extent.end; version = DWARF_VERSION; kind = kind; offset_size = size; debug_abbrev_offset = o.0.0; first_entry = extent.base + d.0.1.at } in
     let first : extent.base + d.0.1.at ≤ extent.end = omega (arith, ends, number-conserves 1 p (unit_header extent.offset) a.0 a.1, number-conserves size a.0.1 (unit_header extent.offset) o.0 o.1, bytes-conserves (dwo_id_size kind) o.0.1 (unit_header extent.offset) d.0 d.1) in
-    within_same extent made unit (ok_is made unit t.2) (record { offset = refl; end = refl; first_entry = first; behind = omega arith })
+    subst (Within extent) (ok_is made unit t.2) (record { offset = refl; end = refl; first_entry = first; behind = omega arith })
 
 typed-within : (extent : Extent) (size version : ℕ) (type : ℕ × Place) (unit : DwarfUnit) → extent.base ≤ extent.end → extent.base + (type.1.at + length type.1.left) ≡ extent.end → cond (is_skipped (kind_of type.0)) (Ok (skipped_unit extent size version)) (kept_unit extent size (kind_of type.0) type.1) ≡ Ok unit → Within extent unit
 typed-within extent size version type unit base ends e =
     elim (either (is_skipped (kind_of type.0)) (Ok (skipped_unit extent size version)) (kept_unit extent size (kind_of type.0) type.1) (Ok unit) e) [
-      | inl skips ↦ within_same extent (skipped_unit extent size version) unit (ok_is (skipped_unit extent size version) unit skips) (skipped-within extent size version base)
+      | inl skips ↦ subst (Within extent) (ok_is (skipped_unit extent size version) unit skips) (skipped-within extent size version base)
       | inr keeps ↦ kept-within extent size (kind_of type.0) type.1 unit ends keeps
     ]
 
@@ -168,7 +159,7 @@ unit_of-within extent size bytes unit ends e =
     let base : extent.base ≤ extent.end = omega (arith, ends) in
     let passed = number-conserves 2 (start bytes) (unit_header extent.offset) v.0 v.1 in
     elim (either (not (v.0.0 == DWARF_VERSION)) (Ok (skipped_unit extent size v.0.0)) (rest v.0) (Ok unit) v.2) [
-      | inl skips ↦ within_same extent (skipped_unit extent size v.0.0) unit (ok_is (skipped_unit extent size v.0.0) unit skips) (skipped-within extent size v.0.0 base)
+      | inl skips ↦ subst (Within extent) (ok_is (skipped_unit extent size v.0.0) unit skips) (skipped-within extent size v.0.0 base)
       | inr more ↦ (
           let t = bind_ok (ok_or (number_at 1 v.0.1) (unit_header extent.offset)) (typed v.0) unit more in
           typed-within extent size v.0.0 t.0 unit base (omega (arith, ends, passed, number-conserves 1 v.0.1 (unit_header extent.offset) t.0 t.1)) t.2)

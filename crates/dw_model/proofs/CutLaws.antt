@@ -152,16 +152,12 @@ contents_of test (item ∷ pieces) p q h =
       units = (item, filter_map (λ piece. piece) pieces, refl, s.unit, subst (λ at. AreUnits test at others.contents (filter_map (λ piece. piece) pieces)) at others.units);
     }
 
-units_in : (test : Test) (p : Place) (read : Result (List (Option DwarfUnit) × Place) Refusal) → items (λ p. p.left) (next_piece test) p ≡ read → (found : List DwarfUnit) → (read >>= λ x. Ok (filter_map (λ piece. piece) x.0)) ≡ Ok found → (contents : List Content) × AreContents p.left contents × AreUnits test p.at contents found
-units_in test p (Ok x) e found h =
-    let same : filter_map (λ piece. piece) x.0 ≡ found = cc in
-    let all = contents_of test x.0 p x.1 (((read_by (next_piece test) (λ p. p.left) (pieces_advance test)).read p x.1 x.0).0 e) in
-    (all.contents, all.are, subst (AreUnits test p.at all.contents) same all.units)
-units_in test p (Err f) e found h = absurd cc
-
 pub cut-are : (test : Test) (p : Place) (found : List DwarfUnit) → cut_from test p ≡ Ok found → (contents : List Content) × AreContents p.left contents × AreUnits test p.at contents found
 unfolding cut_from
-cut-are test p found e = units_in test p (items (λ p. p.left) (next_piece test) p) refl found e
+cut-are test p found e =
+    let x = bind_ok (items (λ p. p.left) (next_piece test) p) (λ x. Ok (filter_map (λ piece. piece) x.0)) found e in
+    let all = contents_of test x.0.0 p x.0.1 (((read_by (next_piece test) (λ p. p.left) (pieces_advance test)).read p x.0.1 x.0.0).0 x.1) in
+    (all.contents, all.are, subst (AreUnits test p.at all.contents) (ok_is (filter_map (λ piece. piece) x.0.0) found x.2) all.units)
 
 -- ---- the only cut
 
@@ -194,13 +190,10 @@ piece_empty content piece rest h e =
     let none : length (piece ++ rest) ≡ 0 = ap (λ (s : List ℕ). length s) e in
     omega (arith, none, length-append piece rest, piece-some content piece h)
 
-cons_same : (a b : Content) (s t : List Content) → a ≡ b → s ≡ t → a ∷ s ≡ b ∷ t
-cons_same a b s t e f = cc
-
 pub only_cut : (first second : List Content) (bytes others : List ℕ) → bytes ≡ others → AreContents bytes first → AreContents others second → first ≡ second
 only_cut [] [] bytes others e h k = refl
 only_cut [] (content ∷ second) bytes others e h k = absurd (piece_empty content k.0 k.1 k.3 (sym k.2 ∙ sym e ∙ h))
 only_cut (content ∷ first) [] bytes others e h k = absurd (piece_empty content h.0 h.1 h.3 (sym h.2 ∙ e ∙ k))
 only_cut (content ∷ first) (other ∷ second) bytes others e h k =
     let same = same_piece content other h.0 k.0 h.1 k.1 h.3 k.3 (sym h.2 ∙ e ∙ k.2) in
-    cons_same content other first second same.0 (only_cut first second h.1 k.1 same.1 h.4 k.4)
+    cc (same.0, only_cut first second h.1 k.1 same.1 h.4 k.4)

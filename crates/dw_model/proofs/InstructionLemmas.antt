@@ -12,7 +12,7 @@ use Rattle.dw_model.specs.Faults.{Bad, bad}
 use Rattle.dw_model.specs.Leb.{IsUleb, uleb_at, sleb_at}
 use Rattle.dw_model.specs.LineHeader.{LineHeader}
 use Rattle.dw_model.specs.Instruction.{Instruction, special, no_effect, Operands, none, unsigned, signed, two_bytes, standard_opcodes, operands_at, unknown_at, extended, extended_at, standard_at, opcode_at, next_instruction, AreOperands, AreNumbers, IsExtended, IsBehind, is_special, is_extended, is_standard, is_unknown, IsInstruction}
-use Rattle.dw_model.proofs.StepLemmas.{bind_ok, ok_or-ok, ok_is}
+use Rattle.dw_model.proofs.StepLemmas.{bind_ok, ok_or-ok, ok_is, past_none, item_of}
 use Rattle.dw_model.proofs.ReadingLemmas.{made_of, read_is, between-none, empty-between, between-length}
 use Rattle.dw_model.proofs.NumberLemmas.{number_at-ok, number_at-spans, bytes_at-ok, bytes_at-between}
 use Rattle.dw_model.proofs.LebReading.{uleb-ok, uleb-spans, sleb-ok, sleb-spans}
@@ -160,27 +160,13 @@ instruction-ok header p q (opcode ∷ operands) i b h =
     let read : number_at 1 p ≡ Some (opcode, m) = number_at-ok 1 p m (opcode ∷ []) refl parts.0 ∙ ap (λ (n : ℕ). Some (n, m)) (one_byte opcode) in
     rw (some, read, opcode-ok header opcode m q operands i parts.1 h) refl
 
-item_of : (made : Result (Instruction × Place) Bad) (i : Instruction) (q : Place) → ◌>>=◌ {B = Option Instruction × Place} made (λ instruction. Ok (Some instruction.0, instruction.1)) ≡ Ok (Some i, q) → made ≡ Ok (i, q)
-item_of (Ok x) i q e =
-    let same = ok_is (Some x.0, x.1) (Some i, q) e in
-    read_is x.0 i x.1 q (same_Some x.0 i (ap (λ (y : Option Instruction × Place). y.0) same)) (ap (λ (y : Option Instruction × Place). y.1) same)
-item_of (Err f) i q e = absurd cc
-
-abbrev Next : Type 0
-Next = Result (Option Instruction × Place) Bad
-
-next-cases : (header : LineHeader) (p q : Place) (i : Instruction) (none : Bool) → cond {A = Next} none (Ok (None, p)) (ok_or (number_at 1 p) bad >>= λ opcode. opcode_at header opcode.0 opcode.1 >>= λ instruction. Ok (Some instruction.0, instruction.1)) ≡ Ok (Some i, q) → Spans (λ piece. IsInstruction header piece i) p q
-next-cases header p q i true e =
-    let same : None ≡ Some i = ap (λ (y : Option Instruction × Place). y.0) (ok_is (None, p) (Some i, q) e) in
-    absurd cc
-next-cases header p q i false e =
-    let b = bind_ok (ok_or (number_at 1 p) bad) (λ opcode. opcode_at header opcode.0 opcode.1 >>= λ instruction. Ok (Some instruction.0, instruction.1)) (Some i, q) e in
+pub instruction-spans : (header : LineHeader) (p q : Place) (i : Instruction) → next_instruction header p ≡ Ok (Some i, q) → Spans (λ piece. IsInstruction header piece i) p q
+unfolding next_instruction
+instruction-spans header p q i e =
+    let rest : ℕ × Place → Result (Option Instruction × Place) Bad = λ opcode. opcode_at header opcode.0 opcode.1 >>= λ instruction. Ok (Some instruction.0, instruction.1) in
+    let b = bind_ok (ok_or (number_at 1 p) bad) rest (Some i, q) (past_none (length p.left == 0) p (ok_or (number_at 1 p) bad >>= rest) i q e) in
     let s = number_at-spans 1 p b.0 (ok_or-ok (number_at 1 p) bad b.0 b.1) in
     let read = item_of (opcode_at header b.0.0 b.0.1) i q b.2 in
     let o = opcode-spans header b.0.0 b.0.1 q i read in
     let byte : Between p (b.0.0 ∷ []) b.0.1 = subst (λ piece. Between p piece b.0.1) (one_byte_of s.0 b.0.0 s.2.0 s.2.1) s.1 in
     (b.0.0 ∷ o.0, joined p b.0.1 q (b.0.0 ∷ []) o.0 byte o.1, o.2)
-
-pub instruction-spans : (header : LineHeader) (p q : Place) (i : Instruction) → next_instruction header p ≡ Ok (Some i, q) → Spans (λ piece. IsInstruction header piece i) p q
-unfolding next_instruction
-instruction-spans header p q i e = next-cases header p q i (length p.left == 0) e

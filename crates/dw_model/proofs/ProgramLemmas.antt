@@ -9,7 +9,7 @@ use Rattle.dw_model.specs.Reading.{Place, start, number_at, items, AreItems}
 use Rattle.dw_model.specs.Faults.{Bad, bad}
 use Rattle.dw_model.specs.LineHeader.{LineHeader}
 use Rattle.dw_model.specs.Instruction.{Instruction, opcode_at, next_instruction, instructions, IsInstruction, AreInstructions}
-use Rattle.dw_model.proofs.StepLemmas.{ok_is}
+use Rattle.dw_model.proofs.StepLemmas.{ok_is, none_read, read_of}
 use Rattle.dw_model.proofs.ReadingLemmas.{between-length, behind_front, same_front}
 use Rattle.dw_model.proofs.ItemsLemmas.{Advances, read_by}
 use Rattle.dw_model.proofs.InstructionLemmas.{instruction-ok, instruction-spans}
@@ -26,14 +26,6 @@ instructions_advance header p i q e =
 abbrev Next : Type 0
 Next = Result (Option Instruction × Place) Bad
 
--- a step gives no instruction only at the end
-ended : (p q : Place) (none : Bool) (r : Result (Instruction × Place) Bad) → cond {A = Next} none (Ok (None, p)) (r >>= λ instruction. Ok (Some instruction.0, instruction.1)) ≡ Ok (None, q) → none ≡ true
-ended p q true r e = refl
-ended p q false (Ok x) e =
-    let same : Some x.0 ≡ None = ap (λ (y : Option Instruction × Place). y.0) (ok_is (Some x.0, x.1) (None, q) e) in
-    absurd cc
-ended p q false (Err f) e = absurd cc
-
 read_from : (header : LineHeader) (opcode : Result (ℕ × Place) Bad) (none : Bool) (p : Place) → cond {A = Next} none (Ok (None, p)) (opcode >>= λ opcode. opcode_at header opcode.0 opcode.1 >>= λ instruction. Ok (Some instruction.0, instruction.1)) ≡ cond {A = Next} none (Ok (None, p)) ((opcode >>= λ opcode. opcode_at header opcode.0 opcode.1) >>= λ instruction. Ok (Some instruction.0, instruction.1))
 read_from header (Ok x) none p = refl
 read_from header (Err f) none p = refl
@@ -42,7 +34,7 @@ instruction-end : (header : LineHeader) (p q : Place) → next_instruction heade
 unfolding next_instruction
 instruction-end header p q e =
     let opcode : Result (ℕ × Place) Bad = ok_or (number_at 1 p) bad in
-    let none = ended p q (length p.left == 0) (opcode >>= λ opcode. opcode_at header opcode.0 opcode.1) (sym (read_from header opcode (length p.left == 0) p) ∙ e) in
+    let none = none_read (length p.left == 0) p q (opcode >>= λ opcode. opcode_at header opcode.0 opcode.1) (sym (read_from header opcode (length p.left == 0) p) ∙ e) in
     nil_from_length p.left (eqb-true (length p.left) 0 none)
 
 at_end : (header : LineHeader) (p : Place) → p.left ≡ [] → next_instruction header p ≡ Ok (None, p)
@@ -62,16 +54,10 @@ program-are header (i ∷ list) p bytes e h =
     let others = program-are header list q h.1 refl h.4 in
     (others.0, (q, instruction-ok header p q h.0 i (e ∙ h.2, refl) h.3, others.1))
 
-all_of : (read : Result (List Instruction × Place) Bad) (list : List Instruction) → (read >>= λ found. Ok found.0) ≡ Ok list → (q : Place) × (read ≡ Ok (list, q))
-all_of (Ok x) list e =
-    let same : x.0 ≡ list = cc in
-    (x.1, ap (λ (l : List Instruction). Ok (l, x.1)) same)
-all_of (Err f) list e = absurd cc
-
 pub instructions-are : (header : LineHeader) (list : List Instruction) → instructions header ≡ Ok list → AreInstructions header header.program list
 unfolding instructions
 instructions-are header list e =
-    let read = all_of (items (λ p. p.left) (next_instruction header) (start header.program)) list e in
+    let read = read_of (items (λ p. p.left) (next_instruction header) (start header.program)) list e in
     are-program header list (start header.program) read.0 (((read_by (next_instruction header) (λ p. p.left) (instructions_advance header)).read (start header.program) read.0 list).0 read.1)
 
 pub are-instructions : (header : LineHeader) (list : List Instruction) → AreInstructions header header.program list → instructions header ≡ Ok list

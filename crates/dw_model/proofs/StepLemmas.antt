@@ -1,6 +1,7 @@
 -- What a step that found something says of its parts.
-use Rattle.std.proofs.Common.{◌≡◌, ◌⊎◌, inl, inr, Option, Some, None, Result, Ok, Err, refl}
+use Rattle.std.proofs.Common.{◌≡◌, ◌⊎◌, inl, inr, Bool, true, false, cond, Option, Some, None, Result, Ok, Err, refl, ap}
 use Rattle.std.specs.Prelude.{ok_or, option_and_then}
+use Rattle.std.proofs.lemmas.Option.{same_Some}
 use Rattle.dw_model.specs.Results.{◌>>=◌}
 
 -- the first of two steps that gave a value
@@ -33,3 +34,35 @@ bind_err (Err c) f d e = let same : ◌≡◌ {A = Result _ _} (Err c) (Err d) =
 pub ok_or-err : {A E : Type 0} (o : Option A) (d f : E) → ok_or o d ≡ Err f → f ≡ d
 ok_or-err (Some y) d f e = absurd cc
 ok_or-err None d f e = cc
+
+-- ---- steps that read an item, or none at the end
+
+-- where an item was read, the end wasn't there
+pub past_none : {A S E : Type 0} (b : Bool) (s : S) (r : Result (Option A × S) E) (item : A) (t : S) → cond {A = Result (Option A × S) E} b (Ok (None, s)) r ≡ Ok (Some item, t) → r ≡ Ok (Some item, t)
+past_none true s r item t e =
+    let same : None ≡ Some item = ap (λ (x : Option _ × _). x.0) (ok_is (None, s) (Some item, t) e) in
+    absurd cc
+past_none false s r item t e = e
+
+-- where none was read, it was
+pub none_read : {A S E : Type 0} (b : Bool) (s t : S) (made : Result (A × S) E) → cond {A = Result (Option A × S) E} b (Ok (None, s)) (made >>= λ x. Ok (Some x.0, x.1)) ≡ Ok (None, t) → b ≡ true
+none_read true s t made e = refl
+none_read false s t (Ok x) e =
+    let same : Some x.0 ≡ None = ap (λ (y : Option _ × _). y.0) (ok_is (Some x.0, x.1) (None, t) e) in
+    absurd cc
+none_read false s t (Err f) e = absurd cc
+
+-- what an item was made of
+pub item_of : {A S E : Type 0} (made : Result (A × S) E) (item : A) (t : S) → ◌>>=◌ {B = Option A × S} made (λ x. Ok (Some x.0, x.1)) ≡ Ok (Some item, t) → made ≡ Ok (item, t)
+item_of (Ok x) item t e =
+    let same = ok_is (Some x.0, x.1) (Some item, t) e in
+    let first : x.0 ≡ item = same_Some x.0 item (ap (λ (y : Option _ × _). y.0) same) in
+    λ i. Ok (first i, ap (λ (y : Option _ × _). y.1) same i)
+item_of (Err f) item t e = absurd cc
+
+-- what was read, with the place behind it
+pub read_of : {A S E : Type 0} (read : Result (A × S) E) (x : A) → (read >>= λ found. Ok found.0) ≡ Ok x → (t : S) × (read ≡ Ok (x, t))
+read_of (Ok y) x e =
+    let same : y.0 ≡ x = ok_is y.0 x e in
+    (y.1, λ i. Ok (same i, y.1))
+read_of (Err f) x e = absurd cc

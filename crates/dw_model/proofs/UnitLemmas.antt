@@ -10,7 +10,7 @@ use Rattle.dw_model.specs.Reading.{Place, bytes_at, onto, items}
 use Rattle.dw_model.specs.InitialLength.{offset_size, InitialLength, of_length, reserved, initial_length}
 use Rattle.dw_model.specs.Faults.{Refusal, unit_header}
 use Rattle.dw_model.specs.Unit.{DwarfUnit, Test, untested, unit_of, unit_behind, piece_at, next_piece, cut_from}
-use Rattle.dw_model.proofs.StepLemmas.{bind_ok, ok_or-ok, ok_is}
+use Rattle.dw_model.proofs.StepLemmas.{bind_ok, ok_or-ok, ok_is, past_none, none_read, item_of}
 use Rattle.dw_model.proofs.ReadingLemmas.{bytes_at-took, took-left}
 use Rattle.dw_model.proofs.InitialLemmas.{initial-left}
 use Rattle.dw_model.proofs.ItemsLemmas.{Advances, items-turn}
@@ -45,38 +45,17 @@ piece_at-left test p x e =
     let some = initial-left p b.0 (ok_or-ok (initial_length p) (unit_header p.at) b.0 b.1) in
     omega (arith, some, unit_behind-left test p.at b.0.0 b.0.1 x b.2)
 
-abbrev Next : Type 0
-Next = Option (Option DwarfUnit) × Place
-
-next_is : (ended : Bool) (p : Place) (piece : Result Piece Refusal) (x : Next) (item : Option DwarfUnit) → cond ended (Ok (None, p)) (piece >>= λ y. Ok (Some y.0, y.1)) ≡ Ok x → x.0 ≡ Some item → piece ≡ Ok (item, x.1)
-next_is true p piece x item e some =
-    let first : None ≡ Some item = ap (λ (y : Next). y.0) (ok_is (None, p) x e) ∙ some in
-    absurd cc
-next_is false p (Ok y) x item e some =
-    let first : Some y.0 ≡ Some item = ap (λ (z : Next). z.0) (ok_is (Some y.0, y.1) x e) ∙ some in
-    let second : y.1 ≡ x.1 = ap (λ (z : Next). z.1) (ok_is (Some y.0, y.1) x e) in
-    let unit : y.0 ≡ item = cc in
-    rw (← unit, ← second) refl
-next_is false p (Err d) x item e some = absurd cc
-
-pub pieces_advance : (test : Test) → Advances (λ p. p.left) (next_piece test)
-unfolding next_piece
-pieces_advance test p item q e = piece_at-left test p (item, q) (next_is (length p.left == 0) p (piece_at test p) (Some item, q) item e refl)
-
 pub next-some : (test : Test) (p q : Place) (item : Option DwarfUnit) → next_piece test p ≡ Ok (Some item, q) → piece_at test p ≡ Ok (item, q)
 unfolding next_piece
-next-some test p q item e = next_is (length p.left == 0) p (piece_at test p) (Some item, q) item e refl
+next-some test p q item e =
+    item_of (piece_at test p) item q (past_none (length p.left == 0) p (piece_at test p >>= λ y. Ok (Some y.0, y.1)) item q e)
 
-ended_is : (ended : Bool) (p q : Place) (piece : Result Piece Refusal) → cond {A = Result Next Refusal} ended (Ok (None, p)) (piece >>= λ y. Ok (Some y.0, y.1)) ≡ Ok (None, q) → ended ≡ true
-ended_is true p q piece e = refl
-ended_is false p q (Ok y) e =
-    let same : Some y.0 ≡ None = ap (λ (z : Next). z.0) (ok_is (Some y.0, y.1) (None, q) e) in
-    absurd cc
-ended_is false p q (Err d) e = absurd cc
+pub pieces_advance : (test : Test) → Advances (λ p. p.left) (next_piece test)
+pieces_advance test p item q e = piece_at-left test p (item, q) (next-some test p q item e)
 
 pub next-end : (test : Test) (p q : Place) → next_piece test p ≡ Ok (None, q) → p.left ≡ []
 unfolding next_piece
-next-end test p q e = nil_from_length p.left (eqb-true (length p.left) 0 (ended_is (length p.left == 0) p q (piece_at test p) e))
+next-end test p q e = nil_from_length p.left (eqb-true (length p.left) 0 (none_read (length p.left == 0) p q (piece_at test p) e))
 
 -- ---- the cut, a piece at a time
 
