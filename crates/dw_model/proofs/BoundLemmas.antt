@@ -4,7 +4,7 @@ use Rattle.std.specs.Prelude.{ok_or, option_map, nat_eq, nat_lt, nat_le, not, �
 use Rattle.std.specs.List.{cons_option, AllByRecursion}
 use Rattle.std.proofs.Math.Nat.{min-le_right}
 use Rattle.std.proofs.lemmas.Option.{same_Some}
-use Rattle.std.proofs.lemmas.Bool.{leb-true, leb-false, ltb-false, or_parts}
+use Rattle.std.proofs.lemmas.Bool.{cases_lt, lt-leb, leb-false, ltb-false, or_parts}
 use Rattle.dw_model.specs.declared.dwarf.TheConstants.{DWARF_VERSION, ADDRESS_SIZE, DW_RLE_end_of_list}
 use Rattle.dw_model.specs.Results.{◌>>=◌, refuse_if}
 use Rattle.dw_model.specs.Reading.{Place, start, Between, number_at, bytes_at, text_at, items, AreItems}
@@ -52,14 +52,12 @@ text-bound section offset t e =
     let within = left_behind section offset (length t + 1) (omega arith) (omega (arith, between-length p found.0.1 s.0 s.1, size, same)) in
     omega (arith, within)
 
-within_table : (section : List ℕ) (offset : ℕ) (within : Bool) → nat_le offset (length section) ≡ within → (read : Result (List Declaration) Fault) (x : List Declaration) → cond within read (Err ends_early) ≡ Ok x → offset ≤ length section
-within_table section offset true e read x h = leb-true offset (length section) e
-within_table section offset false e read x h = absurd cc
-
 pub abbreviations-bound : (section : List ℕ) (offset : ℕ) (x : List Declaration) → abbreviations section offset ≡ Ok x → offset ≤ length section
 unfolding abbreviations
-abbreviations-bound section offset x e =
-    within_table section offset (nat_le offset (length section)) refl (items (λ p. p.left) next_declaration (record { at = offset; left = drop offset section }) >>= λ found. Ok found.0) x e
+abbreviations-bound section offset x e = elim (cases_lt (length section) offset) [
+  | inl past ↦ (let none : Err ends_early ≡ Ok x = rw (lt-leb offset (length section) past) at e in absurd cc)
+  | inr within ↦ within
+]
 
 pub line_header-bound : (tables : Tables) (bases : Bases) (section : List ℕ) (offset : ℕ) (x : LineHeader) → line_header tables bases section offset ≡ Ok x → offset + 4 ≤ length section
 unfolding line_header

@@ -110,11 +110,7 @@ module _ {S A E : Type 0} (next : S → Result (Option A × S) E) where
 
   pub loop_done : (left : S → List ℕ) → Advances left next → (front : List A) (s t : S) (all : Result (List A × S) E) → next s ≡ Ok (None, t) → with_front front (items left next s) ≡ all → all ≡ Ok (front, t)
   loop_done left advances front s t all e so_far =
-      let step : items left next s ≡ Ok ([], t) = rw (items-turn left advances s, e) refl in
-      let last : with_front front (items left next s) ≡ Ok (front, t) = rw step (ap (λ (xs : List A). Ok (xs, t)) (append-nil front)) in
-      sym so_far ∙ last
+      sym so_far ∙ rw (items-turn left advances s, e) (ap (λ (xs : List A). Ok (xs, t)) (append-nil front))
 
   pub loop_fault : (left : S → List ℕ) → Advances left next → (front : List A) (s : S) (e : E) (all : Result (List A × S) E) → next s ≡ Err e → with_front front (items left next s) ≡ all → all ≡ Err e
-  loop_fault left advances front s e all f so_far =
-      let step : items left next s ≡ Err e = rw (items-turn left advances s, f) refl in
-      sym so_far ∙ rw step refl
+  loop_fault left advances front s e all f so_far = sym so_far ∙ rw (items-turn left advances s, f) refl

@@ -67,23 +67,18 @@ column-step end_sequence done = refl
 column-step (set_address n) done = refl
 column-step no_effect done = refl
 
-registers_of : (a b f g l m c d : ℕ) → a ≡ b → f ≡ g → l ≡ m → c ≡ d → ◌≡◌ {A = Registers} (record { address = a; file = f; line = l; column = c }) (record { address = b; file = g; line = m; column = d })
-registers_of a b f g l m c d e h i j = cc
-
 step-after : (header : LineHeader) (i : Instruction) (done : List Instruction) → step header i (after header done) ≡ after header (i ∷ done)
-step-after header i done =
-    registers_of (next_address header i (address_after header done)) (address_after header (i ∷ done)) (next_file i (file_after done)) (file_after (i ∷ done)) (next_line header i (line_after header done)) (line_after header (i ∷ done)) (next_column i (column_after done)) (column_after (i ∷ done)) (address-step header i done) (file-step i done) (line-step header i done) (column-step i done)
+step-after header i done = λ k. record {
+  address = address-step header i done k;
+  file = file-step i done k;
+  line = line-step header i done k;
+  column = column-step i done k;
+}
 
 -- what is at the beginning of the next instruction
 begins : (header : LineHeader) (ends : Bool) (r : Registers) (done : List Instruction) → r ≡ after header done → cond ends initial r ≡ after header (cond ends [] done)
 begins header true r done e = refl
 begins header false r done e = e
-
-appended : (header : LineHeader) (b ends : Bool) (r : Registers) (done : List Instruction) (others rest : List Row) → r ≡ after header done → others ≡ rest → cond b (row r ends ∷ others) others ≡ cond b (row_after header done ends ∷ rest) rest
-appended header true ends r done others rest e f =
-    let same : row r ends ≡ row_after header done ends = ap (λ (r : Registers). row r ends) e in
-    cc
-appended header false ends r done others rest e f = f
 
 pub run-after : (header : LineHeader) (list done : List Instruction) → run header (after header done) list ≡ rows_from header done list
 unfolding run rows_from
@@ -91,4 +86,4 @@ run-after header [] done = refl
 run-after header (i ∷ list) done =
     let next = step-after header i done in
     let others = ap (λ (r : Registers). run header r list) (begins header (is_end i) (step header i (after header done)) (i ∷ done) next) ∙ run-after header list (cond (is_end i) [] (i ∷ done)) in
-    appended header (appends i) (is_end i) (step header i (after header done)) (i ∷ done) (run header (cond (is_end i) initial (step header i (after header done))) list) (rows_from header (cond (is_end i) [] (i ∷ done)) list) next others
+    λ k. cond (appends i) (row (next k) (is_end i) ∷ others k) (others k)
