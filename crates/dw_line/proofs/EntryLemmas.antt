@@ -27,6 +27,11 @@ use Rattle.dw_line.proofs.CountLemmas.{in_front}
 plus_none : (n : ℕ) → n + 0 ≡ n
 plus_none n = omega arith
 
+-- three steps, whichever two are taken together
+bind_bind : {A B C : Type 0} (r : Result A Bad) (f : A → Result B Bad) (g : B → Result C Bad) → ((r >>= f) >>= g) ≡ (r >>= λ x. f x >>= g)
+bind_bind (Ok x) f g = refl
+bind_bind (Err e) f g = refl
+
 -- ---- formats
 
 abbrev pub format_at : Place → Result (model.Format × Place) Bad
@@ -38,17 +43,11 @@ formats-none p = refl
 
 pub formats-some : (n : ℕ) (p : Place) → formats_at (suc n) p ≡ (format_at p >>= λ x. in_front (x.0 ∷ []) (formats_at n x.1))
 unfolding formats_at
-formats-some n p = by (or_fault bad (uleb_at p))
-  where
-    second : (content : ℕ) (form : Result (ℕ × Place) Bad) → ◌>>=◌ {A = ℕ × Place} {B = List model.Format × Place} form (λ form. formats_at n form.1 >>= λ others. Ok ((content, form.0) ∷ others.0, others.1))
-        ≡ (◌>>=◌ {A = ℕ × Place} {B = model.Format × Place} form (λ form. Ok ((content, form.0), form.1)) >>= λ x. in_front (x.0 ∷ []) (formats_at n x.1))
-    second content (Ok form) = refl
-    second content (Err e) = refl
-
-    by : (content : Result (ℕ × Place) Bad) → ◌>>=◌ {B = List model.Format × Place} content (λ content. or_fault bad (uleb_at content.1) >>= λ form. formats_at n form.1 >>= λ others. Ok ((content.0, form.0) ∷ others.0, others.1))
-        ≡ (◌>>=◌ {B = model.Format × Place} content (λ content. or_fault bad (uleb_at content.1) >>= λ form. Ok ((content.0, form.0), form.1)) >>= λ x. in_front (x.0 ∷ []) (formats_at n x.1))
-    by (Ok content) = second content.0 (or_fault bad (uleb_at content.1))
-    by (Err e) = refl
+formats-some n p =
+    let format : ℕ × Place → ℕ × Place → Result (model.Format × Place) Bad = λ content form. Ok ((content.0, form.0), form.1) in
+    let others : model.Format × Place → Result (List model.Format × Place) Bad = λ x. in_front (x.0 ∷ []) (formats_at n x.1) in
+    sym (bind_bind (or_fault bad (uleb_at p)) (λ content. or_fault bad (uleb_at content.1) >>= format content) others
+    ∙ (λ i. or_fault bad (uleb_at p) >>= λ content. bind_bind (or_fault bad (uleb_at content.1)) (format content) others i))
 
 pub format-read : (p q r : Place) (content form : ℕ) → or_fault bad (uleb_at p) ≡ Ok (content, q) → or_fault bad (uleb_at q) ≡ Ok (form, r) → format_at p ≡ Ok ((content, form), r)
 format-read p q r content form e f = rw (e, f) refl
@@ -128,12 +127,8 @@ module _ (size : ℕ) where
 
   pub entries-some : (tables : Tables) (bases : Bases) (formats : List model.Format) (n : ℕ) (p : Place) → entries_at tables bases size formats (suc n) p ≡ (entry_at tables bases formats p >>= λ x. in_front (x.0 ∷ []) (entries_at tables bases size formats n x.1))
   unfolding entries_at
-  entries-some tables bases formats n p = by (contents_at size formats p)
-    where
-      by : (contents : Result (List (ℕ × Value) × Place) Bad) → ◌>>=◌ {B = List model.LineEntry × Place} contents (λ contents. entries_at tables bases size formats n contents.1 >>= λ others. Ok (line_entry tables bases contents.0 ∷ others.0, others.1))
-          ≡ (◌>>=◌ {B = model.LineEntry × Place} contents (λ contents. Ok (line_entry tables bases contents.0, contents.1)) >>= λ x. in_front (x.0 ∷ []) (entries_at tables bases size formats n x.1))
-      by (Ok contents) = refl
-      by (Err e) = refl
+  entries-some tables bases formats n p =
+      sym (bind_bind (contents_at size formats p) (λ contents. Ok (line_entry tables bases contents.0, contents.1)) (λ x. in_front (x.0 ∷ []) (entries_at tables bases size formats n x.1)))
 
   -- the entry whose values these are
   abbrev pub entry_with : Tables → Bases → Used → model.LineEntry
@@ -161,7 +156,7 @@ module _ (size : ℕ) where
 
   -- ---- entries without bytes
 
-  contents-between : (formats : List model.Format) (p : Place) (x : List (ℕ × Value) × Place) → contents_at size formats p ≡ Ok x → (piece : List ℕ) × Between p piece x.1
+  pub contents-between : (formats : List model.Format) (p : Place) (x : List (ℕ × Value) × Place) → contents_at size formats p ≡ Ok x → (piece : List ℕ) × Between p piece x.1
   unfolding contents_at
   contents-between [] p x e = ([], between-none p x.1 (ap (λ (x : List (ℕ × Value) × Place). x.1) (ok_is ([], p) x e)))
   contents-between (format ∷ formats) p x e =

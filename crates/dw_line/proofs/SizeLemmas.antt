@@ -18,10 +18,10 @@ use Rattle.dw_model.proofs.ReadingLemmas.{between-length}
 use Rattle.dw_model.proofs.AdvanceLemmas.{number-onward}
 use Rattle.dw_model.proofs.NumberLemmas.{bytes_at-between}
 use Rattle.dw_model.proofs.LebReading.{uleb-left}
-use Rattle.dw_model.proofs.ValueLemmas.{value-spans}
 use Rattle.dw_model.proofs.InstructionLemmas.{or_fault-ok}
 use Rattle.dw_model.proofs.InitialLemmas.{initial-left}
 use Rattle.dw_line.specs.TableAt.{table_behind_length, table_at, table_size}
+use Rattle.dw_line.proofs.EntryLemmas.{contents-between}
 use Rattle.dw_line.proofs.HeaderLemmas.{header_behind}
 
 -- what is so of each result of a second step, is so of both steps
@@ -36,11 +36,6 @@ uleb-on p x e =
     let less = uleb-left p x.1 x.0 (or_fault-ok bad (uleb_at p) x e) in
     omega (arith, less)
 
-value-on : (size form : ℕ) (p : Place) (x : Value × Place) → or_fault bad (value_at size form None p) ≡ Ok x → length x.1.left ≤ length p.left
-value-on size form p x e =
-    let s = value-spans size form None p x.1 x.0 (or_fault-ok bad (value_at size form None p) x e) in
-    omega (arith, between-length p x.1 s.0 s.1)
-
 formats-on : (count : ℕ) (p : Place) (x : List Format × Place) → formats_at count p ≡ Ok x → length x.1.left ≤ length p.left
 unfolding formats_at
 formats-on zero p x e = omega (arith, ap (λ (x : List Format × Place). length x.1.left) (ok_is ([], p) x e))
@@ -52,13 +47,9 @@ formats-on (suc count) p x e =
     omega (arith, last, formats-on count form.0.1 others.0 others.1, uleb-on content.0.1 form.0 form.1, uleb-on p content.0 content.1)
 
 contents-on : (size : ℕ) (formats : List Format) (p : Place) (x : List (ℕ × Value) × Place) → contents_at size formats p ≡ Ok x → length x.1.left ≤ length p.left
-unfolding contents_at
-contents-on size [] p x e = omega (arith, ap (λ (x : List (ℕ × Value) × Place). length x.1.left) (ok_is ([], p) x e))
-contents-on size (format ∷ formats) p x e =
-    let value = bind_ok (or_fault bad (value_at size format.1 None p)) (λ value. contents_at size formats value.1 >>= λ others. Ok ((format.0, value.0) ∷ others.0, others.1)) x e in
-    let others = bind_ok (contents_at size formats value.0.1) (λ others. Ok ((format.0, value.0.0) ∷ others.0, others.1)) x value.2 in
-    let last = ap (λ (x : List (ℕ × Value) × Place). length x.1.left) (ok_is ((format.0, value.0.0) ∷ others.0.0, others.0.1) x others.2) in
-    omega (arith, last, contents-on size formats value.0.1 others.0 others.1, value-on size format.1 p value.0 value.1)
+contents-on size formats p x e =
+    let b = contents-between size formats p x e in
+    omega (arith, between-length p x.1 b.0 b.1)
 
 module _ (tables : Tables) (bases : Bases) (size : ℕ) where
   entries-on : (formats : List Format) (count : ℕ) (p : Place) (x : List LineEntry × Place) → entries_at tables bases size formats count p ≡ Ok x → (length x.0 ≡ count) × (length x.1.left ≤ length p.left)
@@ -73,7 +64,7 @@ module _ (tables : Tables) (bases : Bases) (size : ℕ) where
       let rest = entries-on formats count contents.0.1 others.0 others.1 in
       (ap (λ (x : List LineEntry × Place). length x.0) (sym same) ∙ ap suc rest.0, omega (arith, ap (λ (x : List LineEntry × Place). length x.1.left) same, rest.1, contents-on size formats p contents.0 contents.1))
 
-  not_refused : (b : Bool) (next : Result (List LineEntry × Place) Bad) (x : List LineEntry × Place) → ◌>>=◌ {A = Unit {0}} (refuse_if b bad) (λ _. next) ≡ Ok x → (b ≡ false) × (next ≡ Ok x)
+  not_refused : {A : Type 0} (b : Bool) (next : Result A Bad) (x : A) → ◌>>=◌ {A = Unit {0}} (refuse_if b bad) (λ _. next) ≡ Ok x → (b ≡ false) × (next ≡ Ok x)
   not_refused true next x e = absurd cc
   not_refused false next x e = (refl, e)
 
@@ -91,10 +82,6 @@ module _ (tables : Tables) (bases : Bases) (size : ℕ) where
       let behind = formats-on number.0.0 number.0.1 formats.0 formats.1 in
       let last = uleb-on formats.0.1 count.0 count.1 in
       (omega (arith, entries.0, few, before, behind, last), omega (arith, entries.1, before, behind, last))
-
-  past_refusal : {A : Type 0} (b : Bool) (next : Result A Bad) (x : A) → ◌>>=◌ {A = Unit {0}} (refuse_if b bad) (λ _. next) ≡ Ok x → next ≡ Ok x
-  past_refusal true next x e = absurd cc
-  past_refusal false next x e = e
 
   both_lists : (p a b c d f g h lengths left directories files : ℕ) → a + 1 ≡ p → b + 1 ≡ a → c + 1 ≡ b → d + 1 ≡ c → f + 1 ≡ d → g + 1 ≡ f → g ≡ lengths + h → directories ≤ h → left ≤ h → files ≤ left → directories + files ≤ 2 * p
   both_lists p a b c d f g h lengths left directories files i j k l m n o q r s = omega (arith, i, j, k, l, m, n, o, q, r, s)
@@ -120,7 +107,7 @@ module _ (tables : Tables) (bases : Bases) (size : ℕ) where
       let lengths = bytes_at-between (g.0 - 1) g.1 h (ok_or-ok (bytes_at (g.0 - 1) g.1) bad h eh) in
       let left = between-length g.1 h.1 h.0 lengths.1 in
       let few = both_lists (length p.left) (length a.1.left) (length b.1.left) (length c.1.left) (length d.1.left) (length f.1.left) (length g.1.left) (length h.1.left) (length h.0) (length directories.1.left) (length directories.0) (length files.0) (number-onward 1 p bad a ea) (number-onward 1 a.1 bad b eb) (number-onward 1 b.1 bad c ec) (number-onward 1 c.1 bad d ed) (number-onward 1 d.1 bad f ef) (number-onward 1 f.1 bad g eg) left first.0 first.1 second.0 in
-      subst (Fit program p) (ok_is _ x e) (few, refl))) x (past_refusal (f.0 == 0 || g.0 == 0) _ x (past_refusal (not (b.0 == 1)) _ x e))))))))) x e
+      subst (Fit program p) (ok_is _ x e) (few, refl))) x (not_refused (f.0 == 0 || g.0 == 0) _ x (not_refused (not (b.0 == 1)) _ x e).1).1))))))) x e
 
   all_parts : (p a b c d size header left lists program : ℕ) → a + 2 ≡ p → b + 1 ≡ a → c + 1 ≡ b → d + size ≡ c → d ≡ header + left → lists ≤ 2 * header → program ≡ left → lists + 2 * program ≤ 2 * p
   all_parts p a b c d size header left lists program e f g h i j k = omega (arith, e, f, g, h, i, j, k)
@@ -134,7 +121,7 @@ module _ (tables : Tables) (bases : Bases) (size : ℕ) where
       behind (ok_or (number_at 1 address.1) bad) _ (λ x. length x.directories + length x.files + 2 * length x.program ≤ 2 * length p.left) (λ segment es.
       behind (ok_or (number_at size segment.1) bad) _ (λ x. length x.directories + length x.files + 2 * length x.program ≤ 2 * length p.left) (λ long el.
       behind (ok_or (bytes_at long.0 long.1) bad) _ (λ x. length x.directories + length x.files + 2 * length x.program ≤ 2 * length p.left) (λ header eh x e.
-      let fields = fields-on header.1.left (start header.0) x (past_refusal (not (address.0 == ADDRESS_SIZE)) _ x (past_refusal (not (version.0 == DWARF_VERSION)) _ x e)) in
+      let fields = fields-on header.1.left (start header.0) x (not_refused (not (address.0 == ADDRESS_SIZE)) _ x (not_refused (not (version.0 == DWARF_VERSION)) _ x e).1).1 in
       let lengths = bytes_at-between long.0 long.1 header (ok_or-ok (bytes_at long.0 long.1) bad header eh) in
       all_parts (length p.left) (length version.1.left) (length address.1.left) (length segment.1.left) (length long.1.left) size (length header.0) (length header.1.left) (length x.directories + length x.files) (length x.program)
       (number-onward 2 p bad version ev) (number-onward 1 version.1 bad address ea) (number-onward 1 address.1 bad segment es) (number-onward size segment.1 bad long el) (between-length long.1 header.1 header.0 lengths.1) fields.0 (ap (λ (program : List ℕ). length program) fields.1)))))) x e
