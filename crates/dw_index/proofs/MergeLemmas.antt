@@ -63,12 +63,9 @@ next at (segment ∷ segments) (other ∷ others) e =
 
 low_border : (bound at : ℕ) (left right : Option ℕ) (first second : List Segment) → AreSegments bound left first → AreSegments bound right second → Some at ≡ least (border first) (border second) → bound ≤ at
 low_border bound at left right [] [] s t e = absurd cc
-low_border bound at left right [] (segment ∷ segments) s t e =
-    omega (arith, same_Some at segment.begin e, t.0)
-low_border bound at left right (segment ∷ segments) [] s t e =
-    omega (arith, same_Some at segment.begin e, s.0)
-low_border bound at left right (segment ∷ segments) (other ∷ others) s t e =
-    omega (arith, same_Some at (min segment.begin other.begin) e, s.0, t.0)
+low_border bound at left right [] (segment ∷ segments) s t e = grind (arith, nat_tests)
+low_border bound at left right (segment ∷ segments) [] s t e = grind (arith, nat_tests)
+low_border bound at left right (segment ∷ segments) (other ∷ others) s t e = grind (arith, nat_tests)
 
 -- ---- the merge so far
 

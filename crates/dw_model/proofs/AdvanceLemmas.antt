@@ -29,9 +29,7 @@ abbrev pub Onward : Place → Place → Type 0
 Onward p q = length q.left ≤ length p.left
 
 pub number-onward : {E : Type 0} (n : ℕ) (p : Place) (e : E) (x : ℕ × Place) → ok_or (number_at n p) e ≡ Ok x → length x.1.left + n ≡ length p.left
-number-onward n p e x h =
-    let s = number_at-spans n p x (ok_or-ok (number_at n p) e x h) in
-    omega (arith, between-length p x.1 s.0 s.1, s.2.0)
+number-onward n p e x h = grind (arith, number_at-spans, ok_or-ok, between-length)
 
 sleb-onward : (p : Place) (x : ℤ × Place) → sleb_at p ≡ Ok x → Onward p x.1
 sleb-onward p x e = let s = sleb-spans p x.1 x.0 e in omega (arith, between-length p x.1 s.0 s.1)

@@ -69,9 +69,7 @@ line_header-bound tables bases section offset x e =
 -- the first entry of a list has a code
 first_code : (p : Place) (x : Option RangeEntry × Place) → next_range_entry p ≡ Ok x → 1 ≤ length p.left
 unfolding next_range_entry
-first_code p x e =
-    let b = bind_ok (ok_or (number_at 1 p) bad) (λ code. cond {A = Result (Option RangeEntry × Place) Bad} (code.0 == DW_RLE_end_of_list) (Ok (None, code.1)) (ok_or (lookup (nat_eq code.0) operands) bad >>= λ read. read code.1 >>= λ entry. Ok (Some entry.0, entry.1))) x e in
-    omega (arith, number-onward 1 p bad b.0 b.1)
+first_code p x e = grind (arith, bind_ok, number-onward)
 
 some_code : (all : List RangeEntry) (p q : Place) → AreItems next_range_entry p all q → 1 ≤ length p.left
 some_code [] p q h = first_code p (None, q) h
@@ -120,9 +118,7 @@ conserved : (p q : Place) (piece : List ℕ) → Between p piece q → q.at + le
 conserved p q piece b = omega (arith, b.1, between-length p q piece b)
 
 number-conserves : {E : Type 0} (n : ℕ) (p : Place) (e : E) (x : ℕ × Place) → ok_or (number_at n p) e ≡ Ok x → x.1.at + length x.1.left ≡ p.at + length p.left
-number-conserves n p e x h =
-    let s = number_at-spans n p x (ok_or-ok (number_at n p) e x h) in
-    conserved p x.1 s.0 s.1
+number-conserves n p e x h = grind (arith, number_at-spans, ok_or-ok, conserved)
 
 bytes-conserves : {E : Type 0} (n : ℕ) (p : Place) (e : E) (x : List ℕ × Place) → ok_or (bytes_at n p) e ≡ Ok x → x.1.at + length x.1.left ≡ p.at + length p.left
 bytes-conserves n p e x h =

@@ -22,20 +22,13 @@ initial-long eight n piece h = rw (h.2) (omega (arith, length-append h.0 h.1, h.
 -- ---- how far it goes
 
 behind-left : (escape : Bool) (n : ℕ) (p : Place) (x : Found) → cond escape (long_length p) (Some (short_length n, p)) ≡ Some x → length x.1.left ≤ length p.left
-behind-left true n p x e =
-    let l = bind_some (number_at 8 p) (λ n. Some (of_length n.0 eight, n.1)) x e in
-    let same : length l.0.1.left ≡ length x.1.left = ap (λ (y : Found). length y.1.left) (same_Some (of_length l.0.0 eight, l.0.1) x l.2) in
-    omega (arith, took-left 8 p l.0.1 (number_at-took 8 p l.0 l.1), same)
-behind-left false n p x e =
-    let same : length p.left ≡ length x.1.left = ap (λ (y : Found). length y.1.left) (same_Some (short_length n, p) x e) in
-    omega (arith, same)
+behind-left true n p x e = grind (arith, bind_some, same_Some, took-left, number_at-took)
+behind-left false n p x e = grind (arith, same_Some)
 
 -- it takes four bytes at least
 pub initial-left : (p : Place) (x : Found) → initial_length p ≡ Some x → length x.1.left + 4 ≤ length p.left
 unfolding initial_length
-initial-left p x e =
-    let f = bind_some (number_at 4 p) (λ n. cond (n.0 == DW_LENGTH_64BIT) (long_length n.1) (Some (short_length n.0, n.1))) x e in
-    omega (arith, took-left 4 p f.0.1 (number_at-took 4 p f.0 f.1), behind-left (f.0.0 == DW_LENGTH_64BIT) f.0.0 f.0.1 x f.2)
+initial-left p x e = grind (arith, bind_some, took-left, number_at-took, behind-left)
 
 -- ---- what it is
 

@@ -25,9 +25,7 @@ enough p q piece n e b =
     le-leb n (length p.left) (omega (arith, whole, e))
 
 pub number_at-ok : (n : ℕ) (p q : Place) (piece : List ℕ) → length piece ≡ n → Between p piece q → number_at n p ≡ Some (little_number n piece, q)
-number_at-ok n p q piece e b =
-    let same : little_number n p.left ≡ little_number n piece = rw (b.0) (little_number-append n piece q.left (omega (arith, e))) in
-    rw (enough p q piece n e b) (some_is (little_number n p.left) (little_number n piece) (past n p) q same (past-between p q piece n e b))
+number_at-ok n p q piece e b = grind (arith, little_number-append, enough, some_is, past-between)
 
 pub number_at-spans : (n : ℕ) (p : Place) (x : ℕ × Place) → number_at n p ≡ Some x → Spans (λ piece. (length piece ≡ n) × (x.0 ≡ little_number n piece)) p x.1
 number_at-spans n p x e =
@@ -39,8 +37,7 @@ number_at-spans n p x e =
     rw (← h.1) (take n p.left, between-past p n within, (size, same))
 
 pub bytes_at-ok : (n : ℕ) (p q : Place) (piece : List ℕ) → length piece ≡ n → Between p piece q → bytes_at n p ≡ Some (piece, q)
-bytes_at-ok n p q piece e b =
-    rw (enough p q piece n e b) (some_is (take n p.left) piece (past n p) q (take-between p q piece n e b) (past-between p q piece n e b))
+bytes_at-ok n p q piece e b = grind (arith, enough, some_is, take-between, past-between)
 
 pub bytes_at-between : (n : ℕ) (p : Place) (x : List ℕ × Place) → bytes_at n p ≡ Some x → (length x.0 ≡ n) × Between p x.0 x.1
 bytes_at-between n p x e =

@@ -21,22 +21,12 @@ Piece = Option DwarfUnit × Place
 -- where the unit of a length ends, whether it is padding or not
 end_is : (padding : Bool) (unit : Result DwarfUnit Refusal) (test : Test) (end : Place) (x : Piece) → cond padding (Ok (None, end)) (unit >>= λ u. test u >>= λ _. Ok (Some u, end)) ≡ Ok x → end ≡ x.1
 end_is true unit test end x e = cc
-end_is false unit test end x e =
-    let b = bind_ok unit (λ u. test u >>= λ _. Ok (Some u, end)) x e in
-    let t = bind_ok (test b.0) (λ _. Ok (Some b.0, end)) x b.2 in
-    let same = ok_is (Some b.0, end) x t.2 in
-    ap (λ (y : Piece). y.1) same
+end_is false unit test end x e = grind (arith, bind_ok, ok_is)
 
 unit_behind-left : (test : Test) (offset : ℕ) (n : InitialLength) (p : Place) (x : Piece) → unit_behind test offset n p ≡ Ok x → length x.1.left ≤ length p.left
 unfolding unit_behind
 unit_behind-left test offset reserved p x e = absurd cc
-unit_behind-left test offset (of_length n width) p x e =
-    let unit : List ℕ × Place → Result DwarfUnit Refusal = λ bytes. unit_of (record { offset = offset; base = p.at; end = bytes.1.at }) (offset_size width) bytes.0 in
-    let b = bind_ok (ok_or (bytes_at n p) (unit_header offset)) (λ bytes. cond (n == 0) (Ok (None, bytes.1)) (unit bytes >>= λ u. test u >>= λ _. Ok (Some u, bytes.1))) x e in
-    let took = bytes_at-took n p b.0 (ok_or-ok (bytes_at n p) (unit_header offset) b.0 b.1) in
-    let ends = end_is (n == 0) (unit b.0) test b.0.1 x b.2 in
-    let left : length b.0.1.left ≡ length x.1.left = ap (λ (q : Place). length q.left) ends in
-    omega (arith, took-left n p b.0.1 took)
+unit_behind-left test offset (of_length n width) p x e = grind (arith, bind_ok, bytes_at-took, ok_or-ok, end_is, took-left)
 
 pub piece_at-left : (test : Test) (p : Place) (x : Piece) → piece_at test p ≡ Ok x → length x.1.left < length p.left
 unfolding piece_at
@@ -47,8 +37,7 @@ piece_at-left test p x e =
 
 pub next-some : (test : Test) (p q : Place) (item : Option DwarfUnit) → next_piece test p ≡ Ok (Some item, q) → piece_at test p ≡ Ok (item, q)
 unfolding next_piece
-next-some test p q item e =
-    item_of (piece_at test p) item q (past_none (length p.left == 0) p (piece_at test p >>= λ y. Ok (Some y.0, y.1)) item q e)
+next-some test p q item e = grind (arith, item_of, past_none)
 
 pub pieces_advance : (test : Test) → Advances (λ p. p.left) (next_piece test)
 pieces_advance test p item q e = piece_at-left test p (item, q) (next-some test p q item e)
@@ -104,13 +93,8 @@ unit-tested test false (Err f) end = refl
 behind-tested : (test : Test) (offset : ℕ) (n : InitialLength) (p : Place) → unit_behind test offset n p ≡ (unit_behind untested offset n p >>= tested test)
 unfolding unit_behind
 behind-tested test offset reserved p = refl
-behind-tested test offset (of_length n width) p =
-    grouped (ok_or (bytes_at n p) (unit_header offset)) (λ bytes. cond {A = Result Piece Refusal} (n == 0) (Ok (None, bytes.1)) (unit_of (record { offset = offset; base = p.at; end = bytes.1.at }) (offset_size width) bytes.0 >>= λ u. test u >>= λ _. Ok (Some u, bytes.1)))
-    (λ bytes. cond {A = Result Piece Refusal} (n == 0) (Ok (None, bytes.1)) (unit_of (record { offset = offset; base = p.at; end = bytes.1.at }) (offset_size width) bytes.0 >>= λ u. untested u >>= λ _. Ok (Some u, bytes.1))) test
-    (λ bytes. unit-tested test (n == 0) (unit_of (record { offset = offset; base = p.at; end = bytes.1.at }) (offset_size width) bytes.0) bytes.1)
+behind-tested test offset (of_length n width) p = grind (arith, grouped, unit-tested)
 
 pub piece_at-tested : (test : Test) (p : Place) → piece_at test p ≡ (piece_at untested p >>= tested test)
 unfolding piece_at
-piece_at-tested test p =
-    grouped (ok_or (initial_length p) (unit_header p.at)) (λ unit_length. unit_behind test p.at unit_length.0 unit_length.1) (λ unit_length. unit_behind untested p.at unit_length.0 unit_length.1) test
-    (λ unit_length. behind-tested test p.at unit_length.0 unit_length.1)
+piece_at-tested test p = grind (arith, grouped, behind-tested)
