@@ -55,9 +55,7 @@ tested test u end x e =
     (t.1, sym (ap (λ (y : Piece). y.0) same), ap (λ (y : Piece). y.1) same)
 
 unit_same : (offset a b c d n : ℕ) (content : List ℕ) → a ≡ b → c ≡ d → (r : Result DwarfUnit Refusal) → unit_of (record { offset = offset; base = a; end = c }) n content ≡ r → unit_of (record { offset = offset; base = b; end = d }) n content ≡ r
-unit_same offset a b c d n content e f r h =
-    let extents : ◌≡◌ {A = Extent} (record { offset = offset; base = a; end = c }) (record { offset = offset; base = b; end = d }) = cc in
-    subst (λ extent. unit_of extent n content ≡ r) extents h
+unit_same offset a b c d n content e f r h = grind arith
 
 unit_is : (test : Test) (offset : ℕ) (width : Width) (p end : Place) (content : List ℕ) (x : Piece) → p.at ≡ offset + length_size width → end.at ≡ p.at + length content → (padding : Bool) → (length content == 0) ≡ padding → cond {A = Result Piece Refusal} padding (Ok (None, end)) (unit_of (record { offset = offset; base = p.at; end = end.at }) (offset_size width) content >>= λ u. test u >>= λ _. Ok (Some u, end)) ≡ Ok x → (end ≡ x.1) × IsUnitOf test offset width content x.0
 unit_is test offset width p end [] x at ends true f e =
@@ -118,9 +116,7 @@ pub piece-some : (content : Content) (piece : List ℕ) → IsPiece content piec
 piece-some content piece h = omega (arith, piece-long content piece h, some-length content.width)
 
 pub cut-ok : (test : Test) (contents : List Content) (p : Place) (bytes : List ℕ) (found : List DwarfUnit) → p.left ≡ bytes → AreContents bytes contents → AreUnits test p.at contents found → cut_from test p ≡ Ok found
-cut-ok test [] p bytes found e h u =
-    let none : length p.left ≡ 0 = ap (λ (s : List ℕ). length s) (e ∙ h) in
-    rw (cut-end test p (eq-eqb (length p.left) 0 none), u) refl
+cut-ok test [] p bytes found e h u = grind (arith, cut-end, eq-eqb)
 cut-ok test (content ∷ contents) p bytes found e h u =
     let q : Place = record { at = p.at + length h.0; left = h.1 } in
     let b : Between p h.0 q = (e ∙ h.2, refl) in
@@ -162,9 +158,7 @@ cut-are test p found e =
 -- ---- the only cut
 
 contents_same : (first second : Content) → first.width ≡ second.width → first.bytes ≡ second.bytes → first ≡ second
-contents_same first second e f =
-    let made : ◌≡◌ {A = Content} (record { width = first.width; bytes = first.bytes }) (record { width = second.width; bytes = second.bytes }) = cc in
-    made
+contents_same first second e f = grind arith
 
 -- the initial length of a piece is read so, whatever is after it
 piece-reads : (content : Content) (piece rest : List ℕ) (h : IsPiece content piece) → initial_length (start (piece ++ rest)) ≡ Some (of_length (length content.bytes) content.width, record { at = length h.0; left = content.bytes ++ rest })

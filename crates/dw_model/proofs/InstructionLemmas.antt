@@ -96,22 +96,15 @@ extended-spans p q i e =
 -- ---- what is after an opcode
 
 named : (opcode : ℕ) (operands : Operands) → lookup (nat_eq opcode) standard_opcodes ≡ Some operands → (opcode == DW_LNS_extended) ≡ false
-named opcode operands e =
-    ne_eqb opcode DW_LNS_extended (λ same.
-    let none : lookup (nat_eq DW_LNS_extended) standard_opcodes ≡ None = refl in
-    let both : Some operands ≡ None = sym e ∙ ap (λ (n : ℕ). lookup (nat_eq n) standard_opcodes) same ∙ none in
-    absurd cc)
+named opcode operands e = grind (arith, ne_eqb)
 
 opcode-ok : (header : LineHeader) (opcode : ℕ) (p q : Place) (piece : List ℕ) (i : Instruction) → Between p piece q → IsBehind header opcode piece i → opcode_at header opcode p ≡ Ok (i, q)
 unfolding opcode_at
-opcode-ok header opcode p q piece i b (is_special above empty makes) =
-    rw (le-leb header.opcode_base opcode above) (read_is (special (opcode - header.opcode_base)) i p q (sym makes) (empty-between p q piece b empty))
+opcode-ok header opcode p q piece i b (is_special above empty makes) = grind (arith, le-leb, read_is, empty-between)
 opcode-ok header opcode p q piece i b (is_extended below is makes) =
     rw (lt-leb header.opcode_base opcode below, eq-eqb opcode DW_LNS_extended is) (extended-ok p q piece i b makes)
-opcode-ok header opcode p q piece i b (is_standard below operands some are) =
-    rw (lt-leb header.opcode_base opcode below, named opcode operands some, some) (operands-ok operands p q piece i b are)
-opcode-ok header opcode p q piece i b (is_unknown below other absent are makes) =
-    rw (lt-leb header.opcode_base opcode below, ne_eqb opcode DW_LNS_extended other, absent, makes) (unknown-ok (slice_index header.standard_opcode_lengths (opcode - 1)) p q piece b are)
+opcode-ok header opcode p q piece i b (is_standard below operands some are) = grind (arith, lt-leb, named, operands-ok)
+opcode-ok header opcode p q piece i b (is_unknown below other absent are makes) = grind (arith, lt-leb, ne_eqb, unknown-ok)
 
 standard-spans : (header : LineHeader) (opcode : ℕ) (p q : Place) (i : Instruction) → opcode < header.opcode_base → (opcode == DW_LNS_extended) ≡ false → (o : Option Operands) → lookup (nat_eq opcode) standard_opcodes ≡ o → standard_at header opcode o p ≡ Ok (i, q) → Spans (λ piece. IsBehind header opcode piece i) p q
 standard-spans header opcode p q i below other None absent e =

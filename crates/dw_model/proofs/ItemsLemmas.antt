@@ -104,13 +104,10 @@ module _ {S A E : Type 0} (next : S → Result (Option A × S) E) where
   with_front-onto front item (Err e) = refl
 
   pub loop_more : (left : S → List ℕ) → Advances left next → (front : List A) (item : A) (s t : S) (all : Result (List A × S) E) → next s ≡ Ok (Some item, t) → with_front front (items left next s) ≡ all → with_front (front ++ item ∷ []) (items left next t) ≡ all
-  loop_more left advances front item s t all e so_far =
-      let step : items left next s ≡ onto item (items left next t) = rw (items-turn left advances s, e) refl in
-      sym (with_front-onto front item (items left next t)) ∙ ap (with_front front) (sym step) ∙ so_far
+  loop_more left advances front item s t all e so_far = grind (arith, items-turn, with_front-onto)
 
   pub loop_done : (left : S → List ℕ) → Advances left next → (front : List A) (s t : S) (all : Result (List A × S) E) → next s ≡ Ok (None, t) → with_front front (items left next s) ≡ all → all ≡ Ok (front, t)
-  loop_done left advances front s t all e so_far =
-      sym so_far ∙ rw (items-turn left advances s, e) (ap (λ (xs : List A). Ok (xs, t)) (append-nil front))
+  loop_done left advances front s t all e so_far = grind (arith, items-turn, append-nil)
 
   pub loop_fault : (left : S → List ℕ) → Advances left next → (front : List A) (s : S) (e : E) (all : Result (List A × S) E) → next s ≡ Err e → with_front front (items left next s) ≡ all → all ≡ Err e
   loop_fault left advances front s e all f so_far = sym so_far ∙ rw (items-turn left advances s, f) refl

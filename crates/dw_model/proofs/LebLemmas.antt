@@ -89,9 +89,7 @@ module _ {A : Type 0} (value : List ℕ → A) (fits : A → Bool) where
   Wide piece = (v : A) × Spelled v piece × (fits v ≡ false)
 
   pub fitting-ok : (p q : Place) (v : A) → Spans (Spelled v) p q → fits v ≡ true → fitting (leb_at p) ≡ Ok (v, q)
-  fitting-ok p q v s e =
-      let same : value s.0 ≡ v = sym s.2.1 in
-      rw (leb_at-ok p q s.0 s.1 s.2.0, same, e) refl
+  fitting-ok p q v s e = grind (arith, leb_at-ok)
 
   tested : (x : List ℕ × Place) (fit : Bool) → fits (value x.0) ≡ fit → (y : A × Place) → cond fit (Ok (value x.0, x.1)) (Err too_wide) ≡ Ok y → (fits (value x.0) ≡ true) × (value x.0 ≡ y.0) × (x.1 ≡ y.1)
   tested x true e y h =

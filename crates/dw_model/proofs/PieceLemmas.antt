@@ -42,9 +42,7 @@ same_location p q e =
     λ i. record { path = path i; line = line i; column = column i }
 
 own_location : (p : Location) → is_same p p ≡ true
-own_location p =
-    and_from (is_same_path p.path p.path) (is_same_number p.line p.line && is_same_number p.column p.column) (own_path p.path)
-    (and_from (is_same_number p.line p.line) (is_same_number p.column p.column) (own_number p.line) (own_number p.column))
+own_location p = grind (arith, and_from, own_path, own_number)
 
 -- what the test says, whether a location goes on where another piece begins
 goes_on : (m n : ℕ) (p q : Location) → (m == n && is_same p q) ≡ true → (m ≡ n) × (p ≡ q)
@@ -53,8 +51,7 @@ goes_on m n p q e =
     (eqb-true m n parts.0, same_location p q parts.1)
 
 parts_there : (m n : ℕ) (p q : Location) → (m == n && is_same p q) ≡ false → m ≡ n → p ≢ q
-parts_there m n p q e touches same =
-    both_ways (m == n && is_same p q) e (and_from (m == n) (is_same p q) (eq-eqb m n touches) (ap (is_same p) (sym same) ∙ own_location p))
+parts_there m n p q e touches same = grind (arith, both_ways, and_from, eq-eqb, own_location)
 
 -- ---- the piece of an address
 
@@ -84,10 +81,7 @@ module _ (location : ℕ → Result (Option Location) UnitFault) where
   -- what holds of an address and of those after it holds from it on
   each_from : (a high : ℕ) (pieces : List Piece) → location a ≡ Ok (location_in pieces a) → ((b : ℕ) → a + 1 ≤ b → b < high → location b ≡ Ok (location_in pieces b))
       → (b : ℕ) → a ≤ b → b < high → location b ≡ Ok (location_in pieces b)
-  each_from a high pieces here others b from before = elim (eq-or-lt_of_le from) [
-    | inl same ↦ subst (λ (b : ℕ). location b ≡ Ok (location_in pieces b)) same here
-    | inr less ↦ others b (omega (arith, less)) before
-  ]
+  each_from a high pieces here others b from before = grind (arith, eq-or-lt_of_le)
 
   none_before : (a high : ℕ) (later : List Piece) → location a ≡ Ok None → ArePieces location (a + 1) high later → ArePieces location a high later
   none_before a high later here are = record {
@@ -167,10 +161,7 @@ module _ (location : ℕ → Result (Option Location) UnitFault) where
 
   lone_whole : (a : ℕ) (piece : Piece) (pieces : List Piece) → piece.begin ≡ a → piece.end ≡ a + 1 → IsApart piece.end piece.location pieces → with_address a (Some piece.location) pieces ≡ piece ∷ pieces
   lone_whole a piece [] begins ends apart = λ i. record { begin = sym begins i; end = sym ends i; location = piece.location } ∷ []
-  lone_whole a piece (next ∷ pieces) begins ends apart = elim (cases_Bool (next.begin == a + 1 && is_same piece.location next.location)) [
-    | inl e ↦ (let on = goes_on next.begin (a + 1) piece.location next.location e in absurd (apart (ends ∙ sym on.0) on.1))
-    | inr e ↦ rw e (λ i. record { begin = sym begins i; end = sym ends i; location = piece.location } ∷ next ∷ pieces)
-  ]
+  lone_whole a piece (next ∷ pieces) begins ends apart = grind (arith, cases_Bool, goes_on)
 
   -- the first piece has this address alone
   split_lone : (a high : ℕ) (piece : Piece) (pieces : List Piece) → ArePieces location a high (piece ∷ pieces) → piece.begin ≡ a → piece.end ≡ a + 1 → IsSplit a high (piece ∷ pieces) pieces

@@ -32,10 +32,7 @@ read_from header (Err f) none p = refl
 
 instruction-end : (header : LineHeader) (p q : Place) → next_instruction header p ≡ Ok (None, q) → p.left ≡ []
 unfolding next_instruction
-instruction-end header p q e =
-    let opcode : Result (ℕ × Place) Bad = ok_or (number_at 1 p) bad in
-    let none = none_read (length p.left == 0) p q (opcode >>= λ opcode. opcode_at header opcode.0 opcode.1) (sym (read_from header opcode (length p.left == 0) p) ∙ e) in
-    nil_from_length p.left (eqb-true (length p.left) 0 none)
+instruction-end header p q e = grind (arith, none_read, read_from, nil_from_length, eqb-true)
 
 at_end : (header : LineHeader) (p : Place) → p.left ≡ [] → next_instruction header p ≡ Ok (None, p)
 unfolding next_instruction

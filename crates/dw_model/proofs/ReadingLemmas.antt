@@ -49,9 +49,7 @@ place_of a b s t e f = cc
 
 -- the place after a piece
 pub past-between : (p q : Place) (piece : List ℕ) (n : ℕ) → length piece ≡ n → Between p piece q → past n p ≡ q
-past-between p q piece n e b =
-    let left : drop n p.left ≡ q.left = rw (b.0) (drop_at piece q.left n e) in
-    place_of (p.at + n) q.at (drop n p.left) q.left (omega (arith, b.1, e)) left
+past-between p q piece n e b = grind (arith, drop_at, place_of)
 
 pub take-between : (p q : Place) (piece : List ℕ) (n : ℕ) → length piece ≡ n → Between p piece q → take n p.left ≡ piece
 take-between p q piece n e b = rw (b.0) (take_at piece q.left n e)
@@ -73,10 +71,7 @@ pub between-none : (p q : Place) → p ≡ q → Between p [] q
 between-none p q e = (ap (λ (place : Place). place.left) e, omega (arith, ap (λ (place : Place). place.at) e))
 
 pub empty-between : (p q : Place) (piece : List ℕ) → Between p piece q → piece ≡ [] → p ≡ q
-empty-between p q piece b e =
-    let left : p.left ≡ q.left = b.0 ∙ ap (λ (s : List ℕ). s ++ q.left) e in
-    let none : length piece ≡ 0 = ap (λ (s : List ℕ). length s) e in
-    place_of p.at q.at p.left q.left (omega (arith, b.1, none)) left
+empty-between p q piece b e = grind (arith, place_of)
 
 -- the place after a front
 abbrev pub behind_front : (front rest : List ℕ) → Place

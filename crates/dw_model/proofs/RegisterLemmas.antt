@@ -18,9 +18,7 @@ after header done = record {
 }
 
 added : (sum more : ℕ) → (sum % 2 ^ 64 + more) % 2 ^ 64 ≡ (more + sum) % 2 ^ 64
-added sum more =
-    let turned : sum % 2 ^ 64 + more ≡ more + sum % 2 ^ 64 = omega arith in
-    ap (λ (n : ℕ). n % 2 ^ 64) turned ∙ add-mod-mod more sum (2 ^ 64)
+added sum more = grind (arith, add-mod-mod)
 
 address-step : (header : LineHeader) (i : Instruction) (done : List Instruction) → next_address header i (address_after header done) ≡ address_after header (i ∷ done)
 address-step header (special n) done = added (advanced header done) (address_advance header (special n))
@@ -68,12 +66,7 @@ column-step (set_address n) done = refl
 column-step no_effect done = refl
 
 step-after : (header : LineHeader) (i : Instruction) (done : List Instruction) → step header i (after header done) ≡ after header (i ∷ done)
-step-after header i done = λ k. record {
-  address = address-step header i done k;
-  file = file-step i done k;
-  line = line-step header i done k;
-  column = column-step i done k;
-}
+step-after header i done = grind (arith, address-step, file-step, line-step, column-step)
 
 -- what is at the beginning of the next instruction
 begins : (header : LineHeader) (ends : Bool) (r : Registers) (done : List Instruction) → r ≡ after header done → cond ends initial r ≡ after header (cond ends [] done)

@@ -48,9 +48,7 @@ spelled-ok size uleb_counted constant p q piece v b h =
     rw (uleb-ok p (between p h.0 h.1 q) (length h.1) h.0 parts.0 h.3 h.4, bytes_at-ok (length h.1) (between p h.0 h.1 q) q h.1 refl parts.1, h.5) refl
 spelled-ok size form.text constant p q piece v b h = rw (text_at-ok p q piece h.0 (h.1, h.2) b, h.3) refl
 spelled-ok size implicit None p q piece v b h = let some = h.1 in absurd cc
-spelled-ok size implicit (Some z) p q piece v b h =
-    let same : signed z ≡ v = ap signed (same_Some z h.0 h.1) ∙ sym h.3 in
-    read_is (signed z) v p q same (empty-between p q piece b h.2)
+spelled-ok size implicit (Some z) p q piece v b h = grind (arith, same_Some, read_is, empty-between)
 spelled-ok size present constant p q piece v b h = read_is (flag true) v p q (sym h.1) (empty-between p q piece b h.0)
 
 -- what a piece is, where a value is made of it

@@ -15,19 +15,15 @@ use Rattle.dw_model.proofs.ItemsLemmas.{Advances, turn, items-turn}
 use Rattle.dw_model.proofs.LebReading.{uleb-left, uleb-ok, uleb-spans, uleb-wide, uleb-wide-only, uleb-faults}
 use Rattle.dw_model.proofs.SpellingLemmas.{between, parted, joined, spelled-ok, spelled-spans}
 use Rattle.dw_model.proofs.SpellingFaults.{Why, too_short, nothing_declared, unfit, spelled-why, spelled-wide}
+use Rattle.std.proofs.lemmas.Bool.Decides.{nat_tests}
 
 abbrev State : Type 0
 State = ℕ × Place
 
 next_left : (named : Bool) (s : State) (read : Result State Fault) → uleb_at s.1 ≡ read → (item : Unit {0}) (t : State) → cond named (◌>>=◌ {B = Option (Unit {0}) × State} read (λ form. Ok (Some tt, form))) (Ok (None, s)) ≡ Ok (Some item, t) → uleb_at s.1 ≡ Ok t
-next_left true s (Ok x) r item t e =
-    let same = ok_is (Some tt, x) (Some item, t) e in
-    r ∙ ap Ok (ap (λ (y : Option (Unit {0}) × State). y.1) same)
+next_left true s (Ok x) r item t e = grind (arith, ok_is)
 next_left true s (Err f) r item t e = absurd cc
-next_left false s read r item t e =
-    let same = ok_is (None, s) (Some item, t) e in
-    let first : None ≡ Some item = ap (λ (y : Option (Unit {0}) × State). y.0) same in
-    absurd cc
+next_left false s read r item t e = grind (arith, ok_is)
 
 pub forms_advance : Advances (λ s. s.1.left) next_form
 unfolding next_form
@@ -74,15 +70,10 @@ value-behind size constant p = rw (direct-behind p) (behind size (uleb_at p))
 
 -- a form that has a spelling isn't DW_FORM_indirect
 pub has_spelling : (form : ℕ) (s : Spelling) → lookup (nat_eq form) forms ≡ Some s → (form == DW_FORM_indirect) ≡ false
-has_spelling form s e =
-    ne_eqb form DW_FORM_indirect (λ same.
-    let none : lookup (nat_eq DW_FORM_indirect) forms ≡ None = refl in
-    let both : Some s ≡ None = sym e ∙ ap (λ (f : ℕ). lookup (nat_eq f) forms) same ∙ none in
-    absurd cc)
+has_spelling form s e = grind (arith, ne_eqb)
 
 pub spells-ok : (size form : ℕ) (constant : Option ℤ) (piece : List ℕ) (v : Value) → Spells size form constant piece v → (p q : Place) → Between p piece q → value_at size form constant p ≡ Ok (v, q)
-spells-ok size form constant piece v (direct s e h) p q b =
-    rw (value-here size form constant p (has_spelling form s e), e) (spelled-ok size s constant p q piece v b h)
+spells-ok size form constant piece v (direct s e h) p q b = grind (arith, nat_tests, value-here, has_spelling, spelled-ok)
 spells-ok size _ constant _ v (indirect number front form h fits others) p q b =
     let parts = parted p q number front b in
     rw (value-behind size constant p, uleb-ok p (between p number front q) form number parts.0 h fits) (spells-ok size form None front v others (between p number front q) q parts.1)
@@ -122,19 +113,15 @@ value-spans size form constant p q v e = spelled-below size (suc (length p.left)
 
 pub unknown-fault : (size form : ℕ) (constant : Option ℤ) (left : List ℕ) → IsUnknown form constant left → (p : Place) → p.left ≡ left → value_at size form constant p ≡ Err unknown_form
 unfolding spelled_at
-unknown-fault size form constant left (missing other none) p e =
-    rw (value-here size form constant p (ne_eqb form DW_FORM_indirect other), none) refl
-unknown-fault size form _ left (no_constant some) p e =
-    rw (value-here size form None p (has_spelling form implicit some), some) refl
+unknown-fault size form constant left (missing other none) p e = grind (arith, value-here, ne_eqb)
+unknown-fault size form _ left (no_constant some) p e = grind (arith, nat_tests, value-here, has_spelling)
 unknown-fault size _ constant _ (unknown_behind number left form h fits others) p e =
     let q : Place = record { at = p.at + length number; left = left } in
     rw (value-behind size constant p, uleb-ok p q form number (e, refl) h fits) (unknown-fault size form None left others q refl)
 
 pub wide-fault : (size form : ℕ) (constant : Option ℤ) (left : List ℕ) → IsWide form left → (p : Place) → p.left ≡ left → value_at size form constant p ≡ Err too_wide
-wide-fault size form constant left (in_value s some wide) p e =
-    rw (value-here size form constant p (has_spelling form s some), some) (spelled-wide size s constant p (subst (BeginsWide s) (sym e) wide))
-wide-fault size _ constant left (in_form wide) p e =
-    rw (value-behind size constant p, uleb-wide p (subst BeginsTooWide (sym e) wide)) refl
+wide-fault size form constant left (in_value s some wide) p e = grind (arith, nat_tests, value-here, has_spelling, spelled-wide)
+wide-fault size _ constant left (in_form wide) p e = grind (arith, value-behind, uleb-wide)
 wide-fault size _ constant _ (wide_behind number left form h fits others) p e =
     let q : Place = record { at = p.at + length number; left = left } in
     rw (value-behind size constant p, uleb-ok p q form number (e, refl) h fits) (wide-fault size form None left others q refl)
