@@ -1,14 +1,14 @@
 -- Merging two lists of segments, border by border.
-use Rattle.std.proofs.Common.{◌≡◌, ◌≢◌, inl, inr, ◌≤◌, ◌<◌, ℕ, ◌+◌, Bool, true, false, cond, List, [], ◌∷◌, ◌++◌, length, Option, Some, None, min, refl, sym, ap, subst, ◌∙◌, arith, length-append}
-use Rattle.std.specs.Prelude.{◌==◌, nat_eq}
+use Rattle.std.proofs.Common.{◌≡◌, ◌≢◌, inl, inr, ◌≤◌, ◌<◌, ℕ, ◌+◌, true, false, List, [], ◌∷◌, ◌++◌, length, Option, Some, None, min, refl, sym, ap, subst, ◌∙◌, arith, length-append}
+use Rattle.std.specs.Prelude.{nat_eq}
 use Rattle.std.specs.Option.{option_eq}
-use Rattle.std.proofs.lemmas.Bool.{eqb-true, eqb-false, eq-eqb, ne_eqb, cases_eq, cases_lt, cond_both, le-leb, lt-leb}
+use Rattle.std.proofs.lemmas.Bool.{eqb-true, eqb-false, eq-eqb, ne_eqb, cases_eq, cases_lt, le-leb, lt-leb}
 use Rattle.std.proofs.lemmas.Bool.Decides.{nat_tests}
 use Rattle.std.proofs.lemmas.Option.{same_Some}
 use Rattle.dw_index.specs.declared.segment.Segment.{Segment}
 use Rattle.dw_index.specs.Owners.{least}
-use Rattle.dw_index.specs.Segments.{owner_from, owner_at, AreSegments, Below, border, past_owner, past_rest, IsMerged}
-use Rattle.dw_index.proofs.SegmentLemmas.{behind_border, below_all, below_more, below_push, owner-push, push}
+use Rattle.dw_index.specs.Segments.{owner_from, owner_at, AreSegments, Below, border, past_owner, past_rest}
+use Rattle.dw_index.proofs.SegmentLemmas.{below_all, below_more, below_push, owner-push, push}
 
 -- ---- one side, after a border that is at most its first one
 

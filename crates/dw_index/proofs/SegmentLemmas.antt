@@ -3,7 +3,6 @@ use Rattle.std.proofs.Common.{◌≡◌, ◌≢◌, ◌≤◌, ◌<◌, ℕ, zer
 use Rattle.std.proofs.lemmas.Bool.{le-leb, lt-leb}
 use Rattle.dw_index.specs.declared.segment.Segment.{Segment}
 use Rattle.dw_index.specs.Segments.{passed, owner_from, AreSegments, begin_at, Below}
-use Rattle.std.proofs.lemmas.Bool.Decides.{nat_tests}
 
 pub begin_at-get : (segments : List Segment) (k : ℕ) (d : Segment) → k < length segments → begin_at segments k ≡ (get_or segments k d).begin
 begin_at-get [] k d h = absurd (omega arith)

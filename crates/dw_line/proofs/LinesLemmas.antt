@@ -1,6 +1,6 @@
 -- A table that is read, and its rows.
 use Rattle.std.proofs.Common.{◌≡◌, ℕ, ◌<◌, ◌≤◌, length, get_or, List, [], Option, Some, None, Result, Ok, Err, refl, sym, subst, ap, ◌∙◌, arith}
-use Rattle.std.specs.Prelude.{Bool, true, false, cond, ◌==◌, IfSome, option_map, slice_get}
+use Rattle.std.specs.Prelude.{true, ◌==◌, IfSome, option_map, slice_get}
 use Rattle.std.specs.Result.{result_unwrap_or}
 use Rattle.std.proofs.lemmas.Bool.{eqb-true, cond_both}
 use Rattle.std.proofs.lemmas.Option.{same_Some, slice_get_read, slice_get_past}

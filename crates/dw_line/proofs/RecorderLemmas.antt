@@ -1,6 +1,6 @@
 -- What is recorded of a program is of the rows that the machine has appended so far.
 use Rattle.std.proofs.Common.{◌≡◌, ℕ, zero, suc, ◌+◌, ◌*◌, ◌<◌, ◌≤◌, Bool, true, false, cond, List, [], ◌∷◌, ◌++◌, length, take, drop, filter, reverse, Option, Some, None, Ok, inl, inr, refl, sym, subst, ap, ◌∙◌, append_assoc, length-append, arith}
-use Rattle.std.specs.Prelude.{◌&&◌, nat_le, nat_lt, ◌==◌, slice_get, option_and_then}
+use Rattle.std.specs.Prelude.{◌&&◌, nat_le, nat_lt, slice_get, option_and_then}
 use Rattle.std.specs.List.{sum_by}
 use Rattle.std.proofs.Math.Seq.{take-length, drop-length}
 use Rattle.std.proofs.lemmas.List.{append-nil, reverse-append, reverse-reverse, drop-append-le, drop_all, drop_at, length-take-le, length-drop, nil_from_length}

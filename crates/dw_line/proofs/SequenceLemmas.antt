@@ -1,6 +1,6 @@
 -- The first sequence that holds an address, by its number.
-use Rattle.std.proofs.Common.{◌≡◌, ◌∙◌, ℕ, zero, suc, ◌+◌, ◌-◌, ◌<◌, ◌≤◌, Bool, true, false, cond, List, [], ◌∷◌, ◌++◌, length, filter, drop, get_or, Option, Some, None, inl, inr, refl, sym, subst, ap, append_assoc, arith}
-use Rattle.std.specs.Prelude.{◌&&◌, nat_le, nat_lt, min, find, slice_get, option_and_then}
+use Rattle.std.proofs.Common.{◌≡◌, ◌∙◌, ℕ, zero, suc, ◌+◌, ◌<◌, ◌≤◌, Bool, List, [], ◌∷◌, length, filter, get_or, Some, None, inl, inr, refl, subst, ap}
+use Rattle.std.specs.Prelude.{◌&&◌, nat_le, nat_lt, find, slice_get, option_and_then}
 use Rattle.std.specs.List.{position_from, position_or_len}
 use Rattle.std.proofs.lemmas.Option.{same_Some, cond_some, slice_get-get_or}
 use Rattle.std.proofs.lemmas.Bool.{leb-true, ltb-true, and_parts, cases_Bool}
@@ -8,8 +8,7 @@ use Rattle.std.proofs.lemmas.Iterator.Adapters.{position_from-zero}
 use Rattle.std.proofs.lemmas.List.Folds.{find_at}
 use Rattle.std.proofs.lemmas.List.Quantifiers.{position-Some}
 use Rattle.dw_model.specs.Matrix.{Row, sequences, is_used, first_address, last_address, row_in, row_of}
-use Rattle.dw_model.specs.Ranges.{Range}
-use Rattle.dw_index.specs.Owners.{least, least_owner}
+use Rattle.dw_index.specs.Owners.{least_owner}
 use Rattle.dw_index.proofs.LawLemmas.{least-first}
 use Rattle.dw_line.specs.declared.checkpoints.Checkpoint.{Checkpoint}
 use Rattle.dw_line.specs.declared.checkpoints.Sequence.{Sequence}

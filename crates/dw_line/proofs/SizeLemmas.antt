@@ -9,7 +9,7 @@ use Rattle.dw_model.specs.Results.{◌>>=◌, or_fault, refuse_if}
 use Rattle.dw_model.specs.Reading.{Place, start, number_at, bytes_at}
 use Rattle.dw_model.specs.InitialLength.{InitialLength, of_length, reserved, offset_size, initial_length}
 use Rattle.dw_model.specs.Leb.{uleb_at}
-use Rattle.dw_model.specs.Form.{Value, value_at}
+use Rattle.dw_model.specs.Form.{Value}
 use Rattle.dw_model.specs.Faults.{Bad, bad}
 use Rattle.dw_model.specs.Text.{Tables, Bases}
 use Rattle.dw_model.specs.LineHeader.{LineEntry, LineHeader, Format, formats_at, contents_at, line_entry, entries_at, entry_list, fields_at, table_behind, line_header}

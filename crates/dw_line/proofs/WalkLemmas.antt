@@ -1,5 +1,5 @@
 -- Going from stretch to stretch through a span of addresses.
-use Rattle.std.proofs.Common.{◌≡◌, ◌≢◌, ℕ, ◌+◌, ◌<◌, ◌≤◌, List, [], ◌∷◌, Option, Some, None, ◌⊎◌, inl, inr, refl, sym, subst, ap, ◌∙◌, arith}
+use Rattle.std.proofs.Common.{◌≡◌, ℕ, ◌+◌, ◌<◌, ◌≤◌, List, [], ◌∷◌, Option, Some, None, inl, inr, refl, sym, subst, ap, ◌∙◌, arith}
 use Rattle.std.specs.Prelude.{option_map, drop, IfSome, MatchOption, slice_get}
 use Rattle.dw_model.specs.LineHeader.{LineHeader}
 use Rattle.dw_model.specs.Matrix.{Row, first_address}
@@ -9,7 +9,7 @@ use Rattle.dw_line.specs.declared.search.Last.{Last}
 use Rattle.dw_line.specs.declared.walk.Stretch.{Stretch}
 use Rattle.dw_line.specs.Search.{row_told, told_at}
 use Rattle.dw_line.specs.Border.{OwnerEnds, HasRowAt, IsBorder}
-use Rattle.dw_line.specs.Reached.{told_of, Stays, IsLast, IsReached}
+use Rattle.dw_line.specs.Reached.{IsLast, IsReached}
 use Rattle.dw_line.specs.Sequences.{used_sequences, IsOwner}
 use Rattle.dw_line.specs.Walked.{IsStretch}
 use Rattle.std.proofs.lemmas.Bool.{cases_eq}

@@ -7,7 +7,7 @@ use Rattle.std.specs.List.{AllByRecursion}
 use Rattle.std.proofs.lemmas.Option.{same_Some}
 use Rattle.dw_model.specs.declared.dwarf.TheConstants as constants
 use Rattle.dw_model.specs.Results.{◌>>=◌, or_fault}
-use Rattle.dw_model.specs.Reading.{Place, Spans, number_at, items, AreItems}
+use Rattle.dw_model.specs.Reading.{Place, number_at, items, AreItems}
 use Rattle.dw_model.specs.Faults.{Fault, ends_early, undeclared, Bad, bad, TreeFault, entry_fault}
 use Rattle.dw_model.specs.Leb.{uleb_at, sleb_at}
 use Rattle.dw_model.specs.Form.{Value, value_at}

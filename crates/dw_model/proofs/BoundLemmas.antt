@@ -1,19 +1,19 @@
 -- Where something is read at an offset, the offset lies in its section.
 use Rattle.std.proofs.Common.{◌≡◌, inl, inr, ℕ, ◌+◌, ◌<◌, ◌≤◌, Bool, true, false, cond, List, [], ◌∷◌, length, take, drop, Option, Some, None, Result, Ok, Err, refl, subst, sym, ap, arith, length-append, length-drop, length-take}
-use Rattle.std.specs.Prelude.{ok_or, option_map, nat_eq, nat_lt, nat_le, not, ◌||◌, ◌==◌}
+use Rattle.std.specs.Prelude.{ok_or, option_map, nat_lt, nat_le, not, ◌||◌, ◌==◌}
 use Rattle.std.specs.List.{cons_option, AllByRecursion}
 use Rattle.std.proofs.Math.Nat.{min-le_right}
 use Rattle.std.proofs.lemmas.Option.{same_Some}
 use Rattle.std.proofs.lemmas.Bool.{cases_lt, lt-leb, leb-false, ltb-false, or_parts}
-use Rattle.dw_model.specs.declared.dwarf.TheConstants.{DWARF_VERSION, ADDRESS_SIZE, DW_RLE_end_of_list}
+use Rattle.dw_model.specs.declared.dwarf.TheConstants.{DWARF_VERSION, ADDRESS_SIZE}
 use Rattle.dw_model.specs.Results.{◌>>=◌, refuse_if}
 use Rattle.dw_model.specs.Reading.{Place, start, Between, number_at, bytes_at, text_at, items, AreItems}
 use Rattle.dw_model.specs.InitialLength.{Width, offset_size, length_size, initial_length}
-use Rattle.dw_model.specs.Faults.{Fault, ends_early, Refusal, unit_header, address_size, Bad, bad}
-use Rattle.dw_model.specs.Abbrev.{Declaration, next_declaration, abbreviations}
+use Rattle.dw_model.specs.Faults.{Fault, ends_early, Refusal, unit_header, address_size, bad}
+use Rattle.dw_model.specs.Abbrev.{Declaration, abbreviations}
 use Rattle.dw_model.specs.Entry.{Entry, entry_at}
 use Rattle.dw_model.specs.Text.{Tables, Bases, number_in, text_in}
-use Rattle.dw_model.specs.Ranges.{RangeEntry, operands, next_range_entry, range_entries}
+use Rattle.dw_model.specs.Ranges.{RangeEntry, next_range_entry, range_entries}
 use Rattle.dw_model.specs.LineHeader.{LineHeader, length_of, table_behind, line_header}
 use Rattle.dw_model.specs.Section.{Sections}
 use Rattle.dw_model.specs.Unit.{DwarfUnit, Test, Kind, Extent, skipped_unit, dwo_id_size, is_skipped, kind_of, kept_unit, unit_of, Content, AreContents, extent_at, IsUnitOf, AreUnits, StandsIn}
@@ -26,7 +26,6 @@ use Rattle.dw_model.proofs.TextLemmas.{text_at-spans}
 use Rattle.dw_model.proofs.CutLaws.{piece-long, some-length}
 use Rattle.dw_model.proofs.AdvanceLemmas.{either, entry-onward, number-onward, range_entries_advance}
 use Rattle.dw_model.proofs.ItemsLemmas.{read_by}
-use Rattle.std.specs.Map.{lookup}
 
 -- what is left after an offset is there only where the offset lies in the section
 left_behind : (section : List ℕ) (offset n : ℕ) → 0 < n → n ≤ length (drop offset section) → offset + n ≤ length section

@@ -1,5 +1,5 @@
 -- .debug_info is cut into units in one way.
-use Rattle.std.proofs.Common.{◌≡◌, ℕ, ◌+◌, ◌<◌, Bool, true, false, cond, List, [], ◌∷◌, ◌++◌, length, Option, Some, None, Result, Ok, Err, refl, subst, sym, ap, ◌∙◌, arith, length-append}
+use Rattle.std.proofs.Common.{◌≡◌, ℕ, ◌+◌, ◌<◌, Bool, true, false, cond, List, [], ◌∷◌, ◌++◌, length, Option, Some, None, Result, Ok, refl, subst, sym, ap, ◌∙◌, arith, length-append}
 use Rattle.std.specs.Prelude.{ok_or, ◌==◌, filter_map}
 use Rattle.std.proofs.lemmas.Option.{same_Some}
 use Rattle.std.proofs.lemmas.Bool.{true≢false, ne_eqb, eqb-true, eq-eqb}
@@ -8,7 +8,7 @@ use Rattle.dw_model.specs.Results.{◌>>=◌}
 use Rattle.dw_model.specs.Reading.{Place, start, Between, Spans, bytes_at, items, AreItems}
 use Rattle.dw_model.specs.InitialLength.{Width, four, eight, offset_size, length_size, InitialLength, of_length, reserved, initial_length, IsInitialLength}
 use Rattle.dw_model.specs.Faults.{Refusal, unit_header}
-use Rattle.dw_model.specs.Unit.{DwarfUnit, Test, Extent, unit_of, unit_behind, piece_at, next_piece, cut_from, Content, IsPiece, AreContents, IsUnitOf, AreUnits}
+use Rattle.dw_model.specs.Unit.{DwarfUnit, Test, unit_of, unit_behind, piece_at, next_piece, cut_from, Content, IsPiece, AreContents, IsUnitOf, AreUnits}
 use Rattle.dw_model.proofs.StepLemmas.{bind_ok, ok_or-ok, ok_is}
 use Rattle.dw_model.proofs.ReadingLemmas.{between-length, same_front}
 use Rattle.dw_model.proofs.NumberLemmas.{bytes_at-ok, bytes_at-between}

@@ -2,7 +2,6 @@
 use Rattle.std.proofs.Common.{◌≡◌, ℕ, zero, suc, ◌-◌, ◌<◌, ◌^◌, Bool, true, false, cond, List, [], ◌∷◌, ◌++◌, length, Option, Some, None, Result, Ok, Err, refl, subst, sym, ap, ◌∙◌, arith}
 use Rattle.std.specs.Prelude.{ok_or, nat_eq, nat_le, slice_index, ◌==◌}
 use Rattle.std.specs.Map.{lookup}
-use Rattle.std.proofs.lemmas.Option.{same_Some}
 use Rattle.std.proofs.lemmas.Bool.{ne_eqb, eqb-true, eqb-false, eq-eqb, leb-true, leb-false, le-leb, lt-leb}
 use Rattle.byteorder.specs.Endian.{little_number}
 use Rattle.dw_model.specs.declared.dwarf.TheConstants.{DW_LNS_extended}

@@ -1,12 +1,11 @@
 -- The instructions of a line program are those whose spellings are its bytes.
-use Rattle.std.proofs.Common.{◌≡◌, ℕ, ◌+◌, ◌<◌, Bool, true, false, cond, List, [], ◌∷◌, ◌++◌, length, Option, Some, None, Result, Ok, Err, refl, sym, ap, ◌∙◌, arith}
-use Rattle.std.specs.Prelude.{ok_or, ◌==◌}
+use Rattle.std.proofs.Common.{◌≡◌, ℕ, ◌+◌, ◌<◌, Bool, cond, List, [], ◌∷◌, ◌++◌, length, Option, Some, None, Result, Ok, Err, refl, sym, ap, ◌∙◌, arith}
 use Rattle.std.proofs.lemmas.Option.{same_Some}
 use Rattle.std.proofs.lemmas.Bool.{eqb-true}
 use Rattle.std.proofs.lemmas.List.{nil_from_length}
 use Rattle.dw_model.specs.Results.{◌>>=◌}
-use Rattle.dw_model.specs.Reading.{Place, start, number_at, items, AreItems}
-use Rattle.dw_model.specs.Faults.{Bad, bad}
+use Rattle.dw_model.specs.Reading.{Place, start, items, AreItems}
+use Rattle.dw_model.specs.Faults.{Bad}
 use Rattle.dw_model.specs.LineHeader.{LineHeader}
 use Rattle.dw_model.specs.Instruction.{Instruction, opcode_at, next_instruction, instructions, IsInstruction, AreInstructions}
 use Rattle.dw_model.proofs.StepLemmas.{ok_is, none_read, read_of}

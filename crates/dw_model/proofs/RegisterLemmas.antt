@@ -5,7 +5,7 @@ use Rattle.std.proofs.Math.Nat.{add-mod-mod}
 use Rattle.std.proofs.lemmas.List.Sums.{sum_by-cons}
 use Rattle.dw_model.specs.LineHeader.{LineHeader}
 use Rattle.dw_model.specs.Instruction.{Instruction, special, copy, advance_pc, advance_line, set_file, set_column, const_add_pc, fixed_advance_pc, end_sequence, set_address, no_effect}
-use Rattle.dw_model.specs.Matrix.{Row, address_advance, line_advance, residue, advanced, address_after, line_after, file_after, column_after, is_end, appends, row_after, rows_from}
+use Rattle.dw_model.specs.Matrix.{address_advance, line_advance, residue, advanced, address_after, line_after, file_after, column_after, is_end, appends, rows_from}
 use Rattle.dw_model.specs.Registers.{Registers, initial, next_address, next_line, next_file, next_column, step, row, run}
 
 -- the registers after the instructions since the last end_sequence, the newest first

@@ -1,15 +1,15 @@
 -- The cut of .debug_info into units goes on by at least a byte with each piece.
-use Rattle.std.proofs.Common.{◌≡◌, ℕ, ◌<◌, ◌≤◌, Bool, true, false, cond, List, [], length, Option, Some, None, Result, Ok, Err, refl, ap, ◌∙◌, arith}
+use Rattle.std.proofs.Common.{◌≡◌, ℕ, ◌<◌, ◌≤◌, Bool, true, false, cond, List, [], length, Option, Some, None, Result, Ok, Err, refl, arith}
 use Rattle.std.specs.Prelude.{ok_or, filter_map, ◌==◌}
 use Rattle.std.specs.List.{cons_option}
 use Rattle.std.specs.Option.{option_map_or}
 use Rattle.std.proofs.lemmas.Bool.{eqb-true}
 use Rattle.std.proofs.lemmas.List.{nil_from_length}
 use Rattle.dw_model.specs.Results.{◌>>=◌}
-use Rattle.dw_model.specs.Reading.{Place, bytes_at, onto, items}
-use Rattle.dw_model.specs.InitialLength.{offset_size, InitialLength, of_length, reserved, initial_length}
+use Rattle.dw_model.specs.Reading.{Place, onto, items}
+use Rattle.dw_model.specs.InitialLength.{InitialLength, of_length, reserved, initial_length}
 use Rattle.dw_model.specs.Faults.{Refusal, unit_header}
-use Rattle.dw_model.specs.Unit.{DwarfUnit, Test, untested, unit_of, unit_behind, piece_at, next_piece, cut_from}
+use Rattle.dw_model.specs.Unit.{DwarfUnit, Test, untested, unit_behind, piece_at, next_piece, cut_from}
 use Rattle.dw_model.proofs.StepLemmas.{bind_ok, ok_or-ok, ok_is, past_none, none_read, item_of}
 use Rattle.dw_model.proofs.ReadingLemmas.{bytes_at-took, took-left}
 use Rattle.dw_model.proofs.InitialLemmas.{initial-left}

@@ -7,8 +7,8 @@ use Rattle.dw_model.specs.declared.dwarf.TheConstants.{DW_FORM_indirect}
 use Rattle.dw_model.specs.Results.{◌>>=◌}
 use Rattle.dw_model.specs.Reading.{Place, start, Between, Spans, onto, items_up_to, items}
 use Rattle.dw_model.specs.Faults.{Fault, ends_early, unknown_form, too_wide}
-use Rattle.dw_model.specs.Leb.{IsUleb, BeginsTooWide, uleb_at}
-use Rattle.dw_model.specs.Form.{Value, Spelling, implicit, forms, spelled_at, next_form, direct_form, value_at, Spells, direct, indirect, IsUnknown, missing, no_constant, unknown_behind, BeginsWide, IsWide, in_value, in_form, wide_behind}
+use Rattle.dw_model.specs.Leb.{IsUleb, uleb_at}
+use Rattle.dw_model.specs.Form.{Value, Spelling, forms, spelled_at, next_form, direct_form, value_at, Spells, direct, indirect, IsUnknown, missing, no_constant, unknown_behind, IsWide, in_value, in_form, wide_behind}
 use Rattle.dw_model.proofs.StepLemmas.{bind_ok, bind_err, ok_or-ok, ok_is}
 use Rattle.dw_model.proofs.ReadingLemmas.{behind_front, same_front}
 use Rattle.dw_model.proofs.ItemsLemmas.{Advances, turn, items-turn}
