@@ -114,14 +114,8 @@ pub(crate) fn places_of(alloc: Global, specs: &[Spec], named: bool) -> Result<Pl
         → IfOk result (λ places. ArePlaces places.steps.items places.list.items (map spec_shown specs.now)) }
 {
     let mut steps = SmallVec::new(alloc);
-    let mut list = Vec::with_capacity(
-        alloc,
-        if named {
-            specs.len().min(NAMES.len())
-        } else {
-            0
-        },
-    )?;
+    let used = specs.len().min(NAMES.len());
+    let mut list = Vec::with_capacity(alloc, if named { used } else { 0 })?;
     let mut rest: usize = 0;
     for spec in specs {
         note(&mut list, spec, named, steps.len(), rest)?;

@@ -86,13 +86,15 @@ fn next_by<'a>(
     width: Width,
     last: &mut Option<Last<'a>>,
 ) -> Result<Next, FormFault>
-    ensures next { (declarations : List Declaration) (p : Place) → IsMet declarations (size_of width) head meant.entry p cursor.old
+    ensures next { (declarations : List Declaration) (p : Place)
+        → IsMet declarations (size_of width) head meant.entry p cursor.old
         → ReadsNext (ranged_at declarations p) result (entry_at (size_of width) declarations p) cursor.new
         (last_in declarations (size_of width) last.new) }
     ensures stays { OnErr result (last.new ≡ last.old) }
     ensures kept { (declarations : List Declaration) → IfOk result (λ next. KeepsLast next
         (last_in declarations (size_of width) last.old) (last_in declarations (size_of width) last.new)) }
-    ensures last { (declarations : List Declaration) (p : Place) → IsMet declarations (size_of width) head meant.entry p cursor.old
+    ensures last { (declarations : List Declaration) (p : Place)
+        → IsMet declarations (size_of width) head meant.entry p cursor.old
         → IsReadable declarations (size_of width) last.old → IsReadable declarations (size_of width) last.new }
 {
     let values = cursor.fork();

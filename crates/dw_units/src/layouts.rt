@@ -1,6 +1,7 @@
 //! Declarations of a unit that were met, each with its layout.
 
-ghost use Rattle.std.specs.Prelude.{◌≡◌, ◌≤◌, ◌<◌, true, ◌==◌, ◌||◌, ℕ, IfSome, List, None, OnOk, Option, Some, length, slice_get};
+ghost use Rattle.std.specs.Prelude.{◌≡◌, ◌≤◌, ◌<◌, ◌==◌, ◌||◌, ℕ, List, Option, None, Some};
+ghost use Rattle.std.specs.Prelude.{true, IfSome, OnOk, length, slice_get};
 ghost use Rattle.dw_model.specs.Abbrev.{Declaration, declared};
 ghost use Rattle.dw_bytes.specs.Width.{size_of};
 ghost use Rattle.dw_forms.specs.Table.{declarations_of};
