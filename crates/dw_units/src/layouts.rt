@@ -60,6 +60,9 @@ const BYTES: usize = 32;
 /// Of how many bytes of its unit's entries there is a place for a code.
 const PLACE_BYTES: usize = 8;
 
+/// For how many declarations there is room at first.
+const FIRST: usize = 128;
+
 /// Only functions have addresses and names that are asked for.
 pub(crate) fn is_function(tag: u64) -> bool
     ensures { result ≡ (tag == DW_TAG_subprogram || tag == DW_TAG_inlined_subroutine) }
@@ -97,14 +100,19 @@ impl<'a> Layouts<'a> {
         })
     }
 
-    /// Makes room for so many codes.
+    /// Makes room for so many codes, and at first for as many as most units have.
     fn make_room(&mut self, codes: usize) -> Result<(), AllocError>
-        ensures list { self.new.list ≡ self.old.list }
+        ensures list { self.new.list.items ≡ self.old.list.items }
         ensures width { self.new.width ≡ self.old.width }
         ensures met { (code : ℕ) (laid : Laid) → slice_get self.new.met.items code ≡ Some (Some laid)
             → slice_get self.old.met.items code ≡ Some (Some laid) }
         ensures room { OnOk result (codes ≤ length self.new.met.items) }
     {
+        if self.met.is_empty() {
+            let most = FIRST.min(self.bytes / BYTES);
+            self.met.reserve(most)?;
+            self.list.reserve(most)?;
+        }
         if codes > self.met.len() {
             self.met.resize(codes, None)?;
         }
