@@ -40,8 +40,10 @@ has_crates() {
 # The program for other tools, as `symbolizer`, which is built where it isn't yet. The variable A2L_SYMBOLIZER names another.
 need_symbolizer() {
     symbolizer=${A2L_SYMBOLIZER:-$here/rust/target/release/a2l-symbolizer}
-    [ -n "${A2L_SYMBOLIZER:-}" ] || has_crates "the symbolizer" || exit 0
-    [ -n "${A2L_SYMBOLIZER:-}" ] || need_library symbolizer
+    [ -n "${A2L_SYMBOLIZER:-}" ] || {
+        has_crates "the symbolizer" || exit 0
+        need_library symbolizer
+    }
     [ -x "$symbolizer" ] || { echo "no program $symbolizer"; exit 1; }
 }
 
