@@ -9,7 +9,6 @@ use crate::names::is_used;
 use crate::pairs::Specs;
 use crate::places::{Places, places_of, value_at_place};
 use crate::ranged::are_ranged;
-use crate::size::size_of_all;
 use crate::steps::pass_steps;
 use crate::value::Value;
 use dw_bytes::{Cursor, Width};
@@ -22,10 +21,6 @@ use std::marker::Model;
 #[derive(Drop)]
 pub struct Layout<'a> {
     specs: Specs<'a>,
-    /// How many bytes the values of an entry take in the 32-bit format, where the forms fix it.
-    size_32: Option<usize>,
-    /// The same in the 64-bit format.
-    size_64: Option<usize>,
     /// Values are asked for by their names.
     named: bool,
     /// Its entries may have ranges, if values are asked for by their names.
@@ -59,7 +54,7 @@ fn decoded(alloc: Global, specs: &Specs<'_>) -> Result<SmallVec<Spec, 16>, Alloc
 }
 
 impl<'a> Layout<'a> {
-    ghost use Rattle.std.specs.Prelude.{IfSome, Ok, List, false, option_map};
+    ghost use Rattle.std.specs.Prelude.{Ok, List, false, option_map};
     ghost use Rattle.dw_model.specs.Answers.{ReadsOn};
     ghost use Rattle.dw_model.specs.declared.dwarf.TheConstants.{OFFSET_SIZE_32};
     ghost use Rattle.dw_model.specs.Entry.{Attribute, attributes_at};
@@ -68,7 +63,7 @@ impl<'a> Layout<'a> {
     ghost use Rattle.dw_forms.specs.Fault.{form_fault};
     ghost use Rattle.dw_forms.specs.Named.{value_named, value_up_to};
     ghost use Rattle.dw_forms.specs.Ranged.{may_have_ranges, NamesNone};
-    ghost use Rattle.dw_forms.specs.Size.{place_behind, size_in, Skips};
+    ghost use Rattle.dw_forms.specs.Size.{place_behind};
     ghost use Rattle.dw_forms.specs.Value.{value_shown};
 
     /// The layout of the entries with these attributes. It has the places of names that are used
@@ -82,8 +77,6 @@ impl<'a> Layout<'a> {
         let places = places_of(alloc, list.as_slice(), named)?;
         Ok(Layout {
             specs: specs.fork(),
-            size_32: size_of_all(list.as_slice(), Width::Four),
-            size_64: size_of_all(list.as_slice(), Width::Eight),
             named,
             ranged: places.may_have_ranges(),
             places,
@@ -95,20 +88,6 @@ impl<'a> Layout<'a> {
         ensures { result.now ≡ self.now }
     {
         &self.specs
-    }
-
-    /// How many bytes the values of an entry take in a unit whose offsets have a width, where the
-    /// form of each has one size: then each entry is read over in one step. `None` where a form has
-    /// no fixed size, or the sum doesn't fit 64 bits.
-    #[inline(always)]
-    pub fn size(&self, width: Width) -> Option<usize>
-        ensures size { result ≡ size_in (size_of width) self.now }
-        ensures skips { IfSome result (λ n. Skips n (attributes_at (size_of width) self.now)) }
-    {
-        match width {
-            Width::Four => self.size_32,
-            Width::Eight => self.size_64,
-        }
     }
 
     /// Passes over the values of an entry of a unit of the 32-bit format, without a look at what is

@@ -1,10 +1,14 @@
 -- Declarations of a unit that were met.
-use Rattle.std.proofs.Common.{◌≡◌, ℕ, zero, suc, List, [], ◌∷◌, ◌++◌, length, Option, Some, refl, subst, ap, ◌∙◌}
+use Rattle.std.proofs.Common.{◌≡◌, ℕ, zero, suc, List, [], ◌∷◌, ◌++◌, length, Option, Some, refl, sym, subst, ap, ◌∙◌}
 use Rattle.std.specs.Prelude.{slice_get, slice_set}
 use Rattle.std.proofs.lemmas.Option.{same_Some}
 use Rattle.dw_model.specs.Abbrev.{Declaration, Specification, declared}
-use Rattle.dw_units.specs.Layouts.{IsSize, Means}
-use Rattle.dw_units.specs.declared.layouts.Laid.{Laid}
+use Rattle.dw_bytes.specs.Width.{size_of}
+use Rattle.dw_bytes.specs.declared.width.Width.{Width}
+use Rattle.dw_units.specs.Layouts.{AreOf, IsKept, IsPlain, IsSize}
+use Rattle.dw_units.specs.declared.layouts.Layouts.{Layouts}
+use Rattle.dw_units.specs.declared.layouts.Met.{Met}
+use Rattle.dw_units.specs.declared.layouts.Met.TheVariants as met_variants
 
 set-each : {X : Type 0} (P : ℕ → X → Type 0) (xs : List (Option X)) (place : ℕ) (one : X) → ((k : ℕ) (x : X) → slice_get xs k ≡ Some (Some x) → P k x) → P place one
     → (k : ℕ) (x : X) → slice_get (slice_set xs place (Some one)) k ≡ Some (Some x) → P k x
@@ -19,21 +23,30 @@ stays [] y x k there = absurd cc
 stays (z ∷ xs) y x zero there = there
 stays (z ∷ xs) y x (suc k) there = stays xs y x k there
 
-last : {X : Type 0} (xs : List X) (y : X) → slice_get (xs ++ y ∷ []) (length xs) ≡ Some y
+pub last : {X : Type 0} (xs : List X) (y : X) → slice_get (xs ++ y ∷ []) (length xs) ≡ Some y
 last [] y = refl
 last (z ∷ xs) y = last xs y
 
-module _ (declarations : List Declaration) (offset_size : ℕ) where
-  -- it is the declaration of a code, and its layout is in a list
-  abbrev pub IsIn : List (List Specification) → ℕ → Laid → Type 0
-  IsIn list code laid =
-      (specifications : List Specification) × (slice_get list laid.place ≡ Some specifications)
-      × Means (declared declarations code) laid.tag laid.children specifications × IsSize offset_size laid.size specifications
+-- what is kept of a declaration stays so where each layout stays at its place
+pub carried : (declarations : List Declaration) (old new : Layouts) (code : ℕ) (one : Met) → ((place : ℕ) (specifications : List Specification) → slice_get old.list.items place ≡ Some specifications → slice_get new.list.items place ≡ Some specifications)
+    → new.width ≡ old.width → IsKept declarations old code one → IsKept declarations new code one
+carried declarations old new code (met_variants.Plain children size) stay width kept =
+    subst (λ (width : Width). IsPlain (size_of width) (declared declarations code) children size) (sym width) kept
+carried declarations old new code (met_variants.Laid laid) stay width kept =
+    (kept.0, stay laid.place kept.0 kept.1, kept.2, subst (λ (width : Width). IsSize (size_of width) laid.size kept.0) (sym width) kept.3)
 
-  pub one-more : (list : List (List Specification)) (met : List (Option Laid)) (layout : List Specification) (code : ℕ) (one : Laid)
-      → ((k : ℕ) (laid : Laid) → slice_get met k ≡ Some (Some laid) → IsIn list k laid)
-      → one.place ≡ length list → Means (declared declarations code) one.tag one.children layout → IsSize offset_size one.size layout
-      → (k : ℕ) (laid : Laid) → slice_get (slice_set met code (Some one)) k ≡ Some (Some laid) → IsIn (list ++ layout ∷ []) k laid
-  one-more list met layout code one each at means size =
-      set-each (IsIn (list ++ layout ∷ [])) met code one (λ k laid there. let old = each k laid there in (old.0, stays list layout old.0 laid.place old.1, old.2, old.3))
-      (layout, ap (slice_get (list ++ layout ∷ [])) at ∙ last list layout, means, size)
+pub with-layout : (declarations : List Declaration) (old new : Layouts) (code : ℕ) (one : Met) (layout : List Specification) → new.list.items ≡ old.list.items ++ layout ∷ []
+    → new.width ≡ old.width → IsKept declarations old code one → IsKept declarations new code one
+with-layout declarations old new code one layout list width kept =
+    carried declarations old new code one (λ place specifications there. ap (λ list. slice_get list place) list ∙ stays old.list.items layout specifications place there) width kept
+
+pub with-room : (declarations : List Declaration) (old new : Layouts) → new.list.items ≡ old.list.items → new.width ≡ old.width
+    → ((code : ℕ) (one : Met) → slice_get new.met.items code ≡ Some (Some one) → slice_get old.met.items code ≡ Some (Some one)) → AreOf declarations old → AreOf declarations new
+with-room declarations old new list width each are code one there =
+    carried declarations old new code one (λ place specifications there. ap (λ list. slice_get list place) list ∙ there) width (are code one (each code one there))
+
+pub with-met : (declarations : List Declaration) (old new : Layouts) (code : ℕ) (one : Met) → new.list.items ≡ old.list.items → new.width ≡ old.width → new.met.items ≡ slice_set old.met.items code (Some one)
+    → ((k : ℕ) (met : Met) → slice_get old.met.items k ≡ Some (Some met) → IsKept declarations old k met) → IsKept declarations old code one → AreOf declarations new
+with-met declarations old new code one list width met each is k x there =
+    let carry = λ (k : ℕ) (x : Met). carried declarations old new k x (λ place specifications there. ap (λ list. slice_get list place) list ∙ there) width in
+    set-each (IsKept declarations new) old.met.items code one (λ k x there. carry k x (each k x there)) (carry code one is) k x (sym (ap (λ met. slice_get met k) met) ∙ there)

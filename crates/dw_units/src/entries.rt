@@ -1,17 +1,17 @@
 //! The entries of a unit, one after the other.
 
 ghost use Rattle.std.specs.Prelude.{◌≡◌, ◌==◌, List, None, IfOk, length, OnErr};
-ghost use Rattle.dw_model.specs.Abbrev.{Declaration};
+ghost use Rattle.dw_model.specs.Abbrev.{Declaration, declared};
 ghost use Rattle.dw_model.specs.Entry.{entry_at};
 ghost use Rattle.dw_model.specs.Reading.{Place};
 ghost use Rattle.dw_bytes.specs.Width.{size_of};
 ghost use Rattle.dw_forms.specs.Table.{declarations_of};
 ghost use Rattle.dw_units.specs.Entries.{KeepsLast, ReadsNext, ranged_at};
 ghost use Rattle.dw_units.specs.EntriesInside.{last_in, IsHead, IsMet, IsReadable};
-ghost use Rattle.dw_units.specs.Layouts.{AreOf};
+ghost use Rattle.dw_units.specs.Layouts.{AreOf, IsKnown};
 
-use crate::layouts::{Layouts, Meaning, is_function, meaning_of};
-use crate::values::pass_meant;
+use crate::layouts::{Known, Layouts, Meaning, declared_meaning, is_function, meaning_of};
+use crate::values::{pass_bytes, pass_meant};
 use crate::view::EntryView;
 use dw_bytes::{Cursor, Width};
 use dw_forms::{AbbrevTable, FormFault};
@@ -114,8 +114,38 @@ fn next_by<'a>(
     Ok(Next::Function)
 }
 
-/// The entry whose values begin at the cursor, of a declaration that has no layout yet; the cursor
-/// goes just past it. After a refusal the cursor may be anywhere.
+/// The entry whose values begin at the cursor, of a declaration that was met; the cursor goes just
+/// past it. After a refusal the cursor may be anywhere.
+#[inline(always)]
+fn next_known<'a>(
+    cursor: &mut Cursor<'a>,
+    head: Head,
+    known: Known<'_, 'a>,
+    width: Width,
+    last: &mut Option<Last<'a>>,
+) -> Result<Next, FormFault>
+    ensures next { (declarations : List Declaration) (p : Place) → IsHead head p cursor.old
+        → IsKnown (size_of width) (declared declarations head.code) known.entry
+        → ReadsNext (ranged_at declarations p) result (entry_at (size_of width) declarations p) cursor.new
+        (last_in declarations (size_of width) last.new) }
+    ensures stays { OnErr result (last.new ≡ last.old) }
+    ensures kept { (declarations : List Declaration) → IfOk result (λ next. KeepsLast next
+        (last_in declarations (size_of width) last.old) (last_in declarations (size_of width) last.new)) }
+    ensures last { (declarations : List Declaration) (p : Place) → IsHead head p cursor.old
+        → IsKnown (size_of width) (declared declarations head.code) known.entry
+        → IsReadable declarations (size_of width) last.old → IsReadable declarations (size_of width) last.new }
+{
+    match known {
+        Known::Plain { children, size } => {
+            pass_bytes(cursor, size)?;
+            Ok(Next::Passed { children })
+        }
+        Known::Meant(meant) => next_by(cursor, head, meant, width, last),
+    }
+}
+
+/// The entry whose values begin at the cursor, of a declaration that is met for the first time; the
+/// cursor goes just past it. After a refusal the cursor may be anywhere.
 #[inline(never)]
 fn next_first<'a>(
     cursor: &mut Cursor<'a>,
@@ -142,12 +172,11 @@ fn next_first<'a>(
         → IsReadable (declarations_of abbrevs.entry) (size_of layouts.old.width) last.new }
 {
     layouts.lay_out(abbrevs, head.code);
-    let meant = meaning_of(Some(layouts), abbrevs, head.code).ok_or(FormFault::Code)?;
-    let meant = Meaning {
-        size: None,
-        ..meant
+    let Some(known) = layouts.get(head.code) else {
+        let meant = declared_meaning(abbrevs, head.code).ok_or(FormFault::Code)?;
+        return next_by(cursor, head, meant, layouts.width, last);
     };
-    next_by(cursor, head, meant, layouts.width, last)
+    next_known(cursor, head, known, layouts.width, last)
 }
 
 /// The entry at the cursor, which goes just past it. After a refusal the cursor may be anywhere.
@@ -180,14 +209,14 @@ fn next_of<'a>(
         return Ok(Next::Null);
     }
     let head = Head { offset, code };
-    let Some(meant) = layouts.get(code) else {
+    let Some(known) = layouts.get(code) else {
         // A cursor that is lent lies in memory; the caller's own stays in registers.
         let mut place = cursor.fork();
         let next = next_first(&mut place, head, abbrevs, layouts, last)?;
         *cursor = place;
         return Ok(next);
     };
-    next_by(cursor, head, meant, layouts.width, last)
+    next_known(cursor, head, known, layouts.width, last)
 }
 
 impl<'b, 'a> Entries<'b, 'a> {

@@ -1,19 +1,20 @@
 //! Declarations of a unit that were met, each with its layout.
 
-ghost use Rattle.std.specs.Prelude.{◌≡◌, ◌≤◌, ◌<◌, ◌==◌, ◌||◌, ℕ, List, Option, None, Some};
-ghost use Rattle.std.specs.Prelude.{true, IfSome, OnOk, length, slice_get};
+ghost use Rattle.std.specs.Prelude.{◌≡◌, ◌≤◌, ◌<◌, ℕ, List, Option, None, Some};
+ghost use Rattle.std.specs.Prelude.{true, IfOk, IfSome, OnOk, length, slice_get};
 ghost use Rattle.dw_model.specs.Abbrev.{Declaration, declared};
 ghost use Rattle.dw_bytes.specs.Width.{size_of};
+ghost use Rattle.dw_forms.specs.Declaration.{declaration_shown};
 ghost use Rattle.dw_forms.specs.Table.{declarations_of};
-ghost use Rattle.dw_units.specs.Layouts.{AreOf, IsMeant, MeansWhat};
-ghost use Rattle.dw_units.specs.declared.layouts.Laid.{Laid};
+ghost use Rattle.dw_units.specs.Layouts.{AreOf, IsKept, IsKnown, MeansWhat, is_function_tag};
+ghost use Rattle.dw_units.specs.declared.layouts.Met.{Met};
 
 use dw_bytes::Width;
-use dw_forms::{AbbrevTable, Layout, Shape};
+use dw_forms::{AbbrevTable, Decl, Layout, Shape};
 use dw_model::dwarf::{DW_TAG_inlined_subroutine, DW_TAG_subprogram};
 use std::alloc::{AllocError, Global};
 
-/// A declaration that was met. It is small, so that those of a unit stay near the processor.
+/// A declaration that has a layout.
 #[derive(Clone, Copy)]
 pub(crate) struct Laid {
     pub(crate) tag: u64,
@@ -24,9 +25,18 @@ pub(crate) struct Laid {
     pub(crate) place: usize,
 }
 
-/// Declarations of a unit that were met, each with its layout, which has places of names for
-/// functions. Those that aren't kept, because memory was refused or they would take more than the
-/// unit, are read pair by pair.
+/// A declaration that was met. It is small, so that those of a unit stay near the processor.
+#[derive(Clone, Copy)]
+pub(crate) enum Met {
+    /// Its entries are no functions, and the values of each take so many bytes: so they are passed
+    /// in one step, without a layout.
+    Plain { children: bool, size: usize },
+    Laid(Laid),
+}
+
+/// Declarations of a unit that were met. Those of functions, and those whose values have no fixed
+/// size, have a layout, which has places of names for functions. Those that aren't kept, because
+/// memory was refused or they would take more than the unit, are read pair by pair.
 #[derive(Drop)]
 pub struct Layouts<'a> {
     /// How many bytes the unit's entries have.
@@ -34,7 +44,7 @@ pub struct Layouts<'a> {
     /// That of the unit's offsets.
     pub(crate) width: Width,
     /// By their codes.
-    pub(crate) met: Vec<Option<Laid>>,
+    pub(crate) met: Vec<Option<Met>>,
     pub(crate) list: Vec<Layout<'a>>,
 }
 
@@ -46,6 +56,14 @@ pub(crate) struct Meaning<'b, 'a> {
     /// How many bytes the values of an entry take, where that is known.
     pub(crate) size: Option<usize>,
     pub(crate) shape: Shape<'b, 'a>,
+}
+
+/// What is known of the entries of a declaration that was met.
+#[derive(Clone, Copy)]
+pub(crate) enum Known<'b, 'a> {
+    /// They are no functions, and the values of each take so many bytes.
+    Plain { children: bool, size: usize },
+    Meant(Meaning<'b, 'a>),
 }
 
 /// Declarations with codes below this are kept.
@@ -65,7 +83,7 @@ const FIRST: usize = 128;
 
 /// Only functions have addresses and names that are asked for.
 pub(crate) fn is_function(tag: u64) -> bool
-    ensures { result ≡ (tag == DW_TAG_subprogram || tag == DW_TAG_inlined_subroutine) }
+    ensures { result ≡ is_function_tag tag }
 {
     tag == DW_TAG_subprogram || tag == DW_TAG_inlined_subroutine
 }
@@ -84,28 +102,33 @@ impl<'a> Layouts<'a> {
         }
     }
 
-    /// What a code means, where its declaration was met.
+    /// What is known of the entries of a code, where its declaration was met.
     #[inline(always)]
-    pub(crate) fn get(&self, code: u64) -> Option<Meaning<'_, 'a>>
+    pub(crate) fn get(&self, code: u64) -> Option<Known<'_, 'a>>
         ensures { (declarations : List Declaration) → AreOf declarations self.now
-            → IfSome result (λ meaning. IsMeant (size_of self.now.width) meaning (declared declarations code)) }
+            → IfSome result (IsKnown (size_of self.now.width) (declared declarations code)) }
     {
-        let laid = self.met.get(code as usize)?.as_ref()?;
-        let layout = self.list.get(laid.place)?;
-        Some(Meaning {
-            tag: laid.tag,
-            children: laid.children,
-            size: laid.size,
-            shape: Shape::Laid(layout),
-        })
+        let met = self.met.get(code as usize)?.as_ref()?;
+        match *met {
+            Met::Plain { children, size } => Some(Known::Plain { children, size }),
+            Met::Laid(laid) => {
+                let layout = self.list.get(laid.place)?;
+                Some(Known::Meant(Meaning {
+                    tag: laid.tag,
+                    children: laid.children,
+                    size: laid.size,
+                    shape: Shape::Laid(layout),
+                }))
+            }
+        }
     }
 
     /// Makes room for so many codes, and at first for as many as most units have.
     fn make_room(&mut self, codes: usize) -> Result<(), AllocError>
         ensures list { self.new.list.items ≡ self.old.list.items }
         ensures width { self.new.width ≡ self.old.width }
-        ensures met { (code : ℕ) (laid : Laid) → slice_get self.new.met.items code ≡ Some (Some laid)
-            → slice_get self.old.met.items code ≡ Some (Some laid) }
+        ensures met { (code : ℕ) (met : Met) → slice_get self.new.met.items code ≡ Some (Some met)
+            → slice_get self.old.met.items code ≡ Some (Some met) }
         ensures room { OnOk result (codes ≤ length self.new.met.items) }
     {
         if self.met.is_empty() {
@@ -127,7 +150,37 @@ impl<'a> Layouts<'a> {
         has_place && self.list.len() < self.bytes / BYTES
     }
 
-    /// Lays out the declaration of a code, and keeps it.
+    /// What is kept of a declaration. It gets a layout where its entries aren't all passed in one
+    /// step.
+    fn meet(&mut self, declaration: &Decl<'a>) -> Result<Met, AllocError>
+        ensures width { self.new.width ≡ self.old.width }
+        ensures met { self.new.met ≡ self.old.met }
+        ensures list { (declarations : List Declaration) (code : ℕ) (met : Met)
+            → IsKept declarations self.old code met → IsKept declarations self.new code met }
+        ensures kept { (declarations : List Declaration) (code : ℕ)
+            → declared declarations code ≡ Some (declaration_shown declaration.now)
+            → IfOk result (IsKept declarations self.new code) }
+    {
+        let (tag, children) = (declaration.tag, declaration.children);
+        let size = declaration.specs.size(self.width);
+        if let Some(size) = size {
+            if !is_function(tag) {
+                return Ok(Met::Plain { children, size });
+            }
+        }
+        let alloc = *self.list.allocator();
+        let layout = Layout::of(alloc, &declaration.specs, is_function(tag))?;
+        let place = self.list.len();
+        self.list.push(layout)?;
+        Ok(Met::Laid(Laid {
+            tag,
+            children,
+            size,
+            place,
+        }))
+    }
+
+    /// Keeps what is needed of the declaration of a code.
     fn keep(&mut self, abbrevs: AbbrevTable<'_, 'a>, code: u64) -> Result<(), AllocError>
         ensures list { AreOf (declarations_of abbrevs.entry) self.old → AreOf (declarations_of abbrevs.entry) self.new }
         ensures width { self.new.width ≡ self.old.width }
@@ -141,17 +194,9 @@ impl<'a> Layouts<'a> {
         if declaration.specs.len() > ATTRIBUTES {
             return Ok(());
         }
-        let alloc = *self.list.allocator();
-        let layout = Layout::of(alloc, &declaration.specs, is_function(declaration.tag))?;
         self.make_room(code as usize + 1)?;
-        let laid = Laid {
-            tag: declaration.tag,
-            children: declaration.children,
-            size: layout.size(self.width),
-            place: self.list.len(),
-        };
-        self.list.push(layout)?;
-        self.met[code as usize] = Some(laid);
+        let met = self.meet(declaration)?;
+        self.met[code as usize] = Some(met);
         Ok(())
     }
 
@@ -168,7 +213,10 @@ impl<'a> Layouts<'a> {
 }
 
 /// What the declaration of a code says.
-fn declared_meaning<'b, 'a>(abbrevs: AbbrevTable<'b, 'a>, code: u64) -> Option<Meaning<'b, 'a>>
+pub(crate) fn declared_meaning<'b, 'a>(
+    abbrevs: AbbrevTable<'b, 'a>,
+    code: u64,
+) -> Option<Meaning<'b, 'a>>
     ensures means { MeansWhat result (declared (declarations_of abbrevs.entry) code) }
     ensures size { IfSome result (λ meaning. meaning.size ≡ None) }
 {
@@ -195,8 +243,8 @@ pub(crate) fn meaning_of<'b, 'a>(
     let Some(layouts) = layouts else {
         return declared_meaning(abbrevs, code);
     };
-    let Some(meaning) = layouts.get(code) else {
-        return declared_meaning(abbrevs, code);
-    };
-    Some(meaning)
+    match layouts.get(code) {
+        Some(Known::Meant(meaning)) => Some(meaning),
+        _ => declared_meaning(abbrevs, code),
+    }
 }

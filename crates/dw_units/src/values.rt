@@ -42,26 +42,11 @@ fn pass_each(cursor: &mut Cursor<'_>, layout: &Layout<'_>, width: Width) -> Resu
 
 /// Passes over values that take so many bytes.
 #[inline(always)]
-fn pass_bytes(cursor: &mut Cursor<'_>, size: usize) -> Result<(), FormFault>
+pub(crate) fn pass_bytes(cursor: &mut Cursor<'_>, size: usize) -> Result<(), FormFault>
     ensures { (offset_size : ℕ) (specs : List Specification) → Skips size (attributes_at offset_size specs)
         → Passes result (attributes_at offset_size specs cursor.old) cursor.new }
 {
     let _values = cursor.take(size).ok_or(FormFault::End)?;
-    Ok(())
-}
-
-/// Passes over the values of an entry, in one step where its layout says how far.
-#[inline(always)]
-fn pass_laid(cursor: &mut Cursor<'_>, layout: &Layout<'_>, width: Width) -> Result<(), FormFault>
-    ensures { Passes result (attributes_at (size_of width) layout.now cursor.old) cursor.new }
-{
-    if let Some(size) = layout.size(width) {
-        return pass_bytes(cursor, size);
-    }
-    // A cursor that is lent lies in memory; the caller's own stays in registers.
-    let mut place = cursor.fork();
-    pass_each(&mut place, layout, width)?;
-    *cursor = place;
     Ok(())
 }
 
@@ -74,15 +59,14 @@ pub(crate) fn pass_values(
 ) -> Result<(), FormFault>
     ensures { Passes result (attributes_at (size_of width) (specs_of shape.entry) cursor.old) cursor.new }
 {
+    // A cursor that is lent lies in memory; the caller's own stays in registers.
+    let mut place = cursor.fork();
     match shape {
-        Shape::Laid(layout) => pass_laid(cursor, layout, width),
-        Shape::Declared(specs) => {
-            let mut place = cursor.fork();
-            pass_attributes(&mut place, specs, width)?;
-            *cursor = place;
-            Ok(())
-        }
+        Shape::Laid(layout) => pass_each(&mut place, layout, width)?,
+        Shape::Declared(specs) => pass_attributes(&mut place, specs, width)?,
     }
+    *cursor = place;
+    Ok(())
 }
 
 /// Passes over the values of an entry whose declaration means this, in one step where the size is

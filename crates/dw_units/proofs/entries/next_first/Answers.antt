@@ -16,7 +16,7 @@ use Rattle.dw_units.proofs.entries.next_first.Goals as goal
 pub returns-in_err-meant-clause-next : goal.returns-in_err-meant-clause-next
 returns-in_err-meant-clause-next c are p h =
     let declarations = declarations_of c.args.abbrevs in
-    let none = subst (λ (meant : Option Meaning). MeansWhat meant (declared declarations c.args.head.code)) c.in_err-meant.ensures.ok_part (c.meaning_of.ensures (c.lay_out.ensures.list are)) in
+    let none = subst (λ (meant : Option Meaning). MeansWhat meant (declared declarations c.args.head.code)) c.in_err-meant.ensures.ok_part c.declared_meaning.ensures.means in
     let undeclared = unmeant (size_of c.args.layouts.now.width) declarations p c.args.cursor.now c.args.head.code h.1 h.2 none in
     let e = err_from_is_err_and c.from_residual.result c.from_residual.ensures.1 in
     let told = c.in_err-meant.ensures.value ∙ ap (λ (meant : Option Meaning). ok_or meant FormFault.Code) c.in_err-meant.ensures.ok_part in
@@ -26,12 +26,10 @@ returns-in_err-meant-clause-next c are p h =
 pub returns-clause-next : goal.returns-clause-next
 returns-clause-next c are p h =
     let declarations = declarations_of c.args.abbrevs in
-    let means = subst (λ (meant : Option Meaning). MeansWhat meant (declared declarations c.args.head.code)) c.in_ok-meant.ensures.ok_part (c.meaning_of.ensures (c.lay_out.ensures.list are)) in
-    rw (← c.lay_out.ensures.width) (c.next_by.ensures.next declarations p (h, (means, tt)))
+    rw (← c.lay_out.ensures.width) (c.next_known.ensures.next declarations p h (c.in-Some.ensures declarations (c.lay_out.ensures.list are)))
 
 pub returns-clause-last : goal.returns-clause-last
 returns-clause-last c are p h readable =
     let declarations = declarations_of c.args.abbrevs in
-    let means = subst (λ (meant : Option Meaning). MeansWhat meant (declared declarations c.args.head.code)) c.in_ok-meant.ensures.ok_part (c.meaning_of.ensures (c.lay_out.ensures.list are)) in
     let old = rw (← c.lay_out.ensures.width) at readable in
-    rw (← c.lay_out.ensures.width) (c.next_by.ensures.last declarations p (h, (means, tt)) old)
+    rw (← c.lay_out.ensures.width) (c.next_known.ensures.last declarations p h (c.in-Some.ensures declarations (c.lay_out.ensures.list are)) old)
