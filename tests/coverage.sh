@@ -20,32 +20,13 @@ most=8192
     { echo "skipped, no libFuzzer here (libclang-rt-14-dev)"; exit 0; }
 mkdir -p "$corpus" "$build" seeds
 
-# The toolchain by links, but for its clang, which keeps the module of the library that it is to compile, and the words.
-lay_out_toolchain() {
-    local kit=$1 file
-    mkdir -p kit/bin kit/toolchain/bin
-    for file in "$kit"/*; do [[ ${file##*/} = @(bin|toolchain) ]] || ln -s "$file" kit/; done
-    for file in "$kit"/bin/*; do [[ ${file##*/} = @(rt|rtlib.py) ]] || ln -s "$file" kit/bin/; done
-    for file in "$kit"/toolchain/bin/*; do [ "${file##*/}" = clang ] || ln -s "$file" kit/toolchain/bin/; done
-    cp "$kit/bin/rt" "$kit/bin/rtlib.py" kit/bin/
-    ln -s "$kit/toolchain/lib" kit/toolchain/
-    cat > kit/toolchain/bin/clang <<END_CLANG
-#!/usr/bin/env bash
-for word in "\$@"; do
-    [[ \$word != *.bc ]] || { cp "\$word" "$build/module.bc"; printf '%s\n' "\$@" > "$build/words"; }
-done
-exec -a "\$0" "$kit/toolchain/bin/clang" "\$@"
-END_CLANG
-    chmod +x kit/toolchain/bin/clang
-}
-
 # Compiles the module once more, with a count of each edge, and links the search to it. The library's own calls for
 # memory go to the heap of the search.
 build_search() {
     local kit name words
     kit=$(dirname "$(rt doc)")
     if [ ! -s "$build/module.bc" ]; then
-        lay_out_toolchain "$kit"
+        lay_out_toolchain "$build"
         rm -f "$here/crates/a2l_c/out/liba2l_c.a"
         (cd "$here/crates/a2l_c" && "$work/kit/bin/rt" lib)
     fi

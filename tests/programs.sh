@@ -56,6 +56,27 @@ has() {
     done
 }
 
+# The toolchain by links, in the folder `kit`, but for its clang: it leaves the module that it compiled last, and the words
+# for that, in the folder that the word names.
+lay_out_toolchain() {
+    local kept=$1 kit file
+    kit=$(dirname "$(rt doc)")
+    mkdir -p kit/bin kit/toolchain/bin
+    for file in "$kit"/*; do [[ ${file##*/} = @(bin|toolchain) ]] || ln -s "$file" kit/; done
+    for file in "$kit"/bin/*; do [[ ${file##*/} = @(rt|rtlib.py) ]] || ln -s "$file" kit/bin/; done
+    for file in "$kit"/toolchain/bin/*; do [ "${file##*/}" = clang ] || ln -s "$file" kit/toolchain/bin/; done
+    cp "$kit/bin/rt" "$kit/bin/rtlib.py" kit/bin/
+    ln -s "$kit/toolchain/lib" kit/toolchain/
+    cat > kit/toolchain/bin/clang <<END_CLANG
+#!/usr/bin/env bash
+for word in "\$@"; do
+    [[ \$word != *.bc ]] || { cp "\$word" "$kept/module.bc"; printf '%s\n' "\$@" > "$kept/words"; }
+done
+exec -a "\$0" "$kit/toolchain/bin/clang" "\$@"
+END_CLANG
+    chmod +x kit/toolchain/bin/clang
+}
+
 # Writes the sources: calls.c with other.c, one program of C; sizes.cc of C++, and words.rs of Rust. They have
 # functions inlined in one another, functions in several ranges, a header in a folder, and templates.
 write_sources() {
