@@ -1,4 +1,4 @@
-//! Declarations of a unit that were met, each with its layout.
+//! What is known of the declarations of a unit that were met.
 
 ghost use Rattle.std.specs.Prelude.{◌≡◌, ◌≤◌, ◌<◌, ℕ, List, Option, None, Some};
 ghost use Rattle.std.specs.Prelude.{true, IfOk, IfSome, OnOk, length, slice_get};
