@@ -1,5 +1,5 @@
 -- Queries that are asked once for all inputs that ask for them.
-use Rattle.std.proofs.Common.{◌≡◌, ◌⊎◌, inl, inr, ℕ, zero, suc, ◌+◌, ◌-◌, ◌<◌, ◌≤◌, Bool, true, false, List, [], ◌∷◌, ◌++◌, length, map, take, get_or, set, replicate, Option, Some, None, refl, sym, ap, ◌∙◌, arith}
+use Rattle.std.proofs.Common.{◌≡◌, ◌⊎◌, inl, inr, ℕ, zero, suc, ◌+◌, ◌-◌, ◌<◌, ◌≤◌, Bool, true, false, List, [], ◌∷◌, ◌++◌, length, map, take, get_or, set, Option, Some, None, refl, sym, ap, ◌∙◌, arith}
 use Rattle.std.specs.Prelude.{cond, nat_lt, ◌==◌, ◌&&◌}
 use Rattle.std.specs.List.{All, Contains}
 use Rattle.std.specs.List.Sorted.{IsPermutation, IsSortedByKey}
@@ -8,12 +8,12 @@ use Rattle.std.specs.declared.cmp.Ordering.{Ordering}
 use Rattle.std.proofs.Math.Nat.{eq-or-lt_of_le}
 use Rattle.std.proofs.Math.Dec.{eqb, ltb}
 use Rattle.std.proofs.lemmas.Bool.{eqb-true, eq-eqb, true≢false, ltb-true, ltb-false, lt-ltb}
-use Rattle.std.proofs.lemmas.List.{get_or-set_same, get_or-set_other, get_or-map, get_or_append_left, get_or_push, get_or_past, length_push, length-map, length-set, length-replicate, take_all, ext_get_or}
-use Rattle.std.proofs.lemmas.List.Elements.{All-push, All-more, All-contains, All-nil, All-get_or, All-replicate, All-set, All-weaker, Contains-get_or, Contains-push, Contains-append_left}
+use Rattle.std.proofs.lemmas.List.{get_or-set_same, get_or-set_other, get_or-map, get_or_append_left, get_or_push, get_or_past, length_push, length-map, length-set, take_all, ext_get_or}
+use Rattle.std.proofs.lemmas.List.Elements.{All-push, All-more, All-contains, All-get_or, All-set, All-weaker, Contains-get_or, Contains-push, Contains-append_left}
 use Rattle.std.proofs.lemmas.List.Sorted.{All-permutation, Contains-permutation}
 use Rattle.ticket_core.specs.declared.query.Query.{Query}
-use Rattle.ticket_core.specs.declared.query.QueryKind.TheVariants.{Address, Span}
-use Rattle.ticket_core.specs.Query.{IsQuery, first_word, second_word}
+use Rattle.ticket_core.specs.declared.query.QueryKind.TheVariants.{Address}
+use Rattle.ticket_core.specs.Query.{first_word, second_word}
 use Rattle.a2l_lines.specs.Queries.{query_at, IsBefore, IsUpTo, AreRising}
 use Rattle.a2l_lines.specs.Sharing.{picked, Shares, Pair, pair_at, ArePairs, AreInOrder, last_of, is_last, added}
 
