@@ -204,6 +204,8 @@ load = [subprocess.Popen([sys.executable, '-c', 'while True: pass']) for _ in ra
 try:
     row('all, busy', 100_000, (16, 1), (1, 1))
     row('all, busy', 100_000, (64, 1), (4, 1))
+    row('one, busy', 100_000, (64, 1), (1, 1), only)
+    row('one, busy', 100_000, (64, 64), (1, 1), only)
 finally:
     for work in load:
         work.kill()

@@ -4,6 +4,7 @@ ghost use Rattle.std.specs.Prelude.{◌≡◌, ◌<◌, ◌≤◌, length, None,
 
 use crate::fault::{Fault, report};
 use crate::load::Load;
+use crate::processors::free_processors;
 use crate::run::run;
 use a2l_lines::{Failed, LoadFault, Resources, Sink, Source, process_words, read_file};
 use dw_bytes::Steps;
@@ -133,6 +134,7 @@ fn served<T: Threads + Wait + Sync, I: Ledger, O: Ledger, E: Ledger>(
     let on = Resources {
         threads,
         alloc: rt.alloc(),
+        processors: free_processors(rt, threads),
     };
     run(
         &on,

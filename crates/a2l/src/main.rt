@@ -7,6 +7,7 @@ mod fault;
 mod host;
 mod listing;
 mod load;
+mod processors;
 mod run;
 
 use crate::host::run_on_host;

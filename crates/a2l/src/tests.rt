@@ -106,7 +106,11 @@ fn run_in<T: Threads + Wait + Sync>(
     setting: Setting<'_>,
     words: &[&str],
 ) -> Outcome {
-    let on = Resources { threads: rt, alloc };
+    let on = Resources {
+        threads: rt,
+        alloc,
+        processors: 4,
+    };
     run_counted::<T, Brand, Brand, Brand>(
         &on,
         setting,

@@ -7,6 +7,7 @@ ghost use Rattle.a2l_lines.specs.Pool.{AreAnswersOf};
 use crate::crew::Crew;
 use crate::order::{in_order, in_place};
 use crate::plan::Plan;
+use crate::resources::Resources;
 use dw_symbols::{Answer, Context, Image, law_of_shown};
 use std::alloc::{AllocError, Global};
 use std::num::NonZeroUsize;
@@ -91,8 +92,7 @@ pub fn run_pool<'a, R: Threads + Wait + Sync, G: Gate + Sync>(
 /// What each of some queries means, in their order. They are asked in the order of a plan, so that
 /// what one unit answers is asked at one time, and the workers share the units.
 pub fn answers_of<'a, R: Threads + Wait + Sync, G: Gate + Sync>(
-    rt: &R,
-    alloc: Global,
+    on: &Resources<'_, R>,
     image: &Image<'a>,
     shape: Shape,
     queries: &[Query],
@@ -101,13 +101,18 @@ pub fn answers_of<'a, R: Threads + Wait + Sync, G: Gate + Sync>(
     requires fits { PoolFits shape (length queries.now) }
     ensures answers { IfOk result (λ answers. AreAnswersOf image.now queries.now answers.items) }
 {
-    let plan = Plan::new(alloc, image, queries, Crew::new(rt, shape.workers))?;
+    let alloc = on.alloc;
+    let crew = Crew {
+        workers: shape.workers,
+        processors: on.processors,
+    };
+    let plan = Plan::new(alloc, image, queries, crew)?;
     let asked = in_order(alloc, queries, &plan.order)?;
     let planned = Queries {
         asked: &asked,
         owners: &plan.owners,
     };
-    let found = match run_planned(rt, alloc, image, shape, planned, gate) {
+    let found = match run_planned(on.threads, alloc, image, shape, planned, gate) {
         Ok(found) => found,
         Err(PoolFault::BadShape) => unreachable!(),
         Err(PoolFault::Memory) => return Err(AllocError),

@@ -7,4 +7,7 @@ use std::alloc::Global;
 pub struct Resources<'t, T> {
     pub threads: &'t T,
     pub alloc: Global,
+    /// How many of the threads can run at one time. It decides how many workers share the units,
+    /// and no promise rests on it.
+    pub processors: usize,
 }

@@ -142,7 +142,7 @@ pub fn symbolize<'a, T: Threads + Wait + Sync, R: Source, W: Sink, G: Gate + Syn
     let inputs = inputs_of(alloc, reader, &options.words)?;
     let sharing = sharing_of(alloc, &inputs)?;
     let shape = shape_of(options, sharing.asked.len());
-    let answers = answers_of(on.threads, alloc, image, shape, &sharing.asked, gate)?;
+    let answers = answers_of(on, image, shape, &sharing.asked, gate)?;
     let status = outcome(&inputs, &answers);
     let pieces = pieces_of(alloc, options, &sharing.asked, answers)?;
     let mut block = Vec::with_capacity(alloc, BLOCK)?;

@@ -131,7 +131,11 @@ fn status_in<T: Threads + Wait + Sync, G: Gate + Sync>(
 ) -> Result<Option<Status>, RunFault> {
     let options = options(alloc, asked)?;
     let mut lines = Compared::new(asked.text);
-    let on = Resources { threads: rt, alloc };
+    let on = Resources {
+        threads: rt,
+        alloc,
+        processors: 4,
+    };
     let status = symbolize(&on, &mut Nothing, &mut lines, image, &options, gate)?;
     Ok(lines.is_whole().then_some(status))
 }
@@ -181,7 +185,11 @@ fn answer<T: Threads + Wait + Sync>(
     requires workers { options.now.workers ≡ 2 }
     requires senders { options.now.senders ≡ 1 }
 {
-    let on = Resources { threads: rt, alloc };
+    let on = Resources {
+        threads: rt,
+        alloc,
+        processors: 4,
+    };
     symbolize(&on, &mut Nothing, lines, image, options, &Open)
 }
 
