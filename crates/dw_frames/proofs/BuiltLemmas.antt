@@ -11,16 +11,15 @@ use Rattle.dw_model.specs.Ranges.{Range, covers}
 use Rattle.dw_model.specs.Tree.{Node, is_function, is_subprogram, is_inlined, enclosing, chain, chain_in, holds_address}
 use Rattle.dw_model.specs.Tree as model
 use Rattle.dw_model.specs.Unit as cut
-use Rattle.dw_index.specs.Owners.{least_owner}
+use Rattle.dw_ranges.specs.Claims.{owner_in, owner_of}
 use Rattle.dw_frames.specs.declared.chains.Chains.{Chains}
-use Rattle.dw_frames.specs.Inlined.{InlinedRange, inlined_in}
-use Rattle.dw_frames.specs.Drafts.{Drafts, known_ranges, is_idle, is_kept}
+use Rattle.dw_frames.specs.Drafts.{Drafts, inside, known_ranges, outermost, is_idle, is_kept}
 use Rattle.dw_frames.specs.Kept.{most_listed}
 use Rattle.dw_frames.specs.Placed.{Placed, placed, offset_of, Falls, Follows}
-use Rattle.dw_frames.specs.Tree.{id_of, all_inlined, outermost_at, inwards, chain_at, function_at, most_ranges, nodes_of, AreCounted, IsTreeOf}
+use Rattle.dw_frames.specs.Tree.{id_of, inwards, chain_at, function_at, most_ranges, nodes_of, IsTreeOf}
 use Rattle.dw_frames.specs.UnitIn.{UnitIn}
-use Rattle.dw_frames.proofs.GetLemmas.{get-there, get-mapped, get-pushed}
-use Rattle.dw_frames.proofs.PlacedLemmas.{map-reverse, reverse-cons}
+use Rattle.dw_ranges.proofs.GetLemmas.{get-there, get-mapped, get-pushed}
+use Rattle.dw_ranges.proofs.GetLemmas.{map-reverse, reverse-cons}
 use Rattle.dw_frames.proofs.ChainLemmas.{IsIdle, Found, climb, chain-climbs}
 
 -- ---- the node of an offset
@@ -99,8 +98,8 @@ idle-holds [] a e = refl
 idle-holds (range ∷ ranges) a e = let no : suc (length ranges) ≡ 0 = eqb-true (suc (length ranges)) 0 e in absurd (omega (arith, no))
 
 module _ (of : UnitIn) (after : List Node) (drafts : Drafts) (bound : ℕ) (found : Chains)
-    (whole : model.tree of.sections of.unit ≡ Ok (reverse after)) (follows : Follows of.sections of.unit after drafts bound) (unit : found.unit ≡ of.index) (within : of.index < length (cut.units of.sections.info)) (kept : found.functions.items ≡ drafts.functions) (inlined : all_inlined of.sections.tables found ≡ drafts.inlined) (index : (a : ℕ) → outermost_at of.sections.tables found a ≡ least_owner drafts.outermost a)
-    (room : found.ranges ≤ most_listed of.unit + length drafts.functions) where
+    (whole : model.tree of.sections of.unit ≡ Ok (reverse after)) (follows : Follows of.sections of.unit after drafts bound) (unit : found.unit ≡ of.index) (within : of.index < length (cut.units of.sections.info)) (kept : found.functions.items ≡ drafts.functions) (owners : (group a : ℕ) → owner_of of.sections.tables found.owners group a ≡ owner_in drafts.claims group a)
+    (room : found.owners.ranges ≤ most_listed of.unit + length drafts.functions) where
   abbrev keep : Entry → Bool
   keep = is_kept of.sections of.unit
 
@@ -142,14 +141,14 @@ module _ (of : UnitIn) (after : List Node) (drafts : Drafts) (bound : ℕ) (foun
 
     -- the number of the first function further inwards
     abbrev inner : ℕ → Option ℕ
-    inner k = least_owner (inlined_in k (all_inlined of.sections.tables found)) a
+    inner k = owner_of of.sections.tables found.owners (inside k) a
 
-    steps : Found keep holds idle after (outermost_at of.sections.tables found a) inner
+    steps : Found keep holds idle after (owner_of of.sections.tables found.owners outermost a) inner
     steps = record {
       rises = follows.rises;
       around = follows.around;
-      outermost = index a ∙ follows.outermost a;
-      inwards = λ k p e. ap (λ (ranges : List InlinedRange). least_owner (inlined_in k ranges) a) inlined ∙ follows.inlined k a p e;
+      outermost = owners _ a ∙ follows.outermost a;
+      inwards = λ k p e. owners _ a ∙ follows.inlined k a p e;
     }
 
     both : (k : ℕ) → ((slice_get found.functions.items k ≡ None) × (slice_get (placed keep after) k ≡ None)) ⊎ ((offset : ℕ) × (p : Placed) × (slice_get found.functions.items k ≡ Some offset) × (slice_get (placed keep after) k ≡ Some p))
@@ -161,7 +160,7 @@ module _ (of : UnitIn) (after : List Node) (drafts : Drafts) (bound : ℕ) (foun
       | inr past ↦ inl (slice_get_past found.functions.items k (omega (arith, past, size)), slice_get_past (placed keep after) k past)
     ]
 
-    climbs-same : (most : ℕ) (number : Option ℕ) → map (function_at of) (inwards of.sections.tables found a most number) ≡ map Some (climb keep holds idle after (outermost_at of.sections.tables found a) inner steps most number)
+    climbs-same : (most : ℕ) (number : Option ℕ) → map (function_at of) (inwards of.sections.tables found a most number) ≡ map Some (climb keep holds idle after (owner_of of.sections.tables found.owners outermost a) inner steps most number)
     unfolding inwards climb
     climbs-same zero number = refl
     climbs-same (suc most) None = refl
@@ -173,15 +172,15 @@ module _ (of : UnitIn) (after : List Node) (drafts : Drafts) (bound : ℕ) (foun
     chain-same : map (function_at of) (reverse (chain_at of.sections.tables found a)) ≡ map Some (chain of.sections of.unit (nodes_of of.sections of.unit) a)
     chain-same =
         map-reverse (function_at of) (chain_at of.sections.tables found a)
-        ∙ ap (λ (nodes : List (Option Node)). reverse nodes) (climbs-same (length found.functions.items) (outermost_at of.sections.tables found a) ∙ ap (λ (n : ℕ). map Some (climb keep holds idle after (outermost_at of.sections.tables found a) inner steps n (outermost_at of.sections.tables found a))) size)
-        ∙ sym (map-reverse Some (climb keep holds idle after (outermost_at of.sections.tables found a) inner steps (length (placed keep after)) (outermost_at of.sections.tables found a)))
-        ∙ ap (map Some) (sym (chain-climbs keep holds idle after (outermost_at of.sections.tables found a) inner steps))
+        ∙ ap (λ (nodes : List (Option Node)). reverse nodes) (climbs-same (length found.functions.items) (owner_of of.sections.tables found.owners outermost a) ∙ ap (λ (n : ℕ). map Some (climb keep holds idle after (owner_of of.sections.tables found.owners outermost a) inner steps n (owner_of of.sections.tables found.owners outermost a))) size)
+        ∙ sym (map-reverse Some (climb keep holds idle after (owner_of of.sections.tables found.owners outermost a) inner steps (length (placed keep after)) (owner_of of.sections.tables found.owners outermost a)))
+        ∙ ap (map Some) (sym (chain-climbs keep holds idle after (owner_of of.sections.tables found.owners outermost a) inner steps))
         ∙ ap (λ (nodes : List Node). map Some (chain_in holds nodes)) (sym nodes-are)
 
-  few-kept : found.ranges ≤ most_ranges of
+  few-kept : found.owners.ranges ≤ most_ranges of
   few-kept =
       let functions = ap (λ (offsets : List ℕ). length offsets) follows.functions ∙ length-map (placed keep after) offset_of ∙ count-placed keep after ∙ ap (λ (nodes : List Node). length (filter (λ node. keep node.entry) nodes)) (sym nodes-are) in
       omega (arith, room, functions)
 
-  pub is-tree : AreCounted found found.ranges → IsTreeOf of found
-  is-tree counted = record { within = rw unit within; read = whole ∙ ap Ok (sym nodes-are); chains = chain-same; few = few-kept; counted = counted }
+  pub is-tree : IsTreeOf of found
+  is-tree = record { within = rw unit within; read = whole ∙ ap Ok (sym nodes-are); chains = chain-same; few = few-kept }

@@ -11,7 +11,8 @@ use Rattle.dw_model.specs.Tree.{Node, is_subprogram, is_inlined, enclosing, inli
 use Rattle.dw_frames.specs.Rising.{Rises}
 use Rattle.dw_frames.specs.Placed.{Placed, placed, offset_of, first, is_outermost, lies_in}
 use Rattle.dw_frames.proofs.FirstLemmas.{first-find, first-is}
-use Rattle.dw_frames.proofs.GetLemmas.{get-mapped, rises-order}
+use Rattle.dw_ranges.proofs.GetLemmas.{get-mapped}
+use Rattle.dw_frames.proofs.RisingLemmas.{rises-order}
 use Rattle.dw_frames.proofs.PlacedLemmas.{find_node-placed, find-alone}
 
 pub placed-fewer : (kept : Entry → Bool) (before : List Node) → length (placed kept before) ≤ length before
@@ -28,6 +29,10 @@ placed-fewer kept (node ∷ before) = by_test (placed-fewer kept before) (kept n
 -- what isn't kept holds no address
 abbrev pub IsIdle : (Entry → Bool) → (Entry → Bool) → Type 0
 IsIdle kept holds = (entry : Entry) → kept entry ≡ false → ((is_subprogram entry && holds entry) ≡ false) × ((is_inlined entry && holds entry) ≡ false)
+
+pub at_some : (o : Option Node) (offset : ℕ) → is_at o offset ≡ true → (e : Node) × (o ≡ Some e) × (e.entry.offset ≡ offset)
+at_some None offset h = absurd cc
+at_some (Some e) offset h = (e, refl, eqb-true e.entry.offset offset h)
 
 module _ (kept holds : Entry → Bool) (idle : IsIdle kept holds) where
   -- which number the first function has that holds the address, and the first in each other one
@@ -61,10 +66,6 @@ module _ (kept holds : Entry → Bool) (idle : IsIdle kept holds) where
     inlined-is : (k : ℕ) (p : Placed) → slice_get (placed kept before) k ≡ Some p → inlined_in holds (reverse before) p.0 ≡ node_of (inner k)
     inlined-is k p h =
         find-inlined before p.0 ∙ ap (option_map (λ (p : Placed). p.0)) (first-find (lies_in holds (offset_of p)) (placed kept before) ∙ ap (option_and_then (slice_get (placed kept before))) (sym (found.inwards k p h)))
-
-    at_some : (o : Option Node) (offset : ℕ) → is_at o offset ≡ true → (e : Node) × (o ≡ Some e) × (e.entry.offset ≡ offset)
-    at_some None offset h = absurd cc
-    at_some (Some e) offset h = (e, refl, eqb-true e.entry.offset offset h)
 
     -- a step inwards goes forward
     pub goes-forward : (k j : ℕ) (p : Placed) → slice_get (placed kept before) k ≡ Some p → inner k ≡ Some j → (q : Placed) × (slice_get (placed kept before) j ≡ Some q) × (k < j)

@@ -1,11 +1,12 @@
 -- The number of the first element that passes a test.
 use Rattle.std.proofs.Common.{◌≡◌, ℕ, zero, suc, ◌<◌, Bool, true, false, cond, List, [], ◌∷◌, ◌++◌, length, map, Option, Some, None, refl, sym, ap, ◌∙◌, arith}
-use Rattle.std.specs.Prelude.{option_map, option_and_then, slice_get, find, ◌||◌}
+use Rattle.std.specs.Prelude.{option_map, option_and_then, slice_get, find}
 use Rattle.std.specs.Option.{option_or}
 use Rattle.std.proofs.lemmas.Option.{same_Some}
-use Rattle.dw_model.specs.Ranges.{Range, holds, covers}
+use Rattle.dw_model.specs.Ranges.{Range, covers}
 use Rattle.dw_index.specs.Owners.{least, least_owner}
 use Rattle.dw_index.proofs.OwnerLemmas.{least_owner-append}
+use Rattle.dw_index.proofs.LawLemmas.{of_list}
 use Rattle.dw_frames.specs.Placed.{first}
 
 module _ {X : Type 0} (test : X → Bool) where
@@ -62,19 +63,6 @@ first-within test xs k e = let x = first-is test xs k e in within xs k x.0 x.1
     within (y ∷ xs) (suc k) x e = omega (arith, within xs k x e)
 
 -- ---- owners of ranges
-
-least-same : (test : Bool) (n : ℕ) → least (Some n) (cond test (Some n) None) ≡ Some n
-least-same true n = ap Some (omega arith)
-least-same false n = refl
-
-pub of_list : (ranges : List Range) (owner a : ℕ) → least_owner (map (λ range. (range, owner)) ranges) a ≡ cond (covers a ranges) (Some owner) None
-unfolding least_owner
-of_list [] owner a = refl
-of_list (range ∷ ranges) owner a = rw (of_list ranges owner a) (by_test (holds a range))
-  where
-    by_test : (test : Bool) → least (cond test (Some owner) None) (cond (covers a ranges) (Some owner) None) ≡ cond (test || covers a ranges) (Some owner) None
-    by_test true = least-same (covers a ranges) owner
-    by_test false = refl
 
 least-below : (found : Option ℕ) (n : ℕ) (b : Bool) → ((k : ℕ) → found ≡ Some k → k < n) → least found (cond b (Some n) None) ≡ option_or found (cond b (Some n) None)
 least-below None n b h = refl

@@ -1,10 +1,10 @@
 -- What was kept of functions follows the nodes that were read.
 use Rattle.std.proofs.Common.{◌≡◌, ◌⊎◌, inl, inr, ℕ, zero, suc, ◌+◌, ◌-◌, ◌<◌, ◌≤◌, min, Bool, true, false, cond, List, [], ◌∷◌, ◌++◌, length, map, Option, Some, None, refl, sym, ap, subst, ◌∙◌, arith, length-append}
-use Rattle.std.specs.Prelude.{option_and_then, slice_get, not, ◌&&◌, nat_lt}
+use Rattle.std.specs.Prelude.{get_or, slice_get, not, ◌&&◌, nat_lt}
 use Rattle.std.specs.Option.{option_or}
-use Rattle.std.proofs.lemmas.List.{append-nil, map_push, length-map}
-use Rattle.std.proofs.lemmas.Bool.{cases_order, and_parts, and_left, and_right, eq-eqb, ne_eqb, eqb-true, lt-ltb, le-ltb}
-use Rattle.std.proofs.lemmas.Option.{same_Some, slice_get_within}
+use Rattle.std.proofs.lemmas.List.{map_push, length-map}
+use Rattle.std.proofs.lemmas.Bool.{and_parts, and_left, and_right, eq-eqb, ne_eqb, eqb-true, lt-ltb, le-ltb}
+use Rattle.std.proofs.lemmas.Option.{same_Some, slice_get_within, slice_get-get_or}
 use Rattle.dw_model.specs.declared.dwarf.TheConstants.{DW_TAG_subprogram}
 use Rattle.dw_model.specs.Entry.{Entry}
 use Rattle.dw_model.specs.Section.{Sections}
@@ -12,34 +12,33 @@ use Rattle.dw_model.specs.Unit.{DwarfUnit}
 use Rattle.dw_model.specs.Ranges.{Range, covers}
 use Rattle.dw_model.specs.Tree.{Node, is_function, is_subprogram, is_inlined, enclosing, is_at, holds_address}
 use Rattle.dw_index.specs.Owners.{least_owner}
+use Rattle.dw_ranges.specs.Claims.{Claim, claims_in, in_group, owner_in}
+use Rattle.dw_ranges.specs.Owned.{owned}
+use Rattle.dw_ranges.proofs.GetLemmas.{get-kept, get-last, get-pushed, get-there, get-mapped, get-unmapped}
+use Rattle.dw_ranges.proofs.GroupLemmas.{group-here, group-elsewhere, same_or_apart}
 use Rattle.dw_frames.specs.Rising.{Rises}
-use Rattle.dw_frames.specs.Inlined.{InlinedRange, inlined_in, all_in_some}
-use Rattle.dw_frames.specs.Drafts.{Drafts, innermost, owned, with_list, with_function, with_ranges, without_last, without_list, known_ranges, is_idle, is_kept, behind_function}
+use Rattle.dw_frames.specs.Drafts.{Drafts, begun, innermost, inside, nowhere, outermost, with_list, with_function, without_last, without_list, known_ranges, is_idle, is_kept, behind_function}
 use Rattle.dw_frames.specs.Placed.{Placed, placed, offset_of, near, first, is_outermost, lies_in, Names, Follows}
 use Rattle.dw_frames.proofs.NearLemmas.{enclosing-one, falls-on, near-below}
-use Rattle.dw_frames.proofs.GetLemmas.{get-kept, get-last, get-pushed, get-there, get-mapped, get-unmapped, rises-once, rises-order, rises-push}
+use Rattle.dw_frames.proofs.ChainLemmas.{at_some}
+use Rattle.dw_frames.proofs.PlacedLemmas.{or-none}
+use Rattle.dw_frames.proofs.RisingLemmas.{rises-once, rises-order, rises-push}
 use Rattle.dw_frames.proofs.FirstLemmas.{first-push, first-is, first-within, owner-push}
-use Rattle.dw_frames.proofs.InlinedLemmas.{inlined-here, inlined-elsewhere}
 
-pub same_or_apart : (m k : ℕ) → (m ≡ k) ⊎ (m ≡ k → ⊥)
-same_or_apart m k = elim (cases_order m k) [
-  | inl same ↦ inl same
-  | inr order ↦ elim order [
-    | inl less ↦ inr (λ same. absurd (omega (arith, less, same)))
-    | inr more ↦ inr (λ same. absurd (omega (arith, more, same)))
-  ]
-]
+next-two : (n : ℕ) → suc (suc n) ≡ inside n
+next-two n = omega arith
 
 -- one more function, which is after what was found
-names-kept : (all : List Placed) (x : Placed) (number : Option ℕ) (found : Option Node) → ((node : Node) → found ≡ Some node → node.entry.offset < offset_of x) → Names all number found → Names (all ++ x ∷ []) number found
-names-kept all x None found behind h = λ node is k p e same. elim (get-pushed all x k p e) [
+names-kept : (all : List Placed) (x : Placed) (group : ℕ) (found : Option Node) → ((node : Node) → found ≡ Some node → node.entry.offset < offset_of x) → Names all group found → Names (all ++ x ∷ []) group found
+names-kept all x zero found behind h = h
+names-kept all x (suc zero) found behind h = λ node is k p e same. elim (get-pushed all x k p e) [
   | inl old ↦ h node is k p old same
   | inr new ↦ (let less = behind node is in let at : offset_of x ≡ offset_of p = ap offset_of new.1 in absurd (omega (arith, less, at, same)))
 ]
-names-kept all x (Some k) found behind h = (h.0, get-kept all x k h.0 h.1, h.2)
+names-kept all x (suc (suc k)) found behind h = (h.0, get-kept all x k h.0 h.1, h.2)
 
--- what is found under no number isn't where a function is that is kept
-none-at : (all : List Placed) (found : Option Node) (k : ℕ) (p : Placed) → Names all None found → slice_get all k ≡ Some p → is_at found (offset_of p) ≡ false
+-- what is found in no function that is kept isn't where one is
+none-at : (all : List Placed) (found : Option Node) (k : ℕ) (p : Placed) → Names all nowhere found → slice_get all k ≡ Some p → is_at found (offset_of p) ≡ false
 none-at all None k p h e = refl
 none-at all (Some node) k p h e = ne_eqb node.entry.offset (offset_of p) (λ same. h node refl k p e (sym same))
 
@@ -65,7 +64,7 @@ module _ (s : Sections) (unit : DwarfUnit) where
     outermost = f.outermost;
     inlined = f.inlined;
     unowned = f.unowned;
-    lists = λ i number e. f.lists i number (get-of-front drafts.lists i number e);
+    lists = λ i group e. f.lists i group (get-of-front drafts.lists i group e);
   }
 
   -- ---- an entry that is no function
@@ -77,15 +76,16 @@ module _ (s : Sections) (unit : DwarfUnit) where
       let least : min 0 node.depth ≡ 0 = omega arith in
       rw (and_right (is_function node.entry) (nat_lt node.depth 0) (le-ltb node.depth 0 (omega arith)), least) (near-zero before)
 
-  top-names : (before : List Node) (lists : List (Option ℕ)) (k : ℕ) (number : Option ℕ) → length lists ≡ k + 1 → slice_get lists k ≡ Some number → Names (kept before) number (near (k + 1) before) → Names (kept before) (option_and_then (λ number. number) (slice_get lists (length lists - 1))) (near (length lists) before)
-  top-names before lists k number len e h =
+  top-names : (before : List Node) (lists : List ℕ) (k group : ℕ) → length lists ≡ k + 1 → slice_get lists k ≡ Some group → Names (kept before) group (near (k + 1) before) → Names (kept before) (get_or lists (length lists - 1) nowhere) (near (length lists) before)
+  top-names before lists k group len e h =
       let small : k + 1 - 1 ≡ k = omega arith in
-      rw (len, small, e) h
+      let last : get_or lists k nowhere ≡ group = same_Some (get_or lists k nowhere) group (sym (slice_get-get_or lists k nowhere (slice_get_within lists k group e)) ∙ e) in
+      rw (len, small, last) h
 
   pub innermost-names : (before : List Node) (drafts : Drafts) (bound : ℕ) → Follows s unit before drafts bound → Names (kept before) (innermost drafts) (near (length drafts.lists) before)
-  innermost-names before drafts bound f = by_lists drafts.lists (λ i number e. f.lists i number e)
+  innermost-names before drafts bound f = by_lists drafts.lists (λ i group e. f.lists i group e)
     where
-      by_lists : (lists : List (Option ℕ)) → ((i : ℕ) (number : Option ℕ) → slice_get lists i ≡ Some number → Names (kept before) number (near (i + 1) before)) → Names (kept before) (option_and_then (λ number. number) (slice_get lists (length lists - 1))) (near (length lists) before)
+      by_lists : (lists : List ℕ) → ((i group : ℕ) → slice_get lists i ≡ Some group → Names (kept before) group (near (i + 1) before)) → Names (kept before) (get_or lists (length lists - 1) nowhere) (near (length lists) before)
       by_lists [] h = λ node is. let none : None ≡ Some node = sym (near-zero before) ∙ is in absurd cc
       by_lists (list ∷ rest) h =
           let last = get-there (list ∷ rest) (length rest) (omega arith) in
@@ -117,14 +117,14 @@ module _ (s : Sections) (unit : DwarfUnit) where
   unfolding placed
   placed-here node before e = rw e refl
 
-  get-children : (children : Bool) (lists : List (Option ℕ)) (new : Option ℕ) (i : ℕ) (number : Option ℕ) → slice_get (cond children (lists ++ new ∷ []) lists) i ≡ Some number → (slice_get lists i ≡ Some number) ⊎ ((i ≡ length lists) × (new ≡ number))
-  get-children true lists new i number e = get-pushed lists new i number e
-  get-children false lists new i number e = inl e
+  get-children : (children : Bool) (lists : List ℕ) (new i group : ℕ) → slice_get (begun children new lists) i ≡ Some group → (slice_get lists i ≡ Some group) ⊎ ((i ≡ length lists) × (new ≡ group))
+  get-children true lists new i group e = get-pushed lists new i group e
+  get-children false lists new i group e = inl e
 
   -- an entry that isn't kept, and the list below it
-  follows-unkept : (before : List Node) (drafts : Drafts) (bound next : ℕ) (entry : Entry) (number : Option ℕ) → is_kept s unit entry ≡ false → bound ≤ entry.offset → entry.offset < next
-      → Names (kept before) number (near (length drafts.lists + 1) (record { depth = length drafts.lists; entry = entry } ∷ before)) → Follows s unit before drafts bound
-      → Follows s unit (record { depth = length drafts.lists; entry = entry } ∷ before) (with_list entry.children number drafts) next
+  follows-unkept : (before : List Node) (drafts : Drafts) (bound next : ℕ) (entry : Entry) (group : ℕ) → is_kept s unit entry ≡ false → bound ≤ entry.offset → entry.offset < next
+      → Names (kept before) group (near (length drafts.lists + 1) (record { depth = length drafts.lists; entry = entry } ∷ before)) → Follows s unit before drafts bound
+      → Follows s unit (record { depth = length drafts.lists; entry = entry } ∷ before) (with_list entry.children group drafts) next
   follows-unkept before drafts bound next entry new e low high names f =
       let node : Node = record { depth = length drafts.lists; entry = entry } in
       let same = placed-other node before e in
@@ -136,9 +136,9 @@ module _ (s : Sections) (unit : DwarfUnit) where
         around = λ k p e g. f.around k p e (rw same at g);
         outermost = λ a. rw same (f.outermost a);
         inlined = λ k a p g. rw same (f.inlined k a p (rw same at g));
-        unowned = λ k past. f.unowned k (rw same at past);
-        lists = λ i number g. elim (get-children entry.children drafts.lists new i number g) [
-          | inl old ↦ (let within = slice_get_within drafts.lists i number old in rw (same, near-past (i + 1) node before (omega (arith, within))) (f.lists i number old))
+        unowned = λ k a past. f.unowned k a (rw same at past);
+        lists = λ i group g. elim (get-children entry.children drafts.lists new i group g) [
+          | inl old ↦ (let within = slice_get_within drafts.lists i group old in rw (same, near-past (i + 1) node before (omega (arith, within))) (f.lists i group old))
           | inr now ↦ rw (same, now.0, ← now.1) names
         ];
       }
@@ -154,11 +154,11 @@ module _ (s : Sections) (unit : DwarfUnit) where
 
   -- a function without ranges
   pub follows-idle : (before : List Node) (drafts : Drafts) (bound next : ℕ) (entry : Entry) → is_function entry ≡ true → is_idle s unit entry ≡ true → bound ≤ entry.offset → entry.offset < next → Follows s unit before drafts bound
-      → Follows s unit (record { depth = length drafts.lists; entry = entry } ∷ before) (with_list entry.children None drafts) next
+      → Follows s unit (record { depth = length drafts.lists; entry = entry } ∷ before) (with_list entry.children nowhere drafts) next
   follows-idle before drafts bound next entry function idle low high f =
       let here : Node = record { depth = length drafts.lists; entry = entry } in
       let out : is_kept s unit entry ≡ false = rw idle (and_right (is_function entry) false refl) in
-      follows-unkept before drafts bound next entry None out low high (λ node is k p e same.
+      follows-unkept before drafts bound next entry nowhere out low high (λ node is k p e same.
       let one : here.entry.offset ≡ node.entry.offset = ap (λ (n : Node). n.entry.offset) (same_Some here node (sym (near-here here before function) ∙ is)) in
       let b = f.below k p e in absurd (omega (arith, one, b, low, same))) f
 
@@ -167,10 +167,6 @@ module _ (s : Sections) (unit : DwarfUnit) where
   sizes : (before : List Node) (drafts : Drafts) (bound : ℕ) → Follows s unit before drafts bound → length drafts.functions ≡ length (kept before)
   sizes before drafts bound f =
       ap (λ (offsets : List ℕ). length offsets) f.functions ∙ length-map (kept before) offset_of
-
-  or-none : (found : Option ℕ) → option_or found None ≡ found
-  or-none None = refl
-  or-none (Some k) = refl
 
   and-true : (b : Bool) → (b && true) ≡ b
   and-true true = refl
@@ -185,14 +181,6 @@ module _ (s : Sections) (unit : DwarfUnit) where
       owner-push pairs ranges n a (λ k e. let w = first-within test all k (sym same ∙ e) in omega (arith, w, size))
       ∙ rw (same, size, ← is) (sym (first-push test all x))
 
-  at-some : (o : Option Node) (offset : ℕ) → is_at o offset ≡ true → (e : Node) × (o ≡ Some e) × (e.entry.offset ≡ offset)
-  at-some None offset h = absurd cc
-  at-some (Some e) offset h = (e, refl, eqb-true e.entry.offset offset h)
-
-  unowned : (a : ℕ) → least_owner [] a ≡ None
-  unfolding least_owner
-  unowned a = refl
-
   -- nothing lies in the last function
   none-in-last : (a : ℕ) (all : List Placed) (k : ℕ) (p : Placed) → Rises (map offset_of all) → ((k : ℕ) (p : Placed) (e : Node) → slice_get all k ≡ Some p → p.1 ≡ Some e → e.entry.offset < offset_of p) → slice_get all k ≡ Some p → length all ≡ k + 1 → first (lies_in (holds_address s unit a) (offset_of p)) all ≡ None
   none-in-last a all k p rises around h size = by_found (first (lies_in (holds_address s unit a) (offset_of p)) all) refl
@@ -203,7 +191,7 @@ module _ (s : Sections) (unit : DwarfUnit) where
           let q = first-is (lies_in (holds_address s unit a) (offset_of p)) all j e in
           let within = first-within (lies_in (holds_address s unit a) (offset_of p)) all j e in
           let test = and_parts (is_inlined q.0.0.entry && holds_address s unit a q.0.0.entry) (is_at q.0.1 (offset_of p)) q.2 in
-          let e = at-some q.0.1 (offset_of p) test.1 in
+          let e = at_some q.0.1 (offset_of p) test.1 in
           let inside = around j q.0 e.0 q.1 e.1 in
           let at = e.2 in
           let less = rises-order (map offset_of all) k j (offset_of p) (offset_of q.0) rises (get-mapped offset_of all k p h) (get-mapped offset_of all j q.0 q.1) (omega (arith, inside, at)) in
@@ -231,17 +219,32 @@ module _ (s : Sections) (unit : DwarfUnit) where
     abbrev pairs : List (Range × ℕ)
     pairs = owned (known_ranges s unit entry) number
 
+    -- the claims after it, where it claims ranges in this group
+    abbrev after : ℕ → List Claim
+    after group = drafts.claims ++ claims_in group pairs
+
+    after-here : (group k a : ℕ) → group ≡ k → owner_in (after group) k a ≡ least_owner (in_group k drafts.claims ++ pairs) a
+    after-here group k a same = ap (λ (found : List (Range × ℕ)). least_owner found a) (group-here k group drafts.claims pairs same)
+
+    after-elsewhere : (group k a : ℕ) → (group ≡ k → ⊥) → owner_in (after group) k a ≡ owner_in drafts.claims k a
+    after-elsewhere group k a apart = ap (λ (found : List (Range × ℕ)). least_owner found a) (group-elsewhere k group drafts.claims pairs apart)
+
     -- in which function it lies
     lies : Names (kept before) (innermost drafts) here.1
     lies = subst (Names (kept before) (innermost drafts)) (sym (enclosing-one node before)) (innermost-names before drafts bound f)
 
-    by_subprogram : (b : Bool) → is_subprogram entry ≡ b → (a : ℕ) → least_owner (cond b (drafts.outermost ++ pairs) drafts.outermost) a ≡ first (is_outermost (holds_address s unit a)) (kept before ++ here ∷ [])
-    by_subprogram true e a =
-        owner-more (is_outermost (holds_address s unit a)) (kept before) here drafts.outermost (known_ranges s unit entry) number a (sizes before drafts bound f) (f.outermost a) (rw e refl)
-    by_subprogram false e a =
-        f.outermost a ∙ sym (push-false (is_outermost (holds_address s unit a)) (kept before) here (and_left (is_subprogram entry) (holds_address s unit a entry) e))
+    not-outermost : (group : ℕ) → Names (kept before) group here.1 → group ≡ outermost → ⊥
+    not-outermost zero h e = h
+    not-outermost (suc group) h e = absurd cc
 
-    unchanged : (k a : ℕ) (p : Placed) → slice_get (kept before) k ≡ Some p → lies_in (holds_address s unit a) (offset_of p) here ≡ false → least_owner (inlined_in k drafts.inlined) a ≡ first (lies_in (holds_address s unit a) (offset_of p)) (kept before ++ here ∷ [])
+    by_subprogram : (b : Bool) → is_subprogram entry ≡ b → (a : ℕ) → owner_in (after (cond b outermost (innermost drafts))) outermost a ≡ first (is_outermost (holds_address s unit a)) (kept before ++ here ∷ [])
+    by_subprogram true e a =
+        after-here outermost outermost a refl ∙ owner-more (is_outermost (holds_address s unit a)) (kept before) here (in_group outermost drafts.claims) (known_ranges s unit entry) number a (sizes before drafts bound f) (f.outermost a) (rw e refl)
+    by_subprogram false e a =
+        after-elsewhere (innermost drafts) outermost a (not-outermost (innermost drafts) lies)
+        ∙ f.outermost a ∙ sym (push-false (is_outermost (holds_address s unit a)) (kept before) here (and_left (is_subprogram entry) (holds_address s unit a entry) e))
+
+    unchanged : (k a : ℕ) (p : Placed) → slice_get (kept before) k ≡ Some p → lies_in (holds_address s unit a) (offset_of p) here ≡ false → owner_in drafts.claims (inside k) a ≡ first (lies_in (holds_address s unit a) (offset_of p)) (kept before ++ here ∷ [])
     unchanged k a p e out =
         f.inlined k a p e ∙ sym (push-false (lies_in (holds_address s unit a) (offset_of p)) (kept before) here out)
 
@@ -251,39 +254,40 @@ module _ (s : Sections) (unit : DwarfUnit) where
         rises-once (map offset_of (kept before)) m k (offset_of p) f.rises (get-mapped offset_of (kept before) m q g ∙ ap Some same) (get-mapped offset_of (kept before) k p e)
 
     -- what is inlined in each function of before
-    by_outer : is_inlined entry ≡ true → (outer : Option ℕ) → Names (kept before) outer here.1 → (k a : ℕ) (p : Placed) → slice_get (kept before) k ≡ Some p → least_owner (inlined_in k (drafts.inlined ++ all_in_some outer pairs)) a ≡ first (lies_in (holds_address s unit a) (offset_of p)) (kept before ++ here ∷ [])
-    by_outer inlined None h k a p e =
-        ap (λ (ranges : List InlinedRange). least_owner (inlined_in k ranges) a) (append-nil drafts.inlined)
+    by_group : is_inlined entry ≡ true → (group : ℕ) → Names (kept before) group here.1 → (k a : ℕ) (p : Placed) → slice_get (kept before) k ≡ Some p → owner_in (after group) (inside k) a ≡ first (lies_in (holds_address s unit a) (offset_of p)) (kept before ++ here ∷ [])
+    by_group inlined zero h k a p e = absurd h
+    by_group inlined (suc zero) h k a p e =
+        after-elsewhere nowhere (inside k) a (λ same. absurd (omega (arith, same)))
         ∙ unchanged k a p e (and_right (is_inlined entry && holds_address s unit a entry) (is_at here.1 (offset_of p)) (none-at (kept before) here.1 k p h e))
-    by_outer inlined (Some m) h k a p e = elim (same_or_apart m k) [
+    by_group inlined (suc (suc m)) h k a p e = elim (same_or_apart m k) [
       | inl same ↦ (
           let q = h.0 in
           let at : offset_of q ≡ offset_of p = ap offset_of (same_Some q p (sym h.1 ∙ ap (slice_get (kept before)) same ∙ e)) in
-          let inside : lies_in (holds_address s unit a) (offset_of p) here ≡ covers a (known_ranges s unit entry) =
+          let lies_there : lies_in (holds_address s unit a) (offset_of p) here ≡ covers a (known_ranges s unit entry) =
           rw (inlined, h.2, eq-eqb (offset_of q) (offset_of p) at) (and-true (covers a (known_ranges s unit entry))) in
-          ap (λ (found : List (Range × ℕ)). least_owner found a) (inlined-here k m drafts.inlined pairs same)
-          ∙ owner-more (lies_in (holds_address s unit a) (offset_of p)) (kept before) here (inlined_in k drafts.inlined) (known_ranges s unit entry) number a (sizes before drafts bound f) (f.inlined k a p e) inside)
+          ap (λ (group : ℕ). owner_in (after group) (inside k) a) (next-two m) ∙ after-here (inside m) (inside k) a (ap inside same)
+          ∙ owner-more (lies_in (holds_address s unit a) (offset_of p)) (kept before) here (in_group (inside k) drafts.claims) (known_ranges s unit entry) number a (sizes before drafts bound f) (f.inlined k a p e) lies_there)
       | inr apart ↦ (
           let q = h.0 in
           let other : offset_of q ≡ offset_of p → ⊥ = λ at. apart (one-number k m p q e h.1 at) in
-          ap (λ (found : List (Range × ℕ)). least_owner found a) (inlined-elsewhere k m drafts.inlined pairs apart)
+          ap (λ (group : ℕ). owner_in (after group) (inside k) a) (next-two m) ∙ after-elsewhere (inside m) (inside k) a (λ same. apart (omega (arith, same)))
           ∙ unchanged k a p e (and_right (is_inlined entry && holds_address s unit a entry) (is_at here.1 (offset_of p)) (rw (h.2) (ne_eqb (offset_of q) (offset_of p) other))))
     ]
 
-    inlined-before : (b : Bool) → is_subprogram entry ≡ b → (k a : ℕ) (p : Placed) → slice_get (kept before) k ≡ Some p → least_owner (inlined_in k (cond b drafts.inlined (drafts.inlined ++ all_in_some (innermost drafts) pairs))) a ≡ first (lies_in (holds_address s unit a) (offset_of p)) (kept before ++ here ∷ [])
+    inlined-before : (b : Bool) → is_subprogram entry ≡ b → (k a : ℕ) (p : Placed) → slice_get (kept before) k ≡ Some p → owner_in (after (cond b outermost (innermost drafts))) (inside k) a ≡ first (lies_in (holds_address s unit a) (offset_of p)) (kept before ++ here ∷ [])
     inlined-before true e k a p g =
-        unchanged k a p g (and_left (is_inlined entry && holds_address s unit a entry) (is_at here.1 (offset_of p)) (and_left (is_inlined entry) (holds_address s unit a entry) (subprogram-only entry e)))
-    inlined-before false e k a p g = by_outer (inlined-only entry function e) (innermost drafts) lies k a p g
+        after-elsewhere outermost (inside k) a (λ same. absurd (omega (arith, same)))
+        ∙ unchanged k a p g (and_left (is_inlined entry && holds_address s unit a entry) (is_at here.1 (offset_of p)) (and_left (is_inlined entry) (holds_address s unit a entry) (subprogram-only entry e)))
+    inlined-before false e k a p g = by_group (inlined-only entry function e) (innermost drafts) lies k a p g
 
-    none-owned : (b : Bool) (k : ℕ) → length (kept before) ≤ k → inlined_in k (cond b drafts.inlined (drafts.inlined ++ all_in_some (innermost drafts) pairs)) ≡ []
-    none-owned true k past = f.unowned k past
-    none-owned false k past = by_list (innermost drafts) lies
+    none-owned : (b : Bool) (k a : ℕ) → length (kept before) ≤ k → owner_in (after (cond b outermost (innermost drafts))) (inside k) a ≡ None
+    none-owned true k a past = after-elsewhere outermost (inside k) a (λ same. absurd (omega (arith, same))) ∙ f.unowned k a past
+    none-owned false k a past = after-elsewhere (innermost drafts) (inside k) a (λ same. by_group_of (innermost drafts) lies same) ∙ f.unowned k a past
       where
-        by_list : (outer : Option ℕ) → Names (kept before) outer here.1 → inlined_in k (drafts.inlined ++ all_in_some outer pairs) ≡ []
-        by_list None h = ap (inlined_in k) (append-nil drafts.inlined) ∙ f.unowned k past
-        by_list (Some m) h =
-            let w = slice_get_within (kept before) m h.0 h.1 in
-            inlined-elsewhere k m drafts.inlined pairs (λ same. absurd (omega (arith, same, w, past))) ∙ f.unowned k past
+        by_group_of : (group : ℕ) → Names (kept before) group here.1 → group ≡ inside k → ⊥
+        by_group_of zero h same = h
+        by_group_of (suc zero) h same = absurd (omega (arith, same))
+        by_group_of (suc (suc m)) h same = let w = slice_get_within (kept before) m h.0 h.1 in absurd (omega (arith, same, w, past))
 
     offsets-push : map offset_of (kept before ++ here ∷ []) ≡ map offset_of (kept before) ++ entry.offset ∷ []
     offsets-push = map_push offset_of (kept before) here
@@ -305,7 +309,7 @@ module _ (s : Sections) (unit : DwarfUnit) where
     ]
 
     follows-kept : bound ≤ entry.offset → entry.offset < next → is_kept s unit entry ≡ true
-        → Follows s unit (node ∷ before) (with_list entry.children (Some number) (with_function entry.offset (with_ranges (is_subprogram entry) pairs drafts))) next
+        → Follows s unit (node ∷ before) (with_function entry (known_ranges s unit entry) drafts) next
     follows-kept low high keep =
         let same = placed-here node before keep in
         let rising = rises-here low in
@@ -323,17 +327,17 @@ module _ (s : Sections) (unit : DwarfUnit) where
           inlined = λ k a p g. elim (get-pushed (kept before) here k p (rw same at g)) [
             | inl before ↦ rw same (inlined-before (is_subprogram entry) refl k a p before)
             | inr last ↦ (
-                let none = none-owned (is_subprogram entry) k (omega (arith, last.0)) in
+                let none = none-owned (is_subprogram entry) k a (omega (arith, last.0)) in
                 let alone = none-in-last a (kept before ++ here ∷ []) (length (kept before)) here rising (around-here low) (get-last (kept before) here) (let l = length-append (kept before) (here ∷ []) in omega (arith, l)) in
-                ap (λ (found : List (Range × ℕ)). least_owner found a) none ∙ unowned a ∙ rw same (sym (subst (λ (p : Placed). first (lies_in (holds_address s unit a) (offset_of p)) (kept before ++ here ∷ []) ≡ None) last.1 alone)))
+                none ∙ rw same (sym (subst (λ (p : Placed). first (lies_in (holds_address s unit a) (offset_of p)) (kept before ++ here ∷ []) ≡ None) last.1 alone)))
           ];
-          unowned = λ k past. none-owned (is_subprogram entry) k (let l = length-append (kept before) (here ∷ []) in let more = rw same at past in omega (arith, l, more));
-          lists = λ i list g. elim (get-children entry.children drafts.lists (Some number) i list g) [
+          unowned = λ k a past. none-owned (is_subprogram entry) k a (let l = length-append (kept before) (here ∷ []) in let more = rw same at past in omega (arith, l, more));
+          lists = λ i list g. elim (get-children entry.children drafts.lists (inside number) i list g) [
             | inl old_list ↦ (
                 let within = slice_get_within drafts.lists i list old_list in
                 rw (same, near-past (i + 1) node before (omega (arith, within)))
                 (names-kept (kept before) here list (near (i + 1) before) (λ found is. let b = near-below (i + 1) bound before found f.falls is in omega (arith, b, low)) (f.lists i list old_list)))
-            | inr new_list ↦ rw (same, new_list.0, near-here node before function, ← new_list.1) (here, last-number, refl)
+            | inr new_list ↦ rw (same, new_list.0, near-here node before function, ← new_list.1) (subst (λ (group : ℕ). Names (kept before ++ here ∷ []) group (Some node)) (next-two number) (here, last-number, refl))
           ];
         }
 
@@ -342,6 +346,6 @@ module _ (s : Sections) (unit : DwarfUnit) where
   follows-function before drafts bound next entry function low high f = by_idle (is_idle s unit entry) refl
     where
       by_idle : (b : Bool) → is_idle s unit entry ≡ b → Follows s unit (record { depth = length drafts.lists; entry = entry } ∷ before)
-          (cond b (with_list entry.children None drafts) (with_list entry.children (Some (length drafts.functions)) (with_function entry.offset (with_ranges (is_subprogram entry) (owned (known_ranges s unit entry) (length drafts.functions)) drafts)))) next
+          (cond b (with_list entry.children nowhere drafts) (with_function entry (known_ranges s unit entry) drafts)) next
       by_idle true e = follows-idle before drafts bound next entry function e low high f
       by_idle false e = follows-kept before drafts bound next entry function e f low high (rw (function, e) refl)

@@ -4,11 +4,11 @@ use Rattle.std.specs.Prelude.{slice_get}
 use Rattle.std.proofs.lemmas.List.{append-nil, append_assoc}
 use Rattle.std.proofs.lemmas.Option.{slice_get_read, slice_get_past}
 use Rattle.dw_model.specs.Text.{Tables}
-use Rattle.dw_index.specs.Owners.{least_owner}
+use Rattle.dw_ranges.specs.Claims.{owner_of}
 use Rattle.dw_frames.specs.declared.function.EntryId.{EntryId}
 use Rattle.dw_frames.specs.declared.chains.Chains.{Chains}
-use Rattle.dw_frames.specs.Inlined.{inlined_in}
-use Rattle.dw_frames.specs.Tree.{id_of, all_inlined, inwards}
+use Rattle.dw_frames.specs.Drafts.{inside}
+use Rattle.dw_frames.specs.Tree.{id_of, inwards}
 
 pub inwards-zero : (tables : Tables) (chains : Chains) (a : ℕ) (number : Option ℕ) → inwards tables chains a 0 number ≡ []
 unfolding inwards
@@ -24,7 +24,7 @@ unfolding inwards
 inwards-nowhere tables chains a zero k e = refl
 inwards-nowhere tables chains a (suc most) k e = rw e refl
 
-pub inwards-on : (tables : Tables) (chains : Chains) (a n i k : ℕ) (offset : ℕ) → i < n → slice_get chains.functions.items k ≡ Some offset → inwards tables chains a (n - i) (Some k) ≡ id_of chains offset ∷ inwards tables chains a (n - (i + 1)) (least_owner (inlined_in k (all_inlined tables chains)) a)
+pub inwards-on : (tables : Tables) (chains : Chains) (a n i k : ℕ) (offset : ℕ) → i < n → slice_get chains.functions.items k ≡ Some offset → inwards tables chains a (n - i) (Some k) ≡ id_of chains offset ∷ inwards tables chains a (n - (i + 1)) (owner_of tables chains.owners (inside k) a)
 unfolding inwards
 inwards-on tables chains a n i k offset h e =
     let step : n - i ≡ suc (n - (i + 1)) = omega (arith, h) in
@@ -37,9 +37,9 @@ Found tables chains a ids most number all = ids ++ inwards tables chains a most 
 pub found-all : (tables : Tables) (chains : Chains) (a most : ℕ) (number : Option ℕ) (ids all : List EntryId) → inwards tables chains a most number ≡ [] → Found tables chains a ids most number all → ids ≡ all
 found-all tables chains a most number ids all e h = sym (append-nil ids) ∙ ap (λ (rest : List EntryId). ids ++ rest) (sym e) ∙ h
 
-pub found-more : (tables : Tables) (chains : Chains) (a n i k : ℕ) (offset : ℕ) (ids all : List EntryId) → i < n → slice_get chains.functions.items k ≡ Some offset → Found tables chains a ids (n - i) (Some k) all → Found tables chains a (ids ++ id_of chains offset ∷ []) (n - (i + 1)) (least_owner (inlined_in k (all_inlined tables chains)) a) all
+pub found-more : (tables : Tables) (chains : Chains) (a n i k : ℕ) (offset : ℕ) (ids all : List EntryId) → i < n → slice_get chains.functions.items k ≡ Some offset → Found tables chains a ids (n - i) (Some k) all → Found tables chains a (ids ++ id_of chains offset ∷ []) (n - (i + 1)) (owner_of tables chains.owners (inside k) a) all
 found-more tables chains a n i k offset ids all h e f =
-    append_assoc ids (id_of chains offset ∷ []) (inwards tables chains a (n - (i + 1)) (least_owner (inlined_in k (all_inlined tables chains)) a))
+    append_assoc ids (id_of chains offset ∷ []) (inwards tables chains a (n - (i + 1)) (owner_of tables chains.owners (inside k) a))
     ∙ ap (λ (rest : List EntryId). ids ++ rest) (sym (inwards-on tables chains a n i k offset h e)) ∙ f
 
 -- ---- offsets as they are read

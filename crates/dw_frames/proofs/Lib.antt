@@ -1,7 +1,7 @@
 pub mod NearLemmas
 pub mod FirstLemmas
 pub mod PlacedLemmas
-pub mod GetLemmas
+pub mod RisingLemmas
 pub mod ChainLemmas
 pub mod NameLemmas
 pub mod DraftLemmas
@@ -14,9 +14,5 @@ pub mod TreeLemmas
 pub mod InwardsLemmas
 pub mod StandLemmas
 pub mod BuiltLemmas
-pub mod HeldLemmas
-pub mod InlinedLemmas
-pub mod LinkLemmas
-pub mod TailLemmas
 pub mod CountLemmas
 pub mod ToldLemmas

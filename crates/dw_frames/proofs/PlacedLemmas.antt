@@ -1,20 +1,13 @@
 -- The functions of a tree in order, each with the nearest function around it.
-use Rattle.std.proofs.Common.{◌≡◌, Bool, true, false, cond, List, [], ◌∷◌, ◌++◌, map, reverse, Option, Some, None, refl, sym, ap, ◌∙◌}
+use Rattle.std.proofs.Common.{◌≡◌, Bool, true, false, cond, List, [], ◌∷◌, ◌++◌, reverse, Option, Some, None, refl, sym, ap, ◌∙◌}
 use Rattle.std.specs.Prelude.{option_map, find}
 use Rattle.std.specs.Option.{option_or}
-use Rattle.std.proofs.lemmas.List.{append-nil, append_assoc, map-append, reverse-append, reverse-reverse}
+use Rattle.std.proofs.lemmas.List.{append-nil, append_assoc, reverse-reverse}
 use Rattle.std.proofs.lemmas.List.Folds.{find-append}
 use Rattle.dw_model.specs.Entry.{Entry}
+use Rattle.dw_ranges.proofs.GetLemmas.{reverse-cons}
 use Rattle.dw_model.specs.Tree.{Node, enclosing, find_node}
 use Rattle.dw_frames.specs.Placed.{Placed, placed}
-
-pub reverse-cons : {X : Type 0} (x : X) (xs : List X) → reverse (x ∷ xs) ≡ reverse xs ++ x ∷ []
-reverse-cons x xs = reverse-append (x ∷ []) xs
-
-pub map-reverse : {X Y : Type 0} (f : X → Y) (xs : List X) → map f (reverse xs) ≡ reverse (map f xs)
-map-reverse f [] = refl
-map-reverse f (x ∷ xs) =
-    ap (map f) (reverse-cons x xs) ∙ map-append f (reverse xs) (x ∷ []) ∙ ap (λ (ys : List _). ys ++ f x ∷ []) (map-reverse f xs) ∙ sym (reverse-cons (f x) (map f xs))
 
 -- ---- the first node of all
 
@@ -32,7 +25,7 @@ map-or : {X Y : Type 0} (f : X → Y) (found later : Option X) → option_map f 
 map-or f None later = refl
 map-or f (Some x) later = refl
 
-or-none : {X : Type 0} (found : Option X) → option_or found None ≡ found
+pub or-none : {X : Type 0} (found : Option X) → option_or found None ≡ found
 or-none None = refl
 or-none (Some x) = refl
 

@@ -11,7 +11,7 @@ use Rattle.dw_model.specs.Tree.{is_function, most_depth, entry_ranges_in}
 use Rattle.dw_model.specs.Root.{bases, root}
 use Rattle.dw_forms.specs.Ranged.{names_ranges}
 use Rattle.dw_ranges.proofs.NamedLemmas.{unnamed}
-use Rattle.dw_frames.specs.Drafts.{Drafts, behind, with_list}
+use Rattle.dw_frames.specs.Drafts.{Drafts, behind, nowhere, with_list}
 use Rattle.dw_frames.specs.Reader.{can_be_used}
 
 pub ranges-told : (s : Sections) (unit : DwarfUnit) (depth : ℕ) (found : Option Entry) (entry : Entry) (told : Option faults.TreeFault) → found ≡ Some entry → is_function entry ≡ true → refuse_if (nat_lt most_depth depth) depth_fault ≡ Ok tt
@@ -26,7 +26,7 @@ unranged-used s unit depth entry function none shallow =
     let ranges : entry_ranges_in s unit entry ≡ Ok [] = unnamed s.tables (bases s unit) (root s unit) entry none in
     rw (shallow, function, ranges) refl
 
-pub unranged-behind : (s : Sections) (unit : DwarfUnit) (entry : Entry) (drafts : Drafts) → is_function entry ≡ true → names_ranges entry ≡ false → behind s unit (Some entry) drafts ≡ with_list entry.children None drafts
+pub unranged-behind : (s : Sections) (unit : DwarfUnit) (entry : Entry) (drafts : Drafts) → is_function entry ≡ true → names_ranges entry ≡ false → behind s unit (Some entry) drafts ≡ with_list entry.children nowhere drafts
 unranged-behind s unit entry drafts function none =
     let ranges : entry_ranges_in s unit entry ≡ Ok [] = unnamed s.tables (bases s unit) (root s unit) entry none in
     rw (function, ranges) refl

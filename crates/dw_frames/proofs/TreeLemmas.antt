@@ -44,8 +44,8 @@ follows-none s unit of bound = record {
   around = λ k p e g is. absurd cc;
   outermost = λ a. refl;
   inlined = λ k a p e. absurd cc;
-  unowned = λ k past. refl;
-  lists = λ i number e. absurd cc;
+  unowned = λ k a past. refl;
+  lists = λ i group e. absurd cc;
 }
 
 module _ (s : Sections) (unit : DwarfUnit) (walk : Walk) (size : walk.offset_size ≡ unit.offset_size) (declared : abbreviations s.abbrevs unit.debug_abbrev_offset ≡ Ok walk.declarations) (begins : walk.place ≡ place_in s unit unit.first_entry) where
@@ -110,7 +110,7 @@ module _ (s : Sections) (unit : DwarfUnit) (walk : Walk) (size : walk.offset_siz
       let read : entry_at walk.offset_size walk.declarations walk.place ≡ Ok (Some entry, new.place) = e ∙ ap (λ (found : Option Entry). Ok (found, new.place)) some in
       let fits : can_be_used s unit 0 (Some entry) ≡ Ok tt = ap (can_be_used s unit 0) (sym some) ∙ ap (λ (drafts : Drafts). can_be_used s unit (length drafts.lists) found) (sym is) ∙ used in
       let behind_is : Same (behind s unit (Some entry) (no_drafts of)) new_drafts = subst (λ (full : Drafts). Same full new_drafts) (ap (λ (found : Option Entry). behind s unit found drafts) some ∙ ap (behind s unit (Some entry)) is) same in
-      let depth : length new_drafts.lists ≡ depth_behind 0 (Some entry) = ap (λ (lists : List (Option ℕ)). length lists) behind_is.lists ∙ behind-depth s unit (Some entry) (no_drafts of) in
+      let depth : length new_drafts.lists ≡ depth_behind 0 (Some entry) = ap (λ (lists : List ℕ). length lists) behind_is.lists ∙ behind-depth s unit (Some entry) (no_drafts of) in
       let at : record { declarations = new.declarations; offset_size = new.offset_size; place = new.place; last = None } ≡ record { declarations = walk.declarations; offset_size = walk.offset_size; place = new.place; last = None } =
       ap (λ (ds : List Declaration). record { declarations = ds; offset_size = new.offset_size; place = new.place; last = None }) kept ∙ ap (λ (n : ℕ). record { declarations = walk.declarations; offset_size = n; place = new.place; last = None }) sized in
       record {

@@ -14,11 +14,11 @@ use Rattle.dw_model.specs.Tree.{Node, Reading, is_function, next_node, depth_beh
 use Rattle.dw_model.proofs.ItemsLemmas.{with_front, with_front-nil, loop_more, loop_done, loop_fault}
 use Rattle.dw_model.proofs.AdvanceLemmas.{nodes_advance}
 use Rattle.dw_units.specs.Entries.{Walk}
-use Rattle.dw_frames.specs.Drafts.{Drafts, behind, behind_function, is_idle, with_list, innermost, without_last}
+use Rattle.dw_frames.specs.Drafts.{Drafts, behind, behind_function, is_idle, inside, nowhere, with_list, innermost, without_last}
 use Rattle.dw_frames.specs.Known.{Same}
 use Rattle.dw_frames.specs.Placed.{Follows}
 use Rattle.dw_frames.specs.Reader.{can_be_used, nodes_on}
-use Rattle.dw_frames.proofs.PlacedLemmas.{reverse-cons}
+use Rattle.dw_ranges.proofs.GetLemmas.{reverse-cons}
 use Rattle.dw_frames.proofs.MoveLemmas.{entry-moves}
 use Rattle.dw_frames.proofs.FollowLemmas.{follows-null, follows-other, follows-function}
 use Rattle.dw_frames.proofs.KnownLemmas.{follows-same}
@@ -40,13 +40,13 @@ without-last-length (x ∷ y ∷ xs) = let rest = without-last-length (y ∷ xs)
 module _ (s : Sections) (unit : DwarfUnit) where
   -- ---- the depth after an entry
 
-  children-depth : (children : Bool) (lists : List (Option ℕ)) (number : Option ℕ) → length (cond children (lists ++ number ∷ []) lists) ≡ cond children (length lists + 1) (length lists)
+  children-depth : (children : Bool) (lists : List ℕ) (number : ℕ) → length (cond children (lists ++ number ∷ []) lists) ≡ cond children (length lists + 1) (length lists)
   children-depth true lists number = length-append lists (number ∷ [])
   children-depth false lists number = refl
 
   function-depth : (entry : Entry) (drafts : Drafts) (idle : Bool) → is_idle s unit entry ≡ idle → length (behind_function s unit entry drafts).lists ≡ cond entry.children (length drafts.lists + 1) (length drafts.lists)
-  function-depth entry drafts true e = rw e (children-depth entry.children drafts.lists None)
-  function-depth entry drafts false e = rw e (children-depth entry.children drafts.lists (Some (length drafts.functions)))
+  function-depth entry drafts true e = rw e (children-depth entry.children drafts.lists nowhere)
+  function-depth entry drafts false e = rw e (children-depth entry.children drafts.lists (inside (length drafts.functions)))
 
   pub behind-depth : (found : Option Entry) (drafts : Drafts) → length (behind s unit found drafts).lists ≡ depth_behind (length drafts.lists) found
   behind-depth None drafts = without-last-length drafts.lists

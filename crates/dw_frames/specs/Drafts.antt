@@ -1,65 +1,67 @@
 -- What is kept of the functions of a unit while its entries are read.
-use Rattle.std.specs.Prelude.{ℕ, ◌-◌, Bool, cond, not, ◌&&◌, ◌==◌, List, [], ◌∷◌, ◌++◌, length, map, Option, Some, None}
-use Rattle.std.specs.Prelude.{option_and_then, slice_get}
+use Rattle.std.specs.Prelude.{ℕ, ◌+◌, ◌-◌, Bool, cond, not, ◌&&◌, ◌==◌, List, [], ◌∷◌, ◌++◌, length, get_or}
+use Rattle.std.specs.Prelude.{Option, Some, None}
 use Rattle.std.specs.Result.{result_unwrap_or}
 use Rattle.dw_model.specs.Entry.{Entry}
 use Rattle.dw_model.specs.Section.{Sections}
 use Rattle.dw_model.specs.Unit.{DwarfUnit}
 use Rattle.dw_model.specs.Ranges.{Range}
 use Rattle.dw_model.specs.Tree.{is_function, is_subprogram, entry_ranges_in}
-use Rattle.dw_frames.specs.Inlined.{InlinedRange, all_in_some}
+use Rattle.dw_ranges.specs.Claims.{Claim, claims_in}
+use Rattle.dw_ranges.specs.Owned.{owned}
 use Rattle.dw_frames.specs.UnitIn.{UnitIn}
 
--- The unit; the offsets of the functions that have ranges, in order; the ranges of all subprograms;
--- those of all inlined functions, each in the function in which it lies; and the lists of children
--- that are open, the outermost first, each with the number of the function in which its entries
--- lie.
+-- The groups in which functions claim ranges, by their numbers: that of all subprograms, that of
+-- functions inlined in none that is kept, and that of those inlined directly in the function of a
+-- number.
+abbrev pub outermost : ℕ
+outermost = 0
+
+abbrev pub nowhere : ℕ
+nowhere = 1
+
+abbrev pub inside : ℕ → ℕ
+inside number = number + 2
+
+-- The unit; the offsets of the functions that have ranges, in order; their ranges; and the lists of
+-- children that are open, the outermost first, each with the group of what is inlined there.
 pub record Drafts : Type 0 where
   pub of : UnitIn
   pub functions : List ℕ
-  pub outermost : List (Range × ℕ)
-  pub inlined : List InlinedRange
-  pub lists : List (Option ℕ)
+  pub claims : List Claim
+  pub lists : List ℕ
 
 abbrev pub no_drafts : UnitIn → Drafts
-no_drafts of = record { of = of; functions = []; outermost = []; inlined = []; lists = [] }
+no_drafts of = record { of = of; functions = []; claims = []; lists = [] }
 
--- the number of the function in which the next entry lies
-abbrev pub innermost : Drafts → Option ℕ
-innermost drafts = option_and_then (λ number. number) (slice_get drafts.lists (length drafts.lists - 1))
+-- the group of what is inlined where the next entry lies
+abbrev pub innermost : Drafts → ℕ
+innermost drafts = get_or drafts.lists (length drafts.lists - 1) nowhere
 
-abbrev pub owned : List Range → ℕ → List (Range × ℕ)
-owned ranges number = map (λ range. (range, number)) ranges
+-- the group in which the next entry claims ranges
+abbrev pub group_of : Bool → Drafts → ℕ
+group_of subprogram drafts = cond subprogram outermost (innermost drafts)
 
--- The ranges of a subprogram are kept among those of all, and those of an inlined function in the
--- function in which it lies.
-abbrev pub with_ranges : Bool → List (Range × ℕ) → Drafts → Drafts
-with_ranges subprogram pairs drafts = record {
+-- a list of children begins, where there is one
+abbrev pub begun : Bool → ℕ → List ℕ → List ℕ
+begun children group lists = cond children (lists ++ group ∷ []) lists
+
+abbrev pub with_list : Bool → ℕ → Drafts → Drafts
+with_list children group drafts =
+    record {
+      of = drafts.of;
+      functions = drafts.functions;
+      claims = drafts.claims;
+      lists = begun children group drafts.lists;
+    }
+
+-- One more function, which claims ranges; and its children.
+abbrev pub with_function : Entry → List Range → Drafts → Drafts
+with_function entry ranges drafts = record {
   of = drafts.of;
-  functions = drafts.functions;
-  outermost = cond subprogram (drafts.outermost ++ pairs) drafts.outermost;
-  inlined = cond subprogram drafts.inlined (drafts.inlined ++ all_in_some (innermost drafts) pairs);
-  lists = drafts.lists;
-}
-
--- one more function, by its offset
-abbrev pub with_function : ℕ → Drafts → Drafts
-with_function offset drafts = record {
-  of = drafts.of;
-  functions = drafts.functions ++ offset ∷ [];
-  outermost = drafts.outermost;
-  inlined = drafts.inlined;
-  lists = drafts.lists;
-}
-
--- a list of children begins, where there is one, or ends
-abbrev pub with_list : Bool → Option ℕ → Drafts → Drafts
-with_list children number drafts = record {
-  of = drafts.of;
-  functions = drafts.functions;
-  outermost = drafts.outermost;
-  inlined = drafts.inlined;
-  lists = cond children (drafts.lists ++ number ∷ []) drafts.lists;
+  functions = drafts.functions ++ entry.offset ∷ [];
+  claims = drafts.claims ++ claims_in (group_of (is_subprogram entry) drafts) (owned ranges (length drafts.functions));
+  lists = begun entry.children (inside (length drafts.functions)) drafts.lists;
 }
 
 -- the lists but the last one
@@ -70,14 +72,7 @@ without_last (x ∷ y ∷ xs) = x ∷ without_last (y ∷ xs)
 
 abbrev pub without_list : Drafts → Drafts
 without_list drafts =
-    record {
-      of = drafts.of;
-      functions = drafts.functions;
-      outermost = drafts.outermost;
-      inlined =
-          drafts.inlined;
-      lists = without_last drafts.lists;
-    }
+    record { of = drafts.of; functions = drafts.functions; claims = drafts.claims; lists = without_last drafts.lists }
 
 abbrev pub known_ranges : Sections → DwarfUnit → Entry → List Range
 known_ranges sections unit entry = result_unwrap_or (entry_ranges_in sections unit entry) []
@@ -94,11 +89,8 @@ is_kept sections unit entry = is_function entry && not (is_idle sections unit en
 -- function that is.
 abbrev pub behind_function : Sections → DwarfUnit → Entry → Drafts → Drafts
 behind_function sections unit entry drafts =
-    cond (is_idle sections unit entry) (with_list entry.children None drafts)
-    (with_list entry.children (Some (length drafts.functions))
-    (with_function entry.offset
-    (with_ranges (is_subprogram entry)
-    (owned (known_ranges sections unit entry) (length drafts.functions)) drafts)))
+    cond (is_idle sections unit entry) (with_list entry.children nowhere drafts)
+    (with_function entry (known_ranges sections unit entry) drafts)
 
 -- the drafts after an entry, or after a null entry, which ends a list of children
 abbrev pub behind : Sections → DwarfUnit → Option Entry → Drafts → Drafts

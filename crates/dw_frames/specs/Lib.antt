@@ -3,12 +3,8 @@ pub mod Descriptions
 pub mod Drafts
 pub mod DraftsInside
 pub mod Fault
-pub mod Held
-pub mod Inlined
-pub mod InlinedInside
 pub mod Kept
 pub mod Known
-pub mod LinksInside
 pub mod Name
 pub mod Placed
 pub mod Reader

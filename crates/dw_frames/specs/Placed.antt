@@ -1,14 +1,13 @@
 -- The functions of a tree that are kept, in order, each with the function in which it lies.
-use Rattle.std.specs.Prelude.{◌≡◌, ◌<◌, ◌≤◌, ℕ, suc, ◌+◌, length, min, Bool, cond, List, [], ◌∷◌, ◌++◌, map, Option}
-use Rattle.std.specs.Prelude.{Some, None, option_map, slice_get, nat_lt, ◌&&◌}
+use Rattle.std.specs.Prelude.{◌≡◌, ◌<◌, ◌≤◌, ℕ, zero, suc, ◌+◌, length, min, Bool, cond, List, [], ◌∷◌, ◌++◌, map}
+use Rattle.std.specs.Prelude.{Option, Some, None, option_map, slice_get, nat_lt, ◌&&◌}
 use Rattle.dw_model.specs.Entry.{Entry}
 use Rattle.dw_model.specs.Section.{Sections}
 use Rattle.dw_model.specs.Unit.{DwarfUnit}
 use Rattle.dw_model.specs.Tree.{Node, is_function, is_subprogram, is_inlined, enclosing, is_at, holds_address}
-use Rattle.dw_index.specs.Owners.{least_owner}
+use Rattle.dw_ranges.specs.Claims.{owner_in}
 use Rattle.dw_frames.specs.Rising.{Rises}
-use Rattle.dw_frames.specs.Inlined.{inlined_in}
-use Rattle.dw_frames.specs.Drafts.{Drafts, is_kept}
+use Rattle.dw_frames.specs.Drafts.{Drafts, inside, is_kept, outermost}
 
 -- a function, and the one in which it lies
 abbrev pub Placed : Type 0
@@ -42,12 +41,13 @@ is_outermost holds p = is_subprogram p.0.entry && holds p.0.entry
 abbrev pub lies_in : (Entry → Bool) → ℕ → Placed → Bool
 lies_in holds offset p = is_inlined p.0.entry && holds p.0.entry && is_at p.1 offset
 
--- The number is that of the function that was found; where there is none, no function was found
--- that is kept.
-abbrev pub Names : List Placed → Option ℕ → Option Node → Type 0
-Names all None found = (node : Node) → found ≡ Some node → (k : ℕ) (p : Placed) → slice_get all k ≡ Some p
+-- The group is of what is inlined in the function that was found; where it is that of what is
+-- inlined in none that is kept, no such function was found.
+abbrev pub Names : List Placed → ℕ → Option Node → Type 0
+Names all zero found = ⊥
+Names all (suc zero) found = (node : Node) → found ≡ Some node → (k : ℕ) (p : Placed) → slice_get all k ≡ Some p
     → offset_of p ≡ node.entry.offset → ⊥
-Names all (Some k) found = (p : Placed) × (slice_get all k ≡ Some p) × (found ≡ Some p.0)
+Names all (suc (suc k)) found = (p : Placed) × (slice_get all k ≡ Some p) × (found ≡ Some p.0)
 
 -- each node is before the one that was read after it, and all before a bound
 abbrev pub Falls : ℕ → List Node → Type 0
@@ -64,10 +64,11 @@ pub record Follows (s : Sections) (unit : DwarfUnit) (before : List Node) (draft
   pub around : (k : ℕ) (p : Placed) (e : Node) → slice_get (placed (is_kept s unit) before) k ≡ Some p
       → p.1 ≡ Some e → e.entry.offset < offset_of p
   pub outermost : (a : ℕ)
-      → least_owner drafts.outermost a ≡ first (is_outermost (holds_address s unit a)) (placed (is_kept s unit) before)
-  pub inlined : (k a : ℕ) (p : Placed) → slice_get (placed (is_kept s unit) before) k ≡ Some p
-      → least_owner (inlined_in k drafts.inlined) a ≡ first (lies_in (holds_address s unit a) (offset_of p))
+      → owner_in drafts.claims outermost a ≡ first (is_outermost (holds_address s unit a))
       (placed (is_kept s unit) before)
-  pub unowned : (k : ℕ) → length (placed (is_kept s unit) before) ≤ k → inlined_in k drafts.inlined ≡ []
-  pub lists : (i : ℕ) (number : Option ℕ) → slice_get drafts.lists i ≡ Some number
-      → Names (placed (is_kept s unit) before) number (near (i + 1) before)
+  pub inlined : (k a : ℕ) (p : Placed) → slice_get (placed (is_kept s unit) before) k ≡ Some p
+      → owner_in drafts.claims (inside k) a ≡ first (lies_in (holds_address s unit a) (offset_of p))
+      (placed (is_kept s unit) before)
+  pub unowned : (k a : ℕ) → length (placed (is_kept s unit) before) ≤ k → owner_in drafts.claims (inside k) a ≡ None
+  pub lists : (i group : ℕ) → slice_get drafts.lists i ≡ Some group
+      → Names (placed (is_kept s unit) before) group (near (i + 1) before)

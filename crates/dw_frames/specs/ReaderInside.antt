@@ -9,8 +9,7 @@ abbrev pub reading_of : Inside → Reading
 reading_of reader = record {
   of = unit_in reader.unit;
   ranges = map range_shown reader.ranges.items;
-  idle = reader.idle;
-  outermost = reader.outermost;
-  inlined = reader.inlined;
-  loose = reader.loose;
+  begins = reader.begins.items;
+  read = reader.read;
+  owned = reader.owned;
 }

@@ -4,13 +4,12 @@ use Rattle.dw_model.specs.Ranges.{Range}
 use Rattle.dw_ranges.specs.declared.range_list.RangeList.{RangeList}
 use Rattle.dw_frames.specs.UnitIn.{UnitIn}
 
--- The unit, and the ranges that were read last; the range lists that were read: those without
--- ranges, those of subprograms, those of inlined functions, each with the number of the function in
--- which it was read, and those of functions that are inlined in none that is kept.
+-- The unit; the ranges of the list that was read last, and the places where lists begin that end as
+-- it does; the lists that were read, each with what is noted of it; and the lists whose addresses
+-- earlier functions own, each with the group.
 pub record Reading : Type 0 where
   pub of : UnitIn
   pub ranges : List Range
-  pub idle : List (RangeList × ℕ)
-  pub outermost : List (RangeList × ℕ)
-  pub inlined : List (RangeList × ℕ)
-  pub loose : List (RangeList × ℕ)
+  pub begins : List ℕ
+  pub read : List (RangeList × ℕ)
+  pub owned : List (RangeList × ℕ)

@@ -1,5 +1,5 @@
 -- What a tree knows of the functions of its unit, and that it is the unit's.
-use Rattle.std.specs.Prelude.{◌≡◌, ◌<◌, ◌≤◌, ◌+◌, ◌*◌, ℕ, zero, suc, List, [], ◌∷◌, ◌++◌, length, map, reverse, filter}
+use Rattle.std.specs.Prelude.{◌≡◌, ◌<◌, ◌≤◌, ◌+◌, ℕ, zero, suc, List, [], ◌∷◌, length, map, reverse, filter}
 use Rattle.std.specs.Prelude.{find}
 use Rattle.std.specs.Prelude.{Option, Some, None, Ok, cond, option_and_then, slice_get, ◌==◌, ◌&&◌, if◌then◌else◌}
 use Rattle.std.specs.Option.{option_map_or}
@@ -13,13 +13,10 @@ use Rattle.dw_model.specs.Root as root
 use Rattle.dw_model.specs.Tree.{Node, is_function, chain}
 use Rattle.dw_model.specs.Tree as model
 use Rattle.dw_units.specs.View.{found_in}
-use Rattle.dw_index.specs.Owners.{least, least_owner}
-use Rattle.dw_index.specs.Segments.{owner_at}
+use Rattle.dw_ranges.specs.Claims.{AreCounted, owner_of}
 use Rattle.dw_frames.specs.declared.function.EntryId.{EntryId}
 use Rattle.dw_frames.specs.declared.chains.Chains.{Chains}
-use Rattle.dw_frames.specs.Drafts.{is_kept}
-use Rattle.dw_frames.specs.Held.{all_held, all_held_in}
-use Rattle.dw_frames.specs.Inlined.{InlinedRange, inlined_in}
+use Rattle.dw_frames.specs.Drafts.{inside, is_kept, outermost}
 use Rattle.dw_frames.specs.Kept.{most_listed}
 use Rattle.dw_frames.specs.Told.{Told, told_of, nothing}
 use Rattle.dw_frames.specs.UnitIn.{UnitIn}
@@ -29,15 +26,6 @@ use Rattle.dw_frames.specs.UnitIn.{UnitIn}
 abbrev pub id_of : Chains → ℕ → EntryId
 id_of chains offset = record { unit = chains.unit; offset = offset }
 
--- the number of the first subprogram that holds an address
-abbrev pub outermost_at : Tables → Chains → ℕ → Option ℕ
-outermost_at tables chains a =
-    least (owner_at chains.outermost a) (least_owner (all_held tables chains.held.outermost.items) a)
-
--- the ranges of all inlined functions
-abbrev pub all_inlined : Tables → Chains → List InlinedRange
-all_inlined tables chains = chains.inlined ++ all_held_in tables chains.held.inlined.items
-
 -- the functions at an address from a number on inwards, at most so many
 unfoldable pub inwards : Tables → Chains → (a most : ℕ) → Option ℕ → List EntryId
 inwards tables chains a zero number = []
@@ -45,12 +33,13 @@ inwards tables chains a (suc most) None = []
 inwards tables chains a (suc most) (Some number) =
     option_map_or
     (λ offset. id_of chains offset
-    ∷ inwards tables chains a most (least_owner (inlined_in number (all_inlined tables chains)) a))
+    ∷ inwards tables chains a most (owner_of tables chains.owners (inside number) a))
     (slice_get chains.functions.items number) []
 
 -- the functions at an address, outermost first
 abbrev pub chain_at : Tables → Chains → ℕ → List EntryId
-chain_at tables chains a = inwards tables chains a (length chains.functions.items) (outermost_at tables chains a)
+chain_at tables chains a =
+    inwards tables chains a (length chains.functions.items) (owner_of tables chains.owners outermost a)
 
 -- ---- the definitions
 
@@ -92,21 +81,15 @@ abbrev pub FindsFunctions : UnitIn → Chains → Type 0
 FindsFunctions of found =
     (a : ℕ) → map (function_at of) (reverse (chain_at of.sections.tables found a)) ≡ map Some (chain_in of a)
 
--- the ranges of which they are made are as many: each gives two segments at most to the index of
--- subprograms, or is one of an inlined function
-abbrev pub AreCounted : Chains → ℕ → Type 0
-AreCounted found ranges = length found.outermost + 2 * length found.inlined ≤ 2 * ranges
-
 -- So many ranges are enough: the functions at each address are found by them, and else by lists
 -- that are held by name.
 abbrev pub AreEnough : UnitIn → ℕ → Type 0
-AreEnough of ranges = (found : Chains) × FindsFunctions of found × AreCounted found ranges
+AreEnough of ranges = (found : Chains) × FindsFunctions of found × AreCounted found.owners ranges
 
 -- Chains are those of a unit of the file: its entries can be read, the functions at each address
--- are found, and few ranges are kept, all of which are counted.
+-- are found, and few ranges are kept.
 pub record IsTreeOf (of : UnitIn) (found : Chains) : Type 0 where
   pub within : found.unit < length (cut.units of.sections.info)
   pub read : model.tree of.sections of.unit ≡ Ok (nodes_of of.sections of.unit)
   pub chains : FindsFunctions of found
-  pub few : found.ranges ≤ most_ranges of
-  pub counted : AreCounted found found.ranges
+  pub few : found.owners.ranges ≤ most_ranges of

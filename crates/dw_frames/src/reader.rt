@@ -1,33 +1,29 @@
 //! Entries of a unit, read one after the other, of which the functions are kept.
 
-ghost use Rattle.std.specs.Prelude.{◌≡◌, ◌==◌, ◌++◌, ◌∷◌, ◌⊎◌, [], ℕ, Bool, List, Option};
-ghost use Rattle.std.specs.Prelude.{◌≤◌, Some, None, Ok, true, false, OnOk, length, map, nat_lt};
-ghost use Rattle.dw_model.specs.Ranges as model_ranges;
+ghost use Rattle.std.specs.Prelude.{◌≡◌, ◌==◌, ◌∷◌, ◌⊎◌, [], ℕ, Bool, Option};
+ghost use Rattle.std.specs.Prelude.{None, Some, Ok, true, false, OnOk, length, map, nat_lt};
 ghost use Rattle.dw_model.specs.Results.{refuse_if};
 ghost use Rattle.dw_model.specs.Faults.{depth_fault};
 ghost use Rattle.dw_model.specs.Tree.{most_depth, entry_ranges_in, is_subprogram};
 ghost use Rattle.dw_model.specs.Answers.{Gives};
 ghost use Rattle.dw_index.specs.Range.{range_shown};
-ghost use Rattle.dw_ranges.specs.Held.{listed};
 ghost use Rattle.dw_ranges.specs.Lists.{IsOneAtMost, ranges_of_list};
-ghost use Rattle.dw_ranges.specs.Owned.{AreOwned};
 ghost use Rattle.dw_ranges.specs.ReadLists.{Has};
-ghost use Rattle.dw_ranges.specs.Tails.{tail_at};
+ghost use Rattle.dw_ranges.specs.Tails.{EndsAs, ReadsNew, tail_at};
 ghost use Rattle.dw_model.specs.Entry.{Entry as ModelEntry};
 ghost use Rattle.dw_units.specs.Entries.{IsNext};
 ghost use Rattle.dw_units.specs.NamedRanges.{IsNamed};
 ghost use Rattle.dw_frames.specs.Fault.{tree_fault};
 ghost use Rattle.dw_frames.specs.Drafts as model;
-ghost use Rattle.dw_frames.specs.Drafts.{owned};
-ghost use Rattle.dw_frames.specs.Known.{IsKnown, Knows, Same, for_inlined, for_loose, for_subprogram};
+ghost use Rattle.dw_frames.specs.Known.{Knows};
 ghost use Rattle.dw_frames.specs.UnitIn.{unit_in};
 ghost use Rattle.dw_frames.specs.Reader.{AddsFunction, Keeps};
 
-use crate::drafts::Drafts;
+use crate::drafts::{Drafts, NOWHERE, OUTERMOST};
 use crate::fault::TreeFault;
-use crate::held::HeldList;
-use dw_model::dwarf::DW_TAG_subprogram;
-use dw_ranges::{Range, RangeList, ReadLists, list_of, read_list, read_new, read_ranges};
+use dw_ranges::{
+    Range, RangeFault, RangeList, ReadLists, list_of, read_list, read_new, read_ranges,
+};
 use dw_units::{Entries, EntryView, NamedRanges, Next, OpenUnit};
 use std::alloc::{AllocError, Global};
 use std::marker::Model;
@@ -35,26 +31,28 @@ use std::marker::Model;
 /// Below how many entries one may be.
 const DEPTH: usize = 512;
 
-/// What reads the functions of a unit. Contracts see the unit, and the ranges that were read last.
+/// What is noted of a list that was read.
+const WITHOUT_RANGES: usize = 0;
+
+const WITH_RANGES: usize = 1;
+
+/// What reads the functions of a unit. Contracts see the unit, and what is known of lists.
 #[derive(Drop)]
 pub(crate) struct Reader<'b, 'a> {
     pub(crate) unit: OpenUnit<'b, 'a>,
     /// The ranges of the function that was read last.
     pub(crate) ranges: Vec<Range>,
+    /// The places where lists begin that have ranges and end as the list that was read last.
+    pub(crate) begins: Vec<u64>,
     /// How many bytes of lists may still be read before lists are noted: as many as .debug_rnglists
     /// has in all, so that no look-up is paid for where few functions name one list, as in what
     /// compilers write.
     pub(crate) left: usize,
-    /// The lists without ranges that were read.
-    pub(crate) idle: ReadLists,
-    /// The lists of subprograms that were read.
-    pub(crate) outermost: ReadLists,
-    /// The lists that were read of functions that are inlined in others, each with the number of
-    /// that in which its function lies.
-    pub(crate) inlined: ReadLists,
-    /// The lists that were read of functions that are inlined in none that is kept.
-    pub(crate) loose: ReadLists,
-    pub(crate) alloc: Global,
+    /// The lists that were read: those without ranges; and those with ranges, once further lists
+    /// are held by name.
+    pub(crate) read: ReadLists,
+    /// The lists whose addresses earlier functions own, each with the group.
+    pub(crate) owned: ReadLists,
 }
 
 impl<'b, 'a> Model for Reader<'b, 'a> {
@@ -80,83 +78,9 @@ fn check_depth(depth: usize) -> Result<(), TreeFault>
 
 /// Leaves out a function without ranges. What lies in it lies in no function.
 fn leave_out(drafts: &mut Drafts<'_, '_>, entry: &EntryView<'_, '_>) -> Result<(), AllocError>
-    ensures { OnOk result (drafts.new ≡ model.with_list entry.now.children None drafts.old) }
+    ensures { OnOk result (drafts.new ≡ model.with_list entry.now.children model.nowhere drafts.old) }
 {
-    drafts.begin_list(entry.children(), None)
-}
-
-/// Adds a function that is seen to have ranges, but owns no address: those are all an earlier
-/// one's. What lies in it lies in a function all the same.
-#[inline(always)]
-fn pass_function(drafts: &mut Drafts<'_, '_>, entry: &EntryView<'_, '_>) -> Result<(), AllocError>
-    ensures { OnOk result (drafts.new ≡ model.with_list entry.now.children (Some (length drafts.old.functions))
-        (model.with_function entry.now.offset drafts.old)) }
-{
-    let number = drafts.count();
-    drafts.push_function(entry.offset())?;
-    drafts.begin_list(entry.children(), Some(number))
-}
-
-/// Adds a function with its one range.
-#[inline(always)]
-fn keep_function(
-    drafts: &mut Drafts<'_, '_>,
-    entry: &EntryView<'_, '_>,
-    ranges: &[Range],
-) -> Result<(), AllocError>
-    requires { length ranges.now ≤ 1 }
-    ensures { OnOk result (Same (model.with_list entry.now.children (Some (length drafts.old.functions))
-        (model.with_function entry.now.offset (model.with_ranges (is_subprogram entry.now)
-        (owned (map range_shown ranges.now) (length drafts.old.functions)) drafts.old))) drafts.new) }
-{
-    let number = drafts.count();
-    drafts.push_bounded(entry.offset(), entry.tag() == DW_TAG_subprogram, ranges)?;
-    drafts.begin_list(entry.children(), Some(number))?;
-    Ok(())
-}
-
-/// Adds a function with its ranges, which are those of a list.
-#[inline(always)]
-fn keep_listed(
-    drafts: &mut Drafts<'_, '_>,
-    entry: &EntryView<'_, '_>,
-    ranges: &[Range],
-    list: RangeList,
-) -> Result<(), AllocError>
-    ensures { OnOk result (ranges_of_list drafts.old.of.sections.tables list ≡ Ok (map range_shown ranges.now)
-        → Same (model.with_list entry.now.children (Some (length drafts.old.functions))
-        (model.with_function entry.now.offset (model.with_ranges (is_subprogram entry.now)
-        (owned (map range_shown ranges.now) (length drafts.old.functions)) drafts.old))) drafts.new) }
-{
-    let number = drafts.count();
-    drafts.push_listed(
-        entry.offset(),
-        entry.tag() == DW_TAG_subprogram,
-        ranges,
-        list,
-    )?;
-    drafts.begin_list(entry.children(), Some(number))?;
-    Ok(())
-}
-
-/// Adds a subprogram with ranges that are the first of its list, where earlier ones own the others.
-fn keep_first(
-    drafts: &mut Drafts<'_, '_>,
-    entry: &EntryView<'_, '_>,
-    ranges: &[Range],
-    list: RangeList,
-) -> Result<(), AllocError>
-    ensures { OnOk result ((rest : List model_ranges.Range)
-        → ranges_of_list drafts.old.of.sections.tables list ≡ Ok (map range_shown ranges.now ++ rest)
-        → AreOwned drafts.old.outermost (length drafts.old.functions) rest
-        → Same (model.with_list entry.now.children (Some (length drafts.old.functions))
-        (model.with_function entry.now.offset (model.with_ranges true
-        (owned (map range_shown ranges.now ++ rest) (length drafts.old.functions)) drafts.old))) drafts.new) }
-{
-    let number = drafts.count();
-    drafts.push_first(entry.offset(), ranges, list)?;
-    drafts.begin_list(entry.children(), Some(number))?;
-    Ok(())
+    drafts.begin_list(entry.children(), NOWHERE)
 }
 
 /// No range of a list was read, and none of it was read before.
@@ -170,23 +94,6 @@ fn has_none(tail: Option<RangeList>, ranges: &[Range]) -> bool
     ranges.is_empty()
 }
 
-/// Adds a function whose list is held by name.
-fn hold_function(
-    drafts: &mut Drafts<'_, '_>,
-    entry: &EntryView<'_, '_>,
-    list: RangeList,
-) -> Result<(), AllocError>
-    ensures { OnOk result (drafts.new ≡ model.with_list entry.now.children (Some (length drafts.old.functions))
-        (model.with_function entry.now.offset (model.with_ranges (is_subprogram entry.now)
-        (owned (listed drafts.old.of.sections.tables list) (length drafts.old.functions)) drafts.old))) }
-{
-    let number = drafts.count();
-    let held = HeldList { list, number };
-    drafts.hold(entry.tag() == DW_TAG_subprogram, held)?;
-    pass_function(drafts, entry)?;
-    Ok(())
-}
-
 impl<'b, 'a> Reader<'b, 'a> {
     /// No function of a unit was read yet.
     pub(crate) fn new(alloc: Global, unit: OpenUnit<'b, 'a>) -> Self
@@ -196,185 +103,105 @@ impl<'b, 'a> Reader<'b, 'a> {
         Reader {
             unit,
             ranges: Vec::new(alloc),
+            begins: Vec::new(alloc),
             left: unit.units().tables().rnglists.len(),
-            idle: ReadLists::new(alloc),
-            outermost: ReadLists::new(alloc),
-            inlined: ReadLists::new(alloc),
-            loose: ReadLists::new(alloc),
-            alloc,
+            read: ReadLists::new(alloc),
+            owned: ReadLists::new(alloc),
         }
     }
 
-    /// The list was read, and has no ranges.
-    fn is_idle(&self, list: RangeList) -> bool
-        ensures { result ≡ true → Has self.now.idle (list, 0) }
+    /// The list was read, and this is noted of it.
+    fn was_read(&self, list: RangeList, note: usize) -> bool
+        ensures { result ≡ true → Has self.now.read (list, note) }
     {
-        if self.left > 0 {
-            return false;
-        }
-        self.idle.has(list, 0)
+        self.left == 0 && self.read.has(list, note)
     }
 
-    /// The list was read, and has ranges.
-    fn is_read(&self, list: RangeList) -> bool
-        ensures { result ≡ true → Has self.now.loose (list, 0) }
+    /// Earlier functions own each address of a list in a group.
+    fn is_owned(&self, list: RangeList, group: usize) -> bool
+        ensures { result ≡ true → Has self.now.owned (list, group) }
     {
-        if self.left > 0 {
-            return false;
-        }
-        self.loose.has(list, 0)
+        self.left == 0 && self.owned.has(list, group)
     }
 
-    /// Notes a list that has ranges, where further lists are held by name.
-    fn note_read(&mut self, list: RangeList, is_full: bool) -> Result<(), AllocError>
-        ensures same { self.new.of ≡ self.old.of }
-        ensures idle { self.new.idle ≡ self.old.idle }
-        ensures outermost { self.new.outermost ≡ self.old.outermost }
-        ensures inlined { self.new.inlined ≡ self.old.inlined }
-        ensures loose { OnOk result ((known : _) → Has self.new.loose known
-            → Has ((list, 0) ∷ self.old.loose) known) }
+    /// Notes a list without ranges.
+    fn note_idle(&mut self, list: RangeList) -> Result<(), AllocError>
+        ensures of { self.new.of ≡ self.old.of }
+        ensures owned { self.new.owned ≡ self.old.owned }
+        ensures read { OnOk result ((known : _) → Has self.new.read known → Has ((list, 0) ∷ self.old.read) known) }
     {
-        if self.left > 0 {
-            return Ok(());
-        }
-        if !is_full {
-            return Ok(());
-        }
-        self.loose.note(list, 0)?;
+        self.read.note(list, WITHOUT_RANGES)?;
         Ok(())
-    }
-
-    /// Holds the list of a function by name that was read for an earlier one and has ranges.
-    fn add_read(
-        &mut self,
-        drafts: &mut Drafts<'b, 'a>,
-        entry: &EntryView<'_, 'a>,
-        list: RangeList,
-    ) -> Result<(), TreeFault>
-        ensures same { self.new.of ≡ self.old.of }
-        ensures function { Knows self.old drafts.old → Has self.old.loose (list, 0)
-            → entry_ranges_in self.old.of.sections self.old.of.unit entry.now
-            ≡ ranges_of_list self.old.of.sections.tables list
-            → AddsFunction self.old.of.sections self.old.of.unit entry.now result drafts.old drafts.new }
-        ensures known { Knows self.old drafts.old → Has self.old.loose (list, 0)
-            → OnOk result (Knows self.new drafts.new) }
-    {
-        let is_subprogram = entry.tag() == DW_TAG_subprogram;
-        let outer = drafts.innermost();
-        hold_function(drafts, entry, list)?;
-        self.note(is_subprogram, outer, list)?;
-        Ok(())
-    }
-
-    /// An earlier function owns each address of a list: a subprogram, or else one that is inlined
-    /// in the same function. Or the list is that of an earlier function that is inlined, as this
-    /// one, in none that is kept.
-    fn is_known(&self, is_subprogram: bool, outer: Option<usize>, list: RangeList) -> bool
-        ensures { result ≡ true → IsKnown self.now is_subprogram outer list }
-    {
-        if self.left > 0 {
-            return false;
-        }
-        if is_subprogram {
-            return self.outermost.has(list, 0);
-        }
-        let Some(number) = outer else {
-            return self.loose.has(list, 0);
-        };
-        self.inlined.has(list, number)
     }
 
     /// Notes the list of a function that is kept, once lists are noted.
-    fn note(
-        &mut self,
-        is_subprogram: bool,
-        outer: Option<usize>,
-        list: RangeList,
-    ) -> Result<(), AllocError>
-        ensures same { self.new.of ≡ self.old.of }
-        ensures idle { self.new.idle ≡ self.old.idle }
-        ensures outermost { OnOk result ((known : _) → Has self.new.outermost known
-            → Has (for_subprogram is_subprogram list ++ self.old.outermost) known) }
-        ensures inlined { OnOk result ((known : _) → Has self.new.inlined known
-            → Has (for_inlined is_subprogram outer list ++ self.old.inlined) known) }
-        ensures loose { OnOk result ((known : _) → Has self.new.loose known
-            → Has (for_loose is_subprogram outer list ++ self.old.loose) known) }
+    fn note_owned(&mut self, list: RangeList, group: usize) -> Result<(), AllocError>
+        ensures of { self.new.of ≡ self.old.of }
+        ensures begins { self.new.begins ≡ self.old.begins }
+        ensures read { self.new.read ≡ self.old.read }
+        ensures owned { OnOk result ((known : _) → Has self.new.owned known
+            → Has ((list, group) ∷ self.old.owned) known) }
     {
         if self.left > 0 {
             return Ok(());
         }
-        if is_subprogram {
-            return self.outermost.note(list, 0);
-        }
-        let Some(number) = outer else {
-            return self.loose.note(list, 0);
-        };
-        self.inlined.note(list, number)
-    }
-
-    /// Notes the tails of a list that was read for a subprogram, by the places where they begin.
-    fn note_tails(&mut self, list: RangeList, begins: &[u64]) -> Result<(), AllocError>
-        ensures same { self.new.of ≡ self.old.of }
-        ensures idle { self.new.idle ≡ self.old.idle }
-        ensures inlined { self.new.inlined ≡ self.old.inlined }
-        ensures loose { self.new.loose ≡ self.old.loose }
-        ensures outermost { OnOk result ((known : _) → Has self.new.outermost known
-            → ((begin : ℕ) × Has begins.now begin × (known ≡ (tail_at list begin, 0))) ⊎ Has self.old.outermost known) }
-    {
-        let size = self.unit.units().tables().rnglists.len();
-        self.outermost.note_tails(list, begins, size)
-    }
-
-    /// Keeps a subprogram that names a range list, where the list has ranges, once lists are noted.
-    /// The list is read up to where it goes on as one that was read for an earlier one, which owns
-    /// the addresses from there on.
-    fn add_outermost(
-        &mut self,
-        drafts: &mut Drafts<'b, 'a>,
-        entry: &EntryView<'_, 'a>,
-        list: RangeList,
-    ) -> Result<(), TreeFault>
-        ensures same { self.new.of ≡ self.old.of }
-        ensures function { Knows self.old drafts.old → is_subprogram entry.now ≡ true
-            → entry_ranges_in self.old.of.sections self.old.of.unit entry.now
-            ≡ ranges_of_list self.old.of.sections.tables list
-            → AddsFunction self.old.of.sections self.old.of.unit entry.now result drafts.old drafts.new }
-        ensures known { Knows self.old drafts.old → is_subprogram entry.now ≡ true
-            → entry_ranges_in self.old.of.sections self.old.of.unit entry.now
-            ≡ ranges_of_list self.old.of.sections.tables list → OnOk result (Knows self.new drafts.new) }
-    {
-        let unit = self.unit;
-        let outer = drafts.innermost();
-        let mut begins = Vec::new(self.alloc);
-        let tail = read_new(
-            &mut self.ranges,
-            &mut begins,
-            list,
-            unit.units().tables(),
-            &self.outermost,
-        )?;
-        if has_none(tail, &self.ranges) {
-            self.idle.note(list, 0)?;
-            leave_out(drafts, entry)?;
-            return Ok(());
-        }
-        keep_first(drafts, entry, &self.ranges, list)?;
-        self.note(true, outer, list)?;
-        self.note_tails(list, &begins)?;
-        self.note_read(list, drafts.is_full())?;
+        self.owned.note(list, group)?;
         Ok(())
     }
 
-    /// Whether a list is one of a subprogram, read once lists are noted.
-    fn is_noted(&self, is_subprogram: bool) -> bool
-        ensures { result ≡ true → is_subprogram ≡ true }
+    /// Notes what else is known of the list that was read last: that it has ranges, where further
+    /// lists are held by name, and the places where lists begin that end as it does.
+    fn note_read(&mut self, list: RangeList, is_full: bool) -> Result<(), AllocError>
+        ensures of { self.new.of ≡ self.old.of }
+        ensures read { OnOk result ((known : _) → Has self.new.read known → Has ((list, 1) ∷ self.old.read) known) }
+        ensures owned { OnOk result ((known : _) → Has self.new.owned known
+            → ((begin : ℕ) × Has self.old.begins begin × (known ≡ (tail_at list begin, 0)))
+            ⊎ Has self.old.owned known) }
     {
-        is_subprogram && self.left == 0
+        if self.left > 0 {
+            return Ok(());
+        }
+        if is_full {
+            self.read.note(list, WITH_RANGES)?;
+        }
+        if self.begins.is_empty() {
+            return Ok(());
+        }
+        let size = self.unit.units().tables().rnglists.len();
+        self.owned.note_tails(list, &self.begins, size)?;
+        Ok(())
+    }
+
+    /// Reads the ranges of a list: for a subprogram, once lists are noted, up to where the list
+    /// goes on as one that was read for an earlier one, which owns the addresses from there on.
+    fn read(&mut self, list: RangeList, group: usize) -> Result<Option<RangeList>, RangeFault>
+        ensures of { self.new.of ≡ self.old.of }
+        ensures read { self.new.read ≡ self.old.read }
+        ensures owned { self.new.owned ≡ self.old.owned }
+        ensures ranges { ReadsNew self.old.of.sections.tables self.old.owned list result self.new.ranges }
+        ensures group { (tail : RangeList) → result ≡ Ok (Some tail) → group ≡ 0 }
+        ensures begins { OnOk result ((begin : ℕ) → Has self.new.begins begin
+            → (group ≡ 0) × EndsAs self.old.of.sections.tables list (tail_at list begin)) }
+    {
+        let unit = self.unit;
+        let tables = unit.units().tables();
+        if group == OUTERMOST && self.left == 0 {
+            return read_new(
+                &mut self.ranges,
+                &mut self.begins,
+                list,
+                tables,
+                &self.owned,
+            );
+        }
+        self.begins.clear();
+        let size = read_list(&mut self.ranges, list, tables)?;
+        self.left = self.left.saturating_sub(size);
+        Ok(None)
     }
 
     /// Keeps a function that names a range list, where the list has ranges. A list is read once for
-    /// all subprograms, and once for all that are inlined in one function: of those the first owns
-    /// all its addresses.
+    /// all functions of a group: of those the first owns all its addresses.
     fn add_listed(
         &mut self,
         drafts: &mut Drafts<'b, 'a>,
@@ -390,34 +217,28 @@ impl<'b, 'a> Reader<'b, 'a> {
             → entry_ranges_in self.old.of.sections self.old.of.unit entry.now
             ≡ ranges_of_list self.old.of.sections.tables list → OnOk result (Knows self.new drafts.new) }
     {
-        if self.is_idle(list) {
+        if self.was_read(list, WITHOUT_RANGES) {
             leave_out(drafts, entry)?;
             return Ok(());
         }
-        let is_subprogram = entry.tag() == DW_TAG_subprogram;
-        let outer = drafts.innermost();
-        if self.is_known(is_subprogram, outer, list) {
-            pass_function(drafts, entry)?;
+        let group = drafts.group_of(entry);
+        if self.is_owned(list, group) {
+            drafts.pass(entry)?;
             return Ok(());
         }
-        if drafts.is_full() {
-            if self.is_read(list) {
-                return self.add_read(drafts, entry, list);
-            }
+        if drafts.is_full() && self.was_read(list, WITH_RANGES) {
+            drafts.hold(entry, list)?;
+            self.note_owned(list, group)?;
+            return Ok(());
         }
-        if self.is_noted(is_subprogram) {
-            return self.add_outermost(drafts, entry, list);
-        }
-        let unit = self.unit;
-        let size = read_list(&mut self.ranges, list, unit.units().tables())?;
-        self.left = self.left.saturating_sub(size);
-        if self.ranges.is_empty() {
-            self.idle.note(list, 0)?;
+        let tail = self.read(list, group)?;
+        if has_none(tail, &self.ranges) {
+            self.note_idle(list)?;
             leave_out(drafts, entry)?;
             return Ok(());
         }
-        keep_listed(drafts, entry, &self.ranges, list)?;
-        self.note(is_subprogram, outer, list)?;
+        drafts.add(entry, &self.ranges, Some(list))?;
+        self.note_owned(list, group)?;
         self.note_read(list, drafts.is_full())?;
         Ok(())
     }
@@ -442,7 +263,7 @@ impl<'b, 'a> Reader<'b, 'a> {
             leave_out(drafts, entry)?;
             return Ok(());
         }
-        keep_function(drafts, entry, &self.ranges)?;
+        drafts.add(entry, &self.ranges, None)?;
         Ok(())
     }
 
@@ -493,13 +314,13 @@ impl<'b, 'a> Reader<'b, 'a> {
             }
             Next::Passed { children } => {
                 check_depth(depth)?;
-                let number = drafts.innermost();
-                drafts.begin_list(children, number)?;
+                let group = drafts.innermost();
+                drafts.begin_list(children, group)?;
                 Ok(())
             }
             Next::Unranged { children } => {
                 check_depth(depth)?;
-                drafts.begin_list(children, None)?;
+                drafts.begin_list(children, NOWHERE)?;
                 Ok(())
             }
             Next::Function => {

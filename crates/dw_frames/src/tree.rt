@@ -93,7 +93,7 @@ impl<'a> Tree<'a> {
         ensures bytes { result ≤ most_listed self.now.unit + (self.now.unit.end - self.now.unit.first_entry) }
         ensures enough { AreEnough self.now result }
     {
-        self.chains.ranges
+        self.chains.owners.ranges()
     }
 
     /// The functions at an address, innermost first: the outermost is the first subprogram with a

@@ -119,7 +119,7 @@ from_least pairs a owner is = from_found pairs a owner (least_owner pairs a) ref
 
 -- ---- places of lists as owners
 
-of_list : (ranges : List Range) (place a : ℕ) → least_owner (map (λ range. (range, place)) ranges) a ≡ cond (covers a ranges) (Some place) None
+pub of_list : (ranges : List Range) (place a : ℕ) → least_owner (map (λ range. (range, place)) ranges) a ≡ cond (covers a ranges) (Some place) None
 unfolding least_owner
 of_list [] place a = refl
 of_list (range ∷ ranges) place a = rw (of_list ranges place a) (by_test (holds a range) (covers a ranges))

@@ -1,5 +1,5 @@
 -- Whether the ranges of a list hold an address, range by range.
-use Rattle.std.proofs.Common.{◌≡◌, ◌∙◌, ℕ, Bool, false, List, [], ◌++◌, Option, Some, None, Result, Err, refl, sym, ap, subst}
+use Rattle.std.proofs.Common.{◌≡◌, ◌∙◌, ℕ, Bool, List, ◌++◌, Option, Some, None, Result, Err, sym, ap, subst}
 use Rattle.std.specs.Prelude.{◌||◌, option_to_list, option_map, map}
 use Rattle.std.proofs.lemmas.List.Folds.{list_any-append}
 use Rattle.dw_model.specs.Answers.{Tells}
@@ -9,8 +9,7 @@ use Rattle.dw_model.specs.Reading.{Place}
 use Rattle.dw_model.specs.Text.{Tables, Bases}
 use Rattle.dw_index.specs.declared.range.Range.{Range as CodeRange}
 use Rattle.dw_index.specs.Range.{range_shown}
-use Rattle.dw_ranges.specs.Step.{ranges_from}
-use Rattle.dw_ranges.proofs.ListLemmas.{SoFar, front-nil, map-some}
+use Rattle.dw_ranges.proofs.ListLemmas.{SoFar, map-some}
 
 -- a fault that a part tells is the one of the whole
 pub told-whole : {X Y : Type 0} (told own : Option Bad) (part : Result X Bad) (whole : Result Y Bad) → own ≡ told → Tells told part → ((f : Bad) → part ≡ Err f → whole ≡ Err f) → Tells own whole
@@ -40,10 +39,3 @@ held-on tables bases a held new base behind p q all last so_far on more =
           ∙ sym (list_any-append (holds a) (map range_shown so_far.found) one)
           ∙ ap (covers a) (sym (map-some so_far.found last));
     }
-
-pub started : (tables : Tables) (bases : Bases) (a : ℕ) (base : Result ℕ Bad) (p : Place) → HeldSoFar tables bases a false base p (ranges_from tables bases base p)
-started tables bases a base p = record {
-  found = [];
-  so_far = front-nil (ranges_from tables bases base p);
-  is = refl;
-}

@@ -8,3 +8,8 @@ pub mod PlaceLemmas
 pub mod MarkLemmas
 pub mod NewLemmas
 pub mod BaseLemmas
+pub mod GetLemmas
+pub mod GroupLemmas
+pub mod LinkLemmas
+pub mod ClaimLemmas
+pub mod WindowLemmas

@@ -14,9 +14,9 @@ use Rattle.dw_ranges.specs.Lists.{only_addr, ranges_of_list}
 use Rattle.dw_ranges.specs.NextOutcome.{next_outcome}
 use Rattle.dw_ranges.specs.OutcomeShown.{base_shown, outcome_shown}
 use Rattle.dw_ranges.specs.ReadLists.{Has}
-use Rattle.dw_ranges.specs.Step.{place_at, ranges_from}
+use Rattle.dw_ranges.specs.Step.{ranges_from}
 use Rattle.dw_ranges.specs.Tails.{EndsAs, onto_front, tail_at}
-use Rattle.dw_ranges.proofs.ListLemmas.{Ranges, SoFar, front-nil, from-outcome, goes_on}
+use Rattle.dw_ranges.proofs.ListLemmas.{Ranges, SoFar, from-outcome, goes_on}
 use Rattle.dw_ranges.proofs.PlaceLemmas.{IsIn, in-place, outcome-in}
 
 -- the list that begins at a place has the ranges from there on

@@ -1,26 +1,11 @@
 -- A later owner whose ranges all have owners already owns no address.
-use Rattle.std.proofs.Common.{◌≡◌, ◌∙◌, ℕ, ◌<◌, ◌≤◌, min, Bool, true, false, cond, List, [], ◌∷◌, ◌++◌, map, Option, Some, None, refl, ap, arith}
-use Rattle.std.specs.Prelude.{◌||◌}
-use Rattle.dw_model.specs.Ranges.{Range, holds, covers}
+use Rattle.std.proofs.Common.{◌≡◌, ◌∙◌, ℕ, ◌<◌, ◌≤◌, min, Bool, true, false, cond, List, ◌++◌, Option, Some, None, refl, sym, ap, arith, append_assoc}
+use Rattle.std.proofs.lemmas.List.{map-append}
+use Rattle.dw_model.specs.Ranges.{Range, covers}
 use Rattle.dw_index.specs.Owners.{least, least_owner}
+use Rattle.dw_index.proofs.LawLemmas.{of_list}
 use Rattle.dw_index.proofs.OwnerLemmas.{least_owner-append, least-none}
-use Rattle.dw_ranges.specs.Owned.{AreOwned}
-
-abbrev pub owned_by : List Range → ℕ → List (Range × ℕ)
-owned_by ranges owner = map (λ range. (range, owner)) ranges
-
-least-same : (test : Bool) (n : ℕ) → least (Some n) (cond test (Some n) None) ≡ Some n
-least-same true n = ap Some (omega arith)
-least-same false n = refl
-
-pub of-ranges : (ranges : List Range) (owner a : ℕ) → least_owner (owned_by ranges owner) a ≡ cond (covers a ranges) (Some owner) None
-unfolding least_owner
-of-ranges [] owner a = refl
-of-ranges (range ∷ ranges) owner a = rw (of-ranges ranges owner a) (by_test (holds a range))
-  where
-    by_test : (test : Bool) → least (cond test (Some owner) None) (cond (covers a ranges) (Some owner) None) ≡ cond (test || covers a ranges) (Some owner) None
-    by_test true = least-same (covers a ranges) owner
-    by_test false = refl
+use Rattle.dw_ranges.specs.Owned.{AreOwned, owned}
 
 -- the lesser of two owners is at most the first
 least-low : (owner bound : ℕ) (other : Option ℕ) → owner < bound → (found : ℕ) × (least (Some owner) other ≡ Some found) × (found < bound)
@@ -36,23 +21,30 @@ still-owned pairs more bound next ranges up h = λ a held.
     (low.0, least_owner-append pairs more a ∙ rw (old.1) (low.1), low.2)
 
 -- ranges that are added have an owner
-pub now-owned : (pairs : List (Range × ℕ)) (ranges : List Range) (owner next : ℕ) → owner < next → AreOwned (pairs ++ owned_by ranges owner) next ranges
+pub now-owned : (pairs : List (Range × ℕ)) (ranges : List Range) (owner next : ℕ) → owner < next → AreOwned (pairs ++ owned ranges owner) next ranges
 now-owned pairs ranges owner next up = λ a held.
-    let here : least_owner (owned_by ranges owner) a ≡ Some owner = of-ranges ranges owner a ∙ rw held refl in
+    let here : least_owner (owned ranges owner) a ≡ Some owner = of_list ranges owner a ∙ rw held refl in
     by_pairs a (least_owner pairs a) refl here
   where
-    by_pairs : (a : ℕ) (found : Option ℕ) → least_owner pairs a ≡ found → least_owner (owned_by ranges owner) a ≡ Some owner → (k : ℕ) × (least_owner (pairs ++ owned_by ranges owner) a ≡ Some k) × (k < next)
-    by_pairs a None e here = (owner, least_owner-append pairs (owned_by ranges owner) a ∙ rw (e, here) refl, up)
-    by_pairs a (Some k) e here = (min k owner, least_owner-append pairs (owned_by ranges owner) a ∙ rw (e, here) refl, omega (arith, up))
+    by_pairs : (a : ℕ) (found : Option ℕ) → least_owner pairs a ≡ found → least_owner (owned ranges owner) a ≡ Some owner → (k : ℕ) × (least_owner (pairs ++ owned ranges owner) a ≡ Some k) × (k < next)
+    by_pairs a None e here = (owner, least_owner-append pairs (owned ranges owner) a ∙ rw (e, here) refl, up)
+    by_pairs a (Some k) e here = (min k owner, least_owner-append pairs (owned ranges owner) a ∙ rw (e, here) refl, omega (arith, up))
 
 -- a later owner of ranges that all have owners changes no least owner
-pub passed-over : (pairs : List (Range × ℕ)) (ranges : List Range) (owner : ℕ) → AreOwned pairs owner ranges → (a : ℕ) → least_owner (pairs ++ owned_by ranges owner) a ≡ least_owner pairs a
+pub passed-over : (pairs : List (Range × ℕ)) (ranges : List Range) (owner : ℕ) → AreOwned pairs owner ranges → (a : ℕ) → least_owner (pairs ++ owned ranges owner) a ≡ least_owner pairs a
 passed-over pairs ranges owner h a =
-    least_owner-append pairs (owned_by ranges owner) a ∙ ap (least (least_owner pairs a)) (of-ranges ranges owner a) ∙ by_test (λ held. h a held) (covers a ranges) refl
+    least_owner-append pairs (owned ranges owner) a ∙ ap (least (least_owner pairs a)) (of_list ranges owner a) ∙ by_test (λ held. h a held) (covers a ranges) refl
   where
     least-first : (k : ℕ) → k < owner → least (Some k) (Some owner) ≡ Some k
     least-first k below = ap Some (omega (arith, below))
 
     by_test : (covers a ranges ≡ true → (k : ℕ) × (least_owner pairs a ≡ Some k) × (k < owner)) → (test : Bool) → covers a ranges ≡ test → least (least_owner pairs a) (cond test (Some owner) None) ≡ least_owner pairs a
-    by_test owned false e = least-none (least_owner pairs a)
-    by_test owned true e = let old = owned e in rw (old.1) (least-first old.0 old.2)
+    by_test has false e = least-none (least_owner pairs a)
+    by_test has true e = let old = has e in rw (old.1) (least-first old.0 old.2)
+
+-- ranges that earlier owners own may be left out behind others
+pub behind-owned : (pairs : List (Range × ℕ)) (front rest : List Range) (owner a : ℕ) → AreOwned pairs owner rest → least_owner (pairs ++ owned front owner) a ≡ least_owner (pairs ++ owned (front ++ rest) owner) a
+behind-owned pairs front rest owner a h =
+    let parts : pairs ++ owned (front ++ rest) owner ≡ (pairs ++ owned front owner) ++ owned rest owner =
+    ap (λ (own : List (Range × ℕ)). pairs ++ own) (map-append (λ range. (range, owner)) front rest) ∙ sym (append_assoc pairs (owned front owner) (owned rest owner)) in
+    sym (ap (λ (all : List (Range × ℕ)). least_owner all a) parts ∙ passed-over (pairs ++ owned front owner) rest owner (still-owned pairs (owned front owner) owner owner rest (omega arith) h) a)

@@ -11,3 +11,8 @@ pub mod ReadLists
 pub mod ReadListsInside
 pub mod Tails
 pub mod Owned
+pub mod Claims
+pub mod ClaimsInside
+pub mod LinksInside
+pub mod LinkedInside
+pub mod Window

@@ -3,20 +3,30 @@
 #![tactic(auto)]
 
 mod at_address;
+mod claims;
 mod fault;
+mod held;
+mod linked;
+mod links;
 mod list;
 mod new_ranges;
 mod next_outcome;
+mod owners;
 mod range_entry;
 mod range_list;
 mod ranges;
 mod read_lists;
 mod step;
+mod window;
 
 pub use at_address::list_holds;
+pub use claims::Claims;
 pub use dw_index::{Index, Range, law_of_least_owner};
 pub use fault::RangeFault;
+pub use held::HeldList;
 pub use new_ranges::read_new;
+pub use owners::{Found, Owners};
 pub use range_list::{RangeList, list_of, read_list};
 pub use ranges::{ranges_of, read_ranges};
 pub use read_lists::ReadLists;
+pub use window::Window;

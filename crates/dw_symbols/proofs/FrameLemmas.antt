@@ -1,11 +1,15 @@
 -- The frames of functions, one after the other.
-use Rattle.std.proofs.Common.{◌≡◌, ◌∙◌, ℕ, suc, ◌+◌, ◌<◌, ◌≤◌, List, [], ◌∷◌, ◌++◌, length, drop, Option, Some, None, refl, sym, ap, append_assoc, arith}
+use Rattle.std.proofs.Common.{◌≡◌, ◌∙◌, ℕ, zero, suc, ◌+◌, ◌<◌, ◌≤◌, List, [], ◌∷◌, ◌++◌, length, drop, Option, Some, None, refl, sym, ap, append_assoc, arith}
 use Rattle.std.specs.Prelude.{slice_get}
 use Rattle.std.proofs.lemmas.List.{append-nil, drop_all}
 use Rattle.dw_model.specs.Answer.{Frame, Location, Lines}
 use Rattle.dw_frames.specs.Told.{Told}
 use Rattle.dw_symbols.specs.Frames.{called_at, frames_on, frames_told}
-use Rattle.dw_symbols.proofs.CoverLemmas.{drop-at}
+
+drop-at : {X : Type 0} (xs : List X) (i : ℕ) (x : X) → slice_get xs i ≡ Some x → drop i xs ≡ x ∷ drop (suc i) xs
+drop-at [] i x e = absurd cc
+drop-at (y ∷ xs) zero x e = let same : y ≡ x = cc in ap (λ (x : _). x ∷ xs) same
+drop-at (y ∷ xs) (suc i) x e = drop-at xs i x e
 
 -- the frames so far, and then those from a location and a place on, are all
 abbrev pub SoFar : Option Lines → List Told → ℕ → List Frame → (here first : Location) → Type 0

@@ -8,7 +8,8 @@ use Rattle.dw_model.specs.Refusal.{ranges_refusal, refusal}
 use Rattle.dw_model.specs.Answer.{unit_of}
 use Rattle.dw_model.specs.Text.{Tables}
 use Rattle.dw_units.specs.UnitAt.{unit_at}
-use Rattle.dw_symbols.specs.Held.{CoverState, FindsUnits, first_unit}
+use Rattle.dw_ranges.specs.Claims.{OwnersState}
+use Rattle.dw_symbols.specs.Owners.{FindsUnits, first_unit}
 
 pub by-ranges : (file : List ℕ) (s : Sections) (told : Option Refusal) → s ≡ sections file → elf_refusal file ≡ None → unit_refusal s ≡ None → ranges_refusal s ≡ told → refusal file ≡ told
 unfolding refusal
@@ -23,7 +24,7 @@ told-by-ranges file s (Some fault) same elf units ranges = by-ranges file s (Som
 
 -- ---- the unit of an address
 
-pub found-unit : (file seen : List ℕ) (tables : Tables) (cover : CoverState) → file ≡ seen → tables ≡ (sections file).tables → FindsUnits (sections file) cover
+pub found-unit : (file seen : List ℕ) (tables : Tables) (cover : OwnersState) → file ≡ seen → tables ≡ (sections file).tables → FindsUnits (sections file) cover
     → (found : Option ℕ) (a : ℕ) → found ≡ first_unit tables cover a → option_map (unit_at (sections seen)) found ≡ unit_of (sections seen) a
 found-unit file seen tables cover view same finds found a is =
     let first : found ≡ first_unit (sections file).tables cover a = is ∙ ap (λ (tables : Tables). first_unit tables cover a) same in

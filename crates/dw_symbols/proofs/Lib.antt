@@ -1,7 +1,4 @@
 pub mod CountSteps
-pub mod CoverLemmas
-pub mod HeldLemmas
-pub mod PairsLemmas
 pub mod OwnerLemmas
 pub mod ImageLemmas
 pub mod KeptLemmas
@@ -13,4 +10,3 @@ pub mod AnswerLemmas
 pub mod ToldLemmas
 pub mod PathLemmas
 pub mod SpanLemmas
-pub mod WindowLemmas

@@ -1,45 +1,57 @@
--- The first unit that covers an address is the least owner of its ranges.
-use Rattle.std.proofs.Common.{◌≡◌, ◌∙◌, inl, inr, ℕ, ◌+◌, ◌<◌, Bool, true, false, cond, List, [], ◌∷◌, ◌++◌, length, map, Option, Some, None, Result, Ok, Err, refl, sym, ap, subst}
-use Rattle.std.specs.Prelude.{IfSome, MatchOption, find, option_map, option_and_then, slice_get, nat_lt, is_err, ◌&&◌}
-use Rattle.std.specs.List.{position, position_or_len}
+-- What units claim: the first unit that answers an address owns it.
+use Rattle.std.proofs.Common.{◌≡◌, ◌∙◌, ◌⊎◌, inl, inr, ℕ, zero, suc, ◌+◌, ◌<◌, ◌≤◌, Bool, true, false, cond, List, [], ◌∷◌, ◌++◌, length, map, take, drop, Option, Some, None, Result, Ok, Err, refl, sym, ap, subst, arith}
+use Rattle.std.specs.Prelude.{IfSome, MatchOption, find, option_map, option_and_then, option_to_list, slice_get, is_err, ◌&&◌}
+use Rattle.std.specs.Option.{option_or}
 use Rattle.std.specs.Result.{result_unwrap_or}
-use Rattle.std.proofs.lemmas.Bool.{ltb-true, ltb-false}
-use Rattle.std.proofs.lemmas.List.{length-map}
-use Rattle.std.proofs.lemmas.List.Folds.{find_at}
-use Rattle.std.proofs.lemmas.Option.{slice_get_past, slice_get-get_or}
-use Rattle.dw_model.specs.Results.{◌>>=◌, or_fault}
+use Rattle.std.proofs.lemmas.List.{length-map, length-take, take-append-drop, take_all}
+use Rattle.std.proofs.lemmas.List.Folds.{find-append}
+use Rattle.std.proofs.lemmas.Option.{slice_get-get_or, slice_get_within}
+use Rattle.dw_model.specs.Results.{or_fault}
 use Rattle.dw_model.specs.Faults.{Refusal, Bad, root_ranges}
 use Rattle.dw_model.specs.Section.{Sections}
 use Rattle.dw_model.specs.Unit.{DwarfUnit}
 use Rattle.dw_model.specs.Unit as model
 use Rattle.dw_model.specs.Root.{answers}
 use Rattle.dw_model.specs.Ranges.{Range, covers}
-use Rattle.dw_model.specs.Refusal.{unit_ranges}
+use Rattle.dw_model.specs.Refusal.{ranges_refusal, unit_ranges}
 use Rattle.dw_model.specs.Answer.{unit_of}
-use Rattle.dw_model.proofs.StepLemmas.{bind_ok, bind_err, ok_is}
 use Rattle.dw_model.proofs.InstructionLemmas.{or_fault-ok}
+use Rattle.dw_units.specs.declared.open_unit.OpenUnit.{OpenUnit}
+use Rattle.dw_units.specs.OpenUnit as opened
 use Rattle.dw_units.specs.UnitAt.{absent, unit_at}
-use Rattle.dw_index.specs.Owners.{least_owner, numbered}
-use Rattle.dw_symbols.specs.Cover.{ranges_in, checked_ranges, pairs_from}
-use Rattle.dw_symbols.specs.Held.{CoverState, first_unit}
+use Rattle.dw_index.specs.declared.range.Range.{Range as CodeRange}
+use Rattle.dw_index.specs.Range.{range_shown}
+use Rattle.dw_index.specs.Owners.{least_owner}
+use Rattle.dw_ranges.specs.declared.range_list.RangeList.{RangeList}
+use Rattle.dw_ranges.specs.Claims.{Adds, AddsListed, Claim, ClaimsState, OwnersState, all_claims, claims_in, held_claims, in_group, owner_in}
+use Rattle.dw_ranges.specs.Held.{listed}
+use Rattle.dw_ranges.specs.Lists.{IsOneAtMost, ranges_of_list}
+use Rattle.dw_ranges.specs.Owned.{AreOwned, owned}
+use Rattle.dw_ranges.specs.ReadLists.{Has}
+use Rattle.dw_ranges.proofs.BaseLemmas.{read-from}
+use Rattle.dw_ranges.proofs.ClaimLemmas.{adds-same}
+use Rattle.dw_ranges.proofs.GroupLemmas.{group-here}
+use Rattle.dw_ranges.proofs.OwnedLemmas.{still-owned, now-owned, passed-over}
+use Rattle.dw_frames.specs.Placed.{first}
+use Rattle.dw_frames.proofs.FirstLemmas.{first-find, first-push, first-within, owner-push}
+use Rattle.dw_symbols.specs.Owners.{Holds, IsFromZero, Owns, answers_at, checked_ranges, first_unit, ranges_in}
 
--- the ranges of a unit that are there
-abbrev kept : Sections → DwarfUnit → List Range
-kept s unit = result_unwrap_or (ranges_in s unit) []
+-- ---- units, one after the other
 
--- ---- all units were read
+pub opened-at : (s : Sections) (i : ℕ) (here : OpenUnit) → i < length (model.units s.info) → opened.unit_of here ≡ unit_at s i → slice_get (model.units s.info) i ≡ Some (opened.unit_of here)
+opened-at s i here within is = slice_get-get_or (model.units s.info) i absent within ∙ ap Some (sym is)
 
-pub all-numbered : (s : Sections) (n : ℕ) (units : List DwarfUnit) (pairs : List (Range × ℕ)) → pairs_from s n units ≡ Ok pairs → pairs ≡ numbered n (map (kept s) units)
-unfolding pairs_from
-all-numbered s n [] pairs e = sym (ok_is [] pairs e)
-all-numbered s n (unit ∷ units) pairs e =
-    let ranges = bind_ok (checked_ranges s unit) (λ ranges. pairs_from s (n + 1) units >>= λ others. Ok (map (λ range. (range, n)) ranges ++ others)) pairs e in
-    let others = bind_ok (pairs_from s (n + 1) units) (λ others. Ok (map (λ range. (range, n)) ranges.0 ++ others)) pairs ranges.2 in
-    let read : kept s unit ≡ ranges.0 = ap (λ (r : Result (List Range) Bad). result_unwrap_or r []) (or_fault-ok (root_ranges unit.offset) (ranges_in s unit) ranges.0 ranges.1) in
-    sym (ok_is (map (λ range. (range, n)) ranges.0 ++ others.0) pairs others.2)
-    ∙ rw (all-numbered s (n + 1) units others.0 others.1) (ap (λ (ranges : List Range). map (λ range. (range, n)) ranges ++ numbered (n + 1) (map (kept s) units)) (sym read))
+take-next : {X : Type 0} (xs : List X) (i : ℕ) (x : X) → slice_get xs i ≡ Some x → take (suc i) xs ≡ take i xs ++ x ∷ []
+take-next [] i x e = absurd cc
+take-next (y ∷ xs) zero x e = let same : y ≡ x = cc in ap (λ (x : _). x ∷ []) same
+take-next (y ∷ xs) (suc i) x e = ap (λ (rest : List _). y ∷ rest) (take-next xs i x e)
 
--- ---- a unit's ranges are bad
+take-one : {X : Type 0} (xs : List X) (i : ℕ) (x : X) → slice_get xs i ≡ Some x → take (i + 1) xs ≡ take i xs ++ x ∷ []
+take-one xs i x e =
+    let next : i + 1 ≡ suc i = omega arith in
+    ap (λ (n : ℕ). take n xs) next ∙ take-next xs i x e
+
+-- ---- units whose ranges are bad
 
 abbrev is_bad : Sections → DwarfUnit → Bool
 is_bad s unit = answers unit.kind && is_err (unit_ranges s unit)
@@ -48,103 +60,197 @@ bad-by : (answering : Bool) (read : Result (List Range) Bad) → (answering && i
 bad-by true read = refl
 bad-by false read = refl
 
-bad-is : (s : Sections) (unit : DwarfUnit) → is_bad s unit ≡ is_err (ranges_in s unit)
-bad-is s unit = bad-by (answers unit.kind) (unit_ranges s unit)
-
-pub none-bad : (s : Sections) (n : ℕ) (units : List DwarfUnit) (pairs : List (Range × ℕ)) → pairs_from s n units ≡ Ok pairs → find (is_bad s) units ≡ None
-unfolding pairs_from
-none-bad s n [] pairs e = refl
-none-bad s n (unit ∷ units) pairs e =
-    let ranges = bind_ok (checked_ranges s unit) (λ ranges. pairs_from s (n + 1) units >>= λ others. Ok (map (λ range. (range, n)) ranges ++ others)) pairs e in
-    let others = bind_ok (pairs_from s (n + 1) units) (λ others. Ok (map (λ range. (range, n)) ranges.0 ++ others)) pairs ranges.2 in
-    let good : is_bad s unit ≡ false = bad-is s unit ∙ ap (λ (r : Result (List Range) Bad). is_err r) (or_fault-ok (root_ranges unit.offset) (ranges_in s unit) ranges.0 ranges.1) in
-    rw good (none-bad s (n + 1) units others.0 others.1)
-
 told-by : (read : Result (List Range) Bad) (refusal fault : Refusal) → or_fault refusal read ≡ Err fault → (is_err read ≡ true) × (refusal ≡ fault)
 told-by (Ok ranges) refusal fault e = absurd cc
 told-by (Err b) refusal fault e = (refl, cc)
 
-pub first-bad : (s : Sections) (n : ℕ) (units : List DwarfUnit) (fault : Refusal) → pairs_from s n units ≡ Err fault → option_map (λ unit. root_ranges unit.offset) (find (is_bad s) units) ≡ Some fault
-unfolding pairs_from
-first-bad s n [] fault e = absurd cc
-first-bad s n (unit ∷ units) fault e =
-    elim (bind_err (checked_ranges s unit) (λ ranges. pairs_from s (n + 1) units >>= λ others. Ok (map (λ range. (range, n)) ranges ++ others)) fault e) [
-      | inl here ↦
-          let told = told-by (ranges_in s unit) (root_ranges unit.offset) fault here in
-          let bad : is_bad s unit ≡ true = bad-is s unit ∙ told.0 in
-          rw bad (ap Some told.1)
-      | inr later ↦
-          let good : is_bad s unit ≡ false = bad-is s unit ∙ ap (λ (r : Result (List Range) Bad). is_err r) (or_fault-ok (root_ranges unit.offset) (ranges_in s unit) later.0 later.1) in
-          elim (bind_err (pairs_from s (n + 1) units) (λ others. Ok (map (λ range. (range, n)) later.0 ++ others)) fault later.2) [
-            | inl other ↦ rw good (first-bad s (n + 1) units fault other)
-            | inr none ↦ absurd cc
-          ]
-    ]
+-- the first units can be read
+abbrev AreGood : Sections → ℕ → Type 0
+AreGood s i = find (is_bad s) (take i (model.units s.info)) ≡ None
 
--- ---- the first unit that covers an address
+module _ (s : Sections) (i : ℕ) (unit : DwarfUnit) (at : slice_get (model.units s.info) i ≡ Some unit) (good : AreGood s i) where
+  up-to : find (is_bad s) (take (i + 1) (model.units s.info)) ≡ find (is_bad s) (unit ∷ [])
+  up-to = ap (find (is_bad s)) (take-one (model.units s.info) i unit at) ∙ find-append (is_bad s) (take i (model.units s.info)) (unit ∷ []) ∙ rw good refl
 
-abbrev covering : Sections → ℕ → DwarfUnit → Bool
-covering s a unit = answers unit.kind && covers a (result_unwrap_or (unit_ranges s unit) [])
+  bad-is : is_bad s unit ≡ is_err (ranges_in s unit)
+  bad-is = bad-by (answers unit.kind) (unit_ranges s unit)
 
-covered-by : (a : ℕ) (answering : Bool) (read : Result (List Range) Bad) → covers a (result_unwrap_or (cond answering read (Ok [])) []) ≡ (answering && covers a (result_unwrap_or read []))
-covered-by a true read = refl
-covered-by a false read = refl
+  good-on : (ranges : List Range) → ranges_in s unit ≡ Ok ranges → AreGood s (i + 1)
+  good-on ranges e = up-to ∙ rw (bad-is ∙ ap (λ (read : Result (List Range) Bad). is_err read) e) refl
 
-covering-is : (s : Sections) (a : ℕ) (unit : DwarfUnit) → covers a (kept s unit) ≡ covering s a unit
-covering-is s a unit = covered-by a (answers unit.kind) (unit_ranges s unit)
+  pub refused-at : (told : Option Refusal) → MatchOption told (Unit {0}) (λ refusal. checked_ranges s unit ≡ Err refusal) → MatchOption told (Unit {0}) (λ refusal. ranges_refusal s ≡ Some refusal)
+  refused-at None fault = tt
+  refused-at (Some refusal) fault =
+      let bad = told-by (ranges_in s unit) (root_ranges unit.offset) refusal fault in
+      let here : find (is_bad s) (take (i + 1) (model.units s.info)) ≡ Some unit = up-to ∙ rw (bad-is ∙ bad.0) refl in
+      let found : find (is_bad s) (model.units s.info) ≡ Some unit =
+      ap (find (is_bad s)) (sym (take-append-drop (i + 1) (model.units s.info))) ∙ find-append (is_bad s) (take (i + 1) (model.units s.info)) (drop (i + 1) (model.units s.info)) ∙ rw here refl in
+      ap (option_map (λ (unit : DwarfUnit). root_ranges unit.offset)) found ∙ ap Some bad.1
 
-same-length : {X Y : Type 0} (f : X → Y) (p : Y → Bool) (q : X → Bool) (xs : List X) → ((x : X) → p (f x) ≡ q x) → position_or_len p (map f xs) ≡ position_or_len q xs
-same-length f p q [] same = refl
-same-length f p q (x ∷ xs) same = rw (same x, same-length f p q xs same) refl
+-- ---- the first unit that answers an address
 
-same-position : {X Y : Type 0} (f : X → Y) (p : Y → Bool) (q : X → Bool) (xs : List X) → ((x : X) → p (f x) ≡ q x) → position p (map f xs) ≡ position q xs
-same-position f p q xs same = rw (same-length f p q xs same, length-map xs f) refl
+answers-by : (a : ℕ) (answering : Bool) (read : Result (List Range) Bad) (ranges : List Range) → cond answering read (Ok []) ≡ Ok ranges → (answering && covers a (result_unwrap_or read [])) ≡ covers a ranges
+answers-by a true read ranges e = ap (λ (read : Result (List Range) Bad). covers a (result_unwrap_or read [])) e
+answers-by a false read ranges e = let none : [] ≡ ranges = cc in ap (covers a) none
 
-found-by : {X : Type 0} (xs : List X) (n : ℕ) (within : Bool) → nat_lt n (length xs) ≡ within → option_and_then (slice_get xs) (cond within (Some n) None) ≡ slice_get xs n
-found-by xs n true e = refl
-found-by xs n false e = sym (slice_get_past xs n (ltb-false n (length xs) e))
+module _ (s : Sections) (i : ℕ) (unit : DwarfUnit) (at : slice_get (model.units s.info) i ≡ Some unit) (claims : List Claim) (owns : Owns s (take i (model.units s.info)) claims) (ranges : List Range) (read : ranges_in s unit ≡ Ok ranges) where
+  size : length (take i (model.units s.info)) ≡ i
+  size = let within = slice_get_within (model.units s.info) i unit at in let cut = length-take i (model.units s.info) in omega (arith, within, cut)
 
-found-at : {X : Type 0} (q : X → Bool) (xs : List X) → option_and_then (slice_get xs) (position q xs) ≡ find q xs
-found-at q xs = found-by xs (position_or_len q xs) (nat_lt (position_or_len q xs) (length xs)) refl ∙ sym (find_at q xs)
+  -- its ranges beside those of the units before it
+  owns-more : (a : ℕ) → least_owner (in_group 0 claims ++ owned ranges i) a ≡ first (answers_at s a) (take (i + 1) (model.units s.info))
+  owns-more a =
+      let before = first (answers_at s a) (take i (model.units s.info)) in
+      owner-push (in_group 0 claims) ranges i a (λ k e. let w = first-within (answers_at s a) (take i (model.units s.info)) k (sym (owns a) ∙ e) in omega (arith, w, size))
+      ∙ ap (λ (found : Option ℕ). option_or found (cond (covers a ranges) (Some i) None)) (owns a)
+      ∙ ap (λ (here : Bool). option_or before (cond here (Some i) None)) (sym (answers-by a (answers unit.kind) (unit_ranges s unit) ranges read))
+      ∙ ap (λ (n : ℕ). option_or before (cond (answers_at s a unit) (Some n) None)) (sym size)
+      ∙ sym (ap (first (answers_at s a)) (take-one (model.units s.info) i unit at) ∙ first-push (answers_at s a) (take i (model.units s.info)) unit)
 
-within-by : (n size : ℕ) (within : Bool) → nat_lt n size ≡ within → IfSome (cond within (Some n) None) (λ i. i < size)
-within-by n size true e = ltb-true n size e
-within-by n size false e = tt
+-- ---- what was gathered
 
--- ---- the index
+-- what a unit's list is, where it names one
+abbrev pub IsNamed : Sections → DwarfUnit → Option RangeList → Type 0
+IsNamed s unit list = MatchOption list (IsOneAtMost (ranges_in s unit)) (λ list. ranges_in s unit ≡ ranges_of_list s.tables list)
 
--- the law of the least owner, as it is told
-abbrev pub FirstIsLeast : Type 0
-FirstIsLeast = (lists : List (List Range)) (a : ℕ) → least_owner (numbered 0 lists) a ≡ position (covers a) lists
+-- a list has ranges that earlier units own
+abbrev IsRead : Sections → List Claim → ℕ → RangeList → Type 0
+IsRead s claims i list = (ranges : List Range) × (ranges_of_list s.tables list ≡ Ok ranges) × AreOwned (in_group 0 claims) i ranges
 
-owner-is : (s : Sections) (pairs : List (Range × ℕ)) (a : ℕ) → FirstIsLeast → pairs_from s 0 (model.units s.info) ≡ Ok pairs → least_owner pairs a ≡ position (covering s a) (model.units s.info)
-owner-is s pairs a law e =
-    ap (λ (pairs : List (Range × ℕ)). least_owner pairs a) (all-numbered s 0 (model.units s.info) pairs e) ∙ law (map (kept s) (model.units s.info)) a
-    ∙ same-position (kept s) (covers a) (covering s a) (model.units s.info) (covering-is s a)
+-- Claims are those of the units before a place; the lists that were read have owners, and those that
+-- are good can be read.
+pub record Gathered (s : Sections) (most : ℕ) (claims : ClaimsState) (read good : List (RangeList × ℕ)) (i : ℕ) : Type 0 where
+  pub units_are : AreGood s i
+  pub owns : Owns s (take i (model.units s.info)) (all_claims s.tables claims)
+  pub lists : (known : RangeList × ℕ) → Has read known → IsRead s (all_claims s.tables claims) i known.0
+  pub good_are : (known : RangeList × ℕ) → Has good known → (ranges : List Range) × (ranges_of_list s.tables known.0 ≡ Ok ranges)
+  pub few : length claims.kept + claims.room ≤ most + i
 
-pub owner-unit : (s : Sections) (pairs : List (Range × ℕ)) (a : ℕ) → FirstIsLeast → pairs_from s 0 (model.units s.info) ≡ Ok pairs → option_and_then (slice_get (model.units s.info)) (least_owner pairs a) ≡ unit_of s a
-unfolding unit_of
-owner-unit s pairs a law e =
-    ap (λ (owner : Option ℕ). option_and_then (slice_get (model.units s.info)) owner) (owner-is s pairs a law e) ∙ found-at (covering s a) (model.units s.info)
+pub none-gathered : (s : Sections) (most room : ℕ) (claims : ClaimsState) (read good : List (RangeList × ℕ)) → claims ≡ record { kept = []; held = []; room = room } → room ≡ most → read ≡ [] → good ≡ [] → Gathered s most claims read good 0
+unfolding least_owner held_claims first
+none-gathered s most room claims read good is same none none_good = record {
+  units_are = refl;
+  owns = λ a. rw is refl;
+  lists = λ known h. absurd (subst (λ (read : List (RangeList × ℕ)). Has read known) none h);
+  good_are = λ known h. absurd (subst (λ (good : List (RangeList × ℕ)). Has good known) none_good h);
+  few = rw is (omega (arith, same));
+}
 
-pub owner-within : (s : Sections) (pairs : List (Range × ℕ)) (a : ℕ) → FirstIsLeast → pairs_from s 0 (model.units s.info) ≡ Ok pairs → IfSome (least_owner pairs a) (λ i. i < length (model.units s.info))
-owner-within s pairs a law e =
-    let n = position_or_len (covering s a) (model.units s.info) in
-    rw (owner-is s pairs a law e) (within-by n (length (model.units s.info)) (nat_lt n (length (model.units s.info))) refl)
+-- of a unit that names no list there is one range at most
+pub one-range : (s : Sections) (unit : DwarfUnit) (list : Option RangeList) (ranges : List CodeRange) → IsNamed s unit list → checked_ranges s unit ≡ Ok (map range_shown ranges) → list ≡ None → length ranges ≤ 1
+one-range s unit None ranges few e none =
+    omega (arith, few (map range_shown ranges) (or_fault-ok (root_ranges unit.offset) (ranges_in s unit) (map range_shown ranges) e), length-map ranges range_shown)
+one-range s unit (Some list) ranges few e none = absurd cc
 
-pub told-bad : (s : Sections) (n : ℕ) (units : List DwarfUnit) (told : Option Refusal) → MatchOption told (Unit {0}) (λ fault. pairs_from s n units ≡ Err fault) → MatchOption told (Unit {0}) (λ fault. option_map (λ unit. root_ranges unit.offset) (find (is_bad s) units) ≡ Some fault)
-told-bad s n units None e = tt
-told-bad s n units (Some fault) e = first-bad s n units fault e
+module _ (s : Sections) (most : ℕ) (old : ClaimsState) (read good : List (RangeList × ℕ)) (i : ℕ) (unit : DwarfUnit) (at : slice_get (model.units s.info) i ≡ Some unit) (was : Gathered s most old read good i) (list : Option RangeList) (named : IsNamed s unit list) where
+  -- the ranges of its list
+  of-list : (one : RangeList) → list ≡ Some one → ranges_in s unit ≡ ranges_of_list s.tables one
+  of-list one is = subst (λ list. MatchOption list (IsOneAtMost (ranges_in s unit)) (λ list. ranges_in s unit ≡ ranges_of_list s.tables list)) is named
+
+  -- its list was read for an earlier unit
+  pub read-again : MatchOption list ⊥ (λ list. Has read (list, 0)) → Gathered s most old read good (i + 1)
+  read-again had = by_list list of-list had
+    where
+      by_list : (list : Option RangeList) → ((one : RangeList) → list ≡ Some one → ranges_in s unit ≡ ranges_of_list s.tables one) → MatchOption list ⊥ (λ list. Has read (list, 0)) → Gathered s most old read good (i + 1)
+      by_list None is had = absurd had
+      by_list (Some list) is had =
+          let known = was.lists (list, 0) had in
+          let ranges = is list refl ∙ known.1 in
+          record {
+            units_are = good-on s i unit at was.units_are known.0 ranges;
+            owns = λ a. sym (passed-over (in_group 0 (all_claims s.tables old)) known.0 i known.2 a) ∙ owns-more s i unit at (all_claims s.tables old) was.owns known.0 ranges a;
+            lists = λ other h. (let one = was.lists other h in (one.0, one.1, λ a held. let o = one.2 a held in let below = o.2 in (o.0, o.1, omega (arith, below))));
+            good_are = was.good_are;
+            few = let few = was.few in omega (arith, few);
+          }
+
+  -- its ranges are claimed
+  module _ (ranges : List Range) (is : ranges_in s unit ≡ Ok ranges) (new : ClaimsState) (after more : List (RangeList × ℕ))
+      (noted : (known : RangeList × ℕ) → Has after known → Has (map (λ list. (list, 0)) (option_to_list list) ++ read) known)
+      (noted_good : (known : RangeList × ℕ) → Has more known → MatchOption list ⊥ (λ list. IsFromZero list known.0) ⊎ Has good known) where
+    listed-is : (one : RangeList) → list ≡ Some one → listed s.tables one ≡ ranges
+    listed-is one e = ap (λ (read : Result (List Range) Bad). result_unwrap_or read []) (sym (of-list one e) ∙ is)
+
+    good-after : (known : RangeList × ℕ) → Has more known → (ranges : List Range) × (ranges_of_list s.tables known.0 ≡ Ok ranges)
+    good-after known has = elim (noted_good known has) [ inl new ↦ by_list list of-list new | inr old ↦ was.good_are known old ]
+      where
+        by_list : (list : Option RangeList) → ((one : RangeList) → list ≡ Some one → ranges_in s unit ≡ ranges_of_list s.tables one) → MatchOption list ⊥ (λ list. IsFromZero list known.0) → (ranges : List Range) × (ranges_of_list s.tables known.0 ≡ Ok ranges)
+        by_list None of new = absurd new
+        by_list (Some one) of counted =
+            let from = read-from s.tables one counted.0 0 ranges counted.1 (sym (of one refl) ∙ is) in
+            (from.0, ap (ranges_of_list s.tables) counted.2 ∙ from.1)
+
+    claimed-on : Adds 0 ranges i (all_claims s.tables old) (all_claims s.tables new) → length new.kept + new.room ≤ length old.kept + old.room + 1 → Gathered s most new after more (i + 1)
+    claimed-on adds few = record {
+      units_are = good-on s i unit at was.units_are ranges is;
+      owns = λ a. here a ∙ owns-more s i unit at (all_claims s.tables old) was.owns ranges is a;
+      lists = λ known h. by_list known list of-list (noted known h);
+      good_are = good-after;
+      few = let before = was.few in omega (arith, few, before);
+    }
+      where
+        here : (a : ℕ) → owner_in (all_claims s.tables new) 0 a ≡ least_owner (in_group 0 (all_claims s.tables old) ++ owned ranges i) a
+        here a = adds 0 a ∙ ap (λ (pairs : List (Range × ℕ)). least_owner pairs a) (group-here 0 0 (all_claims s.tables old) (owned ranges i) refl)
+
+        seen : (all : List Range) → AreOwned (in_group 0 (all_claims s.tables old) ++ owned ranges i) (i + 1) all → AreOwned (in_group 0 (all_claims s.tables new)) (i + 1) all
+        seen all h = λ a held. let o = h a held in (o.0, here a ∙ o.1, o.2)
+
+        still : (known : RangeList × ℕ) → Has read known → IsRead s (all_claims s.tables new) (i + 1) known.0
+        still known has =
+            let one = was.lists known has in
+            (one.0, one.1, seen one.0 (still-owned (in_group 0 (all_claims s.tables old)) (owned ranges i) i (i + 1) one.0 (omega arith) one.2))
+
+        by_list : (known : RangeList × ℕ) (list : Option RangeList) → ((one : RangeList) → list ≡ Some one → ranges_in s unit ≡ ranges_of_list s.tables one) → Has (map (λ list. (list, 0)) (option_to_list list) ++ read) known → IsRead s (all_claims s.tables new) (i + 1) known.0
+        by_list known None of has = still known has
+        by_list known (Some one) of (inl same) =
+            subst (IsRead s (all_claims s.tables new) (i + 1)) (ap (λ (known : RangeList × ℕ). known.0) same)
+            (ranges, sym (of one refl) ∙ is, seen ranges (now-owned (in_group 0 (all_claims s.tables old)) ranges i (i + 1) (omega arith)))
+        by_list known (Some one) of (inr has) = still known has
+
+    pub read-on : AddsListed s.tables 0 ranges i list old new → length new.kept + new.room ≤ length old.kept + old.room + 1 → Gathered s most new after more (i + 1)
+    read-on (inl adds) few = claimed-on adds few
+    read-on (inr adds) few = claimed-on (subst (λ (ranges : List Range). Adds 0 ranges i (all_claims s.tables old) (all_claims s.tables new)) (listed-is adds.0 adds.1) adds.2) few
+
+    pub held-on : Holds list i old new → Gathered s most new after more (i + 1)
+    held-on held =
+        claimed-on (adds-same 0 ranges i (all_claims s.tables old) (all_claims s.tables new) (held.claims s.tables ∙ ap (λ (ranges : List Range). all_claims s.tables old ++ claims_in 0 (owned ranges i)) (listed-is held.named held.is)))
+        (let size : length new.kept ≡ length old.kept = ap (λ (kept : List Claim). length kept) held.kept in let room = held.room in omega (arith, size, room))
+
+  -- its list was held for an earlier unit that counts from another base
+  pub held-ranges : MatchOption list ⊥ (λ list. (other : RangeList) × IsFromZero list other × Has good (other, 0)) → (ranges : List Range) × (ranges_in s unit ≡ Ok ranges)
+  held-ranges had = by_list list of-list had
+    where
+      by_list : (list : Option RangeList) → ((one : RangeList) → list ≡ Some one → ranges_in s unit ≡ ranges_of_list s.tables one) → MatchOption list ⊥ (λ list. (other : RangeList) × IsFromZero list other × Has good (other, 0)) → (ranges : List Range) × (ranges_in s unit ≡ Ok ranges)
+      by_list None of had = absurd had
+      by_list (Some one) of had =
+          let counted = had.1 in
+          let known = was.good_are (had.0, 0) had.2 in
+          let from = read-from s.tables (record { begin = one.begin; base = Some 0; addr = one.addr }) 0 counted.0 known.0 refl (ap (ranges_of_list s.tables) (sym counted.2) ∙ known.1) in
+          (from.0, of one refl ∙ ap (λ (base : Option ℕ). ranges_of_list s.tables (record { begin = one.begin; base = base; addr = one.addr })) counted.1 ∙ from.1)
+
+-- ---- all units
+
+pub all-gathered : (s : Sections) (i : ℕ) (claims : List Claim) → length (model.units s.info) ≤ i → Owns s (take i (model.units s.info)) claims → Owns s (model.units s.info) claims
+all-gathered s i claims past owns = subst (λ (units : List DwarfUnit). Owns s units claims) (take_all i (model.units s.info) past) owns
+
+pub none-refused : (s : Sections) (i : ℕ) → length (model.units s.info) ≤ i → AreGood s i → ranges_refusal s ≡ None
+none-refused s i past good = ap (option_map (λ (unit : DwarfUnit). root_ranges unit.offset)) (ap (find (is_bad s)) (sym (take_all i (model.units s.info) past)) ∙ good)
 
 unit-found : (s : Sections) (found : Option ℕ) (unit : Option DwarfUnit) → IfSome found (λ i. i < length (model.units s.info)) → option_and_then (slice_get (model.units s.info)) found ≡ unit → option_map (unit_at s) found ≡ unit
 unit-found s None unit within is = is
 unit-found s (Some i) unit within is = sym (slice_get-get_or (model.units s.info) i absent within) ∙ is
 
--- the same of the unit that is found, where ranges are kept and units are held
-pub cover-unit : (s seen : Sections) (cover : CoverState) (pairs : List (Range × ℕ)) (a : ℕ) → s ≡ seen → FirstIsLeast → pairs_from s 0 (model.units s.info) ≡ Ok pairs → first_unit s.tables cover a ≡ least_owner pairs a
-    → (option_map (unit_at seen) (first_unit seen.tables cover a) ≡ unit_of seen a) × IfSome (first_unit seen.tables cover a) (λ i. i < length (model.units seen.info))
-cover-unit s seen cover pairs a same law e is =
-    let within = owner-within s pairs a law e in
-    let found = unit-found s (least_owner pairs a) (unit_of s a) within (owner-unit s pairs a law e) in
-    let owned : (option_map (unit_at s) (first_unit s.tables cover a) ≡ unit_of s a) × IfSome (first_unit s.tables cover a) (λ i. i < length (model.units s.info)) = rw is (found, within) in
-    subst (λ (s : Sections). (option_map (unit_at s) (first_unit s.tables cover a) ≡ unit_of s a) × IfSome (first_unit s.tables cover a) (λ i. i < length (model.units s.info))) same owned
+within-by : {X : Type 0} (test : X → Bool) (xs : List X) (found : Option ℕ) → first test xs ≡ found → IfSome found (λ i. i < length xs)
+within-by test xs None e = tt
+within-by test xs (Some k) e = first-within test xs k e
+
+-- the unit that is found is the one that answers
+pub owner-unit : (s seen : Sections) (owners : OwnersState) (claims : List Claim) (a : ℕ) → s ≡ seen → Owns s (model.units s.info) claims → first_unit s.tables owners a ≡ owner_in claims 0 a
+    → (option_map (unit_at seen) (first_unit seen.tables owners a) ≡ unit_of seen a) × IfSome (first_unit seen.tables owners a) (λ i. i < length (model.units seen.info))
+unfolding unit_of
+owner-unit s seen owners claims a same owns is =
+    let found = first (answers_at s a) (model.units s.info) in
+    let within = within-by (answers_at s a) (model.units s.info) found refl in
+    let unit = unit-found s found (unit_of s a) within (sym (first-find (answers_at s a) (model.units s.info))) in
+    let here : (option_map (unit_at s) (first_unit s.tables owners a) ≡ unit_of s a) × IfSome (first_unit s.tables owners a) (λ i. i < length (model.units s.info)) = rw (is ∙ owns a) (unit, within) in
+    subst (λ (s : Sections). (option_map (unit_at s) (first_unit s.tables owners a) ≡ unit_of s a) × IfSome (first_unit s.tables owners a) (λ i. i < length (model.units s.info))) same here

@@ -2,14 +2,15 @@
 use Rattle.std.specs.Prelude.{◌≡◌, ◌≤◌, ◌<◌, ℕ, List, IfSome, length}
 use Rattle.dw_model.specs.Section.{Sections, sections}
 use Rattle.dw_model.specs.Unit as model
-use Rattle.dw_symbols.specs.Held.{CoverState, FindsUnits, first_unit, most_ranges}
+use Rattle.dw_ranges.specs.Claims.{OwnersState}
+use Rattle.dw_symbols.specs.Owners.{FindsUnits, first_unit, most_ranges}
 use Rattle.dw_symbols.specs.declared.image.Image.TheInside.{Inside}
 
 abbrev pub file_of : Inside → List ℕ
 file_of image = image.file.now
 
 -- what is found for an address is the place of a unit
-abbrev pub FindsPlaces : Sections → CoverState → Type 0
+abbrev pub FindsPlaces : Sections → OwnersState → Type 0
 FindsPlaces sections cover =
     (a : ℕ) → IfSome (first_unit sections.tables cover a) (λ i. i < length (model.units sections.info))
 

@@ -9,12 +9,8 @@ pub mod Context
 pub mod Told
 pub mod UnitParts
 pub mod Kept
-pub mod Cover
-pub mod Held
-pub mod CoverInside
-pub mod Pairs
+pub mod Owners
 pub mod Image
 pub mod ImageUnit
 pub mod Frames
-pub mod Window
 pub mod UnitWalk

@@ -1,9 +1,9 @@
 -- What a walk over units is seen as.
 use Rattle.std.specs.Prelude.{ℕ, List}
 use Rattle.dw_model.specs.Section.{sections}
-use Rattle.dw_symbols.specs.Held.{FindsUnits}
+use Rattle.dw_symbols.specs.Owners.{FindsUnits}
 use Rattle.dw_symbols.specs.Image.{FindsPlaces}
-use Rattle.dw_symbols.specs.Window.{IsWindow}
+use Rattle.dw_ranges.specs.Window.{IsWindow}
 use Rattle.dw_symbols.specs.declared.unit_walk.UnitWalk.TheInside.{Inside}
 
 abbrev pub file_in : Inside → List ℕ

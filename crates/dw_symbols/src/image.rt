@@ -3,16 +3,15 @@
 ghost use Rattle.std.specs.Prelude.{◌≡◌, ◌≤◌, None, OnOk, IfOk, IfErr, IfSome, option_map};
 ghost use Rattle.dw_model.specs.Section.{sections, elf_refusal};
 ghost use Rattle.dw_model.specs.Answer.{unit_of};
-ghost use Rattle.dw_symbols.specs.Held.{AreEnough, most_ranges};
+ghost use Rattle.dw_symbols.specs.Owners.{AreEnough, most_ranges};
 ghost use Rattle.dw_model.specs.Refusal.{refusal};
 ghost use Rattle.dw_elf.specs.OpenFault.{RefusesUnlessMemory, HidesNoRefusal};
 
-use crate::cover::Cover;
 use crate::image_unit::ImageUnit;
-use crate::unit_ranges::unit_ranges;
+use crate::unit_ranges::{UNITS, unit_ranges};
 use crate::unit_walk::UnitWalk;
 use dw_elf::{Elf, Name, OpenFault};
-use dw_ranges::law_of_least_owner;
+use dw_ranges::Owners;
 use dw_units::Units;
 use std::alloc::{AllocError, Global};
 use std::marker::Model;
@@ -27,7 +26,7 @@ pub struct Image<'a> {
     /// What is read of its units keeps them too.
     units: Arc<Units<'a>>,
     /// The places of the units that answer addresses.
-    cover: Cover,
+    cover: Owners,
 }
 
 impl<'a> Model for Image<'a> {
@@ -61,10 +60,9 @@ impl<'a> Image<'a> {
     {
         let elf = Elf::open(file)?;
         let units = Units::read(alloc, &elf)?;
-        let kept = unit_ranges(alloc, &units)?;
-        let cover = Cover::build(alloc, kept)?;
+        let claims = unit_ranges(alloc, &units)?;
+        let cover = Owners::build(alloc, claims)?;
         let shared = Arc::new(alloc, units)?;
-        law_of_least_owner();
         Ok(Image {
             file,
             line: elf.section(Name::DebugLine),
@@ -99,7 +97,7 @@ impl<'a> Image<'a> {
         ensures unit { option_map unit_in result ≡ unit_of (sections self.now) a }
         ensures image { IfSome result (λ unit. unit.image.now ≡ self.now) }
     {
-        let index = self.cover.find(self.units.tables(), a)?;
+        let index = self.cover.find(self.units.tables(), UNITS, a)?;
         Some(ImageUnit { image: self, index })
     }
 

@@ -3,7 +3,6 @@
 
 mod answer;
 mod context;
-mod cover;
 mod frames;
 mod image;
 mod image_unit;
@@ -21,7 +20,6 @@ mod unit_parts;
 mod unit_place;
 mod unit_ranges;
 mod unit_walk;
-mod window;
 
 pub use answer::{Answer, Frame, Location, Piece, UnitFault};
 pub use context::Context;

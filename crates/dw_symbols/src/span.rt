@@ -19,7 +19,7 @@ pub(crate) struct Span {
 }
 
 /// The lesser of two addresses.
-pub(crate) fn lesser(a: u64, b: u64) -> u64
+fn lesser(a: u64, b: u64) -> u64
     ensures first { result ≤ a }
     ensures second { result ≤ b }
     ensures above { (c : ℕ) → c < a → c < b → c < result }

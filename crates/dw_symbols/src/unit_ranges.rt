@@ -1,34 +1,27 @@
 //! The ranges of all units that answer addresses.
 
-ghost use Rattle.std.specs.Prelude.{◌≡◌, ◌≤◌, ◌++◌, ◌⊎◌, ℕ, true, map, length};
+ghost use Rattle.std.specs.Prelude.{◌≡◌, ◌≤◌, ◌+◌, ◌++◌, ◌⊎◌, ℕ, true, None, map, length};
 ghost use Rattle.std.specs.Prelude.{OnOk, IfOk, IfErr, IfSome, IsSome, MatchOption};
 ghost use Rattle.std.specs.Prelude.{option_to_list};
 ghost use Rattle.dw_model.specs.Unit as model;
 ghost use Rattle.dw_model.specs.Answers.{GivesUnlessMemory};
+ghost use Rattle.dw_model.specs.Refusal.{ranges_refusal};
+ghost use Rattle.dw_model.specs.Text.{Tables as ModelTables};
 ghost use Rattle.dw_elf.specs.OpenFault.{refusal_of};
 ghost use Rattle.dw_units.specs.OpenUnit.{sections_of, unit_of};
+ghost use Rattle.dw_ranges.specs.Claims.{AddsListed, all_claims};
 ghost use Rattle.dw_ranges.specs.Lists.{IsOneAtMost, ranges_of_list};
 ghost use Rattle.dw_ranges.specs.ReadLists.{Has};
 ghost use Rattle.dw_index.specs.Range.{range_shown};
-ghost use Rattle.dw_symbols.specs.Held.{AreInOrder, most_ranges};
-ghost use Rattle.dw_symbols.specs.Pairs.{Adds, IsFromZero, Owns, Refuses, WasHeld, all_pairs};
-ghost use Rattle.dw_symbols.specs.Cover.{checked_ranges, pairs_from, ranges_in};
+ghost use Rattle.dw_symbols.specs.Owners.{Holds, IsFromZero, Owns, Refuses, checked_ranges, most_ranges, ranges_in};
 
-use crate::cover::HeldUnit;
 use dw_elf::OpenFault;
-use dw_ranges::{Range, RangeFault, RangeList, ReadLists, list_of, read_ranges};
+use dw_ranges::{Claims, Range, RangeFault, RangeList, ReadLists, list_of, read_ranges};
 use dw_units::{OpenUnit, Units};
 use std::alloc::{AllocError, Global};
 
-/// The ranges of units, each with the place of its unit, and the units whose ranges are more than
-/// what is kept, in order of their places.
-#[derive(Drop)]
-pub(crate) struct UnitRanges {
-    pub(crate) pairs: Vec<(Range, usize)>,
-    pub(crate) held: Vec<HeldUnit>,
-    /// How many ranges more of lists are kept.
-    room: usize,
-}
+/// The group in which units claim ranges.
+pub(crate) const UNITS: usize = 0;
 
 /// Reads the ranges of a unit's first entry, where the unit answers addresses, in place of those
 /// that were kept; none where it doesn't. The error names the unit.
@@ -49,20 +42,6 @@ fn read_answering(ranges: &mut Vec<Range>, unit: OpenUnit<'_, '_>) -> Result<(),
         Err(RangeFault::Bad) => Err(OpenFault::RootRanges(here.offset)),
         Err(RangeFault::Memory) => Err(OpenFault::Memory),
     }
-}
-
-/// Adds ranges that have one owner.
-fn push_ranges(
-    pairs: &mut Vec<(Range, usize)>,
-    ranges: &[Range],
-    owner: usize,
-) -> Result<(), AllocError>
-    ensures { OnOk result (pairs.new.items ≡ pairs.old.items ++ map (λ range. (range, owner)) ranges.now) }
-{
-    for range in ranges {
-        pairs.push((*range, owner))?;
-    }
-    Ok(())
 }
 
 /// The list that a unit's first entry names, where the unit answers addresses; `None` where it has
@@ -132,22 +111,11 @@ fn was_held(good: &ReadLists, list: Option<RangeList>) -> bool
     good.has(other, 0)
 }
 
-/// Notes the list of a unit, counted from any base, where the unit is held by it.
-fn note_held(
-    good: &mut ReadLists,
-    held: &[HeldUnit],
-    list: Option<RangeList>,
-    unit: usize,
-) -> Result<(), AllocError>
+/// Notes a list that was read, counted from any base.
+fn note_good(good: &mut ReadLists, list: Option<RangeList>) -> Result<(), AllocError>
     ensures { OnOk result ((known : RangeList × ℕ) → Has good.new known
         → MatchOption list ⊥ (λ list. IsFromZero list known.0) ⊎ Has good.old known) }
 {
-    let Some(last) = held.last() else {
-        return Ok(());
-    };
-    if last.unit != unit {
-        return Ok(());
-    }
     let Some(list) = list else {
         return Ok(());
     };
@@ -158,58 +126,55 @@ fn note_held(
 }
 
 /// Holds a unit by its list.
-fn hold(kept: &mut UnitRanges, list: Option<RangeList>, unit: usize) -> Result<(), AllocError>
+fn hold(claims: &mut Claims, list: Option<RangeList>, unit: usize) -> Result<(), AllocError>
     requires { IsSome list }
-    ensures { OnOk result (WasHeld list unit kept.old kept.new) }
+    ensures { OnOk result (Holds list unit claims.old claims.new) }
 {
     let Some(list) = list else {
         return Ok(());
     };
-    kept.held.push(HeldUnit { list, unit })?;
-    Ok(())
+    claims.hold(UNITS, list, unit)
 }
 
-/// Keeps the ranges of a unit; where they are those of a list and more than what is kept, the unit
-/// alone.
-fn keep(
-    kept: &mut UnitRanges,
+/// Adds the ranges of a unit, which are those of its list, where it names one; and notes the list
+/// where it is held by name.
+fn add(
+    claims: &mut Claims,
+    good: &mut ReadLists,
     ranges: &[Range],
     list: Option<RangeList>,
     unit: usize,
 ) -> Result<(), AllocError>
-    ensures { OnOk result (Adds list ranges.now unit kept.old kept.new) }
+    requires one { list ≡ None → length ranges.now ≤ 1 }
+    ensures few { length claims.new.kept + claims.new.room ≤ length claims.old.kept + claims.old.room + 1 }
+    ensures claims { OnOk result ((tables : ModelTables)
+        → AddsListed tables 0 (map range_shown ranges.now) unit list claims.old claims.new) }
+    ensures good { OnOk result ((known : RangeList × ℕ) → Has good.new known
+        → MatchOption list ⊥ (λ list. IsFromZero list known.0) ⊎ Has good.old known) }
 {
-    let Some(list) = list else {
-        return push_ranges(&mut kept.pairs, ranges, unit);
-    };
-    let Some(room) = kept.room.checked_sub(ranges.len()) else {
-        kept.held.push(HeldUnit { list, unit })?;
+    claims.add(UNITS, ranges, unit, list)?;
+    if !claims.is_full() || ranges.len() <= 1 {
         return Ok(());
-    };
-    kept.room = room;
-    push_ranges(&mut kept.pairs, ranges, unit)
+    }
+    note_good(good, list)?;
+    Ok(())
 }
 
-/// The ranges of all units that answer addresses, each with the place of its unit, but for those of
-/// units whose ranges are all an earlier one's: such a unit owns no address. So a list is read
-/// once, however many units name it and count from the same bases. A list of which several units
-/// count from other bases has other ranges in each; so no more ranges of lists are kept than the
-/// bytes of .debug_rnglists can spell, and the units behind these are held by their lists, whose
-/// ranges were read for their faults alone: once for each list, since no fault depends on the base.
-/// The error is `RootRanges`, of the first unit whose ranges can't be read, or `Memory`.
-pub(crate) fn unit_ranges(alloc: Global, units: &Units<'_>) -> Result<UnitRanges, OpenFault>
-    ensures owns { IfOk result (λ kept. Owns (all_pairs units.now.tables kept)
-        (pairs_from units.now 0 (model.units units.now.info))) }
-    ensures order { IfOk result (λ kept. AreInOrder kept.held.items) }
-    ensures few { IfOk result (λ kept. length kept.pairs.items ≤ most_ranges units.now) }
-    ensures refused { IfErr result (λ fault. Refuses (refusal_of fault)
-        (pairs_from units.now 0 (model.units units.now.info))) }
+/// What units that answer addresses claim by their places, but for those of which an earlier one
+/// owns all addresses. So a list is read once, however many units name it and count from the same
+/// bases. A list of which several units count from other bases has other ranges in each; so no more
+/// ranges of lists are kept than the bytes of .debug_rnglists can spell, and the units behind these
+/// are held by their lists, whose ranges were read for their faults alone: once for each list,
+/// since no fault depends on the base. The error is `RootRanges`, of the first unit whose ranges
+/// can't be read, or `Memory`.
+pub(crate) fn unit_ranges(alloc: Global, units: &Units<'_>) -> Result<Claims, OpenFault>
+    ensures owns { IfOk result (λ claims. Owns units.now (model.units units.now.info)
+        (all_claims units.now.tables claims)) }
+    ensures accepted { OnOk result (ranges_refusal units.now ≡ None) }
+    ensures few { IfOk result (λ claims. length claims.kept ≤ most_ranges units.now) }
+    ensures refused { IfErr result (λ fault. Refuses (refusal_of fault) units.now) }
 {
-    let mut kept = UnitRanges {
-        pairs: Vec::new(alloc),
-        held: Vec::new(alloc),
-        room: units.tables().rnglists.len() / 3,
-    };
+    let mut claims = Claims::new(alloc, units.tables().rnglists.len() / 3);
     let mut read = ReadLists::new(alloc);
     let mut good = ReadLists::new(alloc);
     let mut ranges = Vec::new(alloc);
@@ -220,14 +185,13 @@ pub(crate) fn unit_ranges(alloc: Global, units: &Units<'_>) -> Result<UnitRanges
             continue;
         }
         if was_held(&good, list) {
-            hold(&mut kept, list, i)?;
+            hold(&mut claims, list, i)?;
             note(&mut read, list)?;
             continue;
         }
         read_answering(&mut ranges, unit)?;
-        keep(&mut kept, &ranges, list, i)?;
+        add(&mut claims, &mut good, &ranges, list, i)?;
         note(&mut read, list)?;
-        note_held(&mut good, &kept.held, list, i)?;
     }
-    Ok(kept)
+    Ok(claims)
 }

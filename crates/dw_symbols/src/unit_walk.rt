@@ -3,14 +3,13 @@
 ghost use Rattle.std.specs.Prelude.{◌≡◌, ◌<◌, IfOk, IfSome, option_map};
 ghost use Rattle.dw_model.specs.Section.{sections};
 ghost use Rattle.dw_model.specs.Steady.{last_address};
-ghost use Rattle.dw_symbols.specs.Held.{FindsUnits};
+ghost use Rattle.dw_symbols.specs.Owners.{FindsUnits};
 ghost use Rattle.dw_symbols.specs.Image.{FindsPlaces};
 ghost use Rattle.dw_symbols.specs.ImageUnit.{IsUnitOf, unit_in};
 
-use crate::cover::{Cover, Owner};
 use crate::image::Image;
 use crate::image_unit::{Covered, ImageUnit};
-use crate::window::Window;
+use dw_ranges::{Found, Owners, Window};
 use std::alloc::{AllocError, Global};
 use std::marker::Model;
 
@@ -18,7 +17,7 @@ use std::marker::Model;
 #[derive(Drop)]
 pub(crate) struct UnitWalk<'b, 'a> {
     image: &'b Image<'a>,
-    cover: &'b Cover,
+    cover: &'b Owners,
     alloc: Global,
     /// What was found of the units that are held by their lists.
     window: Window,
@@ -40,7 +39,7 @@ impl<'b, 'a> UnitWalk<'b, 'a> {
     pub(crate) fn new(
         alloc: Global,
         image: &'b Image<'a>,
-        cover: &'b Cover,
+        cover: &'b Owners,
     ) -> Result<Self, AllocError>
         requires finds { FindsUnits (sections image.now) cover.now }
         requires within { FindsPlaces (sections image.now) cover.now }
@@ -65,11 +64,11 @@ impl<'b, 'a> UnitWalk<'b, 'a> {
         ensures image { IfOk result (λ found. IfSome found.unit (λ unit. unit.image.now ≡ self.old)) }
     {
         let (image, tables) = (self.image, self.image.units().tables());
-        let owner = self
+        let found = self
             .cover
             .find_from(self.alloc, tables, &mut self.window, a)?;
-        let Owner { unit, until } = owner;
-        let unit = match unit {
+        let Found { owner, until } = found;
+        let unit = match owner {
             Some(index) => Some(ImageUnit { image, index }),
             None => None,
         };

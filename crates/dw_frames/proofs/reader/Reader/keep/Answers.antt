@@ -1,4 +1,4 @@
-use Rattle.std.proofs.Common.{◌≡◌, ◌∙◌, ℕ, Bool, true, None, length, ap, sym, subst}
+use Rattle.std.proofs.Common.{◌≡◌, ◌∙◌, ℕ, Bool, true, length, ap, sym, subst}
 use Rattle.std.specs.Prelude.{MatchOption, is_err, nat_lt}
 use Rattle.std.proofs.lemmas.Option.{same_Some}
 use Rattle.std.proofs.lemmas.Result.{err_from_is_err_and}
@@ -7,9 +7,9 @@ use Rattle.dw_model.specs.Results.{refuse_if}
 use Rattle.dw_model.specs.Entry.{Entry}
 use Rattle.dw_model.specs.Tree.{is_function, most_depth, entry_ranges_in}
 use Rattle.dw_units.specs.Entries.{IsNext}
-use Rattle.dw_frames.specs.Drafts.{with_list}
+use Rattle.dw_frames.specs.Drafts.{nowhere, with_list}
 use Rattle.dw_frames.specs.Fault.{tree_fault}
-use Rattle.dw_frames.proofs.KnownLemmas.{same-as}
+use Rattle.dw_frames.proofs.KnownLemmas.{knows-ended, knows-list, same-as}
 use Rattle.dw_frames.proofs.ReaderLemmas.{ranges-told, unranged-used, unranged-behind}
 use Rattle.dw_frames.proofs.reader.Reader.keep.Goals as goal
 
@@ -31,5 +31,14 @@ returns-in_ok-begin_list-in-Unranged-clause-entry c knows ranged found is =
     let drafts = c.args.drafts.now in
     let next = subst (λ next. IsNext ranged next found c.args.entries.now.last) c.in-Unranged.is is in
     let shallow = ap (λ (depth : ℕ). refuse_if (nat_lt most_depth depth) depth_fault) (sym c.depth-depth.ensures) ∙ c.in_ok-check_depth-in-Unranged.ensures in
-    let list = ap (λ (children : Bool). with_list children None drafts) next.5 ∙ sym (unranged-behind s unit next.0 drafts next.2 next.4) in
+    let list = ap (λ (children : Bool). with_list children nowhere drafts) next.5 ∙ sym (unranged-behind s unit next.0 drafts next.2 next.4) in
     rw (next.1) (unranged-used s unit (length drafts.lists) next.0 next.2 next.4 shallow, same-as _ _ (c.in_ok-begin_list-in-Unranged.ensures ∙ list))
+
+pub returns-in-Null-clause-known : goal.returns-in-Null-clause-known
+returns-in-Null-clause-known c knows = knows-ended c.args.self.now c.args.drafts.now c.end_list.new.self c.end_list.ensures knows
+
+pub returns-in_ok-begin_list-in-Passed-clause-known : goal.returns-in_ok-begin_list-in-Passed-clause-known
+returns-in_ok-begin_list-in-Passed-clause-known c knows = knows-list c.args.self.now c.args.drafts.now c.begin_list.new.self _ _ c.in_ok-begin_list-in-Passed.ensures knows
+
+pub returns-in_ok-begin_list-in-Unranged-clause-known : goal.returns-in_ok-begin_list-in-Unranged-clause-known
+returns-in_ok-begin_list-in-Unranged-clause-known c knows = knows-list c.args.self.now c.args.drafts.now c.begin_list-in-Unranged.new.self _ _ c.in_ok-begin_list-in-Unranged.ensures knows

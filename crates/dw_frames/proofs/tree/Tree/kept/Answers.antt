@@ -13,9 +13,9 @@ returns-clause-bytes c =
     let of = unit_of_tree c.self.inside in
     let few = c.self.invariant.chains.few in
     let functions = unit-few of.sections of.unit (λ (node : Node). is_kept of.sections of.unit node.entry) (nodes_of of.sections of.unit) c.self.invariant.chains.read in
-    subst (λ (of : UnitIn). c.self.inside.chains.ranges ≤ most_listed of.unit + (of.unit.end - of.unit.first_entry)) c.self.view_is (omega (arith, few, functions))
+    subst (λ (of : UnitIn). c.ranges-2.result ≤ most_listed of.unit + (of.unit.end - of.unit.first_entry)) c.self.view_is (omega (arith, few, functions, c.ranges-2.ensures.ranges))
 
 pub returns-clause-enough : goal.returns-clause-enough
 returns-clause-enough c =
     let chains = c.self.inside.chains in
-    subst (λ (of : UnitIn). AreEnough of chains.ranges) c.self.view_is (chains, c.self.invariant.chains.chains, c.self.invariant.chains.counted)
+    subst (λ (of : UnitIn). AreEnough of c.ranges-2.result) c.self.view_is (chains, c.self.invariant.chains.chains, c.ranges-2.ensures.counted)

@@ -2,7 +2,7 @@ use Rattle.std.proofs.Common.{◌≡◌, ◌∙◌, ◌≤◌, ◌+◌, ℕ, Lis
 use Rattle.dw_model.specs.Abbrev.{Declaration, abbreviations}
 use Rattle.dw_model.specs.Section.{Sections}
 use Rattle.dw_model.proofs.StepLemmas.{ok_is}
-use Rattle.dw_index.specs.Owners.{least_owner}
+use Rattle.dw_ranges.specs.Claims.{owner_in, owner_of}
 use Rattle.dw_units.specs.declared.open_unit.OpenUnit.{OpenUnit}
 use Rattle.dw_units.specs.Layouts.{AreOf, AreOfUnit}
 use Rattle.dw_units.specs.OpenUnit.{sections_of, unit_of}
@@ -10,7 +10,7 @@ use Rattle.dw_units.specs.declared.layouts.Layouts.{Layouts}
 use Rattle.dw_units.specs.UnitAt.{unit_at}
 use Rattle.dw_frames.specs.declared.chains.Chains.{Chains}
 use Rattle.dw_frames.specs.Kept.{most_listed}
-use Rattle.dw_frames.specs.Tree.{all_inlined, outermost_at, IsTreeOf}
+use Rattle.dw_frames.specs.Tree.{IsTreeOf}
 use Rattle.dw_frames.specs.UnitIn.{UnitIn, unit_in}
 use Rattle.dw_frames.proofs.BuiltLemmas.{is-tree}
 use Rattle.dw_frames.proofs.ToldLemmas.{none-told}
@@ -37,10 +37,9 @@ invariant_of-result c =
     let chains = c.in_ok-chains.chains in
     let drafts = c.in_ok-drafts.drafts in
     let index : chains.unit ≡ of.index = built.unit ∙ ap (λ (of : UnitIn). of.index) same in
-    let inlined = subst (λ (of : UnitIn). all_inlined of.sections.tables chains ≡ drafts.inlined) same built.inlined in
-    let outermost = subst (λ (of : UnitIn). (a : ℕ) → outermost_at of.sections.tables chains a ≡ least_owner drafts.outermost a) same built.outermost in
-    let room = subst (λ (of : UnitIn). chains.ranges ≤ most_listed of.unit + length drafts.functions) same built.few in
-    let tree = is-tree of read.0 drafts read.1 chains read.2 read.3 index c.at-unit.result.within built.functions inlined outermost room built.counted in
+    let owners = subst (λ (of : UnitIn). (group a : ℕ) → owner_of of.sections.tables chains.owners group a ≡ owner_in drafts.claims group a) same built.owners in
+    let room = subst (λ (of : UnitIn). chains.owners.ranges ≤ most_listed of.unit + length drafts.functions) same built.few in
+    let tree = is-tree of read.0 drafts read.1 chains read.2 read.3 index c.at-unit.result.within built.functions owners room in
     record {
       chains = of-file c.at-unit.result c.in_ok-try_clone.field-0.value chains.unit chains (c.at-unit.ensures.sections ∙ c.deref.ensures ∙ sym c.in_ok-try_clone.ensures) (sym index) tree;
       layouts = layouts-of c.at-unit.result c.in_ok-try_clone.field-0.value chains.unit c.in-Some.entries.declarations c.into_layouts.result (c.at-unit.ensures.sections ∙ c.deref.ensures ∙ sym c.in_ok-try_clone.ensures) (sym index) c.in-Some.ensures.0 (subst (λ (declarations : List Declaration). AreOf declarations c.into_layouts.result) c.in_ok-drafts.ensures.declarations c.into_layouts.ensures);

@@ -1,0 +1,5 @@
+use Rattle.dw_ranges.specs.LinkedInside.{AreIndexed}
+use Rattle.dw_ranges.proofs.linked.indexes_of.Given as goal
+
+abbrev pub invariant-loop-group : goal.invariant-loop-group
+invariant-loop-group l = AreIndexed l.links l.indexes.items

@@ -1,0 +1,88 @@
+-- Ranges that owners claim in groups, and who owns an address in a group.
+use Rattle.std.specs.Prelude.{◌≡◌, ◌⊎◌, ◌≤◌, ◌*◌, ℕ, zero, suc, ◌+◌, List, [], ◌∷◌, ◌++◌}
+use Rattle.std.specs.Prelude.{length, map, filter, Option, Some, ◌==◌}
+use Rattle.dw_model.specs.Ranges.{Range}
+use Rattle.dw_model.specs.Text.{Tables}
+use Rattle.dw_index.specs.declared.segment.Segment.{Segment}
+use Rattle.dw_index.specs.Owners.{least, least_owner}
+use Rattle.dw_index.specs.Segments.{owner_at}
+use Rattle.dw_ranges.specs.declared.held.HeldList.{HeldList}
+use Rattle.dw_ranges.specs.declared.range_list.RangeList.{RangeList}
+use Rattle.dw_ranges.specs.Held.{listed}
+use Rattle.dw_ranges.specs.Owned.{owned}
+
+-- a range with its owner, in a group
+pub record Claim : Type 0 where
+  pub group : ℕ
+  pub pair : Range × ℕ
+
+-- those of a group, in order
+abbrev pub in_group : ℕ → List Claim → List (Range × ℕ)
+in_group group claims = map (λ claim. claim.pair) (filter (λ claim. claim.group == group) claims)
+
+-- ranges with their owners in a group
+abbrev pub claims_in : ℕ → List (Range × ℕ) → List Claim
+claims_in group pairs = map (λ pair. record { group = group; pair = pair }) pairs
+
+-- the same ranges, each in the group after its own
+abbrev pub raised : List Claim → List Claim
+raised claims = map (λ claim. record { group = suc claim.group; pair = claim.pair }) claims
+
+-- the least owner in a group of the ranges that hold an address
+abbrev pub owner_in : List Claim → (group a : ℕ) → Option ℕ
+owner_in claims group a = least_owner (in_group group claims) a
+
+-- The owners of addresses are those of before, and one that claims these ranges in a group.
+abbrev pub Adds : (group : ℕ) → List Range → (owner : ℕ) → (old new : List Claim) → Type 0
+Adds group ranges owner old new =
+    (k a : ℕ) → owner_in new k a ≡ owner_in (old ++ claims_in group (owned ranges owner)) k a
+
+-- the ranges of lists that are held by name
+unfoldable pub held_claims : Tables → List HeldList → List Claim
+held_claims tables [] = []
+held_claims tables (held ∷ lists) =
+    claims_in held.group (owned (listed tables held.list) held.owner) ++ held_claims tables lists
+
+-- ---- while they are gathered
+
+-- the ranges that are kept, the lists that are held by name, and how many ranges of lists may still
+-- be kept
+pub record ClaimsState : Type 0 where
+  pub kept : List Claim
+  pub held : List HeldList
+  pub room : ℕ
+
+abbrev pub all_claims : Tables → ClaimsState → List Claim
+all_claims tables claims = claims.kept ++ held_claims tables claims.held
+
+-- An owner claims ranges, or those of their list, which is held by name.
+abbrev pub AddsListed : Tables → (group : ℕ) → List Range → (owner : ℕ) → Option RangeList
+    → (old new : ClaimsState) → Type 0
+AddsListed tables group ranges owner list old new =
+    Adds group ranges owner (all_claims tables old) (all_claims tables new)
+    ⊎ ((one : RangeList) × (list ≡ Some one)
+    × Adds group (listed tables one) owner (all_claims tables old) (all_claims tables new))
+
+-- ---- when they are asked
+
+-- the index of the ranges in group 0, those in groups from 1 on, of which the first is 0 here, the
+-- lists that are held by name, and how many ranges are kept
+pub record OwnersState : Type 0 where
+  pub index : List Segment
+  pub others : List Claim
+  pub held : List HeldList
+  pub ranges : ℕ
+
+-- the least owner in a group by the ranges that are kept
+abbrev pub kept_owner : OwnersState → (group a : ℕ) → Option ℕ
+kept_owner owners zero a = owner_at owners.index a
+kept_owner owners (suc group) a = owner_in owners.others group a
+
+-- the least owner in a group of all ranges that hold an address
+abbrev pub owner_of : Tables → OwnersState → (group a : ℕ) → Option ℕ
+owner_of tables owners group a = least (kept_owner owners group a) (owner_in (held_claims tables owners.held) group a)
+
+-- So many ranges are all that are kept: each gives two segments at most to the index, or is one of
+-- another group.
+abbrev pub AreCounted : OwnersState → ℕ → Type 0
+AreCounted owners ranges = length owners.index + 2 * length owners.others ≤ 2 * ranges

@@ -1,0 +1,19 @@
+-- What linked ranges are seen as, and that their indexes are right.
+use Rattle.std.specs.Prelude.{◌≡◌, ℕ, List, Some, slice_get}
+use Rattle.dw_index.specs.declared.segment.Segment.{Segment}
+use Rattle.dw_index.specs.Owners.{least_owner}
+use Rattle.dw_index.specs.Segments.{owner_at}
+use Rattle.dw_ranges.specs.Claims.{Claim, in_group}
+use Rattle.dw_ranges.specs.declared.linked.Linked.TheInside.{Inside}
+
+abbrev pub linked_of : Inside → List Claim
+linked_of linked = linked.links
+
+-- each index is that of the ranges in its group
+abbrev pub AreIndexed : List Claim → List (ℕ × List Segment) → Type 0
+AreIndexed ranges indexes =
+    (k : ℕ) (known : ℕ × List Segment) → slice_get indexes k ≡ Some known → (a : ℕ)
+    → owner_at known.1 a ≡ least_owner (in_group known.0 ranges) a
+
+abbrev pub IsIndexed : Inside → Type 0
+IsIndexed linked = AreIndexed linked.links linked.indexes.items

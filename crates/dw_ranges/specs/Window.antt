@@ -1,0 +1,35 @@
+-- Owners whose lists are held by name, at the addresses of a window.
+use Rattle.std.specs.Prelude.{◌≡◌, ◌≤◌, ◌<◌, ℕ, List, None, map}
+use Rattle.dw_model.specs.Ranges.{Range}
+use Rattle.dw_model.specs.Text.{Tables}
+use Rattle.dw_index.specs.declared.range.Range.{Range as CodeRange}
+use Rattle.dw_index.specs.declared.segment.Segment.{Segment}
+use Rattle.dw_index.specs.Owners.{least_owner}
+use Rattle.dw_index.specs.Range.{pair_shown}
+use Rattle.dw_index.specs.Segments.{owner_at}
+use Rattle.dw_ranges.specs.declared.held.HeldList.{HeldList}
+use Rattle.dw_ranges.specs.declared.window.Window.{Window}
+use Rattle.dw_ranges.specs.declared.window.draft.Draft.{Draft}
+use Rattle.dw_ranges.specs.Claims.{held_claims, owner_in}
+
+-- the window has the address
+abbrev pub HasAddress : Window → ℕ → Type 0
+HasAddress window a = (window.from ≤ a) × (a < window.until)
+
+-- at each address of the window the least owner in group 0 is found of those lists
+abbrev pub IsWindow : Tables → List HeldList → Window → Type 0
+IsWindow tables held window =
+    (a : ℕ) → HasAddress window a → owner_at window.index a ≡ owner_in (held_claims tables held) 0 a
+
+-- Of all ranges, as many matter as the draft has at each address of its window, which begins at an
+-- address and has it.
+pub record HasOwners (all : List (Range × ℕ)) (from : ℕ) (draft : Draft) : Type 0 where
+  pub begin : draft.from ≡ from
+  pub some : from < draft.until
+  pub owners : (a : ℕ) → from ≤ a → a < draft.until
+      → least_owner (map pair_shown draft.pairs.items) a ≡ least_owner all a
+
+-- The pieces have the owners of the segments, from one address on and below another, and no others.
+pub record ArePieces (segments : List Segment) (from end : ℕ) (pieces : List (CodeRange × ℕ)) : Type 0 where
+  pub below : (a : ℕ) → from ≤ a → a < end → least_owner (map pair_shown pieces) a ≡ owner_at segments a
+  pub above : (a : ℕ) → end ≤ a → least_owner (map pair_shown pieces) a ≡ None

@@ -1,0 +1,138 @@
+//! Ranges that owners claim, while they are gathered, under a bound.
+
+ghost use Rattle.std.specs.Prelude.{◌≡◌, ◌≤◌, ◌+◌, ◌++◌, [], None, OnOk, length, map};
+ghost use Rattle.dw_model.specs.Text.{Tables as ModelTables};
+ghost use Rattle.dw_index.specs.Range.{pair_shown, range_shown};
+ghost use Rattle.dw_ranges.specs.Claims.{Adds, AddsListed, all_claims, claims_in};
+ghost use Rattle.dw_ranges.specs.Held.{listed};
+ghost use Rattle.dw_ranges.specs.Owned.{owned};
+
+use crate::held::HeldList;
+use crate::links::Links;
+use crate::range_list::RangeList;
+use dw_index::Range;
+use std::alloc::{AllocError, Global};
+use std::marker::Model;
+
+/// Ranges that owners claim in groups. Of lists with more than one range only so many ranges are
+/// kept; the lists beyond are held by name. Contracts see the ranges that are kept, the lists that
+/// are held, and how many ranges of lists may still be kept.
+#[derive(Drop)]
+pub struct Claims {
+    /// The ranges in group 0, with their owners.
+    pub(crate) first: Vec<(Range, usize)>,
+    /// Those in groups from 1 on, of which the first is 0 here.
+    pub(crate) others: Links,
+    pub(crate) held: Vec<HeldList>,
+    room: usize,
+}
+
+impl Model for Claims {
+    ghost use Rattle.dw_ranges.specs.Claims.{ClaimsState};
+    ghost use Rattle.dw_ranges.specs.ClaimsInside.{claims_of};
+
+    ghost Value = { ClaimsState };
+
+    ghost view = { claims_of };
+
+    ghost invariant = { λ claims. Unit {0} };
+}
+
+/// Adds ranges of one owner.
+fn push_ranges(
+    pairs: &mut Vec<(Range, usize)>,
+    ranges: &[Range],
+    owner: usize,
+) -> Result<(), AllocError>
+    ensures pushed { OnOk result (map pair_shown pairs.new.items
+        ≡ map pair_shown pairs.old.items ++ owned (map range_shown ranges.now) owner) }
+    ensures few { length pairs.new.items ≤ length pairs.old.items + length ranges.now }
+{
+    for range in ranges {
+        pairs.push((*range, owner))?;
+    }
+    Ok(())
+}
+
+impl Claims {
+    /// None yet, and of lists so many ranges may be kept.
+    pub fn new(alloc: Global, room: usize) -> Self
+        ensures { result ≡ record { kept = []; held = []; room = room } }
+    {
+        Claims {
+            first: Vec::new(alloc),
+            others: Links::new(alloc),
+            held: Vec::new(alloc),
+            room,
+        }
+    }
+
+    /// Keeps ranges of an owner.
+    #[inline(always)]
+    fn keep(&mut self, group: usize, ranges: &[Range], owner: usize) -> Result<(), AllocError>
+        ensures held { self.new.held ≡ self.old.held }
+        ensures room { self.new.room ≡ self.old.room }
+        ensures kept { OnOk result (Adds group (map range_shown ranges.now) owner self.old.kept self.new.kept) }
+        ensures few { length self.new.kept ≤ length self.old.kept + length ranges.now }
+    {
+        if group == 0 {
+            push_ranges(&mut self.first, ranges, owner)?;
+            return Ok(());
+        }
+        self.others.push(group - 1, ranges, owner)?;
+        Ok(())
+    }
+
+    /// Holds the list of an owner by name.
+    pub fn hold(&mut self, group: usize, list: RangeList, owner: usize) -> Result<(), AllocError>
+        ensures kept { self.new.kept ≡ self.old.kept }
+        ensures room { self.new.room ≡ self.old.room }
+        ensures claims { OnOk result ((tables : ModelTables) → all_claims tables self.new
+            ≡ all_claims tables self.old ++ claims_in group (owned (listed tables list) owner)) }
+    {
+        self.held.push(HeldList { group, list, owner })?;
+        Ok(())
+    }
+
+    /// Further lists of more than one range are held by name.
+    pub fn is_full(&self) -> bool {
+        self.room == 0
+    }
+
+    /// An owner claims ranges in a group: those of a list, the first of them, or one range at most.
+    /// A list is held by name from then on where there are more than may still be kept. One range
+    /// takes no more than the name, so it is always kept.
+    #[inline(always)]
+    pub fn add(
+        &mut self,
+        group: usize,
+        ranges: &[Range],
+        owner: usize,
+        list: Option<RangeList>,
+    ) -> Result<(), AllocError>
+        requires one { list ≡ None → length ranges.now ≤ 1 }
+        ensures few { length self.new.kept + self.new.room ≤ length self.old.kept + self.old.room + 1 }
+        ensures claims { OnOk result ((tables : ModelTables)
+            → AddsListed tables group (map range_shown ranges.now) owner list self.old self.new) }
+    {
+        let Some(list) = list else {
+            return self.keep(group, ranges, owner);
+        };
+        if ranges.len() <= 1 {
+            return self.keep(group, ranges, owner);
+        }
+        if ranges.len() > self.room {
+            self.room = 0;
+            return self.hold(group, list, owner);
+        }
+        self.room -= ranges.len();
+        self.keep(group, ranges, owner)
+    }
+
+    /// How many ranges are kept.
+    pub(crate) fn len(&self) -> usize
+        ensures { result ≡ length self.now.kept }
+    {
+        self.first.len() + self.others.len()
+    }
+}

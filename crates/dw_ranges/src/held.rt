@@ -1,0 +1,66 @@
+//! Range lists that are held by name: their ranges are read anew for each address.
+
+ghost use Rattle.std.specs.Prelude.{◌≡◌, false, nat_le};
+ghost use Rattle.std.specs.Option.{option_map_or};
+ghost use Rattle.dw_forms.specs.Tables.{tables_shown};
+ghost use Rattle.dw_index.specs.Owners.{least, least_owner};
+ghost use Rattle.dw_ranges.specs.Claims.{held_claims, owner_in};
+ghost use Rattle.dw_ranges.specs.Held.{listed};
+ghost use Rattle.dw_ranges.specs.Owned.{owned};
+
+use crate::at_address::list_holds;
+use crate::range_list::RangeList;
+use dw_forms::Tables;
+
+/// A range list that is held by name, with the owner that claims its ranges in a group.
+#[derive(Clone, Copy)]
+pub struct HeldList {
+    pub group: usize,
+    pub list: RangeList,
+    pub owner: usize,
+}
+
+/// Whether the owner that was found comes before another, or is that one.
+fn is_before(found: Option<usize>, owner: usize) -> bool
+    ensures { result ≡ option_map_or (λ k. nat_le k owner) found false }
+{
+    match found {
+        Some(k) => k <= owner,
+        None => false,
+    }
+}
+
+/// The lesser of an owner that was found, where there is one, and that of a list, where the list
+/// holds an address. The list is read only where its owner comes first.
+fn least_of(held: &HeldList, tables: &Tables<'_>, a: u64, found: Option<usize>) -> Option<usize>
+    ensures { result ≡ least found
+        (least_owner (owned (listed (tables_shown tables.now) held.now.list) held.now.owner) a) }
+{
+    if is_before(found, held.owner) {
+        return found;
+    }
+    if list_holds(held.list, tables, a) {
+        return Some(held.owner);
+    }
+    found
+}
+
+/// The lesser of an owner that was found and the least owner in a group whose list holds an
+/// address.
+pub(crate) fn least_held(
+    held: &[HeldList],
+    tables: &Tables<'_>,
+    group: usize,
+    a: u64,
+    found: Option<usize>,
+) -> Option<usize>
+    ensures { result ≡ least found (owner_in (held_claims (tables_shown tables.now) held.now) group a) }
+{
+    let mut least = found;
+    for list in held {
+        if list.group == group {
+            least = least_of(list, tables, a, least);
+        }
+    }
+    least
+}

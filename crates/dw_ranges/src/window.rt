@@ -1,0 +1,125 @@
+//! Who owns the addresses of a window, of owners whose lists are held by name.
+
+ghost use Rattle.std.specs.Prelude.{◌≡◌, ◌≤◌, ◌<◌, ℕ, IfOk, OnOk, map};
+ghost use Rattle.dw_model.specs.Steady.{last_address};
+ghost use Rattle.dw_forms.specs.Tables.{tables_shown};
+ghost use Rattle.dw_index.specs.Range.{range_shown};
+ghost use Rattle.dw_ranges.specs.Held.{listed};
+ghost use Rattle.dw_ranges.specs.Window.{HasAddress, IsWindow};
+
+mod draft;
+
+use crate::fault::RangeFault;
+use crate::held::HeldList;
+use crate::range_list::{RangeList, read_list};
+use draft::Draft;
+use dw_forms::Tables;
+use dw_index::{Index, Range};
+use std::alloc::{AllocError, Global};
+
+/// Who owns each address from one on and below another, of the owners in group 0 whose lists are
+/// held by name. So whoever goes from border to border reads the lists once for each window, and
+/// not once for each border.
+#[derive(Drop)]
+pub struct Window {
+    pub(crate) from: u64,
+    pub(crate) until: u64,
+    /// The ranges of the lists in the window, with their owners.
+    pub(crate) index: Index,
+}
+
+/// How many pieces a window has at most when there were too many ranges for it: one for eight bytes
+/// of .debug_rnglists, and four for each unit. So it takes memory in proportion to the file.
+fn most_pieces(held: &[HeldList], tables: &Tables<'_>) -> usize {
+    let of_lists = tables.rnglists.len() / 8;
+    of_lists.saturating_add(held.len().saturating_mul(4))
+}
+
+/// The lesser of two addresses.
+pub(crate) fn lesser(a: u64, b: u64) -> u64
+    ensures first { result ≤ a }
+    ensures second { result ≤ b }
+    ensures above { (c : ℕ) → c < a → c < b → c < result }
+{
+    if a <= b { a } else { b }
+}
+
+/// Reads the ranges of a list into `ranges`, reusing its memory: none where the list can't be read.
+fn read_listed(
+    ranges: &mut Vec<Range>,
+    list: RangeList,
+    tables: &Tables<'_>,
+) -> Result<(), AllocError>
+    ensures { OnOk result (map range_shown ranges.new.items ≡ listed (tables_shown tables.now) list) }
+{
+    match read_list(ranges, list, tables) {
+        Ok(_) => Ok(()),
+        Err(RangeFault::Memory) => Err(AllocError),
+        Err(RangeFault::Bad) => {
+            ranges.clear();
+            Ok(())
+        }
+    }
+}
+
+impl Window {
+    /// A window without addresses.
+    pub fn none(alloc: Global) -> Result<Self, AllocError>
+        ensures { IfOk result (λ window. window.until ≡ 0) }
+    {
+        let index = Index::build(alloc, &[])?;
+        Ok(Window {
+            from: 0,
+            until: 0,
+            index,
+        })
+    }
+
+    /// The window that begins at an address.
+    fn read(
+        alloc: Global,
+        held: &[HeldList],
+        tables: &Tables<'_>,
+        from: u64,
+    ) -> Result<Self, AllocError>
+        requires { from < last_address }
+        ensures address { IfOk result (λ window. HasAddress window from) }
+        ensures window { IfOk result (IsWindow (tables_shown tables.now) held.now) }
+    {
+        let mut draft = Draft::new(alloc, from, most_pieces(held, tables));
+        let mut ranges = Vec::new(alloc);
+        for one in held {
+            if one.group != 0 {
+                continue;
+            }
+            read_listed(&mut ranges, one.list, tables)?;
+            draft.add(&ranges, one.owner)?;
+        }
+        let index = Index::build(alloc, &draft.pairs)?;
+        Ok(Window {
+            from,
+            until: draft.until,
+            index,
+        })
+    }
+
+    /// Turns to an address: to the window that begins there, where this one hasn't the address.
+    pub(crate) fn turn_to(
+        &mut self,
+        alloc: Global,
+        held: &[HeldList],
+        tables: &Tables<'_>,
+        a: u64,
+    ) -> Result<(), AllocError>
+        requires address { a < last_address }
+        requires window { IsWindow (tables_shown tables.now) held.now self.old }
+        ensures address { OnOk result (HasAddress self.new a) }
+        ensures window { IsWindow (tables_shown tables.now) held.now self.new }
+    {
+        if self.from <= a && a < self.until {
+            return Ok(());
+        }
+        *self = Window::read(alloc, held, tables, a)?;
+        Ok(())
+    }
+}

@@ -1,0 +1,142 @@
+//! Ranges with their owners, as far as they matter in a window of addresses.
+
+ghost use Rattle.std.specs.Prelude.{◌≡◌, ◌≤◌, ◌<◌, ◌++◌, ◌∷◌, [], ℕ, IfOk, List, OnOk, map};
+ghost use Rattle.dw_model.specs.Ranges as model;
+ghost use Rattle.dw_model.specs.Steady.{last_address};
+ghost use Rattle.dw_index.specs.Range.{range_shown};
+ghost use Rattle.dw_ranges.specs.Window.{ArePieces, HasOwners};
+
+use super::lesser;
+use dw_index::{Index, Range};
+use std::alloc::{AllocError, Global};
+
+/// Ranges with their owners, as far as they matter in a window of addresses. Where there are too
+/// many they become pieces, each with the least owner of its addresses, and the window ends where
+/// there are too many of these.
+#[derive(Drop)]
+pub(crate) struct Draft {
+    pub(crate) from: u64,
+    pub(crate) until: u64,
+    pub(crate) pairs: Vec<(Range, usize)>,
+    /// How many pieces there are at most when there were too many ranges.
+    most: usize,
+    alloc: Global,
+}
+
+/// Adds the piece of an index that begins at an address, where it has an owner, and returns where
+/// it ends: before the end of the window, or there.
+fn push_piece(
+    index: &Index,
+    at: u64,
+    until: u64,
+    pairs: &mut Vec<(Range, usize)>,
+) -> Result<u64, AllocError>
+    requires { at < until }
+    ensures some { IfOk result (λ next. at < next) }
+    ensures within { IfOk result (λ next. next ≤ until) }
+    ensures pieces { IfOk result (λ next. (from : ℕ) → ArePieces index.now from at pairs.old.items
+        → ArePieces index.now from next pairs.new.items) }
+{
+    let next = lesser(index.steady(at), until);
+    let Some(owner) = index.find(at) else {
+        return Ok(next);
+    };
+    let piece = Range {
+        begin: at,
+        end: next,
+    };
+    pairs.push((piece, owner))?;
+    Ok(next)
+}
+
+/// Adds the first pieces of an index, from an address on, and returns where they end: before the
+/// end of the window, or there. There is one at least, and at most one more than `most`.
+fn push_pieces(
+    index: &Index,
+    from: u64,
+    until: u64,
+    most: usize,
+    pairs: &mut Vec<(Range, usize)>,
+) -> Result<u64, AllocError>
+    requires some { from < until }
+    requires none { pairs.old.items ≡ [] }
+    ensures some { IfOk result (λ at. from < at) }
+    ensures within { IfOk result (λ at. at ≤ until) }
+    ensures pieces { IfOk result (λ at. ArePieces index.now from at pairs.new.items) }
+{
+    let mut at = push_piece(index, from, until, pairs)?;
+    for _ in 0..most {
+        if at >= until {
+            return Ok(at);
+        }
+        at = push_piece(index, at, until, pairs)?;
+    }
+    Ok(at)
+}
+
+impl Draft {
+    /// No range was added for the window that begins at an address and has no end yet.
+    pub(crate) fn new(alloc: Global, from: u64, most: usize) -> Self
+        ensures { from < last_address → HasOwners [] from result }
+    {
+        Draft {
+            from,
+            until: u64::MAX,
+            pairs: Vec::new(alloc),
+            most,
+            alloc,
+        }
+    }
+
+    /// Makes pieces of the ranges, and lets the window end where these are too many.
+    fn narrow(&mut self) -> Result<(), AllocError>
+        ensures { OnOk result ((all : List (model.Range × ℕ)) (from : ℕ) → HasOwners all from self.old
+            → HasOwners all from self.new) }
+    {
+        if self.from >= self.until {
+            return Ok(());
+        }
+        let index = Index::build(self.alloc, &self.pairs)?;
+        self.pairs.clear();
+        self.until = push_pieces(&index, self.from, self.until, self.most, &mut self.pairs)?;
+        Ok(())
+    }
+
+    /// Makes room for a range.
+    fn make_room(&mut self) -> Result<(), AllocError>
+        ensures { OnOk result ((all : List (model.Range × ℕ)) (from : ℕ) → HasOwners all from self.old
+            → HasOwners all from self.new) }
+    {
+        if self.pairs.len() / 2 <= self.most {
+            return Ok(());
+        }
+        self.narrow()
+    }
+
+    /// Adds a range, where it has addresses of the window.
+    fn push(&mut self, range: Range, owner: usize) -> Result<(), AllocError>
+        ensures { OnOk result ((all : List (model.Range × ℕ)) (from : ℕ) → HasOwners all from self.old
+            → HasOwners (all ++ (range_shown range, owner) ∷ []) from self.new) }
+    {
+        if range.end <= self.from {
+            return Ok(());
+        }
+        if self.until <= range.begin {
+            return Ok(());
+        }
+        self.make_room()?;
+        self.pairs.push((range, owner))?;
+        Ok(())
+    }
+
+    /// Adds ranges that have one owner.
+    pub(crate) fn add(&mut self, ranges: &[Range], owner: usize) -> Result<(), AllocError>
+        ensures { OnOk result ((all : List (model.Range × ℕ)) (from : ℕ) → HasOwners all from self.old
+            → HasOwners (all ++ map (λ range. (range, owner)) (map range_shown ranges.now)) from self.new) }
+    {
+        for range in ranges {
+            self.push(*range, owner)?;
+        }
+        Ok(())
+    }
+}
