@@ -90,7 +90,7 @@ impl<'a> Fact<'a> {
 }
 
 /// Bytes in hexadecimal digits, two for each.
-pub(crate) fn digits_of(alloc: Global, bytes: &[u8]) -> Allocated<String> {
+pub fn digits_of(alloc: Global, bytes: &[u8]) -> Allocated<String> {
     let mut digits = String::new(alloc);
     for byte in bytes {
         let two = format!(in alloc; "{byte:02x}")?;

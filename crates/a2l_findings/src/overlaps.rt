@@ -15,20 +15,20 @@ use std::alloc::{AllocError, Global};
 /// Addresses that are answered by an owner whose code isn't there, instead of by one whose code is.
 /// An owner is a unit or a function, by its offset in .debug_info.
 #[derive(Clone, Copy, Debug)]
-pub(crate) struct Overlap {
+pub struct Overlap {
     /// How many addresses there are.
-    pub(crate) addresses: u64,
+    pub addresses: u64,
     /// In how many spans they lie.
-    pub(crate) spans: u64,
+    pub spans: u64,
     /// The first of these.
-    pub(crate) first: Range,
+    pub first: Range,
     /// Who answers there, and who would.
-    pub(crate) told: usize,
-    pub(crate) hidden: usize,
+    pub told: usize,
+    pub hidden: usize,
 }
 
 /// A range and its owner.
-pub(crate) type Owned = (Range, usize);
+pub type Owned = (Range, usize);
 
 /// The next address above one at which an index has another answer.
 fn next_border(all: &Index, live: &Index, at: u64) -> u64
@@ -41,7 +41,7 @@ fn next_border(all: &Index, live: &Index, at: u64) -> u64
 }
 
 /// Both overlaps in one, with the first span and the owners of the first.
-pub(crate) fn both(one: Option<Overlap>, other: Option<Overlap>) -> Option<Overlap> {
+pub fn both(one: Option<Overlap>, other: Option<Overlap>) -> Option<Overlap> {
     let (Some(one), Some(other)) = (one, other) else {
         return one.or(other);
     };
@@ -84,7 +84,7 @@ fn compare(all: &Index, live: &Index) -> Option<Overlap> {
 
 /// The addresses at which a range that begins where no code is answers, instead of one that begins
 /// at code. Each range has its owner, and the least owner answers.
-pub(crate) fn overlap_of(scene: &Scene<'_>, pairs: &[Owned]) -> Allocated<Option<Overlap>> {
+pub fn overlap_of(scene: &Scene<'_>, pairs: &[Owned]) -> Allocated<Option<Overlap>> {
     let mut live = Vec::new(scene.alloc);
     for pair in pairs {
         if scene.headers.may_be_code(pair.0.begin) {
@@ -100,7 +100,7 @@ pub(crate) fn overlap_of(scene: &Scene<'_>, pairs: &[Owned]) -> Allocated<Option
 }
 
 /// Adds an owner: where it is, and its name.
-pub(crate) fn tell_owner<'a>(note: &mut Note<'a>, scene: &Scene<'a>, owner: u64) -> Allocated<()> {
+pub fn tell_owner<'a>(note: &mut Note<'a>, scene: &Scene<'a>, owner: u64) -> Allocated<()> {
     let Some(here) = scene.units.find(owner) else {
         return Ok(());
     };
@@ -136,7 +136,7 @@ fn add<'a>(
 }
 
 /// The ranges of a unit's subprograms, by the offsets of their entries, as far as these are read.
-pub(crate) fn subprograms_of(alloc: Global, here: OpenUnit<'_, '_>) -> Allocated<Vec<Owned>> {
+pub fn subprograms_of(alloc: Global, here: OpenUnit<'_, '_>) -> Allocated<Vec<Owned>> {
     let mut found = Vec::new(alloc);
     let Some(mut entries) = here.entries(alloc) else {
         return Ok(found);

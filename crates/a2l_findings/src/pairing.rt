@@ -8,7 +8,7 @@ use dw_bytes::Cursor;
 const NT_GNU_BUILD_ID: u32 = 3;
 
 /// The text with which a section begins.
-pub(crate) fn text_in(section: &[u8]) -> Option<&[u8]> {
+pub fn text_in(section: &[u8]) -> Option<&[u8]> {
     Cursor::new(section).text()
 }
 
@@ -25,7 +25,7 @@ fn sup_name(section: &[u8]) -> Option<&[u8]> {
 }
 
 /// The build id in a section of notes.
-pub(crate) fn build_id_in(section: &[u8]) -> Option<&[u8]> {
+pub fn build_id_in(section: &[u8]) -> Option<&[u8]> {
     let mut cursor = Cursor::new(section);
     for _ in 0..section.len() {
         let owner_size = cursor.u32()? as usize;
@@ -43,6 +43,6 @@ pub(crate) fn build_id_in(section: &[u8]) -> Option<&[u8]> {
 }
 
 /// The name of the supplementary file, of .gnu_debugaltlink or .debug_sup.
-pub(crate) fn supplementary<'a>(headers: &SectionHeaders<'a>) -> Option<&'a [u8]> {
+pub fn supplementary<'a>(headers: &SectionHeaders<'a>) -> Option<&'a [u8]> {
     text_in(headers.contents(".gnu_debugaltlink")).or(sup_name(headers.contents(".debug_sup")))
 }

@@ -18,17 +18,17 @@ use std::sync::Arc;
 
 /// What is read of an open file. Each unit that a call is given is one of the same file.
 #[derive(Drop)]
-pub(crate) struct Scene<'a> {
-    pub(crate) alloc: Global,
-    pub(crate) units: Arc<Units<'a>>,
-    pub(crate) sections: Sections<'a>,
+pub struct Scene<'a> {
+    pub alloc: Global,
+    pub units: Arc<Units<'a>>,
+    pub sections: Sections<'a>,
     /// All section headers, in order.
-    pub(crate) headers: SectionHeaders<'a>,
+    pub headers: SectionHeaders<'a>,
 }
 
 impl<'a> Scene<'a> {
     /// The scene of a file that was opened already, so that only memory can be refused.
-    pub(crate) fn new(alloc: Global, file: &'a [u8]) -> Allocated<Self>
+    pub fn new(alloc: Global, file: &'a [u8]) -> Allocated<Self>
         ensures { IfOk result (λ scene. scene.units.value ≡ sections file.now) }
     {
         let Ok(elf) = Elf::open(file) else {
@@ -47,11 +47,7 @@ impl<'a> Scene<'a> {
 }
 
 /// The ranges of an entry of a unit; none where they can't be read.
-pub(crate) fn ranges_at(
-    alloc: Global,
-    here: OpenUnit<'_, '_>,
-    at: &Entry<'_>,
-) -> Allocated<Vec<Range>> {
+pub fn ranges_at(alloc: Global, here: OpenUnit<'_, '_>, at: &Entry<'_>) -> Allocated<Vec<Range>> {
     match ranges_of(alloc, at, here.unit(), here.units().tables()) {
         Ok(ranges) => Ok(ranges),
         Err(RangeFault::Bad) => Ok(Vec::new(alloc)),
@@ -60,7 +56,7 @@ pub(crate) fn ranges_at(
 }
 
 /// The ranges of a unit's first entry; none where the unit answers no address.
-pub(crate) fn ranges_in(alloc: Global, here: OpenUnit<'_, '_>) -> Allocated<Vec<Range>> {
+pub fn ranges_in(alloc: Global, here: OpenUnit<'_, '_>) -> Allocated<Vec<Range>> {
     match &here.unit().root {
         Some(root) if here.unit().kind.answers() => ranges_at(alloc, here, root),
         _ => Ok(Vec::new(alloc)),
@@ -68,16 +64,13 @@ pub(crate) fn ranges_in(alloc: Global, here: OpenUnit<'_, '_>) -> Allocated<Vec<
 }
 
 /// The first of some ranges that holds an address.
-pub(crate) fn holding(ranges: &[Range], address: u64) -> Option<Range> {
+pub fn holding(ranges: &[Range], address: u64) -> Option<Range> {
     let mut ranges = ranges.iter().copied();
     ranges.find(|range| range.begin <= address && address < range.end)
 }
 
 /// The line table of a unit, where it names one, or why it can't be read.
-pub(crate) fn read_lines<'a>(
-    scene: &Scene<'a>,
-    here: OpenUnit<'_, 'a>,
-) -> Allocated<UnitLines<'a>> {
+pub fn read_lines<'a>(scene: &Scene<'a>, here: OpenUnit<'_, 'a>) -> Allocated<UnitLines<'a>> {
     match table_offset(here) {
         Some(offset) => read_table(scene.alloc, scene.sections.line, here, offset),
         None => Ok(Ok(None)),
@@ -85,7 +78,7 @@ pub(crate) fn read_lines<'a>(
 }
 
 /// The functions of the unit at an index, or why they can't be read; `None` where it is skipped.
-pub(crate) fn read_functions<'a>(scene: &Scene<'a>, index: usize) -> Allocated<Option<UnitTree<'a>>>
+pub fn read_functions<'a>(scene: &Scene<'a>, index: usize) -> Allocated<Option<UnitTree<'a>>>
     requires { index < length (cut.units scene.now.units.value.info) }
 {
     if scene.units.unit(index).kind.is_skipped() {
@@ -96,13 +89,13 @@ pub(crate) fn read_functions<'a>(scene: &Scene<'a>, index: usize) -> Allocated<O
 }
 
 /// What made the unit (DWARF 5, section 7.5.4, table 7.5).
-pub(crate) const DW_AT_producer: u64 = 0x25;
+pub const DW_AT_producer: u64 = 0x25;
 
 /// The file with the split unit (DWARF 5, section 7.5.4, table 7.5).
-pub(crate) const DW_AT_dwo_name: u64 = 0x76;
+pub const DW_AT_dwo_name: u64 = 0x76;
 
 /// The text of an attribute of the first entry of a unit, where it isn't skipped.
-pub(crate) fn root_text<'a>(here: OpenUnit<'_, 'a>, name: u64) -> Fact<'a> {
+pub fn root_text<'a>(here: OpenUnit<'_, 'a>, name: u64) -> Fact<'a> {
     let Some(root) = &here.unit().root else {
         return Fact::Nothing;
     };
@@ -113,7 +106,7 @@ pub(crate) fn root_text<'a>(here: OpenUnit<'_, 'a>, name: u64) -> Fact<'a> {
 }
 
 /// Adds a unit: where it is, and its name.
-pub(crate) fn tell_unit<'a>(note: &mut Note<'a>, here: OpenUnit<'_, 'a>) -> Allocated<()> {
+pub fn tell_unit<'a>(note: &mut Note<'a>, here: OpenUnit<'_, 'a>) -> Allocated<()> {
     note.place("unit ", "unit", here.unit().offset)?;
     note.tell(" ", "name", root_text(here, DW_AT_name))
 }
@@ -147,7 +140,7 @@ fn text_in<'a>(
 }
 
 /// Adds a skipped unit: where it is, its name and what made it, where these can be read.
-pub(crate) fn tell_skipped<'a>(
+pub fn tell_skipped<'a>(
     note: &mut Note<'a>,
     scene: &Scene<'a>,
     here: OpenUnit<'_, 'a>,

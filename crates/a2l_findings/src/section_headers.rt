@@ -15,28 +15,28 @@ const SHF_EXECINSTR: u64 = 0x4;
 
 /// A section header, by the standard's names of its fields.
 #[derive(Clone, Copy, Debug)]
-pub(crate) struct SectionHeader {
-    pub(crate) sh_name: u32,
-    pub(crate) sh_type: u32,
-    pub(crate) sh_flags: u64,
+pub struct SectionHeader {
+    pub sh_name: u32,
+    pub sh_type: u32,
+    pub sh_flags: u64,
     /// Where it lies while the program runs.
-    pub(crate) sh_addr: u64,
-    pub(crate) sh_offset: u64,
-    pub(crate) sh_size: u64,
-    pub(crate) sh_link: u32,
+    pub sh_addr: u64,
+    pub sh_offset: u64,
+    pub sh_size: u64,
+    pub sh_link: u32,
 }
 
 /// The section headers of a file, in order, as many as can be read.
 #[derive(Debug, Drop)]
-pub(crate) struct SectionHeaders<'a> {
+pub struct SectionHeaders<'a> {
     file: &'a [u8],
-    pub(crate) e_shoff: u64,
-    pub(crate) e_shentsize: u16,
+    pub e_shoff: u64,
+    pub e_shentsize: u16,
     /// How many there have to be.
-    pub(crate) count: u64,
+    pub count: u64,
     /// The index of the section with the names; 0 where there is none.
-    pub(crate) names: u32,
-    pub(crate) list: Vec<SectionHeader>,
+    pub names: u32,
+    pub list: Vec<SectionHeader>,
 }
 
 impl SectionHeader {
@@ -70,7 +70,7 @@ fn header_at(file: &[u8], offset: u64) -> Option<SectionHeader> {
 
 impl<'a> SectionHeaders<'a> {
     /// The section headers of a file.
-    pub(crate) fn read(alloc: Global, file: &'a [u8]) -> Allocated<Self> {
+    pub fn read(alloc: Global, file: &'a [u8]) -> Allocated<Self> {
         let mut headers = SectionHeaders {
             file,
             e_shoff: 0,
@@ -127,7 +127,7 @@ impl<'a> SectionHeaders<'a> {
     }
 
     /// The name of a section; empty where it can't be read.
-    pub(crate) fn name(&self, header: &SectionHeader) -> &'a [u8] {
+    pub fn name(&self, header: &SectionHeader) -> &'a [u8] {
         let names = match self.list.get(self.names as usize) {
             Some(names) if self.names != 0 => self.bytes(names),
             _ => return &[],
@@ -140,13 +140,13 @@ impl<'a> SectionHeaders<'a> {
     }
 
     /// The first section of a name.
-    pub(crate) fn named(&self, name: &str) -> Option<SectionHeader> {
+    pub fn named(&self, name: &str) -> Option<SectionHeader> {
         let mut headers = self.list.iter().copied();
         headers.find(|header| self.name(header) == name.as_bytes())
     }
 
     /// The bytes of the first section of a name; none where there is none.
-    pub(crate) fn contents(&self, name: &str) -> &'a [u8] {
+    pub fn contents(&self, name: &str) -> &'a [u8] {
         match self.named(name) {
             Some(header) => self.bytes(&header),
             None => &[],
@@ -154,13 +154,13 @@ impl<'a> SectionHeaders<'a> {
     }
 
     /// The section that is loaded over an address.
-    pub(crate) fn at(&self, address: u64) -> Option<SectionHeader> {
+    pub fn at(&self, address: u64) -> Option<SectionHeader> {
         let mut headers = self.list.iter().copied();
         headers.find(|header| header.holds(address))
     }
 
     /// An address lies in an executable section, or isn't 0 where no such section is known.
-    pub(crate) fn may_be_code(&self, address: u64) -> bool {
+    pub fn may_be_code(&self, address: u64) -> bool {
         let mut is_known = false;
         for header in self.list.as_slice() {
             if header.has(SHF_ALLOC | SHF_EXECINSTR) {

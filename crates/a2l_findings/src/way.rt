@@ -1,10 +1,5 @@
-//! The way of an address to its answer, step by step: the unit, the functions, the row and the file
-//! that give it, and who claims the address too.
-
-ghost use Rattle.std.specs.Prelude.{◌≡◌, IfOk, option_and_then, slice_get};
-ghost use Rattle.dw_model.specs.Section.{sections};
-ghost use Rattle.dw_model.specs.Unit as cut;
-ghost use Rattle.dw_model.specs.Answer as model;
+//! The steps of an address to its answer: the unit, the functions, the row and the file that give
+//! it, and who claims the address too.
 
 mod functions;
 mod rows;
@@ -14,18 +9,9 @@ use crate::note::{Allocated, Note};
 use crate::reasons::fault_reason;
 use crate::scene::{Scene, holding, ranges_in, read_functions, read_lines, tell_unit};
 use dw_ranges::Range;
-use dw_symbols::{Image, UnitFault, table_offset};
+use dw_symbols::{UnitFault, table_offset};
 use dw_units::OpenUnit;
-use uncovered::uncovered_note;
-
-/// The way of an address.
-#[derive(Debug, Drop)]
-pub struct Way<'a> {
-    /// The index of the unit that answers it; `None` where none does.
-    pub place: Option<usize>,
-    /// The steps in that unit, or why no unit answers.
-    pub steps: Vec<Note<'a>>,
-}
+pub use uncovered::uncovered_note;
 
 /// An address in a unit of an open file.
 #[derive(Clone, Copy)]
@@ -94,7 +80,11 @@ impl<'b, 'a> Visit<'b, 'a> {
 }
 
 /// The steps of an address through the unit at an index.
-fn steps_through<'a>(scene: &Scene<'a>, index: usize, address: u64) -> Allocated<Vec<Note<'a>>> {
+pub fn steps_through<'a>(
+    scene: &Scene<'a>,
+    index: usize,
+    address: u64,
+) -> Allocated<Vec<Note<'a>>> {
     let mut steps = Vec::new(scene.alloc);
     if index >= scene.units.len() {
         return Ok(steps);
@@ -123,21 +113,4 @@ fn steps_through<'a>(scene: &Scene<'a>, index: usize, address: u64) -> Allocated
     }
     visit.push_lines(&mut steps)?;
     Ok(steps)
-}
-
-/// The way of an address, which has no unit exactly where no unit answers the address.
-pub(crate) fn way_of<'a>(scene: &Scene<'a>, image: &Image<'a>, address: u64) -> Allocated<Way<'a>>
-    ensures { IfOk result (λ way. option_and_then (slice_get (cut.units (sections image.now).info)) way.place
-        ≡ model.unit_of (sections image.now) address) }
-{
-    let Some(found) = image.unit_place(address) else {
-        let mut steps = Vec::new(scene.alloc);
-        steps.push(uncovered_note(scene, address)?)?;
-        let place = None;
-        return Ok(Way { place, steps });
-    };
-    let unit = found.place;
-    let steps = steps_through(scene, unit, address)?;
-    let place = Some(unit);
-    Ok(Way { place, steps })
 }

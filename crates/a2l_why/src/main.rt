@@ -1,14 +1,22 @@
 //! `a2l_why`: why an address of a program has no answer, or not the one that was expected.
 #![tactic(auto)]
 
+mod census;
 mod command;
+mod document;
 mod fault;
+mod findings;
 mod meter;
+mod notes;
+mod page;
+mod report;
+mod told;
+mod way;
 
 use crate::command::{Job, USAGE, parse};
 use crate::fault::Fault;
 use crate::meter::Meter;
-use a2l_findings::{Form, Outcome, Report, report_on_file, report_on_words};
+use crate::report::{Form, Outcome, Report, report_on_file, report_on_words};
 use a2l_lines::{process_words, read_file};
 use std::alloc::AllocError;
 use std::io::{self, Lock, Write};

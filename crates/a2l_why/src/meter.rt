@@ -1,6 +1,6 @@
 //! How much of the work is done, on the error stream where that is a terminal.
 
-use a2l_findings::Progress;
+use crate::findings::Progress;
 use std::io::{IsTerminal, Write};
 
 /// How many steps of the work are shown.

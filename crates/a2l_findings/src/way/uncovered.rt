@@ -49,7 +49,7 @@ const NO_UNIT: &str =
     "compile the code there with -g -gdwarf-5; code of the linker or of a library without debug information stays `??`";
 
 /// Why no unit answers an address.
-pub(super) fn uncovered_note<'a>(scene: &Scene<'a>, address: u64) -> Allocated<Note<'a>> {
+pub fn uncovered_note<'a>(scene: &Scene<'a>, address: u64) -> Allocated<Note<'a>> {
     let mut note = Note::new(scene.alloc, "uncovered");
     let words = "no unit that answers has a range that holds ";
     note.place(words, "address", address)?;
