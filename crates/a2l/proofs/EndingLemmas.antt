@@ -1,5 +1,5 @@
 -- What is wrong first, from what went wrong in a part of a run.
-use Rattle.std.proofs.Common.{◌≡◌, ◌≢◌, ◌∙◌, inl, inr, ℕ, ◌<◌, Bool, true, false, List, [], ◌∷◌, map, Option, None, Result, Ok, Err, refl, sym, ap, subst, arith}
+use Rattle.std.proofs.Common.{◌≡◌, ◌≢◌, ◌∙◌, inl, inr, ℕ, ◌<◌, Bool, false, List, [], ◌∷◌, map, Option, None, Result, Err, refl, sym, ap, subst, arith}
 use Rattle.std.specs.Prelude.{IfErr, IfSome, option_and_then, codes, if◌then◌else◌}
 use denote.Ref.{Bor}
 use Rattle.clap.specs.Words.{Row, Text}
@@ -9,12 +9,10 @@ use Rattle.a2l_lines.specs.Input.{word_shown}
 use Rattle.a2l_lines.specs.declared.file.LoadFault.{LoadFault}
 use Rattle.a2l_lines.specs.declared.file.LoadFault.TheVariants as load_faults
 use Rattle.a2l.specs.declared.command.Job.{Job}
-use Rattle.a2l.specs.declared.command.ParseFault.{ParseFault}
-use Rattle.a2l.specs.declared.command.ParseFault.TheVariants as parse_faults
 use Rattle.a2l.specs.declared.fault.Fault.{Fault}
 use Rattle.a2l.specs.declared.fault.Fault.TheVariants as faults
 use Rattle.a2l.specs.CommandLine.{found_in, is_set, words_in}
-use Rattle.a2l.specs.Conversions.{fault_of_parse, fault_of_load}
+use Rattle.a2l.specs.Conversions.{fault_of_load}
 use Rattle.a2l.specs.Ending.{Begins, IsFirst, ReadsInput, named_in, refusal_by}
 use Rattle.a2l.specs.Fault.{EndsBadly, FailsOver, Reports}
 use Rattle.a2l.specs.Known.{Known, OfFile}

@@ -1,4 +1,4 @@
-use Rattle.std.proofs.Common.{◌≡◌, ◌∙◌, true, false, [], Option, Some, ap, rules, codes}
+use Rattle.std.proofs.Common.{◌≡◌, ◌∙◌, true, false, [], Option, Some, ap, codes}
 use Rattle.std.proofs.lemmas.Result.{IfOk-weaker}
 use Rattle.clap.specs.Lexer.{usize_max}
 use Rattle.clap.specs.Simple.{app_of_fields, on_top}

@@ -5,7 +5,7 @@ use Rattle.a2l.specs.CommandLine.{found_in}
 use Rattle.a2l.specs.Conversions.{fault_of_load}
 use Rattle.a2l.specs.Ending.{IsFirst}
 use Rattle.a2l.specs.Fault.{FailsOver}
-use Rattle.dw_model.specs.Refusal.{refusal, listing_refusal}
+use Rattle.dw_model.specs.Refusal.{refusal}
 use Rattle.std.proofs.lemmas.Result.{IfErr-weaker}
 use Rattle.a2l.proofs.EndingLemmas.{refusal-by, told, unloaded, unserved, was-read}
 use Rattle.a2l.proofs.ServingLemmas.{answers-loaded, lists-loaded}
