@@ -1,5 +1,5 @@
 -- A form that names another one, and the form that is reached.
-use Rattle.std.proofs.Common.{◌≡◌, ℕ, ℤ, Option, Some, None, Result, Ok, Err, refl, subst, sym, ap, ◌∙◌}
+use Rattle.std.proofs.Common.{◌≡◌, ℕ, ℤ, Option, Some, None, Result, Ok, Err, refl, sym, ◌∙◌, arith}
 use Rattle.std.specs.Prelude.{ok_or, nat_eq}
 use Rattle.std.specs.Map.{lookup}
 use Rattle.std.proofs.lemmas.Bool.{ne_eqb}
@@ -21,16 +21,13 @@ module _ (size : ℕ) where
   Stays form constant p all = value_at size form constant p ≡ all
 
   reached : (form : ℕ) (constant : Option ℤ) (p : Place) (all : Read) → form ≡ DW_FORM_indirect → Stays form constant p all → (uleb_at p >>= λ next. value_at size next.0 None next.1) ≡ all
-  reached form constant p all is stays =
-      sym (value-behind size constant p) ∙ ap (λ (f : ℕ). value_at size f constant p) (sym is) ∙ stays
+  reached form constant p all is stays = grind (arith, value-behind)
 
   told_by : (told : Option Fault) (p : Place) (all : Read) → Tells told (uleb_at p) → (uleb_at p >>= λ next. value_at size next.0 None next.1) ≡ all → Tells told all
-  told_by None p all h e = absurd h
-  told_by (Some fault) p all h e = sym e ∙ rw h refl
+  told_by told p all h e = grind arith
 
   pub form_told : (told own : Option Fault) (form : ℕ) (constant : Option ℤ) (p : Place) (all : Read) → form ≡ DW_FORM_indirect → Stays form constant p all → Tells told (uleb_at p) → own ≡ told → Tells own all
-  form_told told own form constant p all is stays h e =
-      subst (λ told. Tells told all) (sym e) (told_by told p all h (reached form constant p all is stays))
+  form_told told own form constant p all is stays h e = grind (arith, told_by, reached)
 
   pub form_next : (form next : ℕ) (constant : Option ℤ) (p q : Place) (all : Read) → form ≡ DW_FORM_indirect → Stays form constant p all → uleb_at p ≡ Ok (next, q) → Stays next None q all
   form_next form next constant p q all is stays e =
@@ -38,8 +35,7 @@ module _ (size : ℕ) where
       sym step ∙ reached form constant p all is stays
 
   direct : (form : ℕ) (constant : Option ℤ) (p : Place) (all : Read) → (form ≡ DW_FORM_indirect → ⊥) → Stays form constant p all → (ok_or (lookup (nat_eq form) forms) unknown_form >>= λ s. spelled_at size s constant p) ≡ all
-  direct form constant p all other stays =
-      sym (value-here size form constant p (ne_eqb form DW_FORM_indirect other)) ∙ stays
+  direct form constant p all other stays = grind (arith, value-here, ne_eqb)
 
   pub form_unknown : (form : ℕ) (constant : Option ℤ) (p : Place) (all : Read) → (form ≡ DW_FORM_indirect → ⊥) → Stays form constant p all → lookup (nat_eq form) forms ≡ None → all ≡ Err unknown_form
   form_unknown form constant p all other stays none = sym (direct form constant p all other stays) ∙ rw none refl

@@ -1,6 +1,7 @@
 -- A declaration is read onto the bytes behind it: reading leaves a place of the same section.
-use Rattle.std.proofs.Common.{◌≡◌, ◌∙◌, ℕ, ◌+◌, ◌-◌, ◌≤◌, ℤ, Bool, true, false, cond, List, [], ◌∷◌, ◌++◌, length, drop, Option, Some, None, Result, Ok, refl, sym, ap, subst, arith}
+use Rattle.std.proofs.Common.{◌≡◌, ◌∙◌, ℕ, ◌+◌, ◌-◌, ◌≤◌, ℤ, Bool, cond, List, [], ◌∷◌, ◌++◌, length, drop, Option, Some, None, Result, Ok, refl, sym, ap, subst, arith}
 use Rattle.std.specs.Prelude.{ok_or, not, ◌==◌, ◌&&◌}
+use Rattle.std.proofs.Math.Seq.{drop-append_seam}
 use Rattle.std.proofs.lemmas.List.{append_assoc, drop-drop, length-append, length-drop}
 use Rattle.dw_model.specs.declared.dwarf.TheConstants as constants
 use Rattle.dw_model.specs.Results.{◌>>=◌}
@@ -11,6 +12,7 @@ use Rattle.dw_model.specs.Abbrev.{Specification, Declaration, next_specification
 use Rattle.dw_model.proofs.StepLemmas.{bind_ok, ok_or-ok}
 use Rattle.dw_model.proofs.AdvanceLemmas.{specifications_advance, past_none, ends_at}
 use Rattle.dw_model.proofs.ItemsLemmas.{read_by}
+use Rattle.dw_model.proofs.ReadingLemmas.{between-length}
 use Rattle.dw_model.proofs.NumberLemmas.{number_at-spans}
 use Rattle.dw_model.proofs.LebReading.{uleb-spans, sleb-spans}
 
@@ -18,7 +20,7 @@ use Rattle.dw_model.proofs.LebReading.{uleb-spans, sleb-spans}
 abbrev pub Onto : Place → Place → Type 0
 Onto p q = (piece : List ℕ) × Between p piece q
 
-stays : (p : Place) → Onto p p
+pub stays : (p : Place) → Onto p p
 stays p = ([], (refl, omega arith))
 
 pub on : (p q r : Place) → Onto p q → Onto q r → Onto p r
@@ -27,10 +29,10 @@ on p q r a b =
     let sizes : length (a.0 ++ b.0) ≡ length a.0 + length b.0 = length-append a.0 b.0 in
     (a.0 ++ b.0, (bytes, omega (arith, a.1.1, b.1.1, sizes)))
 
-until : (p s t : Place) → s ≡ t → Onto p s → Onto p t
+pub until : (p s t : Place) → s ≡ t → Onto p s → Onto p t
 until p s t e h = subst (Onto p) e h
 
-uleb-onto : (p : Place) (x : ℕ × Place) → uleb_at p ≡ Ok x → Onto p x.1
+pub uleb-onto : (p : Place) (x : ℕ × Place) → uleb_at p ≡ Ok x → Onto p x.1
 uleb-onto p x e = let s = uleb-spans p x.1 x.0 e in (s.0, s.1)
 
 sleb-onto : (p : Place) (x : ℤ × Place) → sleb_at p ≡ Ok x → Onto p x.1
@@ -44,11 +46,7 @@ Pair = Option Specification × Place
 
 -- the rest of a specification, after its name and its form
 specification_rest : (q t : Place) (o : Option Specification) (ended constant : Bool) (make : ℤ → Option Specification) (plain : Option Specification) → cond {A = Result Pair Fault} ended (Ok (None, q)) (cond {A = Result Pair Fault} constant (sleb_at q >>= λ z. Ok (make z.0, z.1)) (Ok (plain, q))) ≡ Ok (o, t) → Onto q t
-specification_rest q t o true constant make plain e = until q q t (ends_at None o q t e) (stays q)
-specification_rest q t o false true make plain e =
-    let z = bind_ok (sleb_at q) (λ z. Ok (make z.0, z.1)) (o, t) e in
-    until q z.0.1 t (ends_at (make z.0.0) o z.0.1 t z.2) (sleb-onto q z.0 z.1)
-specification_rest q t o false false make plain e = until q q t (ends_at plain o q t e) (stays q)
+specification_rest q t o ended constant make plain e = grind (arith, until, ends_at, stays, bind_ok, sleb-onto)
 
 specification-onto : (p t : Place) (o : Option Specification) → next_specification p ≡ Ok (o, t) → Onto p t
 unfolding next_specification
@@ -93,9 +91,10 @@ next-onto p t item e =
 abbrev pub place_at : List ℕ → ℕ → Place
 place_at section x = record { at = x; left = drop x section }
 
-drop-front : (front rest : List ℕ) → drop (length front) (front ++ rest) ≡ rest
-drop-front [] rest = refl
-drop-front (x ∷ front) rest = drop-front front rest
+-- the bytes behind others of a section are of it too
+pub onto-left : (section : List ℕ) (p q : Place) → Onto p q → p.left ≡ drop p.at section → q.left ≡ drop q.at section
+onto-left section p q h here =
+    sym (drop-append_seam h.0 q.left) ∙ ap (λ (xs : List ℕ). drop (length h.0) xs) (sym h.1.0 ∙ here) ∙ drop-drop (length h.0) p.at section ∙ ap (λ (n : ℕ). drop n section) (sym h.1.1)
 
 -- The place is one of the section.
 abbrev pub Stands : List ℕ → Place → Type 0
@@ -106,8 +105,6 @@ pub next-stands : (section : List ℕ) (p q : Place) (item : Declaration) → St
 next-stands section p q item s e =
     let h = next-onto p q item e in
     let here : p.left ≡ drop p.at section = ap (λ (p : Place). p.left) s.0 in
-    let left : q.left ≡ drop q.at section =
-    sym (drop-front h.0 q.left) ∙ ap (λ (xs : List ℕ). drop (length h.0) xs) (sym h.1.0 ∙ here) ∙ drop-drop (length h.0) p.at section ∙ ap (λ (n : ℕ). drop n section) (sym h.1.1) in
     let size : length p.left ≡ length section - p.at = ap (λ (xs : List ℕ). length xs) here ∙ length-drop p.at section in
-    let parts : length p.left ≡ length h.0 + length q.left = ap (λ (xs : List ℕ). length xs) h.1.0 ∙ length-append h.0 q.left in
-    (ap (λ (left : List ℕ). record { at = q.at; left = left }) left, omega (arith, s.1, size, parts, h.1.1))
+    let left = onto-left section p q h here in
+    (ap (λ (left : List ℕ). record { at = q.at; left = left }) left, omega (arith, s.1, size, between-length p q h.0 h.1, h.1.1))

@@ -86,6 +86,3 @@ takes-first p q count found spec some are e is =
 
 pub counted : (specs : List Spec) (p q : Place) → all_at p ≡ Ok (map spec_shown specs, q) → AreAt p (length specs)
 counted specs p q e = ((map spec_shown specs, q), e, length-map specs spec_shown)
-
-pub those : (specs : List Spec) (p q : Place) → all_at p ≡ Ok (map spec_shown specs, q) → specs_at p ≡ map spec_shown specs
-those specs p q e = ap specs_in_read e

@@ -1,14 +1,13 @@
 -- The first declaration of a code from a place on.
-use Rattle.std.proofs.Common.{◌≡◌, ◌≢◌, ◌⊎◌, inl, inr, ℕ, zero, suc, ◌+◌, ◌-◌, ◌<◌, ◌≤◌, Bool, true, false, List, [], ◌∷◌, length, drop, get_or, map, Option, Some, None, option_map, refl, sym, ap, ◌∙◌, arith, subst, cond, Ordering, Less, Equal, Greater}
+use Rattle.std.proofs.Common.{◌≡◌, ◌≢◌, ◌⊎◌, inl, inr, ℕ, zero, suc, ◌+◌, ◌-◌, ◌<◌, ◌≤◌, Bool, true, false, List, [], ◌∷◌, length, drop, get_or, map, Some, None, option_map, refl, sym, ap, ◌∙◌, arith, subst, cond, Ordering, Equal}
 use Rattle.std.specs.Prelude.{slice_get, nat_lt, nat_le, ◌&&◌, ◌==◌, IfSome}
 use Rattle.std.specs.Ordering.{nat_cmp, ordering_then, is_gt, is_eq}
 use Rattle.std.specs.BTreeSet as set
-use Rattle.std.specs.FinMap.{nat_cmp-IsAntisymmetric}
 use Rattle.std.specs.Cmp.{nat_cmp_is}
 use Rattle.std.specs.declared.ops.Bound.TheVariants.{Included, Unbounded}
 use Rattle.std.proofs.lemmas.Map.Keys.{le_from_not_gt}
-use Rattle.std.proofs.lemmas.Bool.{eq-eqb, ne_eqb, eqb-true, eqb-false, ltb-true, ltb-false, leb-true, lt-ltb, le-leb, and_parts, and_from, true≢false}
-use Rattle.std.proofs.lemmas.Option.{same_Some, slice_get_read, slice_get_within}
+use Rattle.std.proofs.lemmas.Bool.{cases_lt, cases_order, eq-eqb, ne_eqb, ltb-true, ltb-false, leb-true, lt-ltb, le-leb, and_parts, and_from, true≢false}
+use Rattle.std.proofs.lemmas.Option.{same_Some, slice_get_past, slice_get_read}
 use Rattle.dw_model.specs.Abbrev.{declared}
 use Rattle.dw_forms.specs.declared.declaration.Decl.{Decl}
 use Rattle.dw_forms.specs.Declaration.{declaration_shown}
@@ -43,31 +42,16 @@ InOrder ds n = (k : ℕ) → k < n → code_at ds k ≡ Some (k + 1)
 
 pub found_in_order : (ds : List Decl) (n from code : ℕ) (x : Decl) → InOrder ds n → n ≤ length ds → (nat_lt from code && nat_le code n) ≡ true → x ≡ get_or ds (code - 1) x → Some (declaration_shown x) ≡ declared (drop from (map declaration_shown ds)) code
 found_in_order ds n from code x order within first is =
-    let parts = and_parts (nat_lt from code) (nat_le code n) first in
-    let some = ltb-true from code parts.0 in
-    let below = leb-true code n parts.1 in
-    let place : code - 1 + 1 ≡ code = omega (arith, some) in
-    let stands = slice_get_read ds (length ds) (code - 1) x refl (omega (arith, some, below, within)) is in
-    let found = find_first ds from code (code - 1) (omega (arith, some)) (order (code - 1) (omega (arith, some, below)) ∙ ap Some place)
-    (λ j g h e. let same : j + 1 ≡ code = same_Some (j + 1) code (sym (order j (omega (arith, h, below))) ∙ e) in omega (arith, h, same)) in
-    sym (found ∙ ap (option_map declaration_shown) stands)
+    grind (arith, and_parts, ltb-true, leb-true, slice_get_read, find_first, same_Some)
 
 -- ---- other codes
 
 among : (n from code : ℕ) → (nat_lt from code && nat_le code n) ≡ false → from < code → code ≤ n → ⊥
-among n from code e some within =
-    true≢false (sym (and_from (nat_lt from code) (nat_le code n) (lt-ltb from code some) (le-leb code n within)) ∙ e)
+among n from code e some within = grind (arith, true≢false, and_from, lt-ltb, le-leb)
 
 -- a place of the code from one on isn't among those in order
 behind : (ds : List Decl) (n from code j : ℕ) → InOrder ds n → (nat_lt from code && nat_le code n) ≡ false → from ≤ j → code_at ds j ≡ Some code → n ≤ j
-behind ds n from code j order other after e = by_order (nat_lt j n) refl
-  where
-    by_order : (b : Bool) → nat_lt j n ≡ b → n ≤ j
-    by_order true below =
-        let h = ltb-true j n below in
-        let same : j + 1 ≡ code = same_Some (j + 1) code (sym (order j h) ∙ e) in
-        absurd (among n from code other (omega (arith, same, after)) (omega (arith, same, h)))
-    by_order false below = omega (arith, ltb-false j n below)
+behind ds n from code j order other after e = grind (arith, cases_lt, same_Some, among)
 
 pub found_other : (ds : List Decl) (n from code k : ℕ) (places : set.BTreeSet Coded) (x : Decl) → InOrder ds n → ArePlaces n (length ds) ds places → (nat_lt from code && nat_le code n) ≡ false → IsFirstPlace places from code (Some k) → x ≡ get_or ds k x
     → Some (declaration_shown x) ≡ declared (drop from (map declaration_shown ds)) code
@@ -84,11 +68,7 @@ found_nowhere ds n from code places order are other none =
 -- ---- codes and places, in order
 
 not-gt : (i j : ℕ) → i ≤ j → is_gt (nat_cmp i j) ≡ false
-not-gt i j h = by_test (nat_lt i j) refl
-  where
-    by_test : (b : Bool) → nat_lt i j ≡ b → is_gt (nat_cmp i j) ≡ false
-    by_test true e = ap is_gt (sym (nat_cmp_is i j Less (ltb-true i j e)))
-    by_test false e = let k = ltb-false i j e in ap is_gt (sym (nat_cmp_is i j Equal (omega (arith, h, k))))
+not-gt i j h = grind (arith, cases_lt)
 
 same-code : (code i j : ℕ) → coded_cmp (code, i) (code, j) ≡ nat_cmp i j
 same-code code i j = ap (λ (o : Ordering). ordering_then o (nat_cmp i j)) (sym (nat_cmp_is code code Equal refl))
@@ -99,41 +79,13 @@ coded-le code i j h = ap is_gt (same-code code i j) ∙ not-gt i j h
 
 -- what it says that one isn't after another
 coded-parts : (x y : Coded) → is_gt (coded_cmp x y) ≡ false → (x.0 < y.0) ⊎ ((x.0 ≡ y.0) × (x.1 ≤ y.1))
-coded-parts x y h = by_less (nat_lt x.0 y.0) refl
-  where
-    by_same : (b : Bool) → (x.0 == y.0) ≡ b → nat_lt x.0 y.0 ≡ false → (x.0 < y.0) ⊎ ((x.0 ≡ y.0) × (x.1 ≤ y.1))
-    by_same true s e =
-        let same : x.0 ≡ y.0 = eqb-true x.0 y.0 s in
-        let o = ap (λ (o : Ordering). is_gt (ordering_then o (nat_cmp x.1 y.1))) (nat_cmp_is x.0 y.0 Equal same) ∙ h in
-        inr (same, le_from_not_gt x.1 y.1 o)
-    by_same false s e =
-        let apart : y.0 < x.0 = omega (arith, ltb-false x.0 y.0 e, eqb-false x.0 y.0 s) in
-        let both : true ≡ false = ap (λ (o : Ordering). is_gt (ordering_then o (nat_cmp x.1 y.1))) (nat_cmp_is x.0 y.0 Greater apart) ∙ h in
-        absurd (true≢false both)
-
-    by_less : (b : Bool) → nat_lt x.0 y.0 ≡ b → (x.0 < y.0) ⊎ ((x.0 ≡ y.0) × (x.1 ≤ y.1))
-    by_less true e = inl (ltb-true x.0 y.0 e)
-    by_less false e = by_same (x.0 == y.0) refl e
+coded-parts x y h = grind (arith, cases_order, le_from_not_gt, true≢false)
 
 coded-same : (x y : Coded) → is_eq (coded_cmp x y) ≡ true → (x.0 ≡ y.0) × (x.1 ≡ y.1)
-coded-same x y h =
-    let codes = first (nat_cmp x.0 y.0) refl h in
-    let cmp : is_eq (nat_cmp x.1 y.1) ≡ true = ap (λ (o : Ordering). is_eq (ordering_then o (nat_cmp x.1 y.1))) (nat_cmp_is x.0 y.0 Equal codes) ∙ h in
-    (codes, second (nat_cmp x.1 y.1) refl cmp)
-  where
-    first : (o : Ordering) → nat_cmp x.0 y.0 ≡ o → is_eq (ordering_then o (nat_cmp x.1 y.1)) ≡ true → x.0 ≡ y.0
-    first Less e k = absurd (true≢false (sym k))
-    first Equal e k = nat_cmp-IsAntisymmetric x.0 y.0 e
-    first Greater e k = absurd (true≢false (sym k))
-
-    second : (o : Ordering) → nat_cmp x.1 y.1 ≡ o → is_eq o ≡ true → x.1 ≡ y.1
-    second Less e k = absurd (true≢false (sym k))
-    second Equal e k = nat_cmp-IsAntisymmetric x.1 y.1 e
-    second Greater e k = absurd (true≢false (sym k))
+coded-same x y h = grind (arith, true≢false)
 
 coded-itself : (x : Coded) → is_eq (coded_cmp x x) ≡ true
-coded-itself x =
-    ap (λ (o : Ordering). is_eq (ordering_then o (nat_cmp x.1 x.1))) (sym (nat_cmp_is x.0 x.0 Equal refl)) ∙ ap is_eq (sym (nat_cmp_is x.1 x.1 Equal refl))
+coded-itself x = grind arith
 
 -- ---- the places of codes, as they are found
 
@@ -178,49 +130,9 @@ coded-at (x ∷ ds) (suc i) d h = coded-at ds i d (omega (arith, h))
 
 pub one-more : (ds : List Decl) (from i : ℕ) (d : Decl) (old new : set.BTreeSet Coded) → i < length ds → from ≤ i → ((q : Coded) → set.contains coded_cmp new q ≡ cond (is_eq (coded_cmp ((get_or ds i d).code, i) q)) true (set.contains coded_cmp old q))
     → ArePlaces from i ds old → ArePlaces from (i + 1) ds new
-one-more ds from i d old new within past added are = record {
-  sound = λ code k h. sound code k (is_eq (coded_cmp ((get_or ds i d).code, i) (code, k))) refl (sym (added (code, k)) ∙ h);
-  complete = λ code k after below e. complete code k after below e (nat_lt k i) refl;
-}
-  where
-    either : (b : Bool) → cond b true true ≡ true
-    either true = refl
-    either false = refl
-
-    pair : {code k : ℕ} → (get_or ds i d).code ≡ code → i ≡ k → ◌≡◌ {A = Coded} (code, k) ((get_or ds i d).code, i)
-    pair a b = cc
-
-    here : code_at ds i ≡ Some (get_or ds i d).code
-    here = coded-at ds i d within
-
-    sound : (code k : ℕ) (b : Bool) → is_eq (coded_cmp ((get_or ds i d).code, i) (code, k)) ≡ b → cond b true (set.contains coded_cmp old (code, k)) ≡ true → (from ≤ k) × (k < i + 1) × (code_at ds k ≡ Some code)
-    sound code k true e h =
-        let same = coded-same ((get_or ds i d).code, i) (code, k) e in
-        (omega (arith, past, same.1), omega (arith, same.1), subst (λ (k : ℕ). code_at ds k ≡ Some code) same.1 (here ∙ ap Some same.0))
-    sound code k false e h =
-        let before = are.sound code k h in
-        (before.0, omega (arith, before.1), before.2)
-
-    complete : (code k : ℕ) → from ≤ k → k < i + 1 → code_at ds k ≡ Some code → (b : Bool) → nat_lt k i ≡ b → set.contains coded_cmp new (code, k) ≡ true
-    complete code k after below e true h =
-        let before = are.complete code k after (ltb-true k i h) e in
-        added (code, k) ∙ ap (cond (is_eq (coded_cmp ((get_or ds i d).code, i) (code, k))) true) before ∙ either (is_eq (coded_cmp ((get_or ds i d).code, i) (code, k)))
-    complete code k after below e false h =
-        let last : k ≡ i = omega (arith, ltb-false k i h, below) in
-        let same : (get_or ds i d).code ≡ code = same_Some (get_or ds i d).code code (sym here ∙ ap (code_at ds) (sym last) ∙ e) in
-        let equal : is_eq (coded_cmp ((get_or ds i d).code, i) (code, k)) ≡ true = ap (λ (y : Coded). is_eq (coded_cmp ((get_or ds i d).code, i) y)) (pair same (sym last)) ∙ coded-itself ((get_or ds i d).code, i) in
-        added (code, k) ∙ ap (λ (b : Bool). cond b true (set.contains coded_cmp old (code, k))) equal
+one-more ds from i d old new within past added are =
+    grind (arith, coded-at, coded-same, ltb-true, ltb-false, same_Some, coded-itself)
 
 -- no declaration is left
 pub all-placed : (ds : List Decl) (from i : ℕ) (places : set.BTreeSet Coded) → length ds ≤ i → ArePlaces from i ds places → ArePlaces from (length ds) ds places
-all-placed ds from i places past are = record {
-  sound = λ code k h. let one = are.sound code k h in (one.0, within k code one.2, one.2);
-  complete = λ code k after below e. are.complete code k after (omega (arith, below, past)) e;
-}
-  where
-    within : (k code : ℕ) → code_at ds k ≡ Some code → k < length ds
-    within k code e = by_found (slice_get ds k) refl e
-      where
-        by_found : (found : Option Decl) → slice_get ds k ≡ found → option_map (λ (d : Decl). d.code) found ≡ Some code → k < length ds
-        by_found None h e = absurd cc
-        by_found (Some d) h e = slice_get_within ds k d h
+all-placed ds from i places past are = grind (arith, cases_lt, slice_get_past)

@@ -1,6 +1,6 @@
 -- Where declarations begin: starts that are added, and how many there are.
-use Rattle.std.proofs.Common.{◌≡◌, ◌⊎◌, inl, inr, ◌∙◌, ℕ, zero, suc, ◌+◌, ◌<◌, ◌≤◌, Bool, true, false, cond, List, [], ◌∷◌, ◌++◌, length, map, drop, get_or, Option, Some, None, Ok, refl, sym, ap, subst, arith}
-use Rattle.std.specs.Prelude.{IsSome, fold, slice_get, sum, ◌==◌}
+use Rattle.std.proofs.Common.{◌≡◌, inl, inr, ◌∙◌, ℕ, zero, suc, ◌+◌, ◌<◌, ◌≤◌, Bool, cond, List, [], ◌∷◌, ◌++◌, length, map, drop, get_or, Option, Some, None, Ok, refl, sym, arith}
+use Rattle.std.specs.Prelude.{fold, slice_get, sum, ◌==◌}
 use Rattle.std.specs.Option.{option_or}
 use Rattle.std.proofs.lemmas.Bool.{eqb-true, eqb-false}
 use Rattle.std.proofs.lemmas.List.{length-append, length-drop, length_push}
@@ -24,29 +24,17 @@ offsets_of ds = map (λ (d : Decl). d.offset) ds
 -- ---- the offsets of a run
 
 left-of : (section : List ℕ) (p : Place) → Stands section p → length p.left + p.at ≡ length section
-left-of section p s =
-    let same : length p.left ≡ length (drop p.at section) = ap (λ (p : Place). length p.left) s.0 in
-    let size = length-drop p.at section in
-    omega (arith, same, size, s.1)
+left-of section p s = grind (arith, length-drop)
 
 goes-up : (section : List ℕ) (p t : Place) (d : Declaration) → Stands section p → next_declaration p ≡ Ok (Some d, t) → (p.at < t.at) × (p.at < length section)
-goes-up section p t d s e =
-    let less = declarations_advance p d t e in
-    let before = left-of section p s in
-    let behind = left-of section t (next-stands section p t d s e) in
-    (omega (arith, less, before, behind), omega (arith, less, before))
+goes-up section p t d s e = grind (arith, declarations_advance, left-of, next-stands)
 
 -- each is in the section, and not before the run
 pub in-section : (section : List ℕ) (p q : Place) (ds : List Decl) (k offset : ℕ) → Stands section p → AreChained p ds q → slice_get (offsets_of ds) k ≡ Some offset → (p.at ≤ offset) × (offset < length section)
 in-section section p q [] k offset s h e = absurd cc
-in-section section p q (d ∷ ds) zero offset s h e =
-    let up = goes-up section p h.1 (declaration_shown d) s h.2 in
-    let same : p.at ≡ offset = sym h.0 ∙ same_Some d.offset offset e in
-    (omega (arith, same), omega (arith, same, up.1))
+in-section section p q (d ∷ ds) zero offset s h e = grind (arith, goes-up, same_Some)
 in-section section p q (d ∷ ds) (suc k) offset s h e =
-    let up = goes-up section p h.1 (declaration_shown d) s h.2 in
-    let later = in-section section h.1 q ds k offset (next-stands section p h.1 (declaration_shown d) s h.2) h.3 e in
-    (omega (arith, up.0, later.0), later.1)
+    grind (arith, goes-up, next-stands, in-section section h.1 q ds k offset (next-stands section p h.1 (declaration_shown d) s h.2) h.3 e)
 
 pub rising : (section : List ℕ) (p q : Place) (ds : List Decl) → Stands section p → AreChained p ds q → AreRising (offsets_of ds)
 rising section p q [] s h j k a b less e f = absurd cc
@@ -67,24 +55,13 @@ Adds old new key start = (q : ℕ) (same : Bool) → (q == key) ≡ same → sta
 
 appended : (old : StartList) (key : ℕ) (start : Start) (q : ℕ) → start_at (old ++ (key, start) ∷ []) q ≡ option_or (start_at old q) (cond (q == key) (Some start) None)
 appended [] key start q = refl
-appended (first ∷ old) key start q = by (q == first.0) (appended old key start q)
-  where
-    by : (here : Bool) → start_at (old ++ (key, start) ∷ []) q ≡ option_or (start_at old q) (cond (q == key) (Some start) None)
-        → cond here (Some first.1) (start_at (old ++ (key, start) ∷ []) q) ≡ option_or (cond here (Some first.1) (start_at old q)) (cond (q == key) (Some start) None)
-    by true later = refl
-    by false later = later
+appended (first ∷ old) key start q = grind (arith, appended old key start q)
 
-or-none : (found : Option Start) → option_or found None ≡ found
-or-none None = refl
-or-none (Some start) = refl
+pub or-none : {X : Type 0} (found : Option X) → option_or found None ≡ found
+or-none found = grind arith
 
 adds : (old : StartList) (key : ℕ) (start : Start) → start_at old key ≡ None → Adds old (old ++ (key, start) ∷ []) key start
-adds old key start none q same e =
-    appended old key start q ∙ ap (λ (here : Bool). option_or (start_at old q) (cond here (Some start) None)) e ∙ by same e
-  where
-    by : (same : Bool) → (q == key) ≡ same → option_or (start_at old q) (cond same (Some start) None) ≡ cond same (Some start) (start_at old q)
-    by true e = ap (λ (found : Option Start). option_or found (Some start)) (ap (start_at old) (eqb-true q key e) ∙ none)
-    by false e = or-none (start_at old q)
+adds old key start none q same e = grind (arith, appended, eqb-true, or-none)
 
 one-offset : (offsets : List ℕ) (j k a : ℕ) → AreRising offsets → j < k → slice_get offsets j ≡ Some a → slice_get offsets k ≡ Some a → ⊥
 one-offset offsets j k a rise less e f = omega (arith, rise j k a a less e f)
@@ -104,52 +81,13 @@ module _ (run : ℕ) (offsets : List ℕ) (first : StartList) where
           ]
 
   pub added-one : (i key : ℕ) (start : Start) (old : StartList) → AreApart first offsets → AreRising offsets → AreAdded run i offsets first old → slice_get offsets i ≡ Some key → start.run ≡ run → start.index ≡ i → AreAdded run (i + 1) offsets first (old ++ (key, start) ∷ [])
-  added-one i key start old apart rise added at of_run of_index = record {
-    each = λ offset s e. each offset s (offset == key) refl e;
-    there = λ k offset less e. there k offset less e (offset == key) refl;
-    kept = λ offset s e. kept offset s (offset == key) refl (added.kept offset s e);
-    counted = let more = length_push old (key, start) in omega (arith, more, added.counted);
-  }
-    where
-      none : start_at old key ≡ None
-      none = none-yet i key old apart rise added at
-
-      new : StartList
-      new = old ++ (key, start) ∷ []
-
-      kept : (offset : ℕ) (s : Start) (same : Bool) → (offset == key) ≡ same → start_at old offset ≡ Some s → start_at new offset ≡ Some s
-      kept offset s true same e =
-          let both : Some s ≡ None = sym e ∙ ap (start_at old) (eqb-true offset key same) ∙ none in
-          absurd cc
-      kept offset s false same e = adds old key start none offset false same ∙ e
-
-      each : (offset : ℕ) (s : Start) (same : Bool) → (offset == key) ≡ same → start_at new offset ≡ Some s → (start_at first offset ≡ Some s) ⊎ ((s.run ≡ run) × (s.index < i + 1) × (slice_get offsets s.index ≡ Some offset))
-      each offset s true same e =
-          let is : start ≡ s = same_Some start s (sym (adds old key start none offset true same) ∙ e) in
-          let place : s.index ≡ i = ap (λ (s : Start). s.index) (sym is) ∙ of_index in
-          inr (ap (λ (s : Start). s.run) (sym is) ∙ of_run, omega (arith, place), ap (slice_get offsets) place ∙ at ∙ ap Some (sym (eqb-true offset key same)))
-      each offset s false same e =
-          elim (added.each offset s (sym (adds old key start none offset false same) ∙ e)) [
-            | inl before ↦ inl before
-            | inr mine ↦ inr (mine.0, omega (arith, mine.1), mine.2)
-          ]
-
-      there : (k offset : ℕ) → k < i + 1 → slice_get offsets k ≡ Some offset → (same : Bool) → (offset == key) ≡ same → IsSome (start_at new offset)
-      there k offset less e true same =
-          subst (λ (found : Option Start). IsSome found) (sym (adds old key start none offset true same)) refl
-      there k offset less e false same =
-          let other : k ≡ i → ⊥ = λ k_is. eqb-false offset key same (same_Some offset key (sym e ∙ ap (slice_get offsets) k_is ∙ at)) in
-          subst (λ (found : Option Start). IsSome found) (sym (adds old key start none offset false same)) (added.there k offset (omega (arith, less, other)) e)
+  added-one i key start old apart rise added at of_run of_index =
+      grind (arith, length_push, none-yet, eqb-true, adds, same_Some, eqb-false)
 
 -- ---- how many there are
 
 pub sum-more : (runs : List ReadRun) (run : ReadRun) → sum (sizes_of (runs ++ run ∷ [])) ≡ sum (sizes_of runs) + length run.declarations
-sum-more runs run =
-    let size : ReadRun → ℕ = λ run. length run.declarations in
-    let all = sum-map size (runs ++ run ∷ []) in
-    let old = sum-map size runs in
-    let parts = sum_by-append size runs (run ∷ []) in
-    omega (arith, all, old, parts)
+sum-more runs run = grind (arith, sum-map, sum_by-append)
 
 -- ---- how many a table has
 
@@ -167,8 +105,7 @@ drop-within : (i n : ℕ) (table : Table) → length table ≤ n → length (dro
 drop-within i n table h = let size = length-drop i table in omega (arith, size, h)
 
 rest-within : (tables : List Table) (rest : Option Start) (n : ℕ) → ((k : ℕ) → length (get_or tables k []) ≤ n) → length (rest_in tables rest) ≤ n
-rest-within tables None n each = omega arith
-rest-within tables (Some start) n each = drop-within start.index n (get_or tables start.run []) (each start.run)
+rest-within tables rest n each = grind (arith, drop-within)
 
 tables-within : (runs : List ReadRun) (tables : List Table) (n k : ℕ) → ((k : ℕ) → length (get_or tables k []) ≤ n) → length (get_or (fold grown tables runs) k []) ≤ n + sum (sizes_of runs)
 tables-within [] tables n k each = let here = each k in omega (arith, here)
@@ -190,5 +127,4 @@ table-within runs start =
     drop-within start.index (sum (sizes_of runs)) (get_or (tables_of runs) start.run []) (omega (arith, within))
   where
     none : (k : ℕ) → length (get_or {A = Table} [] k []) ≤ 0
-    none zero = omega arith
-    none (suc k) = omega arith
+    none k = grind arith

@@ -1,10 +1,10 @@
 -- Starts by their places in a list, and how many there are.
-use Rattle.std.proofs.Common.{◌≡◌, ◌≢◌, ◌⊎◌, inl, inr, ◌∙◌, ℕ, zero, suc, ◌+◌, ◌<◌, ◌≤◌, Bool, true, false, ◌||◌, List, [], ◌∷◌, ◌++◌, get_or, length, set, Option, Some, None, refl, sym, ap, subst, arith}
-use Rattle.std.specs.Prelude.{is_some, nat_eq, nat_lt, slice_get, ◌==◌}
+use Rattle.std.proofs.Common.{◌≡◌, ◌≢◌, ◌∙◌, ℕ, zero, suc, ◌+◌, ◌<◌, ◌≤◌, Bool, true, false, List, [], ◌∷◌, ◌++◌, get_or, length, set, Option, Some, None, refl, sym, ap, subst, arith}
+use Rattle.std.specs.Prelude.{is_some, nat_eq, slice_get, ◌==◌}
 use Rattle.std.specs.Cmp.{nat_eq_equiv}
 use Rattle.std.specs.List.{range_with_len, list_any, IsDistinct}
 use Rattle.std.specs.Map.{keys_of}
-use Rattle.std.proofs.lemmas.Bool.{eqb-true, eqb-false, ltb-true, ltb-false}
+use Rattle.std.proofs.lemmas.Bool.{cases_eq, cases_lt, eq-eqb, eqb-true, eqb-false, or_left, or_right}
 use Rattle.std.proofs.lemmas.List.{get_or-set_same, get_or-set_other, length-set, length_push, map_push}
 use Rattle.std.proofs.lemmas.List.FromFn.{length-range_with_len}
 use Rattle.std.proofs.lemmas.Map.Entries.{length-keys_of, lookup_from_place, place_from_lookup}
@@ -19,8 +19,7 @@ use Rattle.dw_forms.proofs.StoreLemmas.{get-pushed}
 
 -- what a look-up finds
 pub read-at : {X : Type 0} (xs ys : List X) (k : ℕ) (x : X) → xs ≡ ys → k < length xs → x ≡ get_or xs k x → slice_get ys k ≡ Some x
-read-at {X = X} xs ys k x same within is =
-    ap (λ (xs : List X). slice_get xs k) (sym same) ∙ slice_get_read xs (length xs) k x refl within is
+read-at {X = X} xs ys k x same within is = grind (arith, slice_get_read)
 
 pub there : (starts : StartList) (k offset : ℕ) (start : Start) → IsDistinct nat_eq (keys_of starts) → slice_get starts k ≡ Some (offset, start) → Some start ≡ start_at starts offset
 there starts k offset start distinct e = sym (lookup_from_place nat_eq_equiv starts k offset start distinct e)
@@ -43,33 +42,13 @@ module _ (starts : StartList) (key : ℕ) (start : Start) where
 
   -- the last of the first so many stays, and so does the last of another group
   last-still : (group count place : ℕ) → count ≤ length starts → IsLast starts group count place → IsLast more group count place
-  last-still group count place within last = record {
-    within = last.within;
-    own = λ k offset s here e. elim (get-pushed starts (key, start) (offset, s) k e) [ inl old ↦ last.own k offset s here old.1 | inr new ↦ absurd (omega (arith, here, last.within, within, new.0)) ];
-    others = λ k offset s low high e. elim (get-pushed starts (key, start) (offset, s) k e) [ inl old ↦ last.others k offset s low high old.1 | inr new ↦ absurd (omega (arith, high, within, new.0)) ];
-  }
+  last-still group count place within last = grind (arith, get-pushed)
 
   last-other : (group place : ℕ) → group_of key ≢ group → IsLast starts group (length starts) place → IsLast more group (length more) place
-  last-other group place differ last = record {
-    within = let size = length_push starts (key, start) in omega (arith, last.within, size);
-    own = λ k offset s here e. elim (get-pushed starts (key, start) (offset, s) k e) [ inl old ↦ last.own k offset s here old.1 | inr new ↦ absurd (omega (arith, here, last.within, new.0)) ];
-    others = λ k offset s low high e. elim (get-pushed starts (key, start) (offset, s) k e) [
-      | inl old ↦ last.others k offset s low old.0 old.1
-      | inr new ↦ λ same. differ (ap (λ (pair : ℕ × Start). group_of pair.0) new.1 ∙ same)
-    ];
-  }
+  last-other group place differ last = grind (arith, length_push, get-pushed)
 
   last-new : IsLast more (group_of key) (length more) (length starts + 1)
-  last-new =
-      let size = length_push starts (key, start) in
-      record {
-        within = omega (arith, size);
-        own = λ k offset s here e. elim (get-pushed starts (key, start) (offset, s) k e) [
-          | inl old ↦ absurd (omega (arith, here, old.0))
-          | inr new ↦ ap (λ (pair : ℕ × Start). group_of pair.0) (sym new.1)
-        ];
-        others = λ k offset s low high e. absurd (omega (arith, low, high, size));
-      }
+  last-new = grind (arith, length_push, get-pushed)
 
   module _ (heads before : List ℕ) (place : ℕ) (linked : AreLinked heads before starts) (within : group_of key < length heads) (none : start_at starts key ≡ None) (head : slice_get heads (group_of key) ≡ Some place) where
     lasts : (group last : ℕ) → slice_get (set heads (group_of key) (length starts + 1)) group ≡ Some last → (same : Bool) → (group_of key == group) ≡ same → IsLast more group (length more) last
@@ -86,28 +65,10 @@ module _ (starts : StartList) (key : ℕ) (start : Start) where
         last-other group last differ (linked.lasts group last (slice_get-get_or heads group last (omega (arith, in_heads, long)) ∙ ap Some old))
 
     earlier : (k offset last : ℕ) (s : Start) → slice_get more k ≡ Some (offset, s) → slice_get (before ++ place ∷ []) k ≡ Some last → IsLast more (group_of offset) k last
-    earlier k offset last s e link =
-        elim (get-pushed starts (key, start) (offset, s) k e) [
-          | inl old ↦ elim (get-pushed before place last k link) [
-            | inl known ↦ last-still (group_of offset) k last (omega (arith, old.0)) (linked.earlier k offset last s old.1 known.1)
-            | inr late ↦ absurd (omega (arith, old.0, late.0, linked.counted))
-          ]
-          | inr new ↦ elim (get-pushed before place last k link) [
-            | inl known ↦ absurd (omega (arith, new.0, known.0, linked.counted))
-            | inr late ↦
-                let group : group_of key ≡ group_of offset = ap (λ (pair : ℕ × Start). group_of pair.0) new.1 in
-                let count : length starts ≡ k = sym new.0 in
-                subst (λ (last : ℕ). IsLast more (group_of offset) k last) late.1 (subst (λ (group : ℕ). IsLast more group k place) group (subst (λ (k : ℕ). IsLast more (group_of key) k place) count (last-still (group_of key) (length starts) place (omega arith) (linked.lasts (group_of key) place head))))
-          ]
-        ]
+    earlier k offset last s e link = grind (arith, get-pushed, last-still)
 
     grouped : (k offset : ℕ) (s : Start) → slice_get more k ≡ Some (offset, s) → group_of offset < length (set heads (group_of key) (length starts + 1))
-    grouped k offset s e =
-        let long = length-set heads (group_of key) (length starts + 1) in
-        elim (get-pushed starts (key, start) (offset, s) k e) [
-          | inl old ↦ let before = linked.grouped k offset s old.1 in omega (arith, before, long)
-          | inr new ↦ let group : group_of key ≡ group_of offset = ap (λ (pair : ℕ × Start). group_of pair.0) new.1 in omega (arith, group, within, long)
-        ]
+    grouped k offset s e = grind (arith, length-set, get-pushed)
 
     pub linked-more : AreLinked (set heads (group_of key) (length starts + 1)) (before ++ place ∷ []) more
     linked-more = record {
@@ -124,11 +85,7 @@ module _ (starts : StartList) (key : ℕ) (start : Start) where
 
 in-range : (from count q : ℕ) → from ≤ q → q < from + count → list_any (nat_eq q) (range_with_len from count) ≡ true
 in-range from zero q low high = absurd (omega (arith, low, high))
-in-range from (suc count) q low high = by (q == from) refl (in-range (from + 1) count q)
-  where
-    by : (same : Bool) → (q == from) ≡ same → (from + 1 ≤ q → q < from + 1 + count → list_any (nat_eq q) (range_with_len (from + 1) count) ≡ true) → (same || list_any (nat_eq q) (range_with_len (from + 1) count)) ≡ true
-    by true same others = refl
-    by false same others = let other = eqb-false q from same in others (omega (arith, low, other)) (omega (arith, high))
+in-range from (suc count) q low high = grind (arith, cases_eq, or_left, eq-eqb, or_right, in-range (from + 1) count q)
 
 pub most : (starts : StartList) (end : ℕ) → IsDistinct nat_eq (keys_of starts) → AreBelow end starts → length starts ≤ end
 most starts end distinct below =
@@ -141,18 +98,11 @@ most starts end distinct below =
     inside q member = by (start_at starts q) refl (is_some-lookup (nat_eq q) starts ∙ member)
       where
         by : (found : Option Start) → start_at starts q ≡ found → is_some found ≡ true → list_any (nat_eq q) (range_with_len 0 end) ≡ true
-        by None e some = absurd cc
-        by (Some start) e some = let less = below q start e in in-range 0 end q (omega arith) (omega (arith, less))
+        by found e some = grind (arith, in-range)
 
 pub linked-none : AreLinked [] [] []
 unfolding IsDistinct
-linked-none = record {
-  distinct = tt;
-  counted = refl;
-  lasts = λ group place e. absurd cc;
-  grouped = λ k offset s e. absurd cc;
-  earlier = λ k offset place s e. absurd cc;
-}
+linked-none = grind arith
 
 -- ---- a group is gone through
 
@@ -163,12 +113,7 @@ Sought starts offset place =
     × ((k : ℕ) (start : Start) → count ≤ k → slice_get starts k ≡ Some (offset, start) → ⊥)
 
 pub sought-first : (heads before : List ℕ) (starts : StartList) (offset place : ℕ) → AreLinked heads before starts → slice_get heads (group_of offset) ≡ Some place → Sought starts offset place
-sought-first heads before starts offset place linked e = (
-  length starts,
-  omega arith,
-  linked.lasts (group_of offset) place e,
-  λ k start past at. let within = slice_get_within starts k (offset, start) at in omega (arith, within, past),
-)
+sought-first heads before starts offset place linked e = grind (arith, slice_get_within)
 
 pub sought-within : (starts : StartList) (offset place : ℕ) → Sought starts offset place → place ≤ length starts
 sought-within starts offset place sought = let within = sought.2.within in omega (arith, within, sought.1)
@@ -180,32 +125,8 @@ sought-next heads before starts offset place k next first linked sought is at ot
     let earlier = subst (λ (group : ℕ). IsLast starts group k next) group (linked.earlier k first.0 next first.1 at link) in
     (omega (arith, earlier.within, is), (k, omega (arith, is, last.within, sought.1), earlier, past))
   where
-    three : (j k : ℕ) → k ≤ j → (j ≡ k) ⊎ (k < j)
-    three j k past = by (j == k) refl
-      where
-        by : (same : Bool) → (j == k) ≡ same → (j ≡ k) ⊎ (k < j)
-        by true e = inl (eqb-true j k e)
-        by false e = let differ = eqb-false j k e in inr (omega (arith, past, differ))
-
-    between : (j : ℕ) (start : Start) → k < j → slice_get starts j ≡ Some (offset, start) → ⊥
-    between j start after e = by (nat_lt j sought.0) refl
-      where
-        by : (before : Bool) → nat_lt j sought.0 ≡ before → ⊥
-        by true less = sought.2.others j offset start (omega (arith, is, after)) (ltb-true j sought.0 less) e refl
-        by false past = sought.3 j start (ltb-false j sought.0 past) e
-
     past : (j : ℕ) (start : Start) → k ≤ j → slice_get starts j ≡ Some (offset, start) → ⊥
-    past j start low e = elim (three j k low) [
-      | inl same ↦ other (ap (λ (pair : ℕ × Start). pair.0) (same_Some first (offset, start) (sym at ∙ ap (slice_get starts) (sym same) ∙ e)))
-      | inr after ↦ between j start after e
-    ]
+    past j start low e = grind (arith, cases_eq, same_Some, cases_lt)
 
 pub sought-none : (starts : StartList) (offset place : ℕ) → Sought starts offset place → (1 ≤ place → ⊥) → None ≡ start_at starts offset
-sought-none starts offset place sought end = missing starts offset none
-  where
-    none : (k : ℕ) (start : Start) → slice_get starts k ≡ Some (offset, start) → ⊥
-    none k start e = by (nat_lt k sought.0) refl
-      where
-        by : (before : Bool) → nat_lt k sought.0 ≡ before → ⊥
-        by true less = sought.2.others k offset start (omega (arith, end)) (ltb-true k sought.0 less) e refl
-        by false past = sought.3 k start (ltb-false k sought.0 past) e
+sought-none starts offset place sought end = grind (arith, missing, cases_lt)

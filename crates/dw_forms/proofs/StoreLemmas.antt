@@ -1,13 +1,14 @@
 -- Declarations that are read once, and the tables that begin among them.
-use Rattle.std.proofs.Common.{◌≡◌, ◌⊎◌, inl, inr, ◌∙◌, ℕ, zero, suc, ◌<◌, ◌≤◌, Bool, true, false, cond, List, [], ◌∷◌, ◌++◌, length, drop, take, get_or, map, Option, Some, None, Result, Ok, Err, refl, sym, ap, subst, arith}
-use Rattle.std.specs.Prelude.{IfErr, IfSome, IsOk, IsSome, MatchOption, slice_get, nat_le, option_map, sum, ◌==◌}
+use Rattle.std.proofs.Common.{◌≡◌, ◌⊎◌, inl, inr, ◌∙◌, ℕ, zero, suc, ◌<◌, ◌≤◌, Bool, cond, List, [], ◌∷◌, ◌++◌, length, drop, get_or, map, Option, Some, None, Result, Ok, Err, refl, sym, ap, subst, arith}
+use Rattle.std.specs.Prelude.{IfErr, IfSome, IsOk, IsSome, slice_get, option_map, sum}
 use Rattle.std.proofs.lemmas.Bool.{le-leb, leb-true}
-use Rattle.std.proofs.lemmas.List.{drop-append-le, length_push, map_push, length-map}
+use Rattle.std.proofs.Math.Seq.{get_or-append_seam}
+use Rattle.std.proofs.lemmas.List.{drop-append-le, get_or_append_left, length_push, map_push, length-map}
 use Rattle.std.proofs.lemmas.List.Sums.{fold-append}
 use Rattle.std.proofs.lemmas.Option.{same_Some, slice_get_within}
 use Rattle.dw_model.specs.Faults.{Fault, ends_early}
 use Rattle.dw_model.specs.Results.{◌>>=◌}
-use Rattle.dw_model.specs.Reading.{Place, bytes_at, items, past, start}
+use Rattle.dw_model.specs.Reading.{Place, bytes_at, items, start}
 use Rattle.dw_model.specs.Abbrev.{Declaration, declared, next_declaration, abbreviations}
 use Rattle.dw_model.proofs.StepLemmas.{bind_ok, ok_is}
 use Rattle.dw_model.proofs.AdvanceLemmas.{declarations_advance}
@@ -15,7 +16,7 @@ use Rattle.dw_model.proofs.ItemsLemmas.{items-turn}
 use Rattle.dw_forms.specs.declared.declaration.Decl.{Decl}
 use Rattle.dw_forms.specs.declared.fault.FormFault.{FormFault}
 use Rattle.dw_forms.specs.declared.run.Start.{Start}
-use Rattle.dw_forms.specs.Fault.{form_fault, HidesNoFault}
+use Rattle.dw_forms.specs.Fault.{HidesNoFault}
 use Rattle.dw_forms.specs.Declaration.{declaration_shown}
 use Rattle.dw_forms.specs.Run.{ReadRun}
 use Rattle.dw_forms.specs.Starts.{StartList, start_at, AreAdded, AreApart, AreBelow}
@@ -31,8 +32,7 @@ all_at p = items (λ p. p.left) next_declaration p
 -- ---- a run is read
 
 pub chained-more : (p q t : Place) (ds : List Decl) (d : Decl) → AreChained p ds q → d.offset ≡ q.at → next_declaration q ≡ Ok (Some (declaration_shown d), t) → AreChained p (ds ++ d ∷ []) t
-chained-more p q t [] d h at e =
-    subst (λ (q : Place). d.offset ≡ q.at → next_declaration q ≡ Ok (Some (declaration_shown d), t) → AreChained p (d ∷ []) t) h (λ at e. (at, t, e, refl)) at e
+chained-more p q t [] d h at e = grind arith
 chained-more p q t (x ∷ ds) d h at e = (h.0, h.1, h.2, chained-more h.1 q t ds d h.3 at e)
 
 pub found-one : (q t : Place) (found : Option Decl) (d : Decl) → found ≡ Some d → next_declaration q ≡ Ok (option_map declaration_shown found, t) → next_declaration q ≡ Ok (Some (declaration_shown d), t)
@@ -52,9 +52,7 @@ chained-stands section p q (d ∷ ds) s h =
 -- what is read at a place of the section is the table there
 table-at : (section : List ℕ) (p t : Place) (all : List Declaration) → Stands section p → all_at p ≡ Ok (all, t) → abbreviations section p.at ≡ Ok all
 unfolding abbreviations
-table-at section p t all s e =
-    let read : all_at (place_at section p.at) ≡ Ok (all, t) = ap all_at (sym s.0) ∙ e in
-    rw (le-leb p.at (length section) s.1, read) refl
+table-at section p t all s e = grind (arith, place_at, le-leb)
 
 read-at : (section : List ℕ) (p : Place) (all : List Declaration) → Stands section p → abbreviations section p.at ≡ Ok all → (t : Place) × (all_at p ≡ Ok (all, t))
 unfolding abbreviations
@@ -77,31 +75,17 @@ tails section p q t (d ∷ ds) rest (suc j) offset s h e at =
 
 -- ---- lists that grow
 
-at-before : {X : Type 0} (xs : List X) (y d : X) (k : ℕ) → k < length xs → get_or (xs ++ y ∷ []) k d ≡ get_or xs k d
-at-before [] y d k h = absurd (omega (arith, h))
-at-before (x ∷ xs) y d zero h = refl
-at-before (x ∷ xs) y d (suc k) h = at-before xs y d k (omega (arith, h))
-
 at-last : {X : Type 0} (xs : List X) (y d : X) (k : ℕ) → k ≡ length xs → get_or (xs ++ y ∷ []) k d ≡ y
-at-last [] y d zero h = refl
-at-last [] y d (suc k) h = absurd (omega (arith, h))
-at-last (x ∷ xs) y d zero h = absurd (omega (arith, h))
-at-last (x ∷ xs) y d (suc k) h = at-last xs y d k (omega (arith, h))
+at-last xs y d k h = ap (λ (n : ℕ). get_or (xs ++ y ∷ []) n d) h ∙ get_or-append_seam xs y [] d
 
 pub get-pushed : {X : Type 0} (xs : List X) (y z : X) (k : ℕ) → slice_get (xs ++ y ∷ []) k ≡ Some z → ((k < length xs) × (slice_get xs k ≡ Some z)) ⊎ ((k ≡ length xs) × (y ≡ z))
 get-pushed [] y z zero e = inr (refl, same_Some y z e)
 get-pushed [] y z (suc k) e = absurd cc
 get-pushed (x ∷ xs) y z zero e = inl (omega arith, e)
-get-pushed (x ∷ xs) y z (suc k) e =
-    elim (get-pushed xs y z k e) [ inl h ↦ inl (omega (arith, h.0), h.1) | inr h ↦ inr (omega (arith, h.0), h.1) ]
+get-pushed (x ∷ xs) y z (suc k) e = grind (arith, get-pushed xs y z k e)
 
 pub apart-more : (starts : StartList) (ds : List Decl) (d : Decl) (q : Place) → AreApart starts (map (λ (d : Decl). d.offset) ds) → d.offset ≡ q.at → start_at starts q.at ≡ None → AreApart starts (map (λ (d : Decl). d.offset) (ds ++ d ∷ []))
-apart-more starts ds d q apart same none k offset e =
-    let pushed = map_push (λ (d : Decl). d.offset) ds d in
-    elim (get-pushed (map (λ (d : Decl). d.offset) ds) d.offset offset k (ap (λ (xs : List ℕ). slice_get xs k) (sym pushed) ∙ e)) [
-      | inl old ↦ apart k offset old.1
-      | inr new ↦ ap (start_at starts) (sym new.1 ∙ same) ∙ none
-    ]
+apart-more starts ds d q apart same none k offset e = grind (arith, map_push, get-pushed)
 
 -- ---- a run is added to others
 
@@ -119,48 +103,32 @@ module _ (section : List ℕ) (runs : List ReadRun) (run : ReadRun) (count : len
   sizes-more = map_push (λ (run : ReadRun). length run.declarations) runs run
 
   pub count-more : length (tables_of (runs ++ run ∷ [])) ≡ length (runs ++ run ∷ [])
-  count-more =
-      let tables = ap (λ (tables : List (List Declaration)). length tables) tables-more in
-      let more = length_push (tables_of runs) (whole (tables_of runs) run) in
-      omega (arith, tables, more, count, length_push runs run)
+  count-more = grind (arith, tables-more, length_push)
 
   table-before : (k : ℕ) → k < length runs → get_or (tables_of (runs ++ run ∷ [])) k [] ≡ get_or (tables_of runs) k []
-  table-before k h =
-      ap (λ (tables : List (List Declaration)). get_or tables k []) tables-more ∙ at-before (tables_of runs) (whole (tables_of runs) run) [] k (omega (arith, h, count))
+  table-before k h = grind (arith, tables-more, get_or_append_left)
 
   table-last : (k : ℕ) → k ≡ length runs → get_or (tables_of (runs ++ run ∷ [])) k [] ≡ whole (tables_of runs) run
-  table-last k h =
-      ap (λ (tables : List (List Declaration)). get_or tables k []) tables-more ∙ at-last (tables_of runs) (whole (tables_of runs) run) [] k (omega (arith, h, count))
+  table-last k h = grind (arith, tables-more, at-last)
 
   size-before : (k : ℕ) → k < length runs → get_or (sizes_of (runs ++ run ∷ [])) k 0 ≡ get_or (sizes_of runs) k 0
-  size-before k h =
-      ap (λ (sizes : List ℕ). get_or sizes k 0) sizes-more ∙ at-before (sizes_of runs) (length run.declarations) 0 k (omega (arith, h, length-map runs (λ (run : ReadRun). length run.declarations)))
+  size-before k h = grind (arith, sizes-more, get_or_append_left, length-map)
 
   size-last : (k : ℕ) → k ≡ length runs → get_or (sizes_of (runs ++ run ∷ [])) k 0 ≡ length run.declarations
-  size-last k h =
-      ap (λ (sizes : List ℕ). get_or sizes k 0) sizes-more ∙ at-last (sizes_of runs) (length run.declarations) 0 k (omega (arith, h, length-map runs (λ (run : ReadRun). length run.declarations)))
+  size-last k h = grind (arith, sizes-more, at-last, length-map)
 
   pub kept-more : IsKept (shown section runs) (shown section (runs ++ run ∷ []))
-  kept-more start h =
-      let within : start.run < length runs = omega (arith, h, count) in
-      let more = count-more in
-      let grows = length_push runs run in
-      (omega (arith, within, more, grows), size-before start.run within, ap (drop start.index) (table-before start.run within))
+  kept-more start h = grind (arith, count-more, length_push, size-before, table-before)
 
   -- what follows a run is what followed it
   rest-same : (rest : Option Start) → IfSome rest (λ start. start.run < length runs) → rest_in (tables_of (runs ++ run ∷ [])) rest ≡ rest_in (tables_of runs) rest
-  rest-same None h = refl
-  rest-same (Some start) h = ap (drop start.index) (table-before start.run h)
+  rest-same rest h = grind (arith, table-before)
 
   earlier-same : (rest : Option Start) (k : ℕ) → k ≤ length runs → IfSome rest (λ start. (start.run < k) × (start.index ≤ get_or (sizes_of runs) start.run 0)) → IfSome rest (λ start. (start.run < k) × (start.index ≤ get_or (sizes_of (runs ++ run ∷ [])) start.run 0))
-  earlier-same None k h e = tt
-  earlier-same (Some start) k h e =
-      let same = size-before start.run (omega (arith, h, e.0)) in
-      (e.0, omega (arith, same, e.1))
+  earlier-same rest k h e = grind (arith, size-before)
 
   below : (rest : Option Start) (k : ℕ) → k ≤ length runs → IfSome rest (λ start. (start.run < k) × (start.index ≤ get_or (sizes_of runs) start.run 0)) → IfSome rest (λ start. start.run < length runs)
-  below None k h e = tt
-  below (Some start) k h e = omega (arith, h, e.0)
+  below rest k h e = grind arith
 
   each-more : AreTabled runs → IfSome run.rest (λ start. (start.run < length runs) × (start.index ≤ get_or (sizes_of runs) start.run 0)) → (k : ℕ) (one : ReadRun) → slice_get (runs ++ run ∷ []) k ≡ Some one → IsTabled (runs ++ run ∷ []) k one
   each-more are leads k one e = elim (get-pushed runs run one k e) [ inl h ↦ old h.0 h.1 | inr h ↦ subst (λ (one : ReadRun). IsTabled (runs ++ run ∷ []) k one) h.1 (new h.0) ]
@@ -174,12 +142,7 @@ module _ (section : List ℕ) (runs : List ReadRun) (run : ReadRun) (count : len
           }
 
       new : k ≡ length runs → IsTabled (runs ++ run ∷ []) k run
-      new last =
-          let before = subst (λ (n : ℕ). IfSome run.rest (λ start. (start.run < n) × (start.index ≤ get_or (sizes_of runs) start.run 0))) (sym last) leads in
-          record {
-            table = table-last k last ∙ ap (λ (rest : List Declaration). run.declarations ++ rest) (sym (rest-same run.rest (below run.rest k (omega (arith, last)) before)));
-            earlier = earlier-same run.rest k (omega (arith, last)) before;
-          }
+      new last = grind (arith, table-last, rest-same, below, earlier-same)
 
   pub tabled-more : AreTabled runs → IfSome run.rest (λ start. (start.run < length runs) × (start.index ≤ get_or (sizes_of runs) start.run 0)) → AreTabled (runs ++ run ∷ [])
   tabled-more are leads = record { count = count-more; each = each-more are leads }
@@ -194,14 +157,7 @@ module _ (section : List ℕ) (runs : List ReadRun) (run : ReadRun) (count : len
   own : (p q t : Place) (ds : List Decl) (offset : ℕ) (start : Start) → run.declarations ≡ map declaration_shown ds → Stands section p → AreChained p ds q → all_at q ≡ Ok (rest_in (tables_of runs) run.rest, t) → start.run ≡ length runs
       → slice_get (map (λ (d : Decl). d.offset) ds) start.index ≡ Some offset → HasTable (shown section (runs ++ run ∷ [])) offset start
   own p q t ds offset start is s h e last at =
-      let within = slice_get_within (map (λ (d : Decl). d.offset) ds) start.index offset at in
-      let size = size-last start.run last in
-      let sizes : length run.declarations ≡ length ds = ap (λ (ds : List Declaration). length ds) is ∙ length-map ds declaration_shown in
-      let offsets = length-map ds (λ (d : Decl). d.offset) in
-      let more = count-more in
-      let grows = length_push runs run in
-      let table : get_or (tables_of (runs ++ run ∷ [])) start.run [] ≡ map declaration_shown ds ++ rest_in (tables_of runs) run.rest = table-last start.run last ∙ ap (λ (ds : List Declaration). ds ++ rest_in (tables_of runs) run.rest) is in
-      (omega (arith, last, more, grows), omega (arith, within, size, sizes, offsets), tails section p q t ds (rest_in (tables_of runs) run.rest) start.index offset s h e at ∙ ap (λ (table : List Declaration). Ok (drop start.index table)) (sym table))
+      grind (arith, slice_get_within, size-last, length-map, count-more, length_push, table-last, tails)
 
   first-own : (p q t : Place) (ds : List Decl) → run.declarations ≡ map declaration_shown ds → Stands section p → AreChained p ds q → all_at q ≡ Ok (rest_in (tables_of runs) run.rest, t) → HasTable (shown section (runs ++ run ∷ [])) p.at (record { run = length runs; index = 0 })
   first-own p q t ds is s h e =
@@ -234,13 +190,7 @@ module _ (section : List ℕ) (runs : List ReadRun) (run : ReadRun) (count : len
   pub read-there : (items : List ReadRun) (n offset : ℕ) (p q : Place) (ds : List Decl) (rest : Option Start) (offsets : List ℕ) (old new : StartList) → items ≡ runs ++ run ∷ [] → n ≡ length runs → run.declarations ≡ map declaration_shown ds → run.rest ≡ rest → offsets ≡ map (λ (d : Decl). d.offset) ds
       → p.at ≡ offset → AreChained p ds q → EndsAt old q rest → start_at old offset ≡ None → AreAdded n (length offsets) offsets old new → IsSome (start_at new offset) ⊎ (get_or (tables_of items) n [] ≡ [])
   read-there items n offset p q [] rest offsets old new same last is on those at h end none added =
-      inr (ap (λ (items : List ReadRun). get_or (tables_of items) n []) same ∙ table-last n last ∙ ap (λ (ds : List Declaration). ds ++ rest_in (tables_of runs) run.rest) is ∙ by rest on end)
-    where
-      by : (rest : Option Start) → run.rest ≡ rest → EndsAt old q rest → rest_in (tables_of runs) run.rest ≡ []
-      by None on end = ap (rest_in (tables_of runs)) on
-      by (Some start) on end =
-          let both : Some start ≡ None = sym end ∙ ap (start_at old) (sym (ap (λ (p : Place). p.at) h) ∙ at) ∙ none in
-          absurd cc
+      grind (arith, table-last)
   read-there items n offset p q (d ∷ ds) rest offsets old new same last is on those at h end none added =
       let first : slice_get offsets 0 ≡ Some offset = ap (λ (xs : List ℕ). slice_get xs 0) those ∙ ap Some (h.0 ∙ at) in
       inl (added.there 0 offset (slice_get_within offsets 0 offset first) first)
@@ -262,15 +212,7 @@ leads section runs starts q (Some start) count have e =
 -- ---- a table is read
 
 pub stands-taken : (section bytes : List ℕ) (offset : ℕ) (first p q : Place) → first ≡ start section → p ≡ q → bytes_at offset first ≡ Some (bytes, q) → Stands section p × (p.at ≡ offset)
-stands-taken section bytes offset first p q begun same e =
-    subst (λ (q : Place). Stands section q × (q.at ≡ offset)) (sym same) (by_test (nat_le offset (length section)) refl (ap (bytes_at offset) (sym begun) ∙ e))
-  where
-    by_test : (b : Bool) → nat_le offset (length section) ≡ b → cond {A = Option (List ℕ × Place)} b (Some (take offset section, past offset (start section))) None ≡ Some (bytes, q) → Stands section q × (q.at ≡ offset)
-    by_test true within e =
-        let there : past offset (start section) ≡ q = ap (λ (x : List ℕ × Place). x.1) (same_Some (take offset section, past offset (start section)) (bytes, q) e) in
-        let at : (past offset (start section)).at ≡ offset = omega arith in
-        subst (λ (q : Place). Stands section q × (q.at ≡ offset)) there ((ap (λ (x : ℕ). record { at = (past offset (start section)).at; left = drop x section }) (sym at), omega (arith, at, leb-true offset (length section) within)), at)
-    by_test false within e = absurd cc
+stands-taken section bytes offset first p q begun same e = grind (arith, Stands, same_Some, leb-true)
 
 pub run-ends : (section : List ℕ) (runs : List ReadRun) (starts : StartList) (p : Place) (ds : List Decl) (rest rest_of_run : Option Start) → HaveTables section runs starts → Stands section p → rest_of_run ≡ rest → (h : IsRunAt starts p ds rest)
     → (t : Place) × (all_at h.0 ≡ Ok (rest_in (tables_of runs) rest_of_run, t))
@@ -285,12 +227,7 @@ readable section runs starts p ds rest offset have s h =
     subst (λ (given : Result (List Declaration) Fault). IsOk given) (sym (ap (abbreviations section) (sym s.1) ∙ table)) refl
 
 pub hides : {A X : Type 0} (result : Result X FormFault) (given : Result A Fault) → IsOk given → IfErr result (λ fault. HidesNoFault fault given)
-hides (Ok x) given read = tt
-hides (Err fault) given read = by_told (form_fault fault)
-  where
-    by_told : (told : Option Fault) → MatchOption told (IsOk given) (λ told. Unit {0})
-    by_told None = read
-    by_told (Some told) = tt
+hides result given read = grind arith
 
 pub below-more : (section : List ℕ) (p q : Place) (ds : List Decl) (run count : ℕ) (offsets : List ℕ) (old new : StartList) → offsets ≡ map (λ (d : Decl). d.offset) ds → Stands section p → AreChained p ds q → AreAdded run count offsets old new → AreBelow (length section) old → AreBelow (length section) new
 below-more section p q ds run count offsets old new those s h added below offset start found =
@@ -302,10 +239,7 @@ below-more section p q ds run count offsets old new those s h added below offset
 -- as many starts as declarations
 pub counted-more : (runs : List ReadRun) (run : ReadRun) (ds : List Decl) (n : ℕ) (offsets : List ℕ) (old new : StartList) → run.declarations ≡ map declaration_shown ds → offsets ≡ map (λ (d : Decl). d.offset) ds → AreAdded n (length offsets) offsets old new → length old ≡ sum (sizes_of runs)
     → length new ≡ sum (sizes_of (runs ++ run ∷ []))
-counted-more runs run ds n offsets old new is those added counted =
-    let declarations : length run.declarations ≡ length ds = ap (λ (ds : List Declaration). length ds) is ∙ length-map ds declaration_shown in
-    let places : length offsets ≡ length ds = ap (λ (xs : List ℕ). length xs) those ∙ length-map ds (λ (d : Decl). d.offset) in
-    omega (arith, declarations, places, added.counted, counted, sum-more runs run)
+counted-more runs run ds n offsets old new is those added counted = grind (arith, length-map, sum-more)
 
 pub stored : (store : Inside) (runs : List ReadRun) → store.runs.items ≡ runs → AreTabled runs → length store.starts ≡ sum (sizes_of runs) → AreBelow (length store.section.now) store.starts → HaveTables store.section.now runs store.starts → IsStored store
 stored store runs same are counted below starts = record {
@@ -319,19 +253,11 @@ stored store runs same are counted below starts = record {
 
 declared-here : (xs ys : List Declaration) (code : ℕ) (d : Declaration) → declared xs code ≡ Some d → declared (xs ++ ys) code ≡ Some d
 declared-here [] ys code d e = absurd cc
-declared-here (x ∷ xs) ys code d e = by_code (x.code == code) (declared-here xs ys code d) e
-  where
-    by_code : (b : Bool) → (declared xs code ≡ Some d → declared (xs ++ ys) code ≡ Some d) → cond b (Some x) (declared xs code) ≡ Some d → cond b (Some x) (declared (xs ++ ys) code) ≡ Some d
-    by_code true others e = e
-    by_code false others e = others e
+declared-here (x ∷ xs) ys code d e = grind (arith, declared-here xs ys code d)
 
 declared-later : (xs ys : List Declaration) (code : ℕ) → declared xs code ≡ None → declared (xs ++ ys) code ≡ declared ys code
 declared-later [] ys code e = refl
-declared-later (x ∷ xs) ys code e = by_code (x.code == code) (declared-later xs ys code) e
-  where
-    by_code : (b : Bool) → (declared xs code ≡ None → declared (xs ++ ys) code ≡ declared ys code) → cond b (Some x) (declared xs code) ≡ None → cond b (Some x) (declared (xs ++ ys) code) ≡ declared ys code
-    by_code true others e = absurd cc
-    by_code false others e = others e
+declared-later (x ∷ xs) ys code e = grind (arith, declared-later xs ys code)
 
 -- the table from a start on
 abbrev pub table_in : List ReadRun → Start → List Declaration

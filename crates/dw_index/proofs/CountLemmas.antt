@@ -8,8 +8,7 @@ pub record Suffices (size steps bound : ℕ) : Type 0 where
   pub left : steps + rest ≤ bound
 
 pub starts : (part size steps digits : ℕ) → part ≤ size → size < 2 ^ digits → Suffices part steps (steps + digits)
-starts part size steps digits less h =
-    record { rest = digits; small = omega (arith, less, h); left = omega arith }
+starts part size steps digits less h = grind arith
 
 pub halves : (size half steps more bound : ℕ) → 0 < size → half ≤ size / 2 → more ≡ steps + 1 → Suffices size steps bound → Suffices half more bound
 halves size half steps more bound some less one is = by is.rest is.small is.left

@@ -1,10 +1,8 @@
 -- Merging two lists of segments, border by border.
-use Rattle.std.proofs.Common.{◌≡◌, ◌≢◌, inl, inr, ◌≤◌, ◌<◌, ℕ, ◌+◌, true, false, List, [], ◌∷◌, ◌++◌, length, Option, Some, None, min, refl, sym, ap, subst, ◌∙◌, arith, length-append}
+use Rattle.std.proofs.Common.{◌≡◌, ◌≢◌, ◌≤◌, ◌<◌, ℕ, ◌+◌, true, false, List, [], ◌∷◌, ◌++◌, length, Option, Some, None, refl, sym, ◌∙◌, arith, length-append}
 use Rattle.std.specs.Prelude.{nat_eq}
 use Rattle.std.specs.Option.{option_eq}
-use Rattle.std.proofs.lemmas.Bool.{eqb-true, eqb-false, eq-eqb, ne_eqb, cases_eq, cases_lt, le-leb, lt-leb}
-use Rattle.std.proofs.lemmas.Bool.Decides.{nat_tests}
-use Rattle.std.proofs.lemmas.Option.{same_Some}
+use Rattle.std.proofs.lemmas.Bool.{le-leb, lt-leb}
 use Rattle.dw_index.specs.declared.segment.Segment.{Segment}
 use Rattle.dw_index.specs.Owners.{least}
 use Rattle.dw_index.specs.Segments.{owner_from, owner_at, AreSegments, Below, border, past_owner, past_rest}
@@ -18,54 +16,24 @@ IsFrom at [] = Unit {0}
 IsFrom at (segment ∷ segments) = at ≤ segment.begin
 
 from_border : (bound at : ℕ) (owner : Option ℕ) (rest : List Segment) → AreSegments bound owner rest → IsFrom at rest → AreSegments at owner rest
-from_border bound at owner [] s h = tt
-from_border bound at owner (segment ∷ segments) s h = (h, s.1, s.2)
+from_border bound at owner rest s h = grind arith
 
 past_rises : (bound at : ℕ) (owner : Option ℕ) (rest : List Segment) → AreSegments bound owner rest → IsFrom at rest → AreSegments (at + 1) (past_owner at owner rest) (past_rest at rest)
-past_rises bound at owner [] s h = tt
-past_rises bound at owner (segment ∷ segments) s h = elim (cases_eq segment.begin at) [
-  | inl e ↦ rw (eq-eqb segment.begin at e) (subst (λ n. AreSegments (n + 1) segment.owner segments) e s.2)
-  | inr e ↦ rw (ne_eqb segment.begin at e) (omega arith, s.1, s.2)
-]
+past_rises bound at owner rest s h = grind arith
 
 past_behind : (at : ℕ) (owner : Option ℕ) (rest : List Segment) (a : ℕ) → at ≤ a → owner_from (past_owner at owner rest) (past_rest at rest) a ≡ owner_from owner rest a
-past_behind at owner [] a h = refl
-past_behind at owner (segment ∷ segments) a h = grind (arith, nat_tests)
-
-past_length : (at : ℕ) (rest : List Segment) → length (past_rest at rest) ≤ length rest
-past_length at [] = omega arith
-past_length at (segment ∷ segments) = grind (arith, nat_tests)
+past_behind at owner rest a h = grind arith
 
 -- ---- the next border
 
 abbrev Next : (at : ℕ) → (first second : List Segment) → Type 0
 Next at first second = IsFrom at first × IsFrom at second × (length (past_rest at first) + length (past_rest at second) + 1 ≤ length first + length second)
 
-past_shorter : (at : ℕ) (segment : Segment) (segments : List Segment) → segment.begin ≡ at → length (past_rest at (segment ∷ segments)) + 1 ≤ length (segment ∷ segments)
-past_shorter at segment segments e = rw (eq-eqb segment.begin at e) (omega arith)
-
 pub next : (at : ℕ) (first second : List Segment) → Some at ≡ least (border first) (border second) → Next at first second
-next at [] [] e = absurd cc
-next at [] (segment ∷ segments) e =
-    let same : at ≡ segment.begin = same_Some at segment.begin e in
-    (tt, omega arith, omega (arith, past_shorter at segment segments (sym same)))
-next at (segment ∷ segments) [] e =
-    let same : at ≡ segment.begin = same_Some at segment.begin e in
-    (omega arith, tt, omega (arith, past_shorter at segment segments (sym same)))
-next at (segment ∷ segments) (other ∷ others) e =
-    let same : at ≡ min segment.begin other.begin = same_Some at (min segment.begin other.begin) e in
-    elim (cases_lt other.begin segment.begin) [
-      | inl h ↦ (let lower : other.begin ≡ at = omega arith in
-          (omega arith, omega arith, omega (arith, past_shorter at other others lower, past_length at (segment ∷ segments))))
-      | inr h ↦ (let lower : segment.begin ≡ at = omega arith in
-          (omega arith, omega arith, omega (arith, past_shorter at segment segments lower, past_length at (other ∷ others))))
-    ]
+next at first second e = grind arith
 
 low_border : (bound at : ℕ) (left right : Option ℕ) (first second : List Segment) → AreSegments bound left first → AreSegments bound right second → Some at ≡ least (border first) (border second) → bound ≤ at
-low_border bound at left right [] [] s t e = absurd cc
-low_border bound at left right [] (segment ∷ segments) s t e = grind (arith, nat_tests)
-low_border bound at left right (segment ∷ segments) [] s t e = grind (arith, nat_tests)
-low_border bound at left right (segment ∷ segments) (other ∷ others) s t e = grind (arith, nat_tests)
+low_border bound at left right first second s t e = grind arith
 
 -- ---- the merge so far
 
@@ -83,17 +51,7 @@ pub record Merging (whole : ℕ → Option ℕ) (left right : Option ℕ) (first
   pub size : length merged + length first + length second ≤ room
 
 pub begins : (first second : List Segment) → AreSegments 0 None first → AreSegments 0 None second → Merging (λ a. least (owner_at first a) (owner_at second a)) None None first second [] (length first + length second)
-begins first second s t = record {
-  bound = 0;
-  before = λ a h. absurd (omega arith);
-  behind = λ a h. refl;
-  settled = λ a h. refl;
-  left_rises = s;
-  right_rises = t;
-  segments = tt;
-  below = tt;
-  size = omega arith;
-}
+begins first second s t = grind arith
 
 -- the bound goes up to a border of either side
 module _ (whole : ℕ → Option ℕ) (left right : Option ℕ) (first second merged : List Segment) (room at : ℕ) (m : Merging whole left right first second merged room) (is_next : Some at ≡ least (border first) (border second)) where
@@ -128,24 +86,10 @@ module _ (whole : ℕ → Option ℕ) (left right : Option ℕ) (first second me
       rw (x, y) at (behind_at a (omega arith))
 
   on : (all : List Segment) → ((a : ℕ) → a < at → owner_at all a ≡ owner_at merged a) → ((a : ℕ) → at ≤ a → owner_at all a ≡ owner) → AreSegments 0 None all → Below (at + 1) all → length all ≤ length merged + 1 → Merging whole (past_owner at left first) (past_owner at right second) (past_rest at first) (past_rest at second) all room
-  on all before behind segments below size = record {
-    bound = at + 1;
-    before = λ a h. elim (cases_lt a at) [
-      | inl b ↦ before a b ∙ elim (cases_lt a m.bound) [ inl e ↦ m.before a e | inr e ↦ m.settled a e ∙ between a e b ]
-      | inr b ↦ behind a b ∙ at_border a (omega arith)
-    ];
-    behind = λ a h. behind_at a (omega arith);
-    settled = λ a h. behind a (omega arith);
-    left_rises = left_on;
-    right_rises = right_on;
-    segments = segments;
-    below = below;
-    size = omega (arith, m.size, n.2);
-  }
+  on all before behind segments below size = grind (arith, between, at_border)
 
   pub stays : owner ≡ least left right → Merging whole (past_owner at left first) (past_owner at right second) (past_rest at first) (past_rest at second) merged room
-  stays same =
-      on merged (λ a h. refl) (λ a h. m.settled a (omega (arith, low)) ∙ sym same) m.segments (below_more m.bound (at + 1) merged (omega (arith, low)) m.below) (omega arith)
+  stays same = grind (arith, on, low, below_more)
 
   pub grows : (segment : Segment) → segment.begin ≡ at → segment.owner ≡ owner → owner ≢ least left right → Merging whole (past_owner at left first) (past_owner at right second) (past_rest at first) (past_rest at second) (merged ++ segment ∷ []) room
   grows segment begins owned other =
@@ -157,13 +101,7 @@ module _ (whole : ℕ → Option ℕ) (left right : Option ℕ) (first second me
       (omega (arith, length-append merged (segment ∷ [])))
 
 pub same_owner : (x y : Option ℕ) → true ≡ option_eq nat_eq x y → x ≡ y
-same_owner None None e = refl
-same_owner None (Some y) e = absurd cc
-same_owner (Some x) None e = absurd cc
-same_owner (Some x) (Some y) e = ap Some (eqb-true x y (sym e))
+same_owner x y e = grind arith
 
 pub other_owner : (x y : Option ℕ) → false ≡ option_eq nat_eq x y → x ≢ y
-other_owner None None e = absurd cc
-other_owner None (Some y) e = λ same. absurd cc
-other_owner (Some x) None e = λ same. absurd cc
-other_owner (Some x) (Some y) e = λ same. eqb-false x y (sym e) (same_Some x y same)
+other_owner x y e = grind arith

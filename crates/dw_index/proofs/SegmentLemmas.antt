@@ -1,5 +1,5 @@
 -- Segments in order, and the owner that they have at an address.
-use Rattle.std.proofs.Common.{◌≡◌, ◌≢◌, ◌≤◌, ◌<◌, ℕ, zero, suc, ◌+◌, List, [], ◌∷◌, ◌++◌, length, get_or, Option, None, refl, sym, ◌∙◌, arith}
+use Rattle.std.proofs.Common.{◌≡◌, ◌≢◌, ◌≤◌, ◌<◌, ℕ, zero, suc, ◌+◌, List, [], ◌∷◌, ◌++◌, length, get_or, Option, None, refl, ◌∙◌, arith}
 use Rattle.std.proofs.lemmas.Bool.{le-leb, lt-leb}
 use Rattle.dw_index.specs.declared.segment.Segment.{Segment}
 use Rattle.dw_index.specs.Segments.{passed, owner_from, AreSegments, begin_at, Below}
@@ -20,8 +20,7 @@ above bound before (segment ∷ segments) (suc k) s h =
 pub rises : (bound : ℕ) (before : Option ℕ) (segments : List Segment) (i k : ℕ) → AreSegments bound before segments → i ≤ k → k < length segments → begin_at segments i ≤ begin_at segments k
 rises bound before [] i k s order h = absurd (omega arith)
 rises bound before (segment ∷ segments) zero zero s order h = omega arith
-rises bound before (segment ∷ segments) zero (suc k) s order h =
-    omega (arith, above (segment.begin + 1) segment.owner segments k s.2 (omega arith))
+rises bound before (segment ∷ segments) zero (suc k) s order h = grind (arith, above)
 rises bound before (segment ∷ segments) (suc i) zero s order h = absurd (omega arith)
 rises bound before (segment ∷ segments) (suc i) (suc k) s order h =
     rises (segment.begin + 1) segment.owner segments i k s.2 (omega arith) (omega arith)
@@ -72,8 +71,7 @@ owner-push (segment ∷ segments) last before a = owner-push segments last (pass
 pub push : (bound : ℕ) (before : Option ℕ) (segments : List Segment) (last : Segment) → AreSegments bound before segments → Below last.begin segments → bound ≤ last.begin → last.owner ≢ owner_from before segments last.begin → AreSegments bound before (segments ++ last ∷ [])
 push bound before [] last s b h other = (h, other, tt)
 push bound before (segment ∷ segments) last s b h other =
-    let passed : owner_from before (segment ∷ segments) last.begin ≡ owner_from segment.owner segments last.begin = behind_border segment segments before last.begin (omega (arith, b.0)) in
-    (s.0, s.1, push (segment.begin + 1) segment.owner segments last s.2 b.1 (omega (arith, b.0)) (λ e. other (e ∙ sym passed)))
+    grind (arith, push (segment.begin + 1) segment.owner segments last s.2 b.1 (omega (arith, b.0)))
 
 -- ---- halving
 

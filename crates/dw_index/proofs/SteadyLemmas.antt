@@ -3,7 +3,7 @@ use Rattle.std.proofs.Common.{◌≡◌, ◌≢◌, ◌≤◌, ◌<◌, ℕ, zer
 use Rattle.dw_model.specs.Steady.{IsSteady, last_address}
 use Rattle.dw_index.specs.declared.segment.Segment.{Segment}
 use Rattle.dw_index.specs.Segments.{owner_at, owner_from, AreSegments, begin_at}
-use Rattle.dw_index.proofs.SegmentLemmas.{rises, above, behind_border, before_border, below_all, none_passed}
+use Rattle.dw_index.proofs.SegmentLemmas.{rises, above, behind_border, below_all, none_passed}
 
 -- two addresses that have passed the same segments have the same owner
 pub same_owner : (segments : List Segment) (before : Option ℕ) (a c n : ℕ) → a ≤ c → ((k : ℕ) → k < n → begin_at segments k ≤ a) → ((k : ℕ) → n ≤ k → k < length segments → c < begin_at segments k)
@@ -21,9 +21,7 @@ same_owner (segment ∷ segments) before a c (suc n) order passed behind =
 pub other_owner : (bound : ℕ) (before : Option ℕ) (segments : List Segment) (a n : ℕ) → AreSegments bound before segments → n < length segments → ((k : ℕ) → k < n → begin_at segments k ≤ a) → a < begin_at segments n
     → owner_from before segments (begin_at segments n) ≢ owner_from before segments a
 other_owner bound before [] a n s h passed behind = absurd (omega (arith, h))
-other_owner bound before (segment ∷ segments) a zero s h passed behind = λ e. s.1
-    (sym (behind_border segment segments before segment.begin (omega arith) ∙ below_all (segment.begin + 1) segment.owner segments segment.owner segment.begin s.2 (omega arith))
-    ∙ e ∙ before_border segment segments before a behind ∙ below_all (segment.begin + 1) segment.owner segments before a s.2 (omega (arith, behind)))
+other_owner bound before (segment ∷ segments) a zero s h passed behind = grind (arith, below_all)
 other_owner bound before (segment ∷ segments) a (suc n) s h passed behind = λ e.
     let first : segment.begin ≤ a = passed 0 (omega arith) in
     let later : segment.begin ≤ begin_at segments n = omega (arith, above (segment.begin + 1) segment.owner segments n s.2 (omega (arith, h))) in

@@ -119,7 +119,7 @@ impl Index {
     }
 
     /// How many segments don't begin above an address.
-    fn passed(&self, a: u64) -> usize
+    pub fn passed(&self, a: u64) -> usize
         ensures { Passes self.now a result }
     {
         count_uncounted::<Brand>(&self.segments, a, Blank::new(1))

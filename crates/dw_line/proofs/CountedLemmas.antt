@@ -1,10 +1,8 @@
 -- How many things are kept of a table that was read.
-use Rattle.std.proofs.Common.{◌≡◌, ℕ, suc, ◌+◌, ◌*◌, ◌≤◌, List, [], ◌∷◌, length, Option, Ok, Bor, refl, ap, ◌∙◌, arith}
+use Rattle.std.proofs.Common.{◌≡◌, ℕ, suc, ◌+◌, ◌*◌, ◌≤◌, List, [], ◌∷◌, length, Option, Ok, Bor, refl, ap, arith}
 use Rattle.std.specs.Prelude.{option_map}
-use Rattle.dw_model.specs.Results.{◌>>=◌}
 use Rattle.dw_model.specs.LineHeader.{LineHeader, line_header}
-use Rattle.dw_model.specs.Instruction.{Instruction, instructions}
-use Rattle.dw_model.specs.Matrix.{Row, matrix}
+use Rattle.dw_model.specs.Matrix.{Row}
 use Rattle.dw_model.specs.Text.{Tables, Bases}
 use Rattle.dw_model.proofs.StepLemmas.{bind_ok, ok_is}
 use Rattle.dw_forms.specs.Tables.{tables_shown, bases_shown}
@@ -30,11 +28,7 @@ as_many header checkpoints end (one ∷ kept) (rows ∷ used) are = ap suc (as_m
 -- the header that a table was read with
 header_of : (tables : Tables) (bases : Bases) (section : List ℕ) (comp_dir : Option (List ℕ)) (offset : ℕ) (table : Table) → lines_of tables bases section comp_dir offset ≡ Ok table → line_header tables bases section offset ≡ Ok table.header
 unfolding lines_of
-header_of tables bases section comp_dir offset table e =
-    let made : LineHeader → List Instruction → Table = λ header program. record { section = section; offset = offset; header = header; rows = matrix header program; comp_dir = comp_dir } in
-    let header = bind_ok (line_header tables bases section offset) (λ header. instructions header >>= λ program. Ok (made header program)) table e in
-    let program = bind_ok (instructions header.0) (λ program. Ok (made header.0 program)) table header.2 in
-    header.1 ∙ ap (λ (table : Table). Ok table.header) (ok_is (made header.0 program.0) table program.2)
+header_of tables bases section comp_dir offset table e = grind (arith, bind_ok, ok_is)
 
 -- all that is kept, where the lists have so many entries
 abbrev pub count : Inside → (directories files : ℕ) → ℕ

@@ -1,5 +1,5 @@
 -- Reading the lists of directories and files as loops do.
-use Rattle.std.proofs.Common.{◌≡◌, Bool, true, false, cond, ℕ, zero, suc, ◌+◌, ◌<◌, ◌≤◌, List, [], ◌∷◌, ◌++◌, length, drop, get_or, map, replicate, Option, Some, None, Result, Ok, Err, inl, inr, refl, sym, ap, ◌∙◌, subst, arith}
+use Rattle.std.proofs.Common.{◌≡◌, ℕ, zero, suc, ◌+◌, ◌<◌, ◌≤◌, List, [], ◌∷◌, ◌++◌, length, drop, get_or, map, replicate, Option, Some, None, Result, Ok, Err, refl, sym, ap, ◌∙◌, subst, arith}
 use Rattle.std.specs.Prelude.{nat_eq, option_map, option_and_then}
 use Rattle.std.specs.Option.{option_or, option_map_or}
 use Rattle.std.specs.Map.{lookup}
@@ -29,8 +29,7 @@ plus_none n = omega arith
 
 -- three steps, whichever two are taken together
 bind_bind : {A B C : Type 0} (r : Result A Bad) (f : A → Result B Bad) (g : B → Result C Bad) → ((r >>= f) >>= g) ≡ (r >>= λ x. f x >>= g)
-bind_bind (Ok x) f g = refl
-bind_bind (Err e) f g = refl
+bind_bind r f g = grind arith
 
 -- ---- formats
 
@@ -43,11 +42,7 @@ formats-none p = refl
 
 pub formats-some : (n : ℕ) (p : Place) → formats_at (suc n) p ≡ (format_at p >>= λ x. in_front (x.0 ∷ []) (formats_at n x.1))
 unfolding formats_at
-formats-some n p =
-    let format : ℕ × Place → ℕ × Place → Result (model.Format × Place) Bad = λ content form. Ok ((content.0, form.0), form.1) in
-    let others : model.Format × Place → Result (List model.Format × Place) Bad = λ x. in_front (x.0 ∷ []) (formats_at n x.1) in
-    sym (bind_bind (or_fault bad (uleb_at p)) (λ content. or_fault bad (uleb_at content.1) >>= format content) others
-    ∙ (λ i. or_fault bad (uleb_at p) >>= λ content. bind_bind (or_fault bad (uleb_at content.1)) (format content) others i))
+formats-some n p = grind (arith, in_front, bind_bind)
 
 pub format-read : (p q r : Place) (content form : ℕ) → or_fault bad (uleb_at p) ≡ Ok (content, q) → or_fault bad (uleb_at q) ≡ Ok (form, r) → format_at p ≡ Ok ((content, form), r)
 format-read p q r content form e f = rw (e, f) refl
@@ -70,11 +65,7 @@ module _ (size : ℕ) where
 
   or-first : {A : Type 0} (key : ℕ) (found : Option A) (item : ℕ × A) (others : List (ℕ × A)) → option_or (option_or found (lookup (nat_eq key) (item ∷ []))) (lookup (nat_eq key) others) ≡ option_or found (lookup (nat_eq key) (item ∷ others))
   or-first key (Some x) item others = refl
-  or-first {A} key None item others = by (nat_eq key item.0)
-    where
-      by : (here : Bool) → option_or (cond here (Some item.1) None) (lookup (nat_eq key) others) ≡ cond {A = Option A} here (Some item.1) (lookup (nat_eq key) others)
-      by true = refl
-      by false = refl
+  or-first {A} key None item others = grind arith
 
   used : {a b c d : Option Value} → a ≡ b → c ≡ d → ◌≡◌ {A = Used} (record { path = a; directory = c }) (record { path = b; directory = d })
   used e f = cc
@@ -83,8 +74,7 @@ module _ (size : ℕ) where
   used-more found item others = used (or-first DW_LNCT_path found.path item others) (or-first DW_LNCT_directory_index found.directory item others)
 
   at_format : (formats : List Format) (i : ℕ) (d format : Format) → i < length formats → get_or formats i d ≡ format → map format_shown (drop i formats) ≡ format_shown format ∷ map format_shown (drop (i + 1) formats)
-  at_format formats i d format within is =
-      ap (map format_shown) (drop_more formats i d within ∙ ap (λ (f : Format). f ∷ drop (i + 1) formats) is)
+  at_format formats i d format within is = grind (arith, drop_more)
 
   pub contains_more : (found more : Contents) (formats : List Format) (i : ℕ) (d format : Format) (v : Value) (p q : Place) (whole : Result (Used × Place) Bad) → i < length formats → get_or formats i d ≡ format
       → or_fault bad (value_at size format.form None p) ≡ Ok (v, q) → contents_shown more ≡ used_of (contents_shown found) ((format.content, v) ∷ []) → Contained found formats i p whole → Contained more formats (i + 1) q whole
@@ -95,8 +85,7 @@ module _ (size : ℕ) where
       ap (λ (used : Used). used_at used others) shown ∙ by others ∙ ap (used_at (contents_shown found)) (sym read) ∙ so_far
     where
       by : (others : Result (List (ℕ × Value) × Place) Bad) → used_at (used_of (contents_shown found) ((format.content, v) ∷ [])) others ≡ used_at (contents_shown found) (others >>= λ x. Ok ((format.content, v) ∷ x.0, x.1))
-      by (Ok x) = ap (λ (used : Used). Ok (used, x.1)) (used-more (contents_shown found) (format.content, v) x.0)
-      by (Err e) = refl
+      by others = grind (arith, used, used-more)
 
   pub contains_bad : (found : Contents) (formats : List Format) (i : ℕ) (d format : Format) (p : Place) (whole : Result (Used × Place) Bad) → i < length formats → get_or formats i d ≡ format
       → Contained found formats i p whole → or_fault bad (value_at size format.form None p) ≡ Err bad → whole ≡ Err bad
@@ -106,15 +95,11 @@ module _ (size : ℕ) where
       sym so_far ∙ ap (used_at (contents_shown found)) read
 
   option_or-none : {A : Type 0} (found : Option A) → option_or found None ≡ found
-  option_or-none (Some x) = refl
-  option_or-none None = refl
+  option_or-none found = grind arith
 
   pub contains_all : (found : Contents) (formats : List Format) (i : ℕ) (p : Place) (whole : Result (Used × Place) Bad) → length formats ≤ i → Contained found formats i p whole → whole ≡ Ok (contents_shown found, p)
   unfolding contents_at
-  contains_all found formats i p whole past so_far =
-      let read : contents_at size (map format_shown (drop i formats)) p ≡ Ok ([], p) = rw (drop_all i formats past) refl in
-      let all : used_of (contents_shown found) [] ≡ contents_shown found = used (option_or-none (option_map value_shown found.path)) (option_or-none (option_map value_shown found.directory)) in
-      sym so_far ∙ ap (used_at (contents_shown found)) read ∙ ap (λ (used : Used). Ok (used, p)) all
+  contains_all found formats i p whole past so_far = grind (arith, drop_all, option_or-none)
 
   -- ---- entries
 
@@ -127,8 +112,7 @@ module _ (size : ℕ) where
 
   pub entries-some : (tables : Tables) (bases : Bases) (formats : List model.Format) (n : ℕ) (p : Place) → entries_at tables bases size formats (suc n) p ≡ (entry_at tables bases formats p >>= λ x. in_front (x.0 ∷ []) (entries_at tables bases size formats n x.1))
   unfolding entries_at
-  entries-some tables bases formats n p =
-      sym (bind_bind (contents_at size formats p) (λ contents. Ok (line_entry tables bases contents.0, contents.1)) (λ x. in_front (x.0 ∷ []) (entries_at tables bases size formats n x.1)))
+  entries-some tables bases formats n p = grind (arith, bind_bind, in_front)
 
   -- the entry whose values these are
   abbrev pub entry_with : Tables → Bases → Used → model.LineEntry
@@ -138,21 +122,14 @@ module _ (size : ℕ) where
   }
 
   pub entry-read : (tables : Tables) (bases : Bases) (formats : List model.Format) (used : Used) (p q : Place) → used_at none_found (contents_at size formats p) ≡ Ok (used, q) → entry_at tables bases formats p ≡ Ok (entry_with tables bases used, q)
-  entry-read tables bases formats used p q e =
-      let read = bind_ok (contents_at size formats p) (λ contents. Ok (used_of none_found contents.0, contents.1)) (used, q) e in
-      ap (λ (contents : Result (List (ℕ × Value) × Place) Bad). contents >>= λ contents. Ok (line_entry tables bases contents.0, contents.1)) read.1
-      ∙ ap (λ (x : Used × Place). Ok (entry_with tables bases x.0, x.1)) (ok_is (used_of none_found read.0.0, read.0.1) (used, q) read.2)
+  entry-read tables bases formats used p q e = grind (arith, bind_ok, ok_is)
 
   pub entry-bad : (tables : Tables) (bases : Bases) (formats : List model.Format) (p : Place) → used_at none_found (contents_at size formats p) ≡ Err bad → entry_at tables bases formats p ≡ Err bad
-  entry-bad tables bases formats p e = elim (bind_err (contents_at size formats p) (λ contents. Ok (used_of none_found contents.0, contents.1)) bad e) [
-    | inl read ↦ ap (λ (contents : Result (List (ℕ × Value) × Place) Bad). contents >>= λ contents. Ok (line_entry tables bases contents.0, contents.1)) read
-    | inr made ↦ absurd (ok-err (used_of none_found made.0.0, made.0.1) bad made.2)
-  ]
+  entry-bad tables bases formats p e = grind (arith, bind_err, ok-err)
 
   pub entry-kept : (tables : Tables) (bases : Bases) (formats : List model.Format) (contents : Contents) (directory : ℕ) (p q : Place) → used_at none_found (contents_at size formats p) ≡ Ok (contents_shown contents, q)
       → directory ≡ option_map_or model.as_directory (option_map value_shown contents.directory) 0 → entry_at tables bases formats p ≡ Ok (entry_shown tables bases (record { path = contents.path; directory = directory }), q)
-  entry-kept tables bases formats contents directory p q e same =
-      entry-read tables bases formats (contents_shown contents) p q e ∙ ap (λ (n : ℕ). Ok (record { path = option_and_then (text tables bases) (option_map value_shown contents.path); directory = n }, q)) (sym same)
+  entry-kept tables bases formats contents directory p q e same = grind (arith, entry-read)
 
   -- ---- entries without bytes
 
@@ -178,11 +155,7 @@ module _ (size : ℕ) where
   empty-entries formats contents directory p q e same short tables bases count = by count
     where
       place : (read : Result (List (ℕ × Value) × Place) Bad) → contents_at size formats p ≡ read → used_at none_found read ≡ Ok (contents_shown contents, q) → q ≡ p
-      place (Ok x) f g =
-          let here : x.1 ≡ q = ap (λ (y : Used × Place). y.1) (ok_is (used_of none_found x.0, x.1) (contents_shown contents, q) g) in
-          let between = contents-between formats p x f in
-          sym here ∙ same_place p x.1 between.0 between.1 (ap (λ (r : Place). length r.left) here ∙ short)
-      place (Err bad) f g = absurd cc
+      place read f g = grind (arith, ok_is, contents-between, same_place)
 
       entry : model.LineEntry
       entry = entry_shown tables bases (record { path = contents.path; directory = directory })

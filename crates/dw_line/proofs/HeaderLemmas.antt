@@ -1,10 +1,10 @@
 -- The bytes of a table, and what a program's rows depend on.
-use Rattle.std.proofs.Common.{◌≡◌, ℕ, ◌+◌, ◌-◌, ◌*◌, ◌%◌, ◌^◌, ◌<◌, Bool, List, [], ◌∷◌, length, drop, Option, Some, None, Result, refl, ap, arith}
+use Rattle.std.proofs.Common.{◌≡◌, ℕ, ◌+◌, ◌-◌, ◌*◌, ◌%◌, ◌^◌, ◌<◌, Bool, List, [], ◌∷◌, length, drop, Option, None, Result, refl, ap, arith}
 use Rattle.std.specs.Prelude.{sum_by, if◌then◌else◌, ok_or, option_map, option_and_then}
 use Rattle.std.proofs.lemmas.List.{drop_all}
 use Rattle.dw_model.specs.Results.{◌>>=◌}
 use Rattle.dw_model.specs.Reading.{Place, start, bytes_at}
-use Rattle.dw_model.specs.InitialLength.{InitialLength, of_length, reserved, initial_length, offset_size}
+use Rattle.dw_model.specs.InitialLength.{InitialLength, initial_length}
 use Rattle.dw_model.specs.Text.{Tables, Bases}
 use Rattle.dw_model.specs.LineHeader.{LineHeader, line_header, length_of, table_behind}
 use Rattle.dw_model.specs.Faults.{Bad, bad}
@@ -24,17 +24,14 @@ module _ (tables : Tables) (bases : Bases) where
   behind table = ◌>>=◌ {A = List ℕ × ℕ} {B = LineHeader} (ok_or table bad) (λ table. table_behind tables bases table.1 (start table.0))
 
   taken : (size : ℕ) (table : Option (List ℕ × Place)) → ◌>>=◌ {A = List ℕ × Place} {B = LineHeader} (ok_or table bad) (λ table. table_behind tables bases size (start table.0)) ≡ behind (option_map (λ (table : List ℕ × Place). (table.0, size)) table)
-  taken size (Some table) = refl
-  taken size None = refl
+  taken size table = grind arith
 
   long : (length : InitialLength) (p : Place) → ◌>>=◌ {A = ℕ × ℕ} {B = LineHeader} (length_of length) (λ len. ◌>>=◌ {A = List ℕ × Place} {B = LineHeader} (ok_or (bytes_at len.0 p) bad) (λ table. table_behind tables bases len.1 (start table.0))) ≡ behind (table_behind_length length p)
-  long (of_length n width) p = taken (offset_size width) (bytes_at n p)
-  long reserved p = refl
+  long length p = grind (arith, taken)
 
   measured : (found : Option (InitialLength × Place)) → ◌>>=◌ {A = InitialLength × Place} {B = LineHeader} (ok_or found bad) (λ unit_length. ◌>>=◌ {A = ℕ × ℕ} {B = LineHeader} (length_of unit_length.0) (λ len. ◌>>=◌ {A = List ℕ × Place} {B = LineHeader} (ok_or (bytes_at len.0 unit_length.1) bad) (λ table. table_behind tables bases len.1 (start table.0))))
       ≡ behind (option_and_then (λ (unit_length : InitialLength × Place). table_behind_length unit_length.0 unit_length.1) found)
-  measured (Some found) = long found.0 found.1
-  measured None = refl
+  measured found = grind (arith, long)
 
   -- the header at an offset is that of the bytes of its table
   pub header_behind : (section : List ℕ) (offset : ℕ) → line_header tables bases section offset ≡ behind (table_at section offset)
@@ -62,17 +59,7 @@ same-advanced h (set_address n ∷ before) = refl
 same-advanced h (no_effect ∷ before) = ap (λ (sum : ℕ). 0 + sum) (same-advanced h before)
 
 same-line : (h : LineHeader) (instruction : Instruction) → line_advance h instruction ≡ line_advance (without_lists h) instruction
-same-line h (special n) = refl
-same-line h copy = refl
-same-line h (advance_pc n) = refl
-same-line h (advance_line z) = refl
-same-line h (set_file n) = refl
-same-line h (set_column n) = refl
-same-line h const_add_pc = refl
-same-line h (fixed_advance_pc n) = refl
-same-line h end_sequence = refl
-same-line h (set_address n) = refl
-same-line h no_effect = refl
+same-line h instruction = grind arith
 
 same-row : (h : LineHeader) (done : List Instruction) (ends : Bool) → row_after h done ends ≡ row_after (without_lists h) done ends
 same-row h done ends = λ i. record {

@@ -5,15 +5,14 @@ use Rattle.dw_model.specs.LineHeader.{LineHeader}
 use Rattle.dw_model.specs.Matrix.{Row}
 use Rattle.dw_line.specs.declared.checkpoints.Checkpoint.{Checkpoint}
 use Rattle.dw_line.specs.declared.checkpoints.Sequence.{Sequence}
-use Rattle.dw_line.specs.Sequences.{IsCheckpoint, AreCheckpoints, HasCheckpoints, checkpoints_in, IsSequence, AreSequences}
+use Rattle.dw_line.specs.Sequences.{IsCheckpoint, AreCheckpoints, checkpoints_in, IsSequence, AreSequences}
 
 -- the checkpoints of sequences that end before a place stay the same
 abbrev pub Stays : List Checkpoint → List Checkpoint → ℕ → Type 0
 Stays kept others end = (sequence : Sequence) → sequence.end_checkpoint ≤ end → checkpoints_in others sequence ≡ checkpoints_in kept sequence
 
 pub behind : (kept more : List Checkpoint) (end : ℕ) → end ≤ length kept → Stays kept (kept ++ more) end
-behind kept more end h sequence within =
-    ap (λ (xs : List Checkpoint). drop sequence.first_checkpoint xs) (take-append-le sequence.end_checkpoint kept more (omega (arith, h, within)))
+behind kept more end h sequence within = grind (arith, take-append-le)
 
 pub cut : (kept : List Checkpoint) (end : ℕ) → end ≤ length kept → Stays kept (take end kept) end
 cut kept end h sequence within =
@@ -22,13 +21,7 @@ cut kept end h sequence within =
     sym same ∙ ap (λ (xs : List Checkpoint). checkpoints_in xs sequence) whole
 
 one_kept : (header : LineHeader) (kept others : List Checkpoint) (end last : ℕ) (s : Sequence) (rows : List Row) → Stays kept others end → end ≤ last → IsSequence header kept end s rows → IsSequence header others last s rows
-one_kept header kept others end last s rows stays more is = record {
-  ordered = is.ordered;
-  within = omega (arith, is.within, more);
-  begins = is.begins;
-  ends = is.ends;
-  has = subst (λ (xs : List Checkpoint). HasCheckpoints header xs rows) (sym (stays s is.within)) is.has;
-}
+one_kept header kept others end last s rows stays more is = grind arith
 
 pub each_kept : (header : LineHeader) (kept others : List Checkpoint) (end last : ℕ) (sequences : List Sequence) (used : List (List Row)) → Stays kept others end → end ≤ last → AreSequences header kept end sequences used → AreSequences header others last sequences used
 each_kept header kept others end last [] [] stays more each = tt

@@ -1,5 +1,5 @@
 -- Long ways of a program, kept and found again.
-use Rattle.std.proofs.Common.{◌≡◌, ℕ, ◌+◌, ◌<◌, Bool, false, List, [], ◌∷◌, ◌++◌, length, drop, sym, subst, length-append, arith}
+use Rattle.std.proofs.Common.{◌≡◌, ℕ, ◌+◌, ◌<◌, Bool, false, List, [], ◌∷◌, ◌++◌, length-append, arith}
 use Rattle.std.specs.Prelude.{◌&&◌, ◌==◌, not}
 use Rattle.std.proofs.lemmas.Bool.Decides.{nat_tests}
 use Rattle.std.proofs.lemmas.List.Elements.{All-nil, All-push}
@@ -19,19 +19,8 @@ abbrev pub same_checkpoint : Checkpoint → Checkpoint → Bool
 same_checkpoint a b =
     ((a.registers.address == b.registers.address) && ((a.registers.file == b.registers.file) && ((a.registers.line == b.registers.line) && (a.registers.column == b.registers.column)))) && (a.place == b.place)
 
-abbrev made : (address file line column place : ℕ) → Checkpoint
-made address file line column place =
-    record { registers = record { address = address; file = file; line = line; column = column }; place = place }
-
 pub are_same : (a b : Checkpoint) → false ≡ not (same_checkpoint a b) → a ≡ b
-are_same a b e =
-    let address : a.registers.address ≡ b.registers.address = grind (arith, nat_tests, e) in
-    let file : a.registers.file ≡ b.registers.file = grind (arith, nat_tests, e) in
-    let line : a.registers.line ≡ b.registers.line = grind (arith, nat_tests, e) in
-    let column : a.registers.column ≡ b.registers.column = grind (arith, nat_tests, e) in
-    let place : a.place ≡ b.place = grind (arith, nat_tests, e) in
-    let same : made a.registers.address a.registers.file a.registers.line a.registers.column a.place ≡ made b.registers.address b.registers.file b.registers.line b.registers.column b.place = cc in
-    same
+are_same a b e = grind (arith, nat_tests)
 
 -- the way to a row from a place of the program to another
 abbrev pub way : Registers → ℕ → Appended → ℕ → Leap
@@ -40,10 +29,7 @@ way registers from next place =
 
 pub is_leap : (header : LineHeader) (registers : Registers) (old new : Place) (next : Appended) → IsIn header old → IsIn header new → IsNext header (state_at registers old) next new
     → IsLeap header (way registers old.at next new.at)
-is_leap header registers old new next from to is = record {
-  within = to.1;
-  next = subst (λ (p : Place). IsNext header (state_at registers p) next (record { at = new.at; left = drop new.at header.program })) (sym from.0) (subst (λ (p : Place). IsNext header (state_at registers old) next p) (sym to.0) is);
-}
+is_leap header registers old new next from to is = grind arith
 
 -- What is known while a program is run: the place is in it, and the long ways up to there.
 pub record Leaping (header : LineHeader) (leaps : List Leap) (p : Place) : Type 0 where
@@ -52,9 +38,6 @@ pub record Leaping (header : LineHeader) (leaps : List Leap) (p : Place) : Type 
 
 pub begins : (header : LineHeader) (leaps : List Leap) (p : Place) → leaps ≡ [] → p ≡ start header.program → Leaping header leaps p
 begins header leaps p none first = rw (none, first) (record { place = passes_none (start header.program); few = record { are = All-nil (IsLeap header); few = omega arith } })
-
-pub ends : (header : LineHeader) (leaps : List Leap) (p : Place) → Leaping header leaps p → FewLeaps header (length header.program) leaps
-ends header leaps p is = record { are = is.few.are; few = omega (arith, is.few.few, (place_is header.program p is.place).1) }
 
 -- a row later, behind a long way or a short one
 module _ (header : LineHeader) (leaps : List Leap) (registers : Registers) (old new : Place) (next : Appended) (is : Leaping header leaps old) (row : IsNext header (state_at registers old) next new) where

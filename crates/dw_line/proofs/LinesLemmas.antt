@@ -1,21 +1,20 @@
 -- A table that is read, and its rows.
-use Rattle.std.proofs.Common.{◌≡◌, ℕ, ◌<◌, ◌≤◌, length, get_or, List, [], Option, Some, None, Result, Ok, Err, refl, sym, subst, ap, ◌∙◌, arith}
-use Rattle.std.specs.Prelude.{true, ◌==◌, IfSome, option_map, slice_get}
-use Rattle.std.specs.Result.{result_unwrap_or}
+use Rattle.std.proofs.Common.{◌≡◌, ℕ, ◌<◌, ◌≤◌, length, get_or, List, Option, Some, None, Ok, Err, refl, sym, subst, ap, ◌∙◌, arith}
+use Rattle.std.specs.Prelude.{true, IfSome, option_map, slice_get}
 use Rattle.std.proofs.lemmas.Bool.{eqb-true, cond_both}
 use Rattle.std.proofs.lemmas.Option.{same_Some, slice_get_read, slice_get_past}
-use Rattle.dw_model.specs.Faults.{Bad, bad}
+use Rattle.dw_model.specs.Faults.{bad}
 use Rattle.dw_model.specs.Text.{Tables, Bases}
 use Rattle.dw_model.specs.LineHeader.{LineHeader, line_header}
-use Rattle.dw_model.specs.Instruction.{Instruction, instructions}
-use Rattle.dw_model.specs.Matrix.{Row, matrix, row_in, row_of, is_used, first_address, last_address}
+use Rattle.dw_model.specs.Instruction.{instructions}
+use Rattle.dw_model.specs.Matrix.{Row, row_in, row_of, is_used, first_address, last_address}
 use Rattle.dw_line.specs.declared.checkpoints.Checkpoint.{Checkpoint}
 use Rattle.dw_line.specs.declared.checkpoints.Sequence.{Sequence}
 use Rattle.dw_line.specs.declared.checkpoints.Checkpoints.{Checkpoints}
 use Rattle.dw_line.specs.declared.search.Reached.{Reached}
 use Rattle.dw_line.specs.declared.search.Last.{Last}
 use Rattle.dw_line.specs.Search.{row_told}
-use Rattle.dw_line.specs.Reached.{told_of, last_in, IsReached, IsLast, FindsIn, IsRowOf}
+use Rattle.dw_line.specs.Reached.{last_in, IsReached, IsLast, FindsIn, IsRowOf}
 use Rattle.dw_line.specs.Machine.{beginning, rows_on}
 use Rattle.dw_line.specs.Header.{without_lists}
 use Rattle.dw_line.specs.Lines.{lines_of, matrix_of}
@@ -34,15 +33,11 @@ header_bad tables bases section comp_dir offset e = rw e refl
 
 pub run_bad : (tables : Tables) (bases : Bases) (section : List ℕ) (comp_dir : Option (List ℕ)) (offset : ℕ) (header : LineHeader) → line_header tables bases section offset ≡ Ok header → rows_on (without_lists header) (beginning (without_lists header)) ≡ Err bad → lines_of tables bases section comp_dir offset ≡ Err bad
 unfolding lines_of
-run_bad tables bases section comp_dir offset header e f =
-    let program : instructions header ≡ Err bad = same-instructions header ∙ program_bad (without_lists header) f in
-    rw (e, program) refl
+run_bad tables bases section comp_dir offset header e f = grind (arith, same-instructions, program_bad)
 
 -- the rows that were recorded are those of the matrix
 pub matrix_is : (header : LineHeader) (recorded : Checkpoints) → (is : IsRecorded header recorded) → is.rows ≡ matrix_of header
-matrix_is header recorded is =
-    let whole = matrix_rows header is.rows is.run in
-    whole.2 ∙ sym (ap (λ (program : Result (List Instruction) Bad). matrix header (result_unwrap_or program [])) whole.1)
+matrix_is header recorded is = grind (arith, matrix_rows)
 
 pub lines_are : (tables : Tables) (bases : Bases) (section : List ℕ) (comp_dir : Option (List ℕ)) (offset : ℕ) (header : LineHeader) (recorded : Checkpoints) → line_header tables bases section offset ≡ Ok header → IsRecorded (without_lists header) recorded
     → lines_of tables bases section comp_dir offset ≡ Ok (record { section = section; offset = offset; header = header; rows = matrix_of (without_lists header); comp_dir = comp_dir })
@@ -100,19 +95,11 @@ not_past header checkpoints kept read all a k are found same past =
 
 -- what was found last in the sequence is one of its rows
 pub last_is : (header : LineHeader) (used : List (List Row)) (k : ℕ) (rows : List Row) (last : Option Last) → slice_get used k ≡ Some rows → IsLast header used last → IfSome (last_in k last) (IsReached header rows)
-last_is header used k rows None there is = tt
-last_is header used k rows (Some last) there is =
-    cond_both (last.number == k) (Some last.reached) None (λ reached. IfSome reached (IsReached header rows))
-    (λ e. subst (λ (found : Option (List Row)). IfSome found (λ rows. IsReached header rows last.reached)) (ap (slice_get used) (eqb-true last.number k e) ∙ there) is) (λ e. tt)
+last_is header used k rows last there is = grind (arith, cond_both, eqb-true)
 
 -- an address of a used sequence has a row
 pub finds_one : (header : LineHeader) (rows : List Row) (a : ℕ) (found : Option Reached) → found ≡ None → is_used rows ≡ true → first_address rows ≤ a → a < last_address rows → FindsIn header rows a found → ⊥
-finds_one header rows a found none used from below finds =
-    by (row_in a rows) refl (sym (ap (option_map told_of) none) ∙ finds.0)
-  where
-    by : (row : Option Row) → row_in a rows ≡ row → None ≡ option_map row_told row → ⊥
-    by None e told = has_row a rows (never_falls_used rows used) from below e
-    by (Some row) e told = cc
+finds_one header rows a found none used from below finds = grind (arith, has_row, never_falls_used)
 
 -- What is found in the sequence of an address is found in the matrix, and is the row of the addresses
 -- after it too, up to the next row.

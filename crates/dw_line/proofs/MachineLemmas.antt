@@ -1,11 +1,11 @@
 -- One instruction more, or none: the rows that the machine appends from there on.
-use Rattle.std.proofs.Common.{◌≡◌, ℕ, ◌<◌, Bool, true, false, List, [], ◌∷◌, ◌++◌, length, Option, Some, None, Result, Ok, Err, inl, inr, refl, sym, ap, ◌∙◌, append_assoc, length-append, arith}
+use Rattle.std.proofs.Common.{◌≡◌, ℕ, ◌<◌, Bool, true, false, List, [], ◌∷◌, ◌++◌, length, Option, Some, None, Result, Ok, Err, refl, sym, ap, ◌∙◌, append_assoc, length-append, arith}
 use Rattle.std.specs.Prelude.{option_map}
 use Rattle.dw_model.specs.Results.{◌>>=◌}
 use Rattle.dw_model.specs.Reading.{Place, start, items, onto, Spans}
 use Rattle.dw_model.specs.Faults.{Bad, bad}
 use Rattle.dw_model.specs.LineHeader.{LineHeader}
-use Rattle.dw_model.specs.Instruction.{Instruction, special, copy, advance_pc, advance_line, set_file, set_column, const_add_pc, fixed_advance_pc, end_sequence, set_address, no_effect, next_instruction, instructions}
+use Rattle.dw_model.specs.Instruction.{Instruction, next_instruction, instructions}
 use Rattle.dw_model.specs.Matrix.{Row, matrix, is_end, appends}
 use Rattle.dw_model.specs.Registers.{Registers, initial, step, row, run}
 use Rattle.dw_model.proofs.StepLemmas.{bind_ok, bind_err, ok_is, ok-err}
@@ -39,10 +39,7 @@ pub passes_none : (p : Place) → Passes p p
 passes_none p = ([], (refl, omega arith), tt)
 
 pub passes_one : (header : LineHeader) (i : Instruction) (p q : Place) → next_instruction header p ≡ Ok (Some i, q) → Advances p q
-passes_one header i p q e =
-    let s = instruction-spans header p q i e in
-    let less : length q.left < length p.left = instructions_advance header p i q e in
-    (s.0, s.1, omega (arith, ap length s.1.0, length-append s.0 q.left, less))
+passes_one header i p q e = grind (arith, instruction-spans, instructions_advance, length-append)
 
 pub passes_more : (p q r : Place) → Passes p q → Advances q r → Advances p r
 passes_more p q r s t =
@@ -57,17 +54,7 @@ shorter p q s = omega (arith, ap length s.1.0, length-append s.0 q.left, s.2)
 -- ---- one instruction
 
 no_end : (i : Instruction) → appends i ≡ false → is_end i ≡ false
-no_end end_sequence none = absurd cc
-no_end (special n) none = refl
-no_end copy none = refl
-no_end (advance_pc n) none = refl
-no_end (advance_line z) none = refl
-no_end (set_file n) none = refl
-no_end (set_column n) none = refl
-no_end const_add_pc none = refl
-no_end (fixed_advance_pc n) none = refl
-no_end (set_address n) none = refl
-no_end no_effect none = refl
+no_end i none = grind arith
 
 run-row : (header : LineHeader) (r : Registers) (i : Instruction) (list : List Instruction) → appends i ≡ true → run header r (i ∷ list) ≡ row (step header i r) (is_end i) ∷ run header (registers_behind (step header i r) (is_end i)) list
 unfolding run
@@ -87,8 +74,7 @@ goes_on header r i p q e none =
     ap (λ (read : Result (List Instruction × Place) Bad). read >>= λ found. Ok (run header r found.0)) (reads header i p q e) ∙ by (items (λ q. q.left) (next_instruction header) q)
   where
     by : (read : Result (List Instruction × Place) Bad) → (onto i read >>= λ found. Ok (run header r found.0)) ≡ (read >>= λ found. Ok (run header (step header i r) found.0))
-    by (Ok found) = ap Ok (run-on header r i found.0 none (no_end i none))
-    by (Err e) = refl
+    by read = grind (arith, run-on, no_end)
 
 -- it appends a row
 pub appends_row : (header : LineHeader) (r : Registers) (i : Instruction) (p q : Place) → next_instruction header p ≡ Ok (Some i, q) → appends i ≡ true
@@ -98,8 +84,7 @@ appends_row header r i p q e adds =
     ap (λ (read : Result (List Instruction × Place) Bad). read >>= λ found. Ok (run header r found.0)) (reads header i p q e) ∙ by (items (λ q. q.left) (next_instruction header) q)
   where
     by : (read : Result (List Instruction × Place) Bad) → (onto i read >>= λ found. Ok (run header r found.0)) ≡ row_before (row (step header i r) (is_end i)) (read >>= λ found. Ok (run header (registers_behind (step header i r) (is_end i)) found.0))
-    by (Ok found) = ap Ok (run-row header r i found.0 adds)
-    by (Err e) = refl
+    by read = grind (arith, run-row)
 
 -- there is none
 pub ends : (header : LineHeader) (r : Registers) (p q : Place) → next_instruction header p ≡ Ok (None, q) → rows_on header (record { registers = r; place = p }) ≡ Ok []
@@ -121,20 +106,13 @@ matrix_rows header rows e =
 
 pub program_bad : (header : LineHeader) → rows_on header (beginning header) ≡ Err bad → instructions header ≡ Err bad
 unfolding rows_on instructions
-program_bad header e = elim (bind_err (items (λ q. q.left) (next_instruction header) (start header.program)) (λ found. Ok (run header initial found.0)) bad e) [
-  | inl read ↦ rw read refl
-  | inr made ↦ absurd (ok-err (run header initial made.0.0) bad made.2)
-]
+program_bad header e = grind (arith, bind_err, ok-err)
 
 -- ---- the next row
 
 pub next_is : (header : LineHeader) (old : State) (new : Place) (r : Registers) (ends : Bool) (next : Appended) → registers_shown next.registers ≡ r → next.ends ≡ ends
     → rows_on header old ≡ row_before (row r ends) (rows_on header (record { registers = registers_behind r ends; place = new })) → Advances old.place new → IsNext header old next new
-next_is header old new r ends next same last rows spans = record {
-  rows = rows ∙ ap (λ (r : Registers). row_before (row r ends) (rows_on header (record { registers = registers_behind r ends; place = new }))) (sym same)
-      ∙ ap (λ (ends : Bool). row_before (row (registers_shown next.registers) ends) (rows_on header (record { registers = registers_behind (registers_shown next.registers) ends; place = new }))) (sym last);
-  spans = spans;
-}
+next_is header old new r ends next same last rows spans = grind arith
 
 pub same_on : (header : LineHeader) (p : Place) (r s : Registers) → r ≡ s → rows_on header (record { registers = r; place = p }) ≡ rows_on header (record { registers = s; place = p })
 same_on header p r s e = ap (λ (r : Registers). rows_on header (record { registers = r; place = p })) e

@@ -1,5 +1,5 @@
 -- Operands of an opcode that the standard doesn't name, read over one by one.
-use Rattle.std.proofs.Common.{◌≡◌, ℕ, suc, ◌+◌, ◌-◌, ◌<◌, ◌≤◌, Result, Ok, Err, refl, sym, ap, ◌∙◌, arith}
+use Rattle.std.proofs.Common.{◌≡◌, ℕ, suc, ◌+◌, ◌-◌, ◌<◌, ◌≤◌, Result, Ok, Err, arith}
 use Rattle.dw_model.specs.Results.{or_fault}
 use Rattle.dw_model.specs.Reading.{Place}
 use Rattle.dw_model.specs.Leb.{uleb_at}
@@ -14,24 +14,16 @@ more : (count i : ℕ) → i < count → count - i ≡ suc (count - (i + 1))
 more count i h = omega (arith, h)
 
 pub begins : (count : ℕ) (p : Place) → SoFar count 0 p (unknown_at count p)
-begins count p =
-    let all : count - 0 ≡ count = omega arith in
-    ap (λ (n : ℕ). unknown_at n p) all
+begins count p = grind arith
 
 pub goes_on : (count i operand : ℕ) (p q : Place) (whole : Result (Instruction × Place) Bad) → i < count → or_fault bad (uleb_at p) ≡ Ok (operand, q) → SoFar count i p whole → SoFar count (i + 1) q whole
 unfolding unknown_at
-goes_on count i operand p q whole h e so_far =
-    let read : unknown_at (suc (count - (i + 1))) p ≡ unknown_at (count - (i + 1)) q = rw e refl in
-    sym read ∙ sym (ap (λ (n : ℕ). unknown_at n p) (more count i h)) ∙ so_far
+goes_on count i operand p q whole h e so_far = grind (arith, more)
 
 pub stops : (count i : ℕ) (p : Place) (whole : Result (Instruction × Place) Bad) → i < count → SoFar count i p whole → or_fault bad (uleb_at p) ≡ Err bad → whole ≡ Err bad
 unfolding unknown_at
-stops count i p whole h so_far e =
-    let read : unknown_at (suc (count - (i + 1))) p ≡ Err bad = rw e refl in
-    sym so_far ∙ ap (λ (n : ℕ). unknown_at n p) (more count i h) ∙ read
+stops count i p whole h so_far e = grind (arith, more)
 
 pub ends : (count i : ℕ) (p : Place) (whole : Result (Instruction × Place) Bad) → count ≤ i → SoFar count i p whole → whole ≡ Ok (no_effect, p)
 unfolding unknown_at
-ends count i p whole h so_far =
-    let none : count - i ≡ 0 = omega (arith, h) in
-    sym so_far ∙ ap (λ (n : ℕ). unknown_at n p) none
+ends count i p whole h so_far = grind arith

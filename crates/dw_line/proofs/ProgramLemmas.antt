@@ -1,6 +1,5 @@
 -- Running a program for the first time: what is recorded, and which rows are still appended.
 use Rattle.std.proofs.Common.{◌≡◌, ℕ, ◌+◌, ◌≤◌, Bool, true, false, List, [], ◌∷◌, length, drop, Option, Some, None, Ok, Err, sym, subst, ap, ◌∙◌, length-append, arith}
-use Rattle.std.specs.Prelude.{◌==◌}
 use Rattle.std.proofs.lemmas.List.{length-take}
 use Rattle.std.proofs.Math.Seq.{drop-append_seam}
 use Rattle.dw_model.specs.Reading.{Place, start}
@@ -15,7 +14,7 @@ use Rattle.dw_line.specs.Registers.{registers_shown}
 use Rattle.dw_line.specs.Machine.{State, beginning, rows_on, row_before, registers_behind, appended_row, IsNext, RunsToNext}
 use Rattle.dw_line.specs.Sequences.{used_sequences, AreKept}
 use Rattle.dw_line.specs.Program.{IsRecorded}
-use Rattle.dw_line.specs.Recorder.{Recorder, recorder_shown, empty, pushed_by, used_from, closed_from, recorded, finished}
+use Rattle.dw_line.specs.Recorder.{Recorder, recorder_shown, empty, pushed_by, closed_from, recorded, finished}
 use Rattle.dw_line.specs.declared.checkpoints.Checkpoints.{Checkpoints}
 use Rattle.dw_line.proofs.MachineLemmas.{Passes, passes, passes_more, passes_none}
 use Rattle.dw_line.proofs.RecorderLemmas as records
@@ -65,16 +64,13 @@ one_recorded header r registers false place all rows is later within =
 
 -- a row makes one thing more at most
 pushed_size : (due : Bool) (registers : Registers) (place : ℕ) (r : Recorder) → size_of (pushed_by due registers place r) ≤ size_of r + 1
-pushed_size true registers place r = omega (arith, length-append r.checkpoints (record { registers = registers; place = place } ∷ []))
-pushed_size false registers place r = omega arith
+pushed_size due registers place r = grind (arith, length-append)
 
 closed_size : (begin : Option ℕ) (end : ℕ) (r : Recorder) → size_of (closed_from begin end r) ≤ size_of r + 1
-closed_size None end r = omega (arith, length-take r.pending.first_checkpoint r.checkpoints)
-closed_size (Some begin) end r = omega (arith, length-append r.sequences (record { begin = begin; end = end; first_checkpoint = r.pending.first_checkpoint; end_checkpoint = length r.checkpoints } ∷ []))
+closed_size begin end r = grind (arith, length-take, length-append)
 
 recorded_size : (ends : Bool) (registers : Registers) (place : ℕ) (r : Recorder) → size_of (recorded (record { registers = registers; ends = ends }) place r) ≤ size_of r + 1
-recorded_size true registers place r = closed_size (used_from registers.address r) registers.address r
-recorded_size false registers place r = pushed_size (r.pending.room == 0) registers place r
+recorded_size ends registers place r = grind (arith, closed_size, pushed_size)
 
 pub goes_on : (header : LineHeader) (r : Recorder) (state : State) (next : Appended) (new : Place) (behind : State) → behind ≡ record { registers = registers_behind (registers_shown next.registers) next.ends; place = new } → IsNext header state next new → Recording header r state → Recording header (recorded next new.at r) behind
 goes_on header r state next new behind same is so_far =

@@ -64,8 +64,7 @@ begins header all = record {
 falls_push : (rows : List Row) (r : Row) → never_falls (rows ++ r ∷ []) ≡ never_falls rows && nat_le (last_address rows) r.address
 falls_push [] r = sym (le-leb 0 r.address (omega arith))
 falls_push (s ∷ []) r = and-true (nat_le s.address r.address)
-falls_push (s ∷ t ∷ rows) r =
-    ap (λ (b : Bool). nat_le s.address t.address && b) (falls_push (t ∷ rows) r) ∙ sym (and_assoc (nat_le s.address t.address) (never_falls (t ∷ rows)) (nat_le (last_address (t ∷ rows)) r.address))
+falls_push (s ∷ t ∷ rows) r = grind (arith, and_assoc, falls_push (t ∷ rows) r)
 
 last_push : (rows : List Row) (r : Row) → last_address (rows ++ r ∷ []) ≡ r.address
 last_push [] r = refl
@@ -82,8 +81,7 @@ turned_back rows r = ap reverse (sym (turned rows r)) ∙ reverse-reverse (rows 
 
 parts_pushed : (all pending rows : List Row) (ended : List (List Row)) (registers : Registers) → sequences all ≡ ended ++ sequences_from (reverse pending) (row (registers_shown registers) false ∷ rows) → sequences all ≡ ended ++ sequences_from (reverse (pending ++ row (registers_shown registers) false ∷ [])) rows
 unfolding sequences_from
-parts_pushed all pending rows ended registers e =
-    e ∙ ap (λ (done : List Row). ended ++ sequences_from done rows) (sym (turned pending (row (registers_shown registers) false)))
+parts_pushed all pending rows ended registers e = grind (arith, turned)
 
 push_due : (header : LineHeader) (checkpoints : List Checkpoint) (kept : List Sequence) (first last : ℕ) (rises : Bool) (room : ℕ) (registers : Registers) (place : ℕ) (all rows : List Row)
     → room ≡ 0 → Records header (recorder checkpoints kept first last rises room) all (row (registers_shown registers) false ∷ rows)
@@ -155,21 +153,13 @@ used_is : (header : LineHeader) (own : List Checkpoint) (pending : List Row) (en
     → AreCheckpoints header own (pending ++ end ∷ []) → length pending + room ≡ 64 * length own → room < 64 → rises ≡ never_falls pending → last ≡ last_address pending
     → option_and_then (λ (first : Checkpoint). cond (rises && nat_le last end.address && nat_lt first.registers.address end.address) (Some first.registers.address) None) (slice_get own 0)
     ≡ cond (is_used (pending ++ end ∷ [])) (Some (first_address (pending ++ end ∷ []))) None
-used_is header [] pending end room last rises each count small rise is_last =
-    let none : pending ≡ [] = nil_from_length pending (omega (arith, count)) in
-    let unused : nat_lt end.address end.address ≡ false = le-ltb end.address end.address (omega arith) in
-    rw (none, unused) refl
+used_is header [] pending end room last rises each count small rise is_last = grind (arith, nil_from_length, le-ltb)
 used_is header (first ∷ own) pending end room last rises each count small rise is_last =
-    let begin : first_address (pending ++ end ∷ []) ≡ first.registers.address = ap first_address (sym each.0.rest) in
-    let same : (rises && nat_le last end.address && nat_lt first.registers.address end.address) ≡ is_used (pending ++ end ∷ []) =
-    rw (begin, falls_push pending end, last_push pending end, rise, is_last) refl in
-    ap (λ (b : Bool). cond {A = Option ℕ} b (Some first.registers.address) None) same ∙ ap (λ (n : ℕ). cond {A = Option ℕ} (is_used (pending ++ end ∷ [])) (Some n) None) (sym begin)
+    grind (arith, falls_push, last_push)
 
 parts_closed : (all pending rows : List Row) (ended : List (List Row)) (registers : Registers) → sequences all ≡ ended ++ sequences_from (reverse pending) (row (registers_shown registers) true ∷ rows) → sequences all ≡ (ended ++ (pending ++ row (registers_shown registers) true ∷ []) ∷ []) ++ sequences_from (reverse []) rows
 unfolding sequences_from
-parts_closed all pending rows ended registers e =
-    let end = row (registers_shown registers) true in
-    e ∙ ap (λ (s : List Row). ended ++ s ∷ sequences_from [] rows) (turned_back pending end) ∙ sym (append_assoc ended ((pending ++ end ∷ []) ∷ []) (sequences_from [] rows))
+parts_closed all pending rows ended registers e = grind (arith, turned_back, append_assoc)
 
 -- an ended sequence that is used, and one that isn't
 one_used : (ended : List (List Row)) (s : List Row) → is_used s ≡ true → filter is_used (ended ++ s ∷ []) ≡ filter is_used ended ++ s ∷ []
@@ -247,10 +237,4 @@ unfolding sequences_from
 parts_all all pending ended e = e ∙ append-nil ended
 
 pub finish : (header : LineHeader) (r : Recorder) (all : List Row) → Records header r all [] → AreKept header (take r.pending.first_checkpoint r.checkpoints) r.sequences (used_sequences all)
-finish header r all is =
-    let first = r.pending.first_checkpoint in
-    let size : length (take first r.checkpoints) ≡ first = length-take-le first r.checkpoints is.within in
-    let same : used_sequences all ≡ filter is_used is.ended = ap (filter is_used) (parts_all all is.pending is.ended is.parts) in
-    let each : AreSequences header (take first r.checkpoints) (length (take first r.checkpoints)) r.sequences (filter is_used is.ended) =
-    each_kept header r.checkpoints (take first r.checkpoints) first (length (take first r.checkpoints)) r.sequences (filter is_used is.ended) (cut r.checkpoints first is.within) (omega (arith, size)) is.each in
-    rw same (record { each = each; few = omega (arith, size, is.few); enough = omega (arith, size, is.enough) })
+finish header r all is = grind (arith, length-take-le, parts_all, each_kept, cut)

@@ -1,5 +1,5 @@
 -- Rows that are run again, one after the other, up to the first above an address.
-use Rattle.std.proofs.Common.{◌≡◌, ℕ, ◌+◌, ◌<◌, ◌≤◌, Bool, true, false, List, [], ◌∷◌, take, drop, length, Option, Some, None, Result, Ok, Err, inl, inr, refl, sym, subst, ap, ◌∙◌, arith}
+use Rattle.std.proofs.Common.{◌≡◌, ℕ, ◌+◌, ◌<◌, ◌≤◌, true, false, List, [], ◌∷◌, take, drop, length, Option, Some, Result, Ok, refl, sym, subst, ap, ◌∙◌, arith}
 use Rattle.std.proofs.lemmas.Bool.{cases_eq, cond_both}
 use Rattle.std.proofs.lemmas.Option.{same_Some}
 use Rattle.std.proofs.lemmas.List.{drop-drop, drop_all, take-append-drop, length-take-le, length-drop}
@@ -9,13 +9,12 @@ use Rattle.dw_model.specs.Answers.{Tells}
 use Rattle.dw_model.specs.LineHeader.{LineHeader}
 use Rattle.dw_model.specs.Matrix.{Row, first_address}
 use Rattle.dw_model.specs.Registers.{row}
-use Rattle.dw_model.specs.Registers as model
 use Rattle.dw_line.specs.declared.machine.Appended.{Appended}
 use Rattle.dw_line.specs.declared.checkpoints.Checkpoint.{Checkpoint}
 use Rattle.dw_line.specs.declared.search.Reached.{Reached}
 use Rattle.dw_line.specs.declared.registers.Registers.{Registers}
 use Rattle.dw_line.specs.Registers.{registers_shown}
-use Rattle.dw_line.specs.Machine.{state_behind, rows_on, row_before, registers_behind, appended_row, IsNext, IsIn}
+use Rattle.dw_line.specs.Machine.{state_behind, rows_on, row_before, appended_row, IsNext, IsIn}
 use Rattle.dw_line.specs.Sequences.{up_to_end, state_of, checkpoint_row, IsCheckpoint}
 use Rattle.dw_line.specs.Reached.{IsNextRow, IsReached, IsSought, HoldsAddress}
 use Rattle.dw_line.proofs.MachineLemmas.{Passes, Advances, passes, passes_more}
@@ -58,8 +57,7 @@ pub record Taken (first : Row) (others : Result (List Row) Bad) (rows : List Row
   pub whole : rows ≡ first ∷ rest
 
 taken : (first : Row) (others : Result (List Row) Bad) (rows : List Row) → row_before first others ≡ Ok rows → Taken first others rows
-taken first (Ok rest) rows e = record { rest = rest; behind = refl; whole = cc }
-taken first (Err f) rows e = absurd cc
+taken first others rows e = grind arith
 
 up_to_end-goes : (r : Row) (rows : List Row) → r.ends ≡ false → up_to_end (r ∷ rows) ≡ r ∷ up_to_end rows
 up_to_end-goes r rows e = rw e refl
@@ -95,25 +93,11 @@ record RunsOn (header : LineHeader) (next : Checkpoint) (rows others : List Row)
 
 -- it is so of the next row, if that doesn't end its sequence
 runs_on : (header : LineHeader) (next : Appended) (new : Place) (others : List Row) → Stands header (appended_at next new.at) new → (t : Taken (appended_row next) (rows_on header (state_behind next new)) others) → next.ends ≡ false → RunsOn header (appended_at next new.at) (up_to_end others) t.rest
-runs_on header next new others stands t goes =
-    let ends : registers_behind (registers_shown next.registers) next.ends ≡ registers_shown next.registers = ap (registers_behind (registers_shown next.registers)) goes in
-    record {
-      appends = ap (λ (p : Place). rows_on header (record { registers = registers_shown next.registers; place = p })) (sym stands.is) ∙ ap (λ (r : model.Registers). rows_on header (record { registers = r; place = new })) (sym ends) ∙ t.behind;
-      rest = ap (λ (r : Row). r ∷ up_to_end t.rest) (sym (goes_row next goes)) ∙ sym (up_to_end-goes (appended_row next) t.rest goes) ∙ ap up_to_end (sym t.whole);
-    }
+runs_on header next new others stands t goes = grind (arith, goes_row, up_to_end-goes)
 
 -- rows are run on from it, unless it ends its sequence
 next_is : (header : LineHeader) (next : Appended) (new : Place) (others : List Row) → Stands header (appended_at next new.at) new → Taken (appended_row next) (rows_on header (state_behind next new)) others → IsNextRow header (up_to_end others) (appended_at next new.at)
-next_is header next new others stands t = record {
-  address = sym (first-up (appended_row next) t.rest) ∙ ap (λ (others : List Row). first_address (up_to_end others)) (sym t.whole);
-  on = by next.ends refl;
-}
-  where
-    by : (ends : Bool) → next.ends ≡ ends → 1 < length (up_to_end others) → IsCheckpoint header (appended_at next new.at) (up_to_end others)
-    by true e more = absurd (omega (arith, more, ap (λ (others : List Row). length (up_to_end others)) t.whole, up_to_end-ends (appended_row next) t.rest e))
-    by false e more =
-        let on = runs_on header next new others stands t e in
-        record { others = t.rest; appends = on.appends; rest = on.rest; within = stands.within }
+next_is header next new others stands t = grind (arith, first-up, up_to_end-ends, runs_on)
 
 -- ---- how it goes on and ends
 
@@ -135,28 +119,14 @@ first_is header here rows is = ap first_address (sym is.rest)
 
 -- a row that isn't above the address isn't the one that is
 later_stop : (rows : List Row) (a i stop : ℕ) → i ≤ stop → first_address (drop i rows) ≤ a → a < first_address (drop stop rows) → i < stop
-later_stop rows a i stop order below above = elim (cases_eq stop i) [
-  | inl same ↦ omega (arith, ap (λ (n : ℕ). first_address (drop n rows)) same)
-  | inr other ↦ omega arith
-]
+later_stop rows a i stop order below above = grind (arith, cases_eq)
 
 -- behind all rows is none above it
 none_there : (rows : List Row) (a stop : ℕ) → length rows ≤ stop → a < first_address (drop stop rows) → ⊥
 none_there rows a stop past above = omega (arith, above, ap first_address (drop_all stop rows past))
 
 pub begins_at : (header : LineHeader) (first : Checkpoint) (cursor : Place) (next_checkpoint a : ℕ) → (first.place ≤ length header.program → Some cursor ≡ Some (place_of header first)) → RunsFrom header first (row_at first.registers cursor) cursor next_checkpoint a 0
-begins_at header first cursor next_checkpoint a e = λ rows sought.
-    let is : cursor ≡ place_of header first = same_Some cursor (place_of header first) (e sought.is.within) in
-    let first_row = first_is header first (drop sought.place rows) sought.is in
-    let before = later_stop rows a sought.place sought.stop sought.after (omega (arith, first_row, sought.below)) sought.above in
-    let none : sought.place ≡ sought.place + 0 = omega arith in
-    let start : Runs header rows first (place_of header first) a sought.stop (sought.place + 0) = record {
-      stands = record { is = refl; within = sought.is.within };
-      on = subst (λ (n : ℕ). IsCheckpoint header first (drop n rows)) none sought.is;
-      below = sought.below;
-      before = omega (arith, before);
-    } in
-    subst (λ (cursor : Place). Runs header rows (row_at first.registers cursor) cursor a sought.stop (sought.place + 0)) (sym is) start
+begins_at header first cursor next_checkpoint a e rows sought = grind (arith, same_Some, first_is, later_stop)
 
 -- what the machine returns on its way to the next row, from a place of the program
 module _ (header : LineHeader) (first here : Checkpoint) (old new : Place) (next : Appended) (next_checkpoint a i : ℕ)
@@ -184,11 +154,7 @@ module _ (header : LineHeader) (first here : Checkpoint) (old new : Place) (next
   further below = later_stop rows a (sought.place + i + 1) sought.stop (omega (arith, runs.before)) (omega (arith, next_row.address, below)) sought.above
 
   pub goes_on : next.registers.address ≤ a → next.ends ≡ false → Runs header rows (appended_at next new.at) new a sought.stop (sought.place + (i + 1))
-  goes_on below goes =
-      let on = runs_on header next new runs.on.others stands t goes in
-      let here : IsCheckpoint header (appended_at next new.at) (drop (sought.place + i + 1) rows) = record { others = t.rest; appends = on.appends; rest = on.rest ∙ own; within = stands.within } in
-      let places : sought.place + i + 1 ≡ sought.place + (i + 1) = omega arith in
-      record { stands = stands; on = subst (λ (n : ℕ). IsCheckpoint header (appended_at next new.at) (drop n rows)) places here; below = below; before = omega (arith, further below) }
+  goes_on below goes = grind (arith, runs_on, runs, stands, t, own, further)
 
   -- the sequence doesn't end before a row that is above the address
   pub no_end : next.registers.address ≤ a → next.ends ≡ true → ⊥
@@ -229,11 +195,7 @@ module _ (header : LineHeader) (first here : Checkpoint) (old : Place) (next_che
       none_there rows a sought.stop (omega (arith, one, length-drop (sought.place + i) rows, runs.before)) sought.above
 
   pub no_fault : (told : Option Bad) → (IsIn header old → Tells told read) → ⊥
-  no_fault told fault = by told (fault (in_program header here old (given rows sought).stands))
-    where
-      by : (told : Option Bad) → Tells told read → ⊥
-      by None fault = fault
-      by (Some f) fault = cc (is_read, fault)
+  no_fault told fault = grind (arith, in_program, is_read)
 
   pub no_more : 64 ≤ i → ⊥
   no_more h = omega (arith, h, (given rows sought).before, sought.soon)

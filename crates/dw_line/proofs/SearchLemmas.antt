@@ -21,8 +21,7 @@ pub never_falls_used : (rows : List Row) → is_used rows ≡ true → never_fal
 never_falls_used rows used = (and_parts (never_falls rows) (nat_lt (first_address rows) (last_address rows)) used).0
 
 tail_rises : (r : Row) (rows : List Row) → never_falls (r ∷ rows) ≡ true → never_falls rows ≡ true
-tail_rises r [] e = refl
-tail_rises r (s ∷ rows) e = (and_parts (nat_le r.address s.address) (never_falls (s ∷ rows)) e).1
+tail_rises r rows e = grind (arith, and_parts)
 
 next_above : (r s : Row) (rows : List Row) → never_falls (r ∷ s ∷ rows) ≡ true → r.address ≤ s.address
 next_above r s rows e = leb-true r.address s.address (and_parts (nat_le r.address s.address) (never_falls (s ∷ rows)) e).0
@@ -36,9 +35,7 @@ first_below : (n : ℕ) (r s : Row) (rows rest : List Row) → never_falls (r �
 first_below zero r s rows rest e h = omega (arith, ap first_address h)
 first_below (suc n) r s [] rest e h = absurd (cc (h, drop-nil {A = Row} n))
 first_below (suc n) r s (t ∷ rows) rest e h =
-    let one = next_above r t rows e in
-    let others = first_below n t s rows rest (tail_rises r (t ∷ rows) e) h in
-    omega (arith, one, others)
+    grind (arith, next_above, tail_rises, first_below n t s rows rest (tail_rises r (t ∷ rows) e) h)
 
 last_later : (n : ℕ) (rows : List Row) (s : Row) (rest : List Row) → s ∷ rest ≡ drop n rows → last_address (s ∷ rest) ≡ last_address rows
 last_later zero rows s rest h = ap last_address h
@@ -57,8 +54,7 @@ row_later zero a rows s rest e h below = ap (row_in a) (sym h)
 row_later (suc n) a [] s rest e h below = absurd cc
 row_later (suc n) a (r ∷ []) s rest e h below = absurd (cc (h, drop-nil {A = Row} n))
 row_later (suc n) a (r ∷ t ∷ rows) s rest e h below =
-    let next = first_below n t s rows rest (tail_rises r (t ∷ rows) e) h in
-    passed_row a r t rows (omega (arith, next, below)) ∙ row_later n a (t ∷ rows) s rest (tail_rises r (t ∷ rows) e) h below
+    grind (arith, first_below, tail_rises, passed_row, row_later n a (t ∷ rows) s rest (tail_rises r (t ∷ rows) e) h below)
 
 -- an address before the first row has none
 none_below : (a : ℕ) (rows : List Row) → never_falls rows ≡ true → a < first_address rows → row_in a rows ≡ None
@@ -72,17 +68,14 @@ none_below a (r ∷ t ∷ rows) e h =
 -- a row before whose next one the address lies is its own
 own_row : (a : ℕ) (r : Row) (own : List Row) → r.address ≤ a → a < first_address own → row_in a (r ∷ own) ≡ Some r
 unfolding row_in
-own_row a r [] below above = absurd (omega (arith, above))
-own_row a r (s ∷ own) below above = rw (le-leb r.address a below, lt-ltb a s.address above) refl
+own_row a r own below above = grind (arith, le-leb, lt-ltb)
 
 -- an address from the first row on and before the last has a row
 pub has_row : (a : ℕ) (rows : List Row) → never_falls rows ≡ true → first_address rows ≤ a → a < last_address rows → row_in a rows ≡ None → ⊥
 has_row a [] never from below none = absurd (omega (arith, below))
 has_row a (r ∷ []) never from below none = absurd (omega (arith, from, below))
-has_row a (r ∷ t ∷ rows) never from below none = elim (cases_lt a t.address) [
-  | inl here ↦ cc (own_row a r (t ∷ rows) from here, none)
-  | inr after ↦ has_row a (t ∷ rows) (tail_rises r (t ∷ rows) never) after below (sym (passed_row a r t rows after) ∙ none)
-]
+has_row a (r ∷ t ∷ rows) never from below none =
+    grind (arith, cases_lt, own_row, tail_rises, passed_row, has_row a (t ∷ rows) (tail_rises r (t ∷ rows) never))
 
 short : (a : ℕ) (rows : List Row) → length rows ≤ 1 → row_in a rows ≡ None
 unfolding row_in
@@ -144,8 +137,7 @@ pub split_before : (checkpoints : List Checkpoint) (a next : ℕ) → Splits che
 split_before checkpoints a next point = λ d h. leb-false (get_or checkpoints next d).registers.address a (point.1 next d (omega arith) h)
 
 pub is_before_all : (checkpoints : List Checkpoint) (number a : ℕ) → is_before a (slice_get checkpoints number) ≡ true → Before checkpoints number a
-is_before_all checkpoints number a e = λ d h.
-    ltb-true a (get_or checkpoints number d).registers.address (sym (ap (is_before a) (slice_get-get_or checkpoints number d h)) ∙ e)
+is_before_all checkpoints number a e d h = grind (arith, ltb-true, slice_get-get_or)
 
 -- a row above the address isn't in front of one that isn't
 not_below : (rows : List Row) (place stop a : ℕ) (r s : Row) (own rest : List Row) → never_falls rows ≡ true → r ∷ own ≡ drop place rows → s ∷ rest ≡ drop stop rows → r.address ≤ a → a < s.address → place ≤ stop
@@ -219,9 +211,7 @@ record Within (checkpoints : List Checkpoint) (last : Reached) (a : ℕ) : Type 
   before : Before checkpoints last.next_checkpoint a
 
 within : (checkpoints : List Checkpoint) (last : Reached) (a : ℕ) → reaches last checkpoints a ≡ true → Within checkpoints last a
-within checkpoints last a e =
-    let parts = and_parts (nat_le last.row.address a) (is_before a (slice_get checkpoints last.next_checkpoint)) e in
-    record { below = leb-true last.row.address a parts.0; before = is_before_all checkpoints last.next_checkpoint a parts.1 }
+within checkpoints last a e = grind (arith, and_parts, leb-true, is_before_all)
 
 -- a row after which an address is still below the end has others behind its next one
 more_behind : (n a : ℕ) (rows : List Row) (r : Row) (own : List Row) → r ∷ own ≡ drop n rows → r.address ≤ a → first_address own ≤ a → a < last_address rows → 1 < length own

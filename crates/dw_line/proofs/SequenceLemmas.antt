@@ -1,5 +1,5 @@
 -- The first sequence that holds an address, by its number.
-use Rattle.std.proofs.Common.{◌≡◌, ◌∙◌, ℕ, zero, suc, ◌+◌, ◌<◌, ◌≤◌, Bool, List, [], ◌∷◌, length, filter, get_or, Some, None, inl, inr, refl, subst, ap}
+use Rattle.std.proofs.Common.{◌≡◌, ◌∙◌, ℕ, zero, suc, ◌+◌, ◌<◌, ◌≤◌, Bool, List, [], ◌∷◌, length, filter, get_or, Some, None, refl, ap, arith}
 use Rattle.std.specs.Prelude.{◌&&◌, nat_le, nat_lt, find, slice_get, option_and_then}
 use Rattle.std.specs.List.{position_from, position_or_len}
 use Rattle.std.proofs.lemmas.Option.{same_Some, cond_some, slice_get-get_or}
@@ -27,10 +27,7 @@ number-there test xs k e =
 
 pub number-nowhere : {X : Type 0} (test : X → Bool) (n : ℕ) (xs : List X) → position_from test n xs ≡ None → find test xs ≡ None
 number-nowhere test n [] e = refl
-number-nowhere test n (x ∷ xs) e = elim (cases_Bool (test x)) [
-  | inl here ↦ (let some : Some n ≡ None = rw here at e in absurd cc)
-  | inr there ↦ rw there (number-nowhere test (n + 1) xs (rw there at e))
-]
+number-nowhere test n (x ∷ xs) e = grind (arith, cases_Bool, number-nowhere test (n + 1) xs)
 
 -- ---- the least owner is the first sequence
 
@@ -46,8 +43,7 @@ number-by_rows header checkpoints end a n [] [] each = refl
 number-by_rows header checkpoints end a n [] (rows ∷ used) each = absurd each
 number-by_rows header checkpoints end a n (s ∷ ss) [] each = absurd each
 number-by_rows header checkpoints end a n (s ∷ ss) (rows ∷ used) each =
-    let same : holds_address a rows ≡ Holds a s = rw (each.0.begins, each.0.ends) refl in
-    rw (same, number-by_rows header checkpoints end a (n + 1) ss used each.1) refl
+    grind (arith, number-by_rows header checkpoints end a (n + 1) ss used each.1)
 
 -- what is kept of the rows that have a number
 pub record Kept (header : LineHeader) (checkpoints : List Checkpoint) (end k : ℕ) (ss : List Sequence) (rows : List Row) : Type 0 where
@@ -59,21 +55,15 @@ pub kept_at : (header : LineHeader) (checkpoints : List Checkpoint) (end k : ℕ
 kept_at header checkpoints end k [] [] rows each e = absurd cc
 kept_at header checkpoints end k [] (first ∷ used) rows each e = absurd each
 kept_at header checkpoints end k (s ∷ ss) [] rows each e = absurd each
-kept_at header checkpoints end zero (s ∷ ss) (first ∷ used) rows each e =
-    let same : first ≡ rows = same_Some first rows e in
-    record { sequence = s; there = refl; is = subst (λ (rows : List Row). IsSequence header checkpoints end s rows) same each.0 }
+kept_at header checkpoints end zero (s ∷ ss) (first ∷ used) rows each e = grind (arith, same_Some)
 kept_at header checkpoints end (suc k) (s ∷ ss) (first ∷ used) rows each e =
-    let later = kept_at header checkpoints end k ss used rows each.1 e in
-    record { sequence = later.sequence; there = later.there; is = later.is }
+    grind (arith, kept_at header checkpoints end k ss used rows each.1 e)
 
 -- ---- the row of an address
 
 found-used : (a : ℕ) (ss : List (List Row)) → find (λ s. is_used s && nat_le (first_address s) a && nat_lt a (last_address s)) ss ≡ find (holds_address a) (filter is_used ss)
 found-used a [] = refl
-found-used a (s ∷ ss) = elim (cases_Bool (is_used s)) [
-  | inl used ↦ rw (used, found-used a ss) refl
-  | inr unused ↦ rw unused (found-used a ss)
-]
+found-used a (s ∷ ss) = grind (arith, cases_Bool, found-used a ss)
 
 -- the rows of the first sequence that holds the address
 pub record Held (used : List (List Row)) (a k : ℕ) : Type 0 where
@@ -96,8 +86,7 @@ held used a k e =
 
 pub is-there : (all : List Row) (a k : ℕ) (rows : List Row) → number_among (used_sequences all) a ≡ Some k → slice_get (used_sequences all) k ≡ Some rows → row_of all a ≡ row_in a rows
 unfolding row_of
-is-there all a k rows e there =
-    ap (option_and_then (row_in a)) (found-used a (sequences all) ∙ number-there (holds_address a) (used_sequences all) k e ∙ there)
+is-there all a k rows e there = grind (arith, found-used, number-there)
 
 pub is-nowhere : (all : List Row) (a : ℕ) → number_among (used_sequences all) a ≡ None → row_of all a ≡ None
 unfolding row_of

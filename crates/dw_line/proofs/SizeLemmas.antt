@@ -1,5 +1,5 @@
 -- A table keeps no more things than twice its bytes.
-use Rattle.std.proofs.Common.{◌≡◌, ℕ, zero, suc, ◌+◌, ◌-◌, ◌*◌, ◌≤◌, Bool, true, false, List, [], ◌∷◌, length, drop, Option, Some, None, Result, Ok, Err, refl, sym, subst, ap, ◌∙◌, arith, length-drop}
+use Rattle.std.proofs.Common.{◌≡◌, ℕ, zero, suc, ◌+◌, ◌-◌, ◌*◌, ◌≤◌, Bool, false, List, [], ◌∷◌, length, drop, Option, Some, None, Result, Ok, refl, sym, subst, ap, ◌∙◌, arith, length-drop}
 use Rattle.std.specs.Prelude.{ok_or, option_map, nat_lt, not, ◌||◌, ◌==◌}
 use Rattle.std.specs.Option.{option_map_or}
 use Rattle.std.proofs.lemmas.Bool.{ltb-false}
@@ -26,8 +26,7 @@ use Rattle.dw_line.proofs.HeaderLemmas.{header_behind}
 
 -- what is so of each result of a second step, is so of both steps
 behind : {A B : Type 0} (r : Result A Bad) (f : A → Result B Bad) (Is : B → Type 0) → ((x : A) → r ≡ Ok x → (y : B) → f x ≡ Ok y → Is y) → (y : B) → (r >>= f) ≡ Ok y → Is y
-behind (Ok x) f Is each y e = each x refl y e
-behind (Err fault) f Is each y e = absurd cc
+behind r f Is each y e = grind arith
 
 -- ---- what is read leaves no more bytes than there were
 
@@ -47,16 +46,12 @@ formats-on (suc count) p x e =
     omega (arith, last, formats-on count form.0.1 others.0 others.1, uleb-on content.0.1 form.0 form.1, uleb-on p content.0 content.1)
 
 contents-on : (size : ℕ) (formats : List Format) (p : Place) (x : List (ℕ × Value) × Place) → contents_at size formats p ≡ Ok x → length x.1.left ≤ length p.left
-contents-on size formats p x e =
-    let b = contents-between size formats p x e in
-    omega (arith, between-length p x.1 b.0 b.1)
+contents-on size formats p x e = grind (arith, contents-between, between-length)
 
 module _ (tables : Tables) (bases : Bases) (size : ℕ) where
   entries-on : (formats : List Format) (count : ℕ) (p : Place) (x : List LineEntry × Place) → entries_at tables bases size formats count p ≡ Ok x → (length x.0 ≡ count) × (length x.1.left ≤ length p.left)
   unfolding entries_at
-  entries-on formats zero p x e =
-      let same = ok_is ([], p) x e in
-      (ap (λ (x : List LineEntry × Place). length x.0) (sym same), omega (arith, ap (λ (x : List LineEntry × Place). length x.1.left) same))
+  entries-on formats zero p x e = grind (arith, ok_is)
   entries-on formats (suc count) p x e =
       let contents = bind_ok (contents_at size formats p) (λ contents. entries_at tables bases size formats count contents.1 >>= λ others. Ok (line_entry tables bases contents.0 ∷ others.0, others.1)) x e in
       let others = bind_ok (entries_at tables bases size formats count contents.0.1) (λ others. Ok (line_entry tables bases contents.0.0 ∷ others.0, others.1)) x contents.2 in
@@ -65,8 +60,7 @@ module _ (tables : Tables) (bases : Bases) (size : ℕ) where
       (ap (λ (x : List LineEntry × Place). length x.0) (sym same) ∙ ap suc rest.0, omega (arith, ap (λ (x : List LineEntry × Place). length x.1.left) same, rest.1, contents-on size formats p contents.0 contents.1))
 
   not_refused : {A : Type 0} (b : Bool) (next : Result A Bad) (x : A) → ◌>>=◌ {A = Unit {0}} (refuse_if b bad) (λ _. next) ≡ Ok x → (b ≡ false) × (next ≡ Ok x)
-  not_refused true next x e = absurd cc
-  not_refused false next x e = (refl, e)
+  not_refused b next x e = grind arith
 
   -- a list has no more entries than bytes were left
   list-on : (p : Place) (x : List LineEntry × Place) → entry_list tables bases size p ≡ Ok x → (length x.0 ≤ length p.left) × (length x.1.left ≤ length p.left)
@@ -146,11 +140,7 @@ module _ (section : List ℕ) (offset : ℕ) where
       omega (arith, initial-left p found.0 found.1, long-within found.0.0 found.0.1 x found.2, length-drop offset section)
 
   pub size_within : table_size section offset ≤ length section
-  size_within = by (table_at section offset) refl
-    where
-      by : (table : Option (List ℕ × ℕ)) → table_at section offset ≡ table → option_map_or (λ (table : List ℕ × ℕ). length table.0) table 0 ≤ length section
-      by (Some table) e = table_within table e
-      by None e = omega arith
+  size_within = grind (arith, table_within)
 
   -- The things in the lists of a table, and twice the bytes of its program, are at most twice the
   -- bytes of the table.

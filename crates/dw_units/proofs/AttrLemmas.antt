@@ -1,5 +1,5 @@
 -- The attribute of a name, as the code finds it.
-use Rattle.std.proofs.Common.{◌≡◌, ℕ, Bool, true, false, cond, List, [], ◌∷◌, map, Option, Some, None, option_map, refl, sym, ap, ◌∙◌}
+use Rattle.std.proofs.Common.{◌≡◌, ℕ, Bool, true, false, cond, List, [], ◌∷◌, map, Option, Some, None, option_map, refl, sym, ap, ◌∙◌, arith}
 use Rattle.std.specs.Prelude.{find, nat_eq, ◌==◌, option_and_then}
 use Rattle.std.specs.Option.{option_map_or}
 use Rattle.std.specs.Map.{lookup}
@@ -20,16 +20,10 @@ abbrev pub given : ℕ → Value → Option Value
 given name value = cond (Counts name value) (Some value) None
 
 counted : (name : ℕ) (value : Value) (class : Option (Value → Bool)) → (class >>= λ counts. only_if (counts value) >>= λ _. Some value) ≡ cond (option_map_or (λ counts. counts value) class false) (Some value) None
-counted name value None = refl
-counted name value (Some counts) = by (counts value)
-  where
-    by : (b : Bool) → (only_if b >>= λ _. Some value) ≡ cond b (Some value) None
-    by true = refl
-    by false = refl
+counted name value class = grind arith
 
 through : (name : ℕ) (o : Option Attribute) → (o >>= λ found. lookup (nat_eq name) classes >>= λ counts. only_if (counts found.value) >>= λ _. Some found.value) ≡ option_and_then (given name) (option_map (λ (found : Attribute). found.value) o)
-through name None = refl
-through name (Some found) = counted name found.value (lookup (nat_eq name) classes)
+through name o = grind (arith, counted)
 
 attribute_is : (name : ℕ) (entry : Entry) (value : Option Value) → value ≡ first_of name entry.attributes → attribute name entry ≡ option_and_then (given name) value
 unfolding attribute
@@ -47,29 +41,19 @@ pub absent : (name : ℕ) (entry : Entry) → None ≡ first_of name entry.attri
 absent name entry e = sym (attribute_is name entry None e)
 
 pub not_counted : (name : ℕ) (entry : Entry) (value : Value) → Some value ≡ first_of name entry.attributes → Counts name value ≡ false → None ≡ attribute name entry
-not_counted name entry value e other =
-    let none : given name value ≡ None = rw other refl in
-    sym (attribute_is name entry (Some value) e ∙ none)
+not_counted name entry value e other = grind (arith, attribute_is)
 
 pub is_given : (name : ℕ) (entry : Entry) (value : Value) → Some value ≡ first_of name entry.attributes → Counts name value ≡ true → Some value ≡ attribute name entry
-is_given name entry value e counts =
-    let some : given name value ≡ Some value = rw counts refl in
-    sym (attribute_is name entry (Some value) e ∙ some)
+is_given name entry value e counts = grind (arith, attribute_is)
 
 -- the same of attributes as the code has them
 find-shown : (name : ℕ) (attributes : List CodeAttribute) → find (λ (found : Attribute). found.name == name) (map attribute_shown attributes) ≡ option_map attribute_shown (find (λ found. found.name == name) attributes)
 find-shown name [] = refl
-find-shown name (first ∷ attributes) = by (first.name == name) (find-shown name attributes)
-  where
-    by : (here : Bool) → find (λ (found : Attribute). found.name == name) (map attribute_shown attributes) ≡ option_map attribute_shown (find (λ found. found.name == name) attributes)
-        → cond here (Some (attribute_shown first)) (find (λ (found : Attribute). found.name == name) (map attribute_shown attributes)) ≡ option_map attribute_shown (cond here (Some first) (find (λ found. found.name == name) attributes))
-    by true others = refl
-    by false others = others
+find-shown name (first ∷ attributes) = grind (arith, find-shown name attributes)
 
 pub shown-value : (name : ℕ) (attributes : List CodeAttribute) (found : Option CodeAttribute) → found ≡ find (λ found. found.name == name) attributes → option_map (λ (found : CodeAttribute). value_shown found.value) found ≡ first_of name (map attribute_shown attributes)
 shown-value name attributes found e =
     same found ∙ ap (option_map (λ (first : Attribute). first.value)) (ap (option_map attribute_shown) e ∙ sym (find-shown name attributes))
   where
     same : (found : Option CodeAttribute) → option_map (λ (found : CodeAttribute). value_shown found.value) found ≡ option_map (λ (first : Attribute). first.value) (option_map attribute_shown found)
-    same None = refl
-    same (Some found) = refl
+    same found = grind arith

@@ -9,14 +9,13 @@ use Rattle.dw_model.specs.Results.{◌>>=◌}
 use Rattle.dw_model.specs.Reading.{Place, start}
 use Rattle.dw_model.specs.Faults.{Refusal}
 use Rattle.dw_model.specs.Answers.{Tells}
-use Rattle.dw_model.specs.Abbrev.{abbreviations}
 use Rattle.dw_model.specs.Section.{Sections}
 use Rattle.dw_model.specs.Unit.{DwarfUnit, Test, untested, piece_at, cut_from, cut}
 use Rattle.dw_model.specs.Root.{has_root, unit_refusal}
 use Rattle.dw_model.proofs.UnitLemmas.{with_piece, cut-piece, cut-fault, cut-end, tested, piece_at-tested}
 use Rattle.dw_units.specs.declared.unit.Unit.{Unit as CodeUnit}
 use Rattle.dw_forms.specs.declared.run.Start.{Start}
-use Rattle.dw_forms.specs.Store.{Read, table_from, HasTable, IsKept}
+use Rattle.dw_forms.specs.Store.{Read, HasTable, IsKept}
 use Rattle.dw_units.specs.Unit.{unit_shown, HasEntries, IsOpened}
 
 more-eqb : (n : ℕ) → 0 < n → (n == 0) ≡ false
@@ -26,14 +25,8 @@ more-eqb n lt = ne_eqb n 0 (λ e. omega arith)
 abbrev pub with_front : List DwarfUnit → Result (List DwarfUnit) Refusal → Result (List DwarfUnit) Refusal
 with_front front others = others >>= λ units. Ok (front ++ units)
 
-pub with_front-nil : (others : Result (List DwarfUnit) Refusal) → with_front [] others ≡ others
-with_front-nil (Ok units) = refl
-with_front-nil (Err refusal) = refl
-
 with_front-piece : (front : List DwarfUnit) (piece : Option DwarfUnit) (others : Result (List DwarfUnit) Refusal) → with_front front (with_piece piece others) ≡ with_front (front ++ option_to_list piece) others
-with_front-piece front None (Ok units) = ap (λ (xs : List DwarfUnit). Ok (xs ++ units)) (sym (append-nil front))
-with_front-piece front (Some unit) (Ok units) = ap Ok (sym (append_assoc front (unit ∷ []) units))
-with_front-piece front piece (Err refusal) = refl
+with_front-piece front piece others = grind (arith, append-nil, append_assoc)
 
 map-push_some : (units : List CodeUnit) (unit : Option CodeUnit) → map unit_shown (units ++ option_to_list unit) ≡ map unit_shown units ++ option_to_list (option_map unit_shown unit)
 map-push_some [] None = refl
@@ -49,9 +42,7 @@ goes_on test units unit p q whole more e so_far =
 
 stops : (test : Test) (front : List DwarfUnit) (p : Place) (refusal : Refusal) (whole : Result (List DwarfUnit) Refusal) → 0 < length p.left → piece_at test p ≡ Err refusal
     → with_front front (cut_from test p) ≡ whole → result_err whole ≡ Some refusal
-stops test front p refusal whole more fault so_far =
-    let e : with_front front (cut_from test p) ≡ Err refusal = rw (cut-fault test p refusal (more-eqb (length p.left) more) fault) refl in
-    rw (sym so_far ∙ e) refl
+stops test front p refusal whole more fault so_far = grind (arith, cut-fault, more-eqb)
 
 is_done : (test : Test) (front : List DwarfUnit) (p : Place) (whole : Result (List DwarfUnit) Refusal) → length p.left ≡ 0 → with_front front (cut_from test p) ≡ whole → whole ≡ Ok front
 is_done test front p whole ended so_far = sym so_far ∙ rw (cut-end test p (eq-eqb (length p.left) 0 ended)) (ap Ok (append-nil front))
@@ -59,23 +50,13 @@ is_done test front p whole ended so_far = sym so_far ∙ rw (cut-end test p (eq-
 -- ---- opened units
 
 same-tables : (old new : Read) (offset : ℕ) (start : Start) → new.section ≡ old.section → IsKept old new → HasTable old offset start → HasTable new offset start
-same-tables old new offset start same kept h =
-    let still = kept start h.0 in
-    let size = still.1 in
-    let there : abbreviations new.section offset ≡ Ok (table_from new start) = ap (λ (section : List ℕ). abbreviations section offset) same ∙ h.2 ∙ ap Ok (sym still.2) in
-    (still.0, omega (arith, h.1, size), there)
+same-tables old new offset start same kept h = grind arith
 
 still-placed : (s : Sections) (old new : Read) (unit : DwarfUnit) (start : Option Start) → new.section ≡ old.section → IsKept old new → HasEntries s old unit start → HasEntries s new unit start
-still-placed s old new unit None same kept h = h
-still-placed s old new unit (Some start) same kept h = (same-tables old new unit.debug_abbrev_offset start same kept h.0, h.1, h.2)
+still-placed s old new unit start same kept h = grind (arith, same-tables)
 
 still-opened : (s : Sections) (old new : Read) (unit : CodeUnit) → new.section ≡ old.section → IsKept old new → IsOpened s old unit → IsOpened s new unit
-still-opened s old new unit same kept h = record {
-  root = h.root;
-  first = h.first;
-  bases = h.bases;
-  table = still-placed s old new (unit_shown unit) unit.table same kept h.table;
-}
+still-opened s old new unit same kept h = grind (arith, still-placed)
 
 all-opened : (s : Sections) (old new : Read) (units : List CodeUnit) (unit : CodeUnit) → new.section ≡ old.section → IsKept old new → AllByRecursion (IsOpened s old) units → IsOpened s new unit → AllByRecursion (IsOpened s new) (units ++ unit ∷ [])
 all-opened s old new [] unit same kept h last = (last, tt)
@@ -88,14 +69,6 @@ pub record Cutting (s : Sections) (read : Read) (units : List CodeUnit) (p : Pla
   pub headers : with_front (map unit_shown units) (cut_from untested p) ≡ cut s.info
   pub roots : with_front (map unit_shown units) (cut_from (has_root s) p) ≡ cut_from (has_root s) (start s.info)
   pub opened : AllByRecursion (IsOpened s read) units
-
-pub begins : (s : Sections) (read : Read) (p : Place) → read.section ≡ s.abbrevs → p ≡ start s.info → Cutting s read [] p
-begins s read p section e = record {
-  section = section;
-  headers = with_front-nil (cut_from untested p) ∙ ap (cut_from untested) e;
-  roots = with_front-nil (cut_from (has_root s) p) ∙ ap (cut_from (has_root s)) e;
-  opened = tt;
-}
 
 padding-tested : (test : Test) (p q : Place) → piece_at untested p ≡ Ok (None, q) → piece_at test p ≡ Ok (None, q)
 padding-tested test p q e = piece_at-tested test p ∙ ap (λ (read : Result (Option DwarfUnit × Place) Refusal). read >>= tested test) e

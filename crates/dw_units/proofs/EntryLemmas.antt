@@ -1,5 +1,5 @@
 -- Reading the attributes of an entry one by one, as a loop does.
-use Rattle.std.proofs.Common.{◌≡◌, ℕ, suc, ◌<◌, List, [], ◌∷◌, ◌++◌, length, map, Option, Some, None, Result, Ok, Err, refl, subst, sym, ap, ◌∙◌, append_assoc, arith}
+use Rattle.std.proofs.Common.{◌≡◌, ℕ, List, [], ◌∷◌, ◌++◌, map, Option, Some, None, Result, Ok, Err, refl, subst, sym, ap, ◌∙◌, append_assoc, arith}
 use Rattle.std.specs.Prelude.{MatchOption}
 use Rattle.std.proofs.lemmas.List.{append-nil, map_push}
 use Rattle.dw_model.specs.Results.{◌>>=◌}
@@ -20,27 +20,16 @@ Read = Result (List Attribute × Place) Fault
 abbrev with_front : List Attribute → Read → Read
 with_front front read = read >>= λ x. Ok (front ++ x.0, x.1)
 
--- fewer are left once the first was taken away
-pub fewer : (left rest : List Specification) (spec : Spec) → left ≡ spec_shown spec ∷ rest → length rest < length left
-fewer left rest spec first =
-    let counted : length left ≡ suc (length rest) = ap (λ (specs : List Specification). length specs) first in
-    omega (arith, counted)
-
 module _ (size : ℕ) where
   -- what was read so far, and then what the specifications that are left ask for, is all
   abbrev pub SoFar : List CodeAttribute → List Specification → Place → Read → Type 0
   SoFar front left p all = with_front (map attribute_shown front) (attributes_at size left p) ≡ all
 
   onto : (front : List Attribute) (item : Attribute) (others : Read) → with_front front (others >>= λ x. Ok (item ∷ x.0, x.1)) ≡ with_front (front ++ item ∷ []) others
-  onto front item (Ok x) = ap (λ (xs : List Attribute). Ok (xs, x.1)) (sym (append_assoc front (item ∷ []) x.0))
-  onto front item (Err e) = refl
+  onto front item others = grind (arith, append_assoc)
 
   pub starts : (left specs : List Specification) (p : Place) → left ≡ specs → SoFar [] left p (attributes_at size specs p)
-  starts left specs p same = nil (attributes_at size left p) ∙ ap (λ (specs : List Specification). attributes_at size specs p) same
-    where
-      nil : (read : Read) → with_front [] read ≡ read
-      nil (Ok x) = refl
-      nil (Err e) = refl
+  starts left specs p same = grind arith
 
   -- the first of those that are left
   next : (front : List CodeAttribute) (left rest : List Specification) (spec : Spec) (p : Place) (all : Read) → left ≡ spec_shown spec ∷ rest → SoFar front left p all → SoFar front (spec_shown spec ∷ rest) p all
@@ -58,16 +47,11 @@ module _ (size : ℕ) where
   by_told : (front : List CodeAttribute) (spec : Spec) (others : List Specification) (p : Place) (all : Read) (told : Option Fault) → Tells told (value_at size spec.form spec.implicit p)
       → with_front (map attribute_shown front) (attributes_at size (spec_shown spec ∷ others) p) ≡ all → MatchOption told (Unit {0}) (λ fault. all ≡ Err fault)
   unfolding attributes_at
-  by_told front spec others p all None f e = tt
-  by_told front spec others p all (Some fault) f e =
-      let read : attributes_at size (spec_shown spec ∷ others) p ≡ Err fault = rw f refl in
-      sym e ∙ rw read refl
+  by_told front spec others p all told f e = grind arith
 
   pub stops : (front : List CodeAttribute) (left rest : List Specification) (spec : Spec) (p : Place) (all : Read) (told own : Option Fault) → own ≡ told → left ≡ spec_shown spec ∷ rest → Tells told (value_at size spec.form spec.implicit p) → SoFar front left p all
       → MatchOption own (Unit {0}) (λ fault. all ≡ Err fault)
-  stops front left rest spec p all told own same first fault so_far =
-      let read = by_told front spec rest p all told fault (next front left rest spec p all first so_far) in
-      subst (λ told. MatchOption told (Unit {0}) (λ fault. all ≡ Err fault)) (sym same) read
+  stops front left rest spec p all told own same first fault so_far = grind (arith, by_told, next)
 
   -- the same where no memory was taken
   pub stops-exactly : (front : List CodeAttribute) (left rest : List Specification) (spec : Spec) (p : Place) (all : Read) (told own : Option Fault) → own ≡ told → left ≡ spec_shown spec ∷ rest → Tells told (value_at size spec.form spec.implicit p) → SoFar front left p all
@@ -78,6 +62,4 @@ module _ (size : ℕ) where
 
   pub ends : (front : List CodeAttribute) (left : List Specification) (p : Place) (all : Read) → left ≡ [] → SoFar front left p all → all ≡ Ok (map attribute_shown front, p)
   unfolding attributes_at
-  ends front left p all none so_far =
-      let last : with_front (map attribute_shown front) (attributes_at size left p) ≡ Ok (map attribute_shown front, p) = rw none (ap (λ (xs : List Attribute). Ok (xs, p)) (append-nil (map attribute_shown front))) in
-      sym so_far ∙ last
+  ends front left p all none so_far = grind (arith, append-nil)

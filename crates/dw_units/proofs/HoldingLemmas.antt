@@ -1,15 +1,12 @@
 -- Units are one after the other, so that the one that holds an offset is the last that begins at or
 -- before it.
-use Rattle.std.proofs.Common.{◌≡◌, ◌∙◌, ℕ, zero, suc, ◌+◌, ◌≤◌, ◌<◌, Bool, true, false, cond, List, [], ◌∷◌, length, map, get_or, Option, Some, None, Result, Ok, refl, sym, ap, subst, arith}
+use Rattle.std.proofs.Common.{◌≡◌, ◌∙◌, ℕ, zero, suc, ◌+◌, ◌≤◌, ◌<◌, Bool, true, false, cond, List, [], ◌∷◌, length, map, get_or, Option, Some, None, Ok, refl, sym, ap, subst, arith}
 use Rattle.std.specs.Prelude.{nat_le, nat_lt, option_map, slice_get, slice_index_or}
 use Rattle.std.specs.List.{AllWithin, cons_option}
 use Rattle.std.specs.List.Sorted.{IsNonDecreasingBy, IsPartitionPoint}
-use Rattle.std.specs.Result.{result_unwrap_or}
 use Rattle.std.proofs.lemmas.Bool.{le-ltb, lt-ltb, leb-true}
 use Rattle.std.proofs.lemmas.Option.{slice_get_read, slice_get-map}
-use Rattle.dw_model.specs.Reading.{start}
-use Rattle.dw_model.specs.Faults.{Refusal}
-use Rattle.dw_model.specs.InitialLength.{Width, offset_size, length_size}
+use Rattle.dw_model.specs.InitialLength.{Width, length_size}
 use Rattle.dw_model.specs.Unit.{DwarfUnit, Test, untested, cut, Content, IsUnitOf, AreUnits, extent_at}
 use Rattle.dw_model.specs.Unit as model
 use Rattle.dw_model.specs.Section.{Sections}
@@ -30,23 +27,15 @@ lower low high (unit ∷ units) h a = (omega (arith, h, a.0), a.1, a.2)
 
 -- the unit of a piece, and those after it
 piece-ascends : (test : Test) (at : ℕ) (width : Width) (content : List ℕ) (unit : Option DwarfUnit) (others : List DwarfUnit) → IsUnitOf test at width content unit → Ascending (at + length_size width + length content) others → Ascending at (cons_option unit others)
-piece-ascends test at width [] unit others u a = rw (u) (lower at (at + length_size width + 0) others (omega arith) a)
-piece-ascends test at width (c ∷ content) unit others u a =
-    let n : ℕ = length (c ∷ content) in
-    let w = unit_of-within (extent_at at width (c ∷ content)) (offset_size width) (c ∷ content) u.0 refl u.2 in
-    let all : Ascending at (u.0 ∷ others) = (omega (arith, w.offset), omega (arith, w.offset, w.end), lower u.0.end (at + length_size width + n) others (omega (arith, w.end)) a) in
-    rw (u.1) all
+piece-ascends test at width content unit others u a = grind (arith, lower, unit_of-within)
 
 units-ascend : (test : Test) (at : ℕ) (contents : List Content) (found : List DwarfUnit) → AreUnits test at contents found → Ascending at found
 units-ascend test at [] found u = subst (Ascending at) (sym u) tt
 units-ascend test at (content ∷ contents) found u =
-    let others = units-ascend test (at + length_size content.width + length content.bytes) contents u.1 u.4 in
-    subst (Ascending at) (sym u.2) (piece-ascends test at content.width content.bytes u.0 u.1 u.3 others)
+    grind (arith, piece-ascends, units-ascend test (at + length_size content.width + length content.bytes) contents u.1 u.4)
 
 pub cut-ascends : (info : List ℕ) (found : List DwarfUnit) → cut info ≡ Ok found → Ascending 0 found
-cut-ascends info found e =
-    let are = cut-are untested (start info) found e in
-    units-ascend untested 0 are.0 found are.2
+cut-ascends info found e = grind (arith, cut-are, units-ascend)
 
 -- ---- offsets of units rise
 
@@ -89,8 +78,7 @@ last-holds from o (unit ∷ next ∷ units) (suc i) d a within h g =
 -- ---- in the words of the sections that the units are seen as
 
 whole-units : (s seen : Sections) (units : List CodeUnit) → s ≡ seen → cut s.info ≡ Ok (map unit_shown units) → model.units seen.info ≡ map unit_shown units
-whole-units s seen units same whole =
-    ap (λ (s : Sections). model.units s.info) (sym same) ∙ ap (λ (r : Result (List DwarfUnit) Refusal). result_unwrap_or r []) whole
+whole-units s seen units same whole = grind arith
 
 pub units-rise : (s : Sections) (units : List CodeUnit) → cut s.info ≡ Ok (map unit_shown units) → IsNonDecreasingBy (λ unit. unit.offset) units
 units-rise s units whole = offsets-rise 0 units (cut-ascends s.info (map unit_shown units) whole)
@@ -100,9 +88,7 @@ abbrev pub Begun : ℕ → List CodeUnit → ℕ → Type 0
 Begun o units n = IsPartitionPoint (λ unit. nat_le unit.offset o ≡ true) (λ unit. nat_le unit.offset o ≡ false) units n
 
 pub none-begun : (s seen : Sections) (units : List CodeUnit) (o n : ℕ) → s ≡ seen → cut s.info ≡ Ok (map unit_shown units) → Begun o units n → n ≡ 0 → None ≡ holding (model.units seen.info) o
-none-begun s seen units o n same whole begun none =
-    let all : AllWithin (λ unit. begins o unit ≡ false) units 0 (length units) = subst (λ n. AllWithin (λ unit. begins o unit ≡ false) units n (length units)) none begun.1 in
-    sym (ap (λ (units : List DwarfUnit). holding units o) (whole-units s seen units same whole) ∙ none-holds o units all)
+none-begun s seen units o n same whole begun none = grind (arith, whole-units, none-holds)
 
 last-of : (s seen : Sections) (units : List CodeUnit) (o n i : ℕ) (unit : CodeUnit) → s ≡ seen → cut s.info ≡ Ok (map unit_shown units) → Begun o units n → n ≡ suc i → n ≤ length units → unit ≡ slice_index_or units i unit
     → holding (model.units seen.info) o ≡ cond (nat_lt o unit.end) (Some (unit_shown unit)) None

@@ -1,16 +1,14 @@
 -- Declarations of a unit that were met.
-use Rattle.std.proofs.Common.{◌≡◌, ℕ, zero, suc, List, [], ◌∷◌, ◌++◌, length, Option, Some, refl, sym, subst, ap, ◌∙◌}
+use Rattle.std.proofs.Common.{◌≡◌, ℕ, zero, suc, List, [], ◌∷◌, ◌++◌, length, Option, Some, refl, sym, subst, ap, ◌∙◌, arith}
 use Rattle.std.specs.Prelude.{slice_get, slice_set}
 use Rattle.std.proofs.lemmas.Option.{same_Some}
-use Rattle.dw_model.specs.Abbrev.{Declaration, Specification, declared}
-use Rattle.dw_bytes.specs.Width.{size_of}
-use Rattle.dw_bytes.specs.declared.width.Width.{Width}
-use Rattle.dw_units.specs.Layouts.{AreOf, IsKept, IsPlain, IsSize}
+use Rattle.dw_model.specs.Abbrev.{Declaration, Specification}
+use Rattle.dw_units.specs.Layouts.{AreOf, IsKept}
 use Rattle.dw_units.specs.declared.layouts.Layouts.{Layouts}
 use Rattle.dw_units.specs.declared.layouts.Met.{Met}
-use Rattle.dw_units.specs.declared.layouts.Met.TheVariants as met_variants
 
-set-each : {X : Type 0} (P : ℕ → X → Type 0) (xs : List (Option X)) (place : ℕ) (one : X) → ((k : ℕ) (x : X) → slice_get xs k ≡ Some (Some x) → P k x) → P place one
+-- what holds of each place holds still, where one more value has it
+pub set-each : {X : Type 0} (P : ℕ → X → Type 0) (xs : List (Option X)) (place : ℕ) (one : X) → ((k : ℕ) (x : X) → slice_get xs k ≡ Some (Some x) → P k x) → P place one
     → (k : ℕ) (x : X) → slice_get (slice_set xs place (Some one)) k ≡ Some (Some x) → P k x
 set-each P [] place one each is k x there = absurd cc
 set-each P (y ∷ xs) zero one each is zero x there = subst (P zero) (same_Some one x (same_Some (Some one) (Some x) there)) is
@@ -30,15 +28,11 @@ last (z ∷ xs) y = last xs y
 -- what is kept of a declaration stays so where each layout stays at its place
 pub carried : (declarations : List Declaration) (old new : Layouts) (code : ℕ) (one : Met) → ((place : ℕ) (specifications : List Specification) → slice_get old.list.items place ≡ Some specifications → slice_get new.list.items place ≡ Some specifications)
     → new.width ≡ old.width → IsKept declarations old code one → IsKept declarations new code one
-carried declarations old new code (met_variants.Plain children size) stay width kept =
-    subst (λ (width : Width). IsPlain (size_of width) (declared declarations code) children size) (sym width) kept
-carried declarations old new code (met_variants.Laid laid) stay width kept =
-    (kept.0, stay laid.place kept.0 kept.1, kept.2, subst (λ (width : Width). IsSize (size_of width) laid.size kept.0) (sym width) kept.3)
+carried declarations old new code one stay width kept = grind arith
 
 pub with-layout : (declarations : List Declaration) (old new : Layouts) (code : ℕ) (one : Met) (layout : List Specification) → new.list.items ≡ old.list.items ++ layout ∷ []
     → new.width ≡ old.width → IsKept declarations old code one → IsKept declarations new code one
-with-layout declarations old new code one layout list width kept =
-    carried declarations old new code one (λ place specifications there. ap (λ list. slice_get list place) list ∙ stays old.list.items layout specifications place there) width kept
+with-layout declarations old new code one layout list width kept = grind (arith, carried, stays)
 
 pub with-room : (declarations : List Declaration) (old new : Layouts) → new.list.items ≡ old.list.items → new.width ≡ old.width
     → ((code : ℕ) (one : Met) → slice_get new.met.items code ≡ Some (Some one) → slice_get old.met.items code ≡ Some (Some one)) → AreOf declarations old → AreOf declarations new

@@ -1,5 +1,5 @@
 -- Values that are passed over in one step.
-use Rattle.std.proofs.Common.{◌≡◌, ◌∙◌, ℕ, List, Option, Some, None, Result, Ok, Err, ap}
+use Rattle.std.proofs.Common.{◌≡◌, ◌∙◌, ℕ, List, Option, Some, Result, Ok, Err, ap, arith}
 use Rattle.std.specs.Prelude.{ok_or}
 use Rattle.dw_model.specs.Faults.{Fault, ends_early}
 use Rattle.dw_model.specs.Reading.{Place, bytes_at}
@@ -14,8 +14,7 @@ found-at (Ok found) q e = (found.0, ap (λ (x : Unit {0} × Place). Ok (found.0,
 found-at (Err fault) q e = absurd cc
 
 faults-at : {A : Type 0} (read : Result (A × Place) Fault) (fault : Fault) → place_behind read ≡ Err fault → read ≡ Err fault
-faults-at (Ok found) fault e = absurd cc
-faults-at (Err told) fault e = cc
+faults-at read fault e = grind arith
 
 pub passed : {A : Type 0} (n : ℕ) (read : Place → Result (A × Place) Fault) (p q : Place) (bytes : List ℕ) → Skips n read → bytes_at n p ≡ Some (bytes, q) → (found : A) × (read p ≡ Ok (found, q))
 passed n read p q bytes h e = found-at (read p) q (h p ∙ ap (λ (taken : Option (List ℕ × Place)). place_behind (ok_or taken ends_early)) e)
@@ -23,9 +22,7 @@ passed n read p q bytes h e = found-at (read p) q (h p ∙ ap (λ (taken : Optio
 -- ---- the same by steps
 
 tells-at : {A : Type 0} (read : Result (A × Place) Fault) (by : Result (Unit {0} × Place) Fault) (told : Option Fault) → place_behind read ≡ by → Tells told by → Tells told read
-tells-at read by None same fault = fault
-tells-at read by (Some f) same fault = faults-at read f (same ∙ fault)
+tells-at read by told same fault = grind (arith, faults-at)
 
 pub passes : {A : Type 0} (read : Result (A × Place) Fault) (by : Result (Unit {0} × Place) Fault) (result : Result (Unit {0}) FormFault) (q : Place) → place_behind read ≡ by → ReadsOn (λ done. done) form_fault result by q → Passes result read q
-passes read by (Ok done) q same e = found-at read q (same ∙ e)
-passes read by (Err fault) q same told = tells-at read by (form_fault fault) same told
+passes read by result q same e = grind (arith, found-at, tells-at)

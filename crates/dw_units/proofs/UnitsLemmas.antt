@@ -1,23 +1,21 @@
 -- The unit at a place of those that were read.
-use Rattle.std.proofs.Common.{◌≡◌, ◌∙◌, ℕ, zero, suc, ◌<◌, ◌≤◌, List, [], ◌∷◌, length, map, true, false, Option, Some, None, Result, Ok, Err, refl, sym, ap, subst, arith}
+use Rattle.std.proofs.Common.{◌≡◌, ◌∙◌, ℕ, zero, suc, ◌<◌, ◌≤◌, List, [], ◌∷◌, length, map, Option, Some, Result, Ok, refl, sym, ap, subst, arith}
 use Rattle.std.specs.Prelude.{option_map, slice_get, slice_index_or}
 use Rattle.std.specs.List.{AllByRecursion}
 use Rattle.std.specs.Result.{result_unwrap_or}
 use Rattle.std.proofs.lemmas.Option.{get_or_from_slice_get, same_Some, slice_get_read, slice_get-map}
 use Rattle.std.proofs.lemmas.List.{length-map}
-use Rattle.dw_model.specs.Faults.{Refusal, ends_early}
+use Rattle.dw_model.specs.Faults.{Refusal}
 use Rattle.dw_model.specs.Section.{Sections}
 use Rattle.dw_model.specs.Unit.{DwarfUnit, cut}
 use Rattle.dw_model.specs.Unit as model
-use Rattle.dw_model.specs.Root.{entry}
-use Rattle.dw_model.specs.Abbrev.{Declaration, abbreviations}
+use Rattle.dw_model.specs.Abbrev.{Declaration}
 use Rattle.dw_model.proofs.StepLemmas.{ok_is}
 use Rattle.dw_units.specs.declared.unit.Unit.{Unit as CodeUnit}
 use Rattle.dw_forms.specs.declared.run.Start.{Start}
 use Rattle.dw_forms.specs.Store.{Read, table_from}
 use Rattle.dw_units.specs.Unit.{unit_shown, HasEntries, IsOpened}
 use Rattle.dw_units.specs.UnitAt.{absent, unit_at, HasEntriesBy}
-use Rattle.dw_units.proofs.PlaceLemmas.{outside-all}
 
 opened-at : (s : Sections) (read : Read) (units : List CodeUnit) (i : ℕ) (unit : CodeUnit) → AllByRecursion (IsOpened s read) units → slice_get units i ≡ Some unit → IsOpened s read unit
 opened-at s read [] i unit h e = absurd cc
@@ -25,11 +23,7 @@ opened-at s read (first ∷ units) zero unit h e = subst (IsOpened s read) (same
 opened-at s read (first ∷ units) (suc i) unit h e = opened-at s read units i unit h.1 e
 
 unit-at : (info : List ℕ) (units : List CodeUnit) (i : ℕ) (unit : CodeUnit) → cut info ≡ Ok (map unit_shown units) → i < length (model.units info) → unit ≡ slice_index_or units i unit → (slice_get units i ≡ Some unit) × (slice_get (model.units info) i ≡ Some (unit_shown unit))
-unit-at info units i unit whole within e =
-    let same : model.units info ≡ map unit_shown units = ap (λ (r : Result (List DwarfUnit) Refusal). result_unwrap_or r []) whole in
-    let size : length (model.units info) ≡ length units = ap (λ (us : List DwarfUnit). length us) same ∙ length-map units unit_shown in
-    let found = slice_get_read units (length units) i unit refl (omega (arith, within, size)) e in
-    (found, ap (λ (us : List DwarfUnit). slice_get us i) same ∙ slice_get-map unit_shown units i ∙ ap (option_map unit_shown) found)
+unit-at info units i unit whole within e = grind (arith, length-map, slice_get_read, slice_get-map)
 
 -- what is known of it, in the words of the sections that the units are seen as
 pub unit-in : (s seen : Sections) (read : Read) (units : List CodeUnit) (i : ℕ) (unit : CodeUnit) → s ≡ seen → cut s.info ≡ Ok (map unit_shown units) → AllByRecursion (IsOpened s read) units → i < length (model.units seen.info) → unit ≡ slice_index_or units i unit
@@ -46,12 +40,7 @@ unit-there (first ∷ units) zero h = (first, refl)
 unit-there (first ∷ units) (suc i) h = unit-there units i (omega (arith, h))
 
 table-counted : (s : Sections) (read : Read) (unit : DwarfUnit) (table : Option Start) (n : ℕ) (declarations : List Declaration) → read.section ≡ s.abbrevs → HasEntries s read unit table → HasEntriesBy s unit declarations → ((start : Start) → length (table_from read start) ≤ n) → length declarations ≤ n
-table-counted s read unit None n declarations same has by each =
-    let both : true ≡ false = sym has.0 ∙ by.2 in
-    absurd cc
-table-counted s read unit (Some start) n declarations same has by each =
-    let both : Ok (table_from read start) ≡ Ok declarations = sym has.0.2 ∙ ap (λ (section : List ℕ). abbreviations section unit.debug_abbrev_offset) same ∙ by.0 in
-    subst (λ (table : List Declaration). length table ≤ n) (ok_is (table_from read start) declarations both) (each start)
+table-counted s read unit table n declarations same has by each = grind (arith, ok_is)
 
 pub tables-counted : (s seen : Sections) (read : Read) (units : List CodeUnit) (n i : ℕ) (declarations : List Declaration) → s ≡ seen → read.section ≡ s.abbrevs → cut s.info ≡ Ok (map unit_shown units) → AllByRecursion (IsOpened s read) units → ((start : Start) → length (table_from read start) ≤ n)
     → i < length (model.units seen.info) → HasEntriesBy seen (unit_at seen i) declarations → length declarations ≤ n

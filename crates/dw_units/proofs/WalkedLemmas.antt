@@ -1,5 +1,5 @@
 -- What is told of the entry at a place by its declaration.
-use Rattle.std.proofs.Common.{◌≡◌, ◌∙◌, ℕ, Bool, false, List, Option, None, Some, Ok, Err, refl, sym, ap, subst}
+use Rattle.std.proofs.Common.{◌≡◌, ◌∙◌, ℕ, Bool, false, List, Option, None, Some, Ok, Err, refl, ap, arith}
 use Rattle.std.specs.Prelude.{option_map, ◌==◌}
 use Rattle.std.proofs.lemmas.Option.{same_Some}
 use Rattle.dw_model.specs.Reading.{Place}
@@ -12,7 +12,6 @@ use Rattle.dw_forms.specs.Ranged.{may_have_ranges}
 use Rattle.dw_units.specs.Entries.{ranged_at}
 use Rattle.dw_units.specs.EntriesInside.{function_by, IsReadable}
 use Rattle.dw_units.specs.Layouts.{Means}
-use Rattle.dw_units.specs.View.{attributes_in, IsRead}
 use Rattle.dw_units.specs.declared.entries.Last.{Last}
 use Rattle.dw_units.proofs.PlaceLemmas.{read-entry}
 
@@ -23,21 +22,15 @@ module _ (size : ℕ) (declarations : List Declaration) (code tag : ℕ) (childr
   -- the entry that is read
   pub met : (p q r : Place) (attributes : List Attribute) → uleb_at p ≡ Ok (code, q) → (code == 0) ≡ false → attributes_at size specs q ≡ Ok (attributes, r)
       → entry_at size declarations p ≡ Ok (Some (record { offset = p.at; tag = tag; children = children; attributes = attributes }), r)
-  met p q r attributes number some read =
-      read-entry size declarations p q r code declaration attributes number some means.1 (ap (λ (specs : List Specification). attributes_at size specs q) means.4 ∙ read)
-      ∙ ap (λ (tag : ℕ). Ok (Some (record { offset = p.at; tag = tag; children = declaration.children; attributes = attributes }), r)) means.2
-      ∙ ap (λ (children : Bool). Ok (Some (record { offset = p.at; tag = tag; children = children; attributes = attributes }), r)) means.3
+  met p q r attributes number some read = grind (arith, read-entry)
 
   pub ranged-is : (p q : Place) → uleb_at p ≡ Ok (code, q) → ranged_at declarations p ≡ may_have_ranges specs
-  ranged-is p q read =
-      let told : ranged_at declarations p ≡ may_have_ranges declaration.specifications = rw (read, means.1) refl in
-      told ∙ ap may_have_ranges means.4
+  ranged-is p q read = grind arith
 
   -- its values can't be read
   pub unread : (p q : Place) (told : Option Fault) → uleb_at p ≡ Ok (code, q) → (code == 0) ≡ false → Tells told (attributes_at size specs q) → Tells told (entry_at size declarations p)
   unfolding entry_at
-  unread p q None number some fault = absurd fault
-  unread p q (Some f) number some fault = rw (number, some, means.1, ap (λ (specs : List Specification). attributes_at size specs q) means.4 ∙ fault) refl
+  unread p q told number some fault = grind arith
 
 -- its code isn't declared
 pub unmeant : (size : ℕ) (declarations : List Declaration) (p q : Place) (code : ℕ) → uleb_at p ≡ Ok (code, q) → (code == 0) ≡ false → declared declarations code ≡ None → entry_at size declarations p ≡ Err undeclared
@@ -51,14 +44,7 @@ module _ (size : ℕ) (declarations : List Declaration) (last : Last) (tag : ℕ
   own = ap (λ (specs : List Specification). attributes_at size specs last.values) means.4 ∙ read
 
   pub last-is : option_map (function_by size last) (declared declarations last.code) ≡ Some (record { offset = last.offset; tag = tag; children = children; attributes = found.0 })
-  last-is =
-      ap (option_map (function_by size last)) means.1
-      ∙ ap (λ (attributes : List Attribute). Some (record { offset = last.offset; tag = means.0.tag; children = means.0.children; attributes = attributes })) (ap attributes_in own)
-      ∙ ap (λ (tag : ℕ). Some (record { offset = last.offset; tag = tag; children = means.0.children; attributes = found.0 })) means.2
-      ∙ ap (λ (children : Bool). Some (record { offset = last.offset; tag = tag; children = children; attributes = found.0 })) means.3
+  last-is = grind (arith, own)
 
   pub readable-is : IsReadable declarations size (Some last)
-  readable-is other declaration same known =
-      let is : last ≡ other = same_Some last other same in
-      let one : means.0 ≡ declaration = same_Some means.0 declaration (sym means.1 ∙ ap (λ (last : Last). declared declarations last.code) is ∙ known) in
-      subst (λ (other : Last). IsRead (attributes_at size declaration.specifications other.values)) is (subst (λ (declaration : Declaration). IsRead (attributes_at size declaration.specifications last.values)) one (found, own))
+  readable-is other declaration same known = grind (arith, same_Some, own)

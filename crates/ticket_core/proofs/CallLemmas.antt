@@ -1,5 +1,5 @@
 -- The calls of a core, from the contracts of its lanes: `now` is the state that contracts see.
-use Rattle.std.proofs.Common.{◌≡◌, ℕ, ◌<◌, false, List, length, get_or, set, Option, None, Result, Ok, Err, MatchResult, OnOk, OnErr, IfErr, ap, arith}
+use Rattle.std.proofs.Common.{◌≡◌, ℕ, ◌<◌, false, List, length, get_or, set, Option, None, Result, Ok, Err, MatchResult, OnOk, OnErr, IfErr, arith}
 use Rattle.std.proofs.lemmas.List.{length-map}
 use Rattle.ticket_core.specs.declared.shape.Shape.{Shape}
 use Rattle.ticket_core.specs.declared.fault.CoreFault.{CoreFault}
@@ -33,7 +33,7 @@ module _ {A : Type 0} (shown : A → Shown) (meaning : Meaning) (shape : Shape) 
       (f : A → Shown) → MatchResult result (λ _. refused (sender_shown f lane) ≡ None) (λ fault. refuses fault (refused (sender_shown f lane)))
 
   shaped : s < shape.senders
-  shaped = let e : shape ≡ now.shape = ap (λ state. state.shape) is in rw e placed
+  shaped = grind arith
 
   there : s < length lanes
   there = omega (arith, shaped, sound.senders, length-map lanes (sender_shown shown))

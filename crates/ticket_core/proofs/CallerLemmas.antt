@@ -1,5 +1,5 @@
 -- What a caller that knows a core's hands can use.
-use Rattle.std.proofs.Common.{◌≡◌, ℕ, ◌<◌, List, length, get_or, Option, Some, None, sym, ◌∙◌, ap, arith}
+use Rattle.std.proofs.Common.{◌≡◌, ℕ, ◌<◌, List, length, get_or, Option, Some, arith}
 use Rattle.std.proofs.lemmas.List.{get_or_default}
 use Rattle.ticket_core.specs.declared.shape.Shape.{Shape}
 use Rattle.ticket_core.specs.State.{Meaning, Unasked, Held, Ticket, State, sender_at, hand_at}
@@ -17,17 +17,10 @@ module _ (meaning : Meaning) (state : State) (sound : IsSound meaning state) (w 
 
   -- and was asked
   pub held-asked : n < length (sender_at state s).asked
-  held-asked =
-      let h : n < length (sender_at state s).places = inside (sender_at state s).places n Unasked held-place in
-      let e : length (sender_at state s).places ≡ length (sender_at state s).asked = (sound.each s).placed in
-      omega arith
+  held-asked = grind (arith, inside, held-place)
 
 -- what a list that has the hands says of one
 pub held-read : (meaning : Meaning) (state : State) → IsSound meaning state → (shape : Shape) → state.shape ≡ shape
     → (hands : List (Option Ticket)) → state.hands ≡ hands → (w : ℕ) → w < shape.workers
     → (found : Option Ticket) → found ≡ get_or hands w found → (ticket : Ticket) → found ≡ Some ticket → hand_at state w ≡ Some ticket
-held-read meaning state sound shape e hands same w h found read ticket is =
-    let e2 : state.shape.workers ≡ shape.workers = ap (λ x. x.workers) e in
-    let within : w < length hands = rw (← same) (omega (arith, h, e2, sound.workers)) in
-    let here : get_or hands w None ≡ get_or hands w found = get_or_default hands w None found within in
-    rw same (here ∙ sym read ∙ is)
+held-read meaning state sound shape e hands same w h found read ticket is = grind (arith, get_or_default)

@@ -1,16 +1,16 @@
 -- The calls of a core that fill or empty a hand, from the contracts of its lanes: `now` is the
 -- state that contracts see.
-use Rattle.std.proofs.Common.{◌≡◌, ℕ, ◌<◌, false, List, length, get_or, set, Option, Some, None, IfSome, refl, sym, ◌∙◌, ap, subst, arith}
+use Rattle.std.proofs.Common.{◌≡◌, ℕ, ◌<◌, false, List, length, get_or, set, Option, Some, None, IfSome, refl, ◌∙◌, ap, arith}
 use Rattle.std.proofs.lemmas.List.{length-map, get_or_default}
 use Rattle.ticket_core.specs.declared.shape.Shape.{Shape}
 use Rattle.ticket_core.specs.declared.fault.CoreFault.{CoreFault}
 use Rattle.ticket_core.specs.declared.fault.CoreFault.TheVariants.{NotAsked}
 use Rattle.ticket_core.specs.declared.lane.Lane.{Lane}
-use Rattle.ticket_core.specs.State.{Shown, Meaning, Place, Unasked, Waiting, Held, Answered, Ticket, State, sender_at, hand_at, place_of}
+use Rattle.ticket_core.specs.State.{Shown, Meaning, Place, Waiting, Held, Answered, Ticket, State, sender_at, hand_at, place_of}
 use Rattle.ticket_core.specs.Events.{Take, Finish, GiveBack, puts, with_hand, meaning_of, puts_down, Step}
 use Rattle.ticket_core.specs.Refusals.{refusal, is_waiting, Refuses}
 use Rattle.ticket_core.specs.Sound.{IsSound}
-use Rattle.ticket_core.specs.Shown.{place_shown, sender_shown, state_shown}
+use Rattle.ticket_core.specs.Shown.{sender_shown, state_shown}
 use Rattle.ticket_core.proofs.ReadLemmas.{inside}
 use Rattle.ticket_core.proofs.StateLemmas.{place_at, sender_there}
 use Rattle.ticket_core.proofs.CoreLemmas as core
@@ -28,20 +28,17 @@ module _ {A : Type 0} (shown : A → Shown) (meaning : Meaning) (shape : Shape) 
   sound-now = rw (← is) sound
 
   worker_there : w < length hands
-  worker_there = let e : shape ≡ now.shape = ap (λ state. state.shape) is in let h : w < shape.workers = rw e placed in omega (arith, h, sound.workers)
+  worker_there = grind arith
 
   -- what was read is what the hand holds
   hand-is : (hand : Option Ticket) → found ≡ hand → hand_at old w ≡ hand
-  hand-is hand e = get_or_default hands w None found worker_there ∙ sym read_hand ∙ e
+  hand-is hand e = grind (arith, get_or_default, worker_there)
 
   -- ---- take
 
   module _ (empty : found ≡ None) (s n : ℕ) (sender_placed : s < now.shape.senders) (lane new : Lane A) (read : lane ≡ get_or lanes s lane) where
     there : s < length lanes
-    there =
-        let e : shape ≡ now.shape = ap (λ state. state.shape) is in
-        let h : s < shape.senders = rw e sender_placed in
-        omega (arith, h, sound.senders, length-map lanes (sender_shown shown))
+    there = grind (arith, length-map)
 
     pub take-event : ((f : A → Shown) → sender_shown f new ≡ puts n (Held w) (sender_shown f lane))
         → ((f : A → Shown) → place_of (sender_shown f lane) n ≡ Waiting) → Step meaning (Take w s n) now (later s new (Some (s, n)))
@@ -86,11 +83,7 @@ module _ {A : Type 0} (shown : A → Shown) (meaning : Meaning) (shape : Shape) 
       sender-is = core.lane-sender shown meaning shape key lanes hands s lane lane-there read
 
       pub slot-there : n < length lane.slots.items
-      slot-there =
-          let e : place_at old s n ≡ Held w = held in
-          let e2 : place_of (sender_shown shown lane) n ≡ Held w = rw sender-is at e in
-          let h : n < length (sender_shown shown lane).places = inside (sender_shown shown lane).places n Unasked (λ none. cc) in
-          omega (arith, h, length-map lane.slots.items (place_shown shown))
+      slot-there = grind (arith, place_at, held, sender-is, inside, length-map)
 
       put_down-is : (place : Place) → sender_shown shown new ≡ puts n place (sender_shown shown lane) → later s new None ≡ puts_down w (s, n) place old
       put_down-is place put =
@@ -98,23 +91,14 @@ module _ {A : Type 0} (shown : A → Shown) (meaning : Meaning) (shape : Shape) 
 
       pub finish-event : (answer : A) → IfSome (hand_at now w) (λ ticket. shown answer ≡ meaning_of meaning now ticket)
           → ((f : A → Shown) → sender_shown f new ≡ puts n (Answered (f answer)) (sender_shown f lane)) → Step meaning (Finish w) now (later s new None)
-      finish-event answer right put =
-          let ticket : hand_at old w ≡ Some (s, n) = hand-is (Some (s, n)) holds in
-          let right2 : IfSome (hand_at old w) (λ ticket. shown answer ≡ meaning_of meaning old ticket) =
-          subst (λ (state : State). IfSome (hand_at state w) (λ ticket. shown answer ≡ meaning_of meaning state ticket)) (sym is) right in
-          let right3 : shown answer ≡ meaning_of meaning old (s, n) = rw ticket at right2 in
-          let step : Step meaning (Finish w) old (later s new None) = (rw ticket refl, rw (ticket, ← right3) (put_down-is (Answered (shown answer)) (put shown))) in
-          rw (← is) step
+      finish-event answer right put = grind (arith, hand-is, put_down-is)
 
       pub finish-sound : (answer : A) → IfSome (hand_at now w) (λ ticket. shown answer ≡ meaning_of meaning now ticket)
           → ((f : A → Shown) → sender_shown f new ≡ puts n (Answered (f answer)) (sender_shown f lane)) → IsSound meaning (later s new None)
       finish-sound answer right put = core.event-sound meaning (Finish w) now (later s new None) sound-now (finish-event answer right put)
 
       pub give_back-event : ((f : A → Shown) → sender_shown f new ≡ puts n Waiting (sender_shown f lane)) → Step meaning (GiveBack w) now (later s new None)
-      give_back-event put =
-          let ticket : hand_at old w ≡ Some (s, n) = hand-is (Some (s, n)) holds in
-          let step : Step meaning (GiveBack w) old (later s new None) = (rw ticket refl, rw ticket (put_down-is Waiting (put shown))) in
-          rw (← is) step
+      give_back-event put = grind (arith, hand-is, put_down-is)
 
       pub give_back-sound : ((f : A → Shown) → sender_shown f new ≡ puts n Waiting (sender_shown f lane)) → IsSound meaning (later s new None)
       give_back-sound put = core.event-sound meaning (GiveBack w) now (later s new None) sound-now (give_back-event put)

@@ -1,5 +1,5 @@
 -- What a lane shows after a call.
-use Rattle.std.proofs.Common.{◌≡◌, ℕ, zero, suc, ◌<◌, eqb, arith, Some, ◌&&◌, Bool, true, false, List, [], ◌∷◌, ◌++◌, length, get_or, set, map, refl, ap, sym, ◌∙◌}
+use Rattle.std.proofs.Common.{◌≡◌, ℕ, zero, suc, ◌<◌, eqb, arith, Some, ◌&&◌, Bool, false, List, [], ◌∷◌, ◌++◌, length, get_or, set, map, refl, ap, sym, ◌∙◌}
 use Rattle.std.proofs.lemmas.Bool.{ne_eqb}
 use Rattle.std.proofs.lemmas.List.{map-set, map-append, get_or-map, length-map}
 use Rattle.ticket_core.specs.declared.lane.Slot.{Slot}
@@ -15,8 +15,7 @@ abbrev sender : List Query → List Shown → Bool → List Place → Sender
 sender asked received closed places = record { asked = asked; received = received; closed = closed; places = places }
 
 pub and_false : (b : Bool) → (b && false) ≡ false
-and_false true = refl
-and_false false = refl
+and_false b = grind arith
 
 module _ {A : Type 0} (shown : A → Shown) where
   abbrev places : List (Slot A) → List Place
@@ -53,8 +52,7 @@ module _ {A : Type 0} (shown : A → Shown) where
   put_back-shown (x ∷ xs) (suc n) other slot e = ap (λ ys. x ∷ ys) (put_back-shown xs n other slot e)
 
   pub unfilled : (slot : Slot A) → ((answer : A) → slot ≡ Filled answer → ⊥) → is_answered (place_shown shown slot) ≡ false
-  unfilled (Filled answer) f = absurd (f answer refl)
-  unfilled slot f = refl
+  unfilled slot f = grind arith
 
   pub not_ready-shown : (asked : List Query) (received : List A) (closed : Bool) (slots : List (Slot A)) (slot : Slot A)
       → length slots ≡ length asked → length received < length slots → slot ≡ get_or slots (length received) slot
@@ -85,14 +83,10 @@ module _ {A : Type 0} (shown : A → Shown) where
   pub put_back-read : (asked : List Query) (received : List Shown) (closed : Bool) (slots : List (Slot A)) (n : ℕ) (other slot there : Slot A)
       → slot ≡ there → there ≡ get_or slots n there
       → sender asked received closed (places (set (set slots n other) n slot)) ≡ sender asked received closed (places slots)
-  put_back-read asked received closed slots n other slot there same at =
-      ap (λ now. sender asked received closed (places now)) (put_back-shown slots n other slot (read slots n slot there same at))
+  put_back-read asked received closed slots n other slot there same at = grind (arith, put_back-shown, read)
 
   pub not_ready-read : (asked : List Query) (received : List A) (closed : Bool) (slots : List (Slot A)) (n : ℕ) (slot there : Slot A)
       → slot ≡ there → there ≡ get_or slots n there → ((answer : A) → slot ≡ Filled answer → ⊥)
       → n ≡ length received → length slots ≡ length asked → n < length slots
       → collect_refusal (sender asked (map shown received) closed (places slots)) ≡ Some NotReady
-  not_ready-read asked received closed slots n slot there here at f e same h =
-      let h2 : length received < length slots = omega arith in
-      let at2 : slot ≡ get_or slots (length received) slot = rw (← e) (read slots n slot there here at) in
-      not_ready-shown asked received closed slots slot same h2 at2 f
+  not_ready-read asked received closed slots n slot there here at f e same h = grind (arith, read, not_ready-shown)

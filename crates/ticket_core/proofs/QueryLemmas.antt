@@ -1,5 +1,5 @@
 -- A query and its two words.
-use Rattle.std.proofs.Common.{◌≡◌, Bool, if◌then◌else◌, refl, ap, arith}
+use Rattle.std.proofs.Common.{◌≡◌, arith}
 use Rattle.std.proofs.lemmas.Bool.{ne_eqb}
 use Rattle.ticket_core.specs.declared.query.Query.{Query}
 use Rattle.ticket_core.specs.declared.query.QueryKind.TheVariants.{Address, Span}
@@ -7,8 +7,7 @@ use Rattle.ticket_core.specs.Query.{IsQuery, first_word, second_word, AreWords, 
 
 -- the query that is kept in its words is itself
 pub of_words-words : (query : Query) → IsQuery query → of_words (first_word query) (second_word query) ≡ query
-of_words-words (Address a) is = refl
-of_words-words (Span low high) is = ap (λ (none : Bool). if none then Address low else Span low high) (ne_eqb high 0 (λ e. omega arith))
+of_words-words query is = grind (arith, ne_eqb)
 
 -- and it may be kept in them
 pub words-allowed : (query : Query) → IsQuery query → AreWords (first_word query) (second_word query)

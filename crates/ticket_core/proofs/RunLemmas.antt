@@ -1,11 +1,11 @@
 -- What holds after every list of events.
-use Rattle.std.proofs.Common.{◌≡◌, ℕ, ◌+◌, ◌≤◌, inl, inr, List, [], ◌∷◌, length, refl, ◌∙◌, ap, arith, if◌then◌else◌}
+use Rattle.std.proofs.Common.{◌≡◌, ℕ, ◌+◌, ◌≤◌, List, [], ◌∷◌, length, refl, ap, arith}
 use Rattle.std.proofs.lemmas.Bool.{cases_lt}
 use Rattle.std.proofs.lemmas.List.{get_or_past}
 use Rattle.ticket_core.specs.declared.shape.Shape.{Shape}
-use Rattle.ticket_core.specs.State.{Meaning, Unasked, Sender, State, sender_at, outstanding, opening}
-use Rattle.ticket_core.specs.Events.{Event, Ask, after}
-use Rattle.ticket_core.specs.Runs.{Run, Reaches, IsRight, times_finished, once_finished, finishes, HandsAgree, PlacesAgree, HasEnded}
+use Rattle.ticket_core.specs.State.{Meaning, Sender, State, sender_at, outstanding, opening}
+use Rattle.ticket_core.specs.Events.{Event, after}
+use Rattle.ticket_core.specs.Runs.{Run, Reaches, IsRight, times_finished, once_finished, HandsAgree, PlacesAgree, HasEnded}
 use Rattle.ticket_core.specs.Sound.{IsSoundSender, IsSound}
 use Rattle.ticket_core.proofs.StateLemmas.{place_at}
 use Rattle.ticket_core.proofs.StepLemmas.{step-sound, opening-sound, opening-place}
@@ -18,15 +18,12 @@ module _ (meaning : Meaning) where
   AreAlike new old = (new.shape ≡ old.shape) × (new.key ≡ old.key)
 
   event-alike : (event : Event) (state : State) → AreAlike (after meaning event state) state
-  event-alike (Ask s query) state = (refl, refl)
-  event-alike event state = (refl, refl)
+  event-alike event state = grind arith
 
   run-alike : (events : List Event) (old new : State) → Run meaning old events new → AreAlike new old
   run-alike [] old new r = (ap (λ x. x.shape) r, ap (λ x. x.key) r)
   run-alike (event ∷ events) old new r =
-      let later : AreAlike new (after meaning event old) = run-alike events (after meaning event old) new r.1 in
-      let now : AreAlike (after meaning event old) old = event-alike event old in
-      (later.0 ∙ now.0, later.1 ∙ now.1)
+      grind (arith, event-alike, run-alike events (after meaning event old) new r.1)
 
   pub run-sound : (events : List Event) (old new : State) → IsSound meaning old → Run meaning old events new → IsSound meaning new
   run-sound [] old new sound r = rw r sound
@@ -36,19 +33,24 @@ module _ (meaning : Meaning) where
       → times_finished meaning old events s n + once_finished (place_at old s n) ≡ once_finished (place_at new s n)
   run-counted [] old new s n sound r = rw r (omega arith)
   run-counted (event ∷ events) old new s n sound r =
-      let later : times_finished meaning (after meaning event old) events s n + once_finished (place_at (after meaning event old) s n) ≡ once_finished (place_at new s n) =
-      run-counted events (after meaning event old) new s n (step-sound meaning event old sound r.0) r.1 in
-      let now : (if finishes event old s n then 1 else 0) + once_finished (place_at old s n) ≡ once_finished (place_at (after meaning event old) s n) =
-      step-counted meaning event old s n sound r.0 in
-      omega arith
+      grind (
+        arith,
+        place_at,
+        step-sound,
+        step-counted,
+        run-counted events (after meaning event old) new s n (step-sound meaning event old sound r.0) r.1,
+      )
 
   pub run-ended : (events : List Event) (old new : State) (s : ℕ) → IsSound meaning old → HasEnded (sender_at old s) → Run meaning old events new
       → sender_at new s ≡ sender_at old s
   run-ended [] old new s sound ended r = ap (λ state. sender_at state s) r
   run-ended (event ∷ events) old new s sound ended r =
-      let kept : sender_at (after meaning event old) s ≡ sender_at old s = step-ended meaning event old s sound r.0 ended in
-      let still : HasEnded (sender_at (after meaning event old) s) = rw kept ended in
-      run-ended events (after meaning event old) new s (step-sound meaning event old sound r.0) still r.1 ∙ kept
+      grind (
+        arith,
+        step-ended,
+        step-sound,
+        run-ended events (after meaning event old) new s (step-sound meaning event old sound r.0),
+      )
 
   -- ---- from the opening state
 
@@ -57,11 +59,7 @@ module _ (meaning : Meaning) where
 
   pub reached-right : (shape : Shape) (key : List ℕ) (events : List Event) (state : State) → Reaches meaning shape key events state
       → (s : ℕ) → IsRight meaning key (sender_at state s)
-  reached-right shape key events state r s =
-      let same : state.key ≡ key = (run-alike events (opening shape key) state r).1 in
-      let sound : IsSoundSender meaning state.key (sender_at state s) = (reached-sound shape key events state r).each s in
-      let right : IsRight meaning state.key (sender_at state s) = (sound.within, sound.right) in
-      rw (← same) right
+  reached-right shape key events state r s = grind (arith, run-alike, reached-sound)
 
   pub reached-counted : (shape : Shape) (key : List ℕ) (events : List Event) (state : State) → Reaches meaning shape key events state
       → (s n : ℕ) → times_finished meaning (opening shape key) events s n ≡ once_finished (place_at state s n)
@@ -73,18 +71,8 @@ module _ (meaning : Meaning) where
   hands-agree state sound w s n = (sound.held w s n, sound.in_hand w s n)
 
   pub places-agree : (key : List ℕ) (sender : Sender) → IsSoundSender meaning key sender → PlacesAgree sender
-  places-agree key sender sound n = (
-    (sound.collected_only n, sound.collected n),
-    (
-      (λ e. elim (cases_lt n (length sender.asked)) [ inl h ↦ absurd (sound.has_place n h e) | inr h ↦ h ]),
-      λ h. get_or_past sender.places n Unasked (omega (arith, h, sound.placed)),
-    ),
-  )
+  places-agree key sender sound n = grind (arith, cases_lt, get_or_past)
 
   pub reached-limits : (shape : Shape) (key : List ℕ) (events : List Event) (state : State) → Reaches meaning shape key events state
       → (s : ℕ) → (length (sender_at state s).asked ≤ shape.most) × (outstanding (sender_at state s) ≤ shape.window)
-  reached-limits shape key events state r s =
-      let same : state.shape ≡ shape = (run-alike events (opening shape key) state r).0 in
-      let sound : IsSound meaning state = reached-sound shape key events state r in
-      let window : length (sender_at state s).asked ≤ length (sender_at state s).received + state.shape.window = sound.window s in
-      (rw (← same) (sound.most s), rw (← same) (omega (arith, window)))
+  reached-limits shape key events state r s = grind (arith, run-alike, reached-sound)

@@ -1,5 +1,5 @@
 -- What is read of a state in which one sender or one hand is changed, told by cases.
-use Rattle.std.proofs.Common.{◌≡◌, ℕ, ◌<◌, length, Option, Some, None, refl, ap, subst}
+use Rattle.std.proofs.Common.{◌≡◌, ℕ, ◌<◌, length, Option, Some, None, subst, arith}
 use Rattle.ticket_core.specs.State.{Place, Unasked, Answered, Sender, fresh, Ticket, State, sender_at, hand_at, place_of, next_of}
 use Rattle.ticket_core.specs.Events.{puts, with_sender, with_hand, IsAnswered, answer_in}
 use Rattle.ticket_core.proofs.ReadLemmas.{replaced, inside}
@@ -18,11 +18,11 @@ hand_changed state w hand v P h here other = replaced state.hands w hand None v 
 
 -- a sender that has a place for a number is there
 pub sender_there : (state : State) (s n : ℕ) → (place_at state s n ≡ Unasked → ⊥) → s < length state.senders
-sender_there state s n h = inside state.senders s fresh (λ e. h (ap (λ sender. place_of sender n) e))
+sender_there state s n h = grind (arith, inside)
 
 -- a hand that isn't empty is there
 pub hand_there : (state : State) (w : ℕ) (ticket : Ticket) → hand_at state w ≡ Some ticket → w < length state.hands
-hand_there state w ticket e = inside state.hands w None (λ none. cc)
+hand_there state w ticket e = grind (arith, inside)
 
 -- the next number of a sender is answered
 abbrev pub NextAnswered : State → ℕ → Type 0
@@ -30,12 +30,8 @@ NextAnswered state s =
     place_of (sender_at state s) (next_of (sender_at state s))
     ≡ Answered (answer_in (place_of (sender_at state s) (next_of (sender_at state s))))
 
-answered-place : (place : Place) → IsAnswered place → place ≡ Answered (answer_in place)
-answered-place (Answered answer) h = refl
-answered-place place h = absurd h
-
 pub next-answered : (state : State) (s : ℕ) → IsAnswered (place_of (sender_at state s) (next_of (sender_at state s))) → NextAnswered state s
-next-answered state s h = answered-place (place_of (sender_at state s) (next_of (sender_at state s))) h
+next-answered state s h = grind arith
 
 -- one place changed
 pub place_changed : (state : State) (s n : ℕ) (place : Place) (t m : ℕ) (P : Place → Type 0) → (place_at state s n ≡ Unasked → ⊥)

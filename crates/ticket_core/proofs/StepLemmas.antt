@@ -1,5 +1,5 @@
 -- Each event keeps what holds of a state.
-use Rattle.std.proofs.Common.{◌≡◌, ℕ, ◌+◌, ◌<◌, ◌≤◌, inl, inr, List, [], ◌∷◌, ◌++◌, length, replicate, get_or, IsSome, Option, Some, None, refl, sym, ◌∙◌, ap, subst, arith}
+use Rattle.std.proofs.Common.{◌≡◌, ℕ, ◌+◌, ◌<◌, ◌≤◌, List, [], ◌∷◌, ◌++◌, length, replicate, get_or, IsSome, Option, Some, None, refl, sym, ◌∙◌, ap, subst, arith}
 use Rattle.std.proofs.lemmas.Bool.{cases_order}
 use Rattle.std.proofs.lemmas.List.{length-append, length-set, length-replicate, get_or-replicate, get_or_past}
 use Rattle.ticket_core.specs.declared.shape.Shape.{Shape}
@@ -84,8 +84,7 @@ module _ (meaning : Meaning) where
   -- ---- each event, and the opening state
 
   pub some_ticket : (hand : Option Ticket) → IsSome hand → hand ≡ Some ((ticket_in hand).0, (ticket_in hand).1)
-  some_ticket None h = cc
-  some_ticket (Some ticket) h = refl
+  some_ticket hand h = grind arith
 
   pub step-sound : (event : Event) (state : State) → IsSound meaning state → Can event state → IsSound meaning (after meaning event state)
   step-sound (Ask s query) state sound can =
@@ -132,21 +131,13 @@ module _ (meaning : Meaning) where
       (sound.window s) (sound.most s) (λ n w e. e) (λ n w e. e)
 
   pub read_replicate : {A : Type 0} (n i : ℕ) (x : A) → get_or (replicate n x) i x ≡ x
-  read_replicate n i x = elim (cases_order i n) [
-    | inl e ↦ get_or_past (replicate n x) i x (omega (arith, length-replicate n x))
-    | inr order ↦ elim order [
-      | inl below ↦ get_or-replicate n i x x below
-      | inr above ↦ get_or_past (replicate n x) i x (omega (arith, length-replicate n x))
-    ]
-  ]
+  read_replicate n i x = grind (arith, cases_order, get_or_past, length-replicate, get_or-replicate)
 
   pub opening-sender : (shape : Shape) (key : List ℕ) (s : ℕ) → sender_at (opening shape key) s ≡ fresh
   opening-sender shape key s = read_replicate shape.senders s fresh
 
   pub opening-place : (shape : Shape) (key : List ℕ) (s n : ℕ) → place_at (opening shape key) s n ≡ Unasked
-  opening-place shape key s n =
-      let none : place_of fresh n ≡ Unasked = get_or_past [] n Unasked (omega arith) in
-      ap (λ sender. place_of sender n) (opening-sender shape key s) ∙ none
+  opening-place shape key s n = search (arith, get_or_past, opening-sender)
 
   pub opening-hand : (shape : Shape) (key : List ℕ) (w : ℕ) → hand_at (opening shape key) w ≡ None
   opening-hand shape key w = read_replicate shape.workers w None

@@ -4,7 +4,8 @@ use Rattle.dw_model.specs.Entry.{attributes_at}
 use Rattle.dw_bytes.specs.Width.{size_of}
 use Rattle.dw_forms.specs.Value.{value_shown}
 use Rattle.dw_forms.specs.Fault.{form_fault}
-use Rattle.dw_units.proofs.EntryLemmas.{goes_on, stops, ends, fewer}
+use Rattle.dw_forms.proofs.FirstValueLemmas.{fewer}
+use Rattle.dw_units.proofs.EntryLemmas.{goes_on, stops, ends}
 use Rattle.dw_units.proofs.attributes.read_all.Goals as goal
 
 pub loop-spec-smaller : goal.loop-spec-smaller

@@ -6,7 +6,8 @@ use Rattle.dw_forms.specs.Value.{value_shown}
 use Rattle.dw_forms.specs.Fault.{form_fault}
 use Rattle.dw_units.specs.declared.attributes.Attribute.{Attribute}
 use Rattle.dw_units.specs.Attribute.{attribute_shown}
-use Rattle.dw_units.proofs.EntryLemmas.{starts, goes_on, stops-exactly, ends, fewer}
+use Rattle.dw_forms.proofs.FirstValueLemmas.{fewer}
+use Rattle.dw_units.proofs.EntryLemmas.{starts, goes_on, stops-exactly, ends}
 use Rattle.dw_units.proofs.values.pass_attributes.Goals as goal
 
 pub loop-spec-init : goal.loop-spec-init
