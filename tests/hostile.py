@@ -12,7 +12,7 @@ sys.path[:0] = [os.path.dirname(__file__), os.path.join(os.path.dirname(__file__
 from assemble import Section, elf_file, number, uleb
 from samples import file_of, line_table, unit
 
-LINEAR, SQUARE, THIRD, LONG = 'linear', 'square', 'third', 'long'
+LINEAR, SQUARE, BORDERS, LONG = 'linear', 'square', 'borders', 'long'
 
 COMPILE_UNIT, INLINED, SUBPROGRAM = 0x11, 0x1d, 0x2e
 NAME, STMT_LIST, LOW_PC, HIGH_PC, ORIGIN, RANGES, ADDR_BASE, LISTS_BASE = 0x03, 0x10, 0x11, 0x12, 0x31, 0x55, 0x73, 0x74
@@ -254,7 +254,7 @@ def no_rows(size):
 
 
 def span_over_all_units_with_bases(size):
-    """The same file, of which a span is asked that has all borders."""
+    """The same file, of which a span is asked that has all borders: as many as the square of the file."""
     return units_with_bases_of_one_list(size)
 
 
@@ -346,9 +346,9 @@ def span_over_no_rows_between_holes(size):
 
 KINDS = {
     'tables_in_one_another': LINEAR, 'falling_tables_in_one_another': LINEAR, 'functions_of_one_list': LINEAR,
-    'inlined_of_one_list': LINEAR, 'functions_of_tails': LINEAR, 'callers_of_one_list': SQUARE,
-    'units_with_functions_of_one_list': SQUARE, 'units_of_one_list': LINEAR, 'units_with_bases_of_one_list': SQUARE,
-    'span_over_units_with_bases': SQUARE, 'span_over_all_units_with_bases': THIRD, 'units_of_tails': SQUARE,
+    'inlined_of_one_list': LINEAR, 'functions_of_tails': LINEAR, 'callers_of_one_list': LINEAR,
+    'units_with_functions_of_one_list': LINEAR, 'units_of_one_list': LINEAR, 'units_with_bases_of_one_list': LINEAR,
+    'span_over_units_with_bases': LINEAR, 'span_over_all_units_with_bases': BORDERS, 'units_of_tails': SQUARE,
     'span_over_units_of_tails': SQUARE,
     'units_of_one_line_table': LINEAR, 'tables_of_one_list': LINEAR, 'tables_of_one_program_of_sequences': LINEAR,
     'tables_of_one_program': SQUARE, 'span_over_tables_of_one_program': SQUARE, 'units_that_take_turns': SQUARE,
@@ -361,7 +361,7 @@ KINDS = {
 }
 # How many bytes of memory a kind may take for each byte of the file. The answer of a long one is itself longer than the
 # file: each of 511 frames has the path, and the text of the answer has it as often.
-LIMITS = {LINEAR: 64, SQUARE: 64, THIRD: 64, LONG: 2000}
+LIMITS = {LINEAR: 64, SQUARE: 64, BORDERS: 64, LONG: 2000}
 
 
 def every(count):

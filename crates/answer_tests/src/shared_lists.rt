@@ -9,11 +9,11 @@ use std::process::Abort;
 use std::test::Fail;
 use test_inputs::files::{elf, push_unit};
 
-/// A unit with a range list, one with a range list and an address, and one with an address and how
-/// many it has.
+/// A unit with a range list, one with a range list and an address, one with an address and how many
+/// it has, and one with a range list and the index of an address.
 const ABBREVS: &[u8] = &[
     1, 0x11, 0, 0x55, 0x17, 0, 0, 2, 0x11, 0, 0x55, 0x17, 0x11, 1, 0, 0, 3, 0x11, 0, 0x11, 1, 0x12,
-    6, 0, 0, 0,
+    6, 0, 0, 4, 0x11, 0, 0x55, 0x17, 0x11, 0x1b, 0, 0, 0,
 ];
 
 /// Lists at 0: 0x10 to 0x20 from the base of the unit on; at 4: 0x10 to 0x30; at 8 one that has no
@@ -148,10 +148,61 @@ fn units_held_by_their_lists(rt: HostRuntime) -> Result<(), Fail> {
     Ok(())
 }
 
+/// A list at 0: 0x10 to 0x20 from the base of the unit on, 0x1000 to 0x1010 from any, and 0x2000 to
+/// 0x2008 from a base that the list sets.
+const FROM_BASES: &[u8] = &[
+    4, 0x10, 0x20, 6, 0, 0x10, 0, 0, 0, 0, 0, 0, 0x10, 0x10, 0, 0, 0, 0, 0, 0, 5, 0, 0x20, 0, 0, 0,
+    0, 0, 0, 4, 0, 8, 0,
+];
+
+/// Units that name this list, with the bases 0, 0x100, 2^64 - 0x21 and 2^64 - 0x20. It is read for
+/// the first two, and asked by an index from then on. From the last base its first range ends at
+/// 2^64, so it doesn't count.
+const BASED: &[&[u8]] = &[
+    &[1, 0, 0, 0, 0],
+    &[2, 0, 0, 0, 0, 0, 1, 0, 0, 0, 0, 0, 0],
+    &[
+        2, 0, 0, 0, 0, 0xdf, 0xff, 0xff, 0xff, 0xff, 0xff, 0xff, 0xff,
+    ],
+    &[
+        2, 0, 0, 0, 0, 0xe0, 0xff, 0xff, 0xff, 0xff, 0xff, 0xff, 0xff,
+    ],
+];
+
+static BASED_PLACES: [Place; 19] = [
+    (0x10, Some(0)),
+    (0x1f, Some(0)),
+    (0x20, None),
+    (0x10f, None),
+    (0x110, Some(1)),
+    (0x11f, Some(1)),
+    (0x120, None),
+    (0x1000, Some(0)),
+    (0x100f, Some(0)),
+    (0x1010, None),
+    (0x1100, None),
+    (0x2000, Some(0)),
+    (0x2007, Some(0)),
+    (0x2008, None),
+    (0x2100, None),
+    (0xffff_ffff_ffff_ffee, None),
+    (0xffff_ffff_ffff_ffef, Some(2)),
+    (0xffff_ffff_ffff_fffe, Some(2)),
+    (0xffff_ffff_ffff_ffff, None),
+];
+
+#[test]
+fn one_list_from_many_bases(rt: HostRuntime) -> Result<(), Fail> {
+    let file = file_of(rt.alloc(), BASED, FROM_BASES)?;
+    let image = image_of(rt.alloc(), &file)?;
+    expect_places(&rt, &image, &BASED_PLACES);
+    Ok(())
+}
+
 /// Units with lists, and where the unit begins of which the list can't be read.
 type Bad = (&'static [&'static [u8]], &'static [u8], u64);
 
-static BAD: [Bad; 2] = [
+static BAD: [Bad; 3] = [
     // A list that can't be read is reported of the first unit that names it, after units of a list
     // that was read.
     (
@@ -172,6 +223,17 @@ static BAD: [Bad; 2] = [
             &[2, 7, 0, 0, 0, 0, 1, 0, 0, 0, 0, 0, 0],
         ],
         FEW,
+        42,
+    ),
+    // A list asked by an index can't be read from a base that can't be read, as the unit has no
+    // place of addresses.
+    (
+        &[
+            &[1, 0, 0, 0, 0],
+            &[2, 0, 0, 0, 0, 0, 1, 0, 0, 0, 0, 0, 0],
+            &[4, 0, 0, 0, 0, 0],
+        ],
+        FROM_BASES,
         42,
     ),
 ];

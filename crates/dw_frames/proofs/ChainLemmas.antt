@@ -1,5 +1,5 @@
 -- The chain of functions at an address, by their numbers.
-use Rattle.std.proofs.Common.{◌≡◌, ℕ, zero, suc, ◌+◌, ◌-◌, ◌<◌, ◌≤◌, Bool, true, false, cond, List, [], ◌∷◌, ◌++◌, length, map, reverse, Option, Some, None, Ok, refl, sym, ap, ◌∙◌, arith, length-append}
+use Rattle.std.proofs.Common.{◌≡◌, ℕ, zero, suc, ◌+◌, ◌-◌, ◌<◌, ◌≤◌, Bool, true, false, List, [], ◌∷◌, length, map, reverse, Option, Some, None, Ok, refl, sym, ap, ◌∙◌, arith, length-append}
 use Rattle.std.specs.Prelude.{option_map, option_and_then, slice_get, find, ◌&&◌}
 use Rattle.std.specs.Option.{option_map_or}
 use Rattle.std.proofs.lemmas.List.{length-reverse}
@@ -7,7 +7,7 @@ use Rattle.std.proofs.lemmas.Bool.{and_parts, and_left, eqb-true}
 use Rattle.std.proofs.lemmas.Option.{slice_get_within}
 use Rattle.dw_model.specs.Entry.{Entry}
 use Rattle.dw_model.specs.Reading.{items_up_to}
-use Rattle.dw_model.specs.Tree.{Node, is_subprogram, is_inlined, enclosing, inlined_in, is_at, next_inwards, chain_in}
+use Rattle.dw_model.specs.Tree.{Node, is_subprogram, is_inlined, inlined_in, is_at, next_inwards, chain_in}
 use Rattle.dw_frames.specs.Rising.{Rises}
 use Rattle.dw_frames.specs.Placed.{Placed, placed, offset_of, first, is_outermost, lies_in}
 use Rattle.dw_frames.proofs.FirstLemmas.{first-find, first-is}
@@ -18,11 +18,7 @@ use Rattle.dw_frames.proofs.PlacedLemmas.{find_node-placed, find-alone}
 pub placed-fewer : (kept : Entry → Bool) (before : List Node) → length (placed kept before) ≤ length before
 unfolding placed
 placed-fewer kept [] = omega arith
-placed-fewer kept (node ∷ before) = by_test (placed-fewer kept before) (kept node.entry)
-  where
-    by_test : length (placed kept before) ≤ length before → (b : Bool) → length (cond b (placed kept before ++ (node, enclosing (node ∷ []) before) ∷ []) (placed kept before)) ≤ suc (length before)
-    by_test h true = omega (arith, h, length-append (placed kept before) ((node, enclosing (node ∷ []) before) ∷ []))
-    by_test h false = omega (arith, h)
+placed-fewer kept (node ∷ before) = grind (arith, length-append, placed-fewer kept before)
 
 -- ---- the chain
 
@@ -31,8 +27,7 @@ abbrev pub IsIdle : (Entry → Bool) → (Entry → Bool) → Type 0
 IsIdle kept holds = (entry : Entry) → kept entry ≡ false → ((is_subprogram entry && holds entry) ≡ false) × ((is_inlined entry && holds entry) ≡ false)
 
 pub at_some : (o : Option Node) (offset : ℕ) → is_at o offset ≡ true → (e : Node) × (o ≡ Some e) × (e.entry.offset ≡ offset)
-at_some None offset h = absurd cc
-at_some (Some e) offset h = (e, refl, eqb-true e.entry.offset offset h)
+at_some o offset h = grind (arith, eqb-true)
 
 module _ (kept holds : Entry → Bool) (idle : IsIdle kept holds) where
   -- which number the first function has that holds the address, and the first in each other one
@@ -50,9 +45,7 @@ module _ (kept holds : Entry → Bool) (idle : IsIdle kept holds) where
 
   find-inlined : (before : List Node) (outer : Node) → inlined_in holds (reverse before) outer ≡ option_map (λ (p : Placed). p.0) (find (lies_in holds outer.entry.offset) (placed kept before))
   unfolding inlined_in
-  find-inlined before outer =
-      find_node-placed kept (λ before node. is_inlined node.entry && holds node.entry && is_at (enclosing (node ∷ []) before) outer.entry.offset) (lies_in holds outer.entry.offset)
-      (λ node before e. and_left (is_inlined node.entry && holds node.entry) (is_at (enclosing (node ∷ []) before) outer.entry.offset) ((idle node.entry e).1)) (λ node before. refl) before
+  find-inlined before outer = grind (arith, find_node-placed, and_left)
 
   module _ (before : List Node) (outer : Option ℕ) (inner : ℕ → Option ℕ) (found : Found before outer inner) where
     -- the node of a number, and none where there is no number
@@ -60,12 +53,10 @@ module _ (kept holds : Entry → Bool) (idle : IsIdle kept holds) where
     node_of k = option_map (λ (p : Placed). p.0) (option_and_then (slice_get (placed kept before)) k)
 
     outermost-is : find (λ node. is_subprogram node.entry && holds node.entry) (reverse before) ≡ node_of outer
-    outermost-is =
-        find-outermost before ∙ ap (option_map (λ (p : Placed). p.0)) (first-find (is_outermost holds) (placed kept before) ∙ ap (option_and_then (slice_get (placed kept before))) (sym found.outermost))
+    outermost-is = grind (arith, find-outermost, first-find)
 
     inlined-is : (k : ℕ) (p : Placed) → slice_get (placed kept before) k ≡ Some p → inlined_in holds (reverse before) p.0 ≡ node_of (inner k)
-    inlined-is k p h =
-        find-inlined before p.0 ∙ ap (option_map (λ (p : Placed). p.0)) (first-find (lies_in holds (offset_of p)) (placed kept before) ∙ ap (option_and_then (slice_get (placed kept before))) (sym (found.inwards k p h)))
+    inlined-is k p h = grind (arith, find-inlined, first-find)
 
     -- a step inwards goes forward
     pub goes-forward : (k j : ℕ) (p : Placed) → slice_get (placed kept before) k ≡ Some p → inner k ≡ Some j → (q : Placed) × (slice_get (placed kept before) j ≡ Some q) × (k < j)
@@ -94,8 +85,7 @@ module _ (kept holds : Entry → Bool) (idle : IsIdle kept holds) where
 
     stopped : (steps : ℕ) → climb steps None ≡ []
     unfolding climb
-    stopped zero = refl
-    stopped (suc steps) = refl
+    stopped steps = grind arith
 
     goes : (most : ℕ) (p q : Placed) (rest : List Node) → inlined_in holds (reverse before) p.0 ≡ Some q.0 → (last : Node) × (items_up_to (next_inwards holds (reverse before)) most q.0 ≡ Ok (rest, last)) → (last : Node) × (items_up_to (next_inwards holds (reverse before)) (suc most) p.0 ≡ Ok (q.0 ∷ rest, last))
     unfolding items_up_to next_inwards
@@ -146,9 +136,7 @@ module _ (kept holds : Entry → Bool) (idle : IsIdle kept holds) where
             (y.0, y.1 ∙ ap (λ (rest : List Node). Ok (rest, y.0)) (sym (ap (climb (suc steps)) e ∙ step-climb steps j x.0 x.1)))
 
     outermost-there : (k : ℕ) → outer ≡ Some k → (p : Placed) × (slice_get (placed kept before) k ≡ Some p)
-    outermost-there k e =
-        let p = first-is (is_outermost holds) (placed kept before) k (sym found.outermost ∙ e) in
-        (p.0, p.1)
+    outermost-there k e = grind (arith, first-is)
 
     -- the chain, by numbers
     pub chain-climbs : chain_in holds (reverse before) ≡ reverse (climb (length (placed kept before)) outer)

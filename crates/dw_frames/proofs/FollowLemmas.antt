@@ -1,9 +1,10 @@
 -- What was kept of functions follows the nodes that were read.
-use Rattle.std.proofs.Common.{◌≡◌, ◌⊎◌, inl, inr, ℕ, zero, suc, ◌+◌, ◌-◌, ◌<◌, ◌≤◌, min, Bool, true, false, cond, List, [], ◌∷◌, ◌++◌, length, map, Option, Some, None, refl, sym, ap, subst, ◌∙◌, arith, length-append}
-use Rattle.std.specs.Prelude.{get_or, slice_get, not, ◌&&◌, nat_lt}
+use Rattle.std.proofs.Common.{◌≡◌, ◌⊎◌, inl, inr, ℕ, zero, suc, ◌+◌, ◌-◌, ◌<◌, ◌≤◌, Bool, true, false, cond, List, [], ◌∷◌, ◌++◌, length, map, Option, Some, None, refl, sym, ap, subst, ◌∙◌, arith, length-append}
+use Rattle.std.specs.Prelude.{get_or, slice_get, not, ◌&&◌}
 use Rattle.std.proofs.lemmas.List.{map_push, length-map}
+use Rattle.std.proofs.Math.Bool.{and-true}
 use Rattle.std.proofs.lemmas.Bool.{and_parts, and_left, and_right, eq-eqb, ne_eqb, eqb-true, lt-ltb, le-ltb}
-use Rattle.std.proofs.lemmas.Option.{same_Some, slice_get_within, slice_get-get_or}
+use Rattle.std.proofs.lemmas.Option.{get_or_from_slice_get, same_Some, slice_get_within}
 use Rattle.dw_model.specs.declared.dwarf.TheConstants.{DW_TAG_subprogram}
 use Rattle.dw_model.specs.Entry.{Entry}
 use Rattle.dw_model.specs.Section.{Sections}
@@ -29,17 +30,11 @@ next-two n = omega arith
 
 -- one more function, which is after what was found
 names-kept : (all : List Placed) (x : Placed) (group : ℕ) (found : Option Node) → ((node : Node) → found ≡ Some node → node.entry.offset < offset_of x) → Names all group found → Names (all ++ x ∷ []) group found
-names-kept all x zero found behind h = h
-names-kept all x (suc zero) found behind h = λ node is k p e same. elim (get-pushed all x k p e) [
-  | inl old ↦ h node is k p old same
-  | inr new ↦ (let less = behind node is in let at : offset_of x ≡ offset_of p = ap offset_of new.1 in absurd (omega (arith, less, at, same)))
-]
-names-kept all x (suc (suc k)) found behind h = (h.0, get-kept all x k h.0 h.1, h.2)
+names-kept all x group found behind h = grind (arith, get-pushed, get-kept)
 
 -- what is found in no function that is kept isn't where one is
 none-at : (all : List Placed) (found : Option Node) (k : ℕ) (p : Placed) → Names all nowhere found → slice_get all k ≡ Some p → is_at found (offset_of p) ≡ false
-none-at all None k p h e = refl
-none-at all (Some node) k p h e = ne_eqb node.entry.offset (offset_of p) (λ same. h node refl k p e (sym same))
+none-at all found k p h e = grind (arith, ne_eqb)
 
 module _ (s : Sections) (unit : DwarfUnit) where
   abbrev kept : List Node → List Placed
@@ -54,32 +49,17 @@ module _ (s : Sections) (unit : DwarfUnit) where
   get-of-front (y ∷ z ∷ xs) (suc i) x e = get-of-front (z ∷ xs) i x e
 
   pub follows-null : (before : List Node) (drafts : Drafts) (bound next : ℕ) → bound ≤ next → Follows s unit before drafts bound → Follows s unit before (without_list drafts) next
-  follows-null before drafts bound next h f = record {
-    functions = f.functions;
-    falls = falls-on bound next before h f.falls;
-    rises = f.rises;
-    below = λ k p e. let b = f.below k p e in omega (arith, b, h);
-    around = f.around;
-    outermost = f.outermost;
-    inlined = f.inlined;
-    unowned = f.unowned;
-    lists = λ i group e. f.lists i group (get-of-front drafts.lists i group e);
-  }
+  follows-null before drafts bound next h f = grind (arith, falls-on, get-of-front)
 
   -- ---- an entry that is no function
 
   near-zero : (before : List Node) → near 0 before ≡ None
   unfolding near
   near-zero [] = refl
-  near-zero (node ∷ before) =
-      let least : min 0 node.depth ≡ 0 = omega arith in
-      rw (and_right (is_function node.entry) (nat_lt node.depth 0) (le-ltb node.depth 0 (omega arith)), least) (near-zero before)
+  near-zero (node ∷ before) = grind (arith, and_right, le-ltb, near-zero before)
 
   top-names : (before : List Node) (lists : List ℕ) (k group : ℕ) → length lists ≡ k + 1 → slice_get lists k ≡ Some group → Names (kept before) group (near (k + 1) before) → Names (kept before) (get_or lists (length lists - 1) nowhere) (near (length lists) before)
-  top-names before lists k group len e h =
-      let small : k + 1 - 1 ≡ k = omega arith in
-      let last : get_or lists k nowhere ≡ group = same_Some (get_or lists k nowhere) group (sym (slice_get-get_or lists k nowhere (slice_get_within lists k group e)) ∙ e) in
-      rw (len, small, last) h
+  top-names before lists k group len e h = grind (arith, get_or_from_slice_get)
 
   pub innermost-names : (before : List Node) (drafts : Drafts) (bound : ℕ) → Follows s unit before drafts bound → Names (kept before) (innermost drafts) (near (length drafts.lists) before)
   innermost-names before drafts bound f = by_lists drafts.lists (λ i group e. f.lists i group e)
@@ -93,20 +73,15 @@ module _ (s : Sections) (unit : DwarfUnit) where
   -- a node at this depth or deeper hides nothing further out
   near-past : (d : ℕ) (node : Node) (before : List Node) → d ≤ node.depth → near d (node ∷ before) ≡ near d before
   unfolding near
-  near-past d node before h =
-      let same : min d node.depth ≡ d = omega (arith, h) in
-      rw (and_right (is_function node.entry) (nat_lt node.depth d) (le-ltb node.depth d h), same) refl
+  near-past d node before h = grind (arith, and_right, le-ltb)
 
   near-other : (node : Node) (before : List Node) → is_function node.entry ≡ false → near (node.depth + 1) (node ∷ before) ≡ near node.depth before
   unfolding near
-  near-other node before e =
-      let same : min (node.depth + 1) node.depth ≡ node.depth = omega arith in
-      rw (e, same) refl
+  near-other node before e = grind arith
 
   near-here : (node : Node) (before : List Node) → is_function node.entry ≡ true → near (node.depth + 1) (node ∷ before) ≡ Some node
   unfolding near
-  near-here node before e =
-      rw (e, lt-ltb node.depth (node.depth + 1) (omega arith)) refl
+  near-here node before e = grind (arith, lt-ltb)
 
   placed-other : (node : Node) (before : List Node) → is_kept s unit node.entry ≡ false → kept (node ∷ before) ≡ kept before
   unfolding placed
@@ -117,30 +92,14 @@ module _ (s : Sections) (unit : DwarfUnit) where
   placed-here node before e = rw e refl
 
   get-children : (children : Bool) (lists : List ℕ) (new i group : ℕ) → slice_get (begun children new lists) i ≡ Some group → (slice_get lists i ≡ Some group) ⊎ ((i ≡ length lists) × (new ≡ group))
-  get-children true lists new i group e = get-pushed lists new i group e
-  get-children false lists new i group e = inl e
+  get-children children lists new i group e = grind (arith, get-pushed)
 
   -- an entry that isn't kept, and the list below it
   follows-unkept : (before : List Node) (drafts : Drafts) (bound next : ℕ) (entry : Entry) (group : ℕ) → is_kept s unit entry ≡ false → bound ≤ entry.offset → entry.offset < next
       → Names (kept before) group (near (length drafts.lists + 1) (record { depth = length drafts.lists; entry = entry } ∷ before)) → Follows s unit before drafts bound
       → Follows s unit (record { depth = length drafts.lists; entry = entry } ∷ before) (with_list entry.children group drafts) next
   follows-unkept before drafts bound next entry new e low high names f =
-      let node : Node = record { depth = length drafts.lists; entry = entry } in
-      let same = placed-other node before e in
-      record {
-        functions = rw same f.functions;
-        falls = (high, falls-on bound entry.offset before low f.falls);
-        rises = rw same f.rises;
-        below = λ k p g. let b = f.below k p (rw same at g) in omega (arith, b, low, high);
-        around = λ k p e g. f.around k p e (rw same at g);
-        outermost = λ a. rw same (f.outermost a);
-        inlined = λ k a p g. rw same (f.inlined k a p (rw same at g));
-        unowned = λ k a past. f.unowned k a (rw same at past);
-        lists = λ i group g. elim (get-children entry.children drafts.lists new i group g) [
-          | inl old ↦ (let within = slice_get_within drafts.lists i group old in rw (same, near-past (i + 1) node before (omega (arith, within))) (f.lists i group old))
-          | inr now ↦ rw (same, now.0, ← now.1) names
-        ];
-      }
+      grind (arith, placed-other, falls-on, get-children, slice_get_within, near-past)
 
   not-function : (entry : Entry) → is_function entry ≡ false → is_kept s unit entry ≡ false
   not-function entry e = and_left (is_function entry) (not (is_idle s unit entry)) e
@@ -164,21 +123,14 @@ module _ (s : Sections) (unit : DwarfUnit) where
   -- ---- a function that is kept
 
   sizes : (before : List Node) (drafts : Drafts) (bound : ℕ) → Follows s unit before drafts bound → length drafts.functions ≡ length (kept before)
-  sizes before drafts bound f =
-      ap (λ (offsets : List ℕ). length offsets) f.functions ∙ length-map (kept before) offset_of
-
-  and-true : (b : Bool) → (b && true) ≡ b
-  and-true true = refl
-  and-true false = refl
+  sizes before drafts bound f = grind (arith, length-map)
 
   push-false : (test : Placed → Bool) (all : List Placed) (x : Placed) → test x ≡ false → first test (all ++ x ∷ []) ≡ first test all
   push-false test all x e = first-push test all x ∙ rw e (or-none (first test all))
 
   -- owners of a further function, where the test holds just in its ranges
   owner-more : (test : Placed → Bool) (all : List Placed) (x : Placed) (pairs : List (Range × ℕ)) (ranges : List Range) (n a : ℕ) → n ≡ length all → least_owner pairs a ≡ first test all → test x ≡ covers a ranges → least_owner (pairs ++ owned ranges n) a ≡ first test (all ++ x ∷ [])
-  owner-more test all x pairs ranges n a size same is =
-      owner-push pairs ranges n a (λ k e. let w = first-within test all k (sym same ∙ e) in omega (arith, w, size))
-      ∙ rw (same, size, ← is) (sym (first-push test all x))
+  owner-more test all x pairs ranges n a size same is = grind (arith, owner-push, first-within, first-push)
 
   -- nothing lies in the last function
   none-in-last : (a : ℕ) (all : List Placed) (k : ℕ) (p : Placed) → Rises (map offset_of all) → ((k : ℕ) (p : Placed) (e : Node) → slice_get all k ≡ Some p → p.1 ≡ Some e → e.entry.offset < offset_of p) → slice_get all k ≡ Some p → length all ≡ k + 1 → first (lies_in (holds_address s unit a) (offset_of p)) all ≡ None
@@ -233,19 +185,14 @@ module _ (s : Sections) (unit : DwarfUnit) where
     lies = subst (Names (kept before) (innermost drafts)) (sym (enclosing-one node before)) (innermost-names before drafts bound f)
 
     not-outermost : (group : ℕ) → Names (kept before) group here.1 → group ≡ outermost → ⊥
-    not-outermost zero h e = h
-    not-outermost (suc group) h e = absurd cc
+    not-outermost group h e = grind arith
 
     by_subprogram : (b : Bool) → is_subprogram entry ≡ b → (a : ℕ) → owner_in (after (cond b outermost (innermost drafts))) outermost a ≡ first (is_outermost (holds_address s unit a)) (kept before ++ here ∷ [])
-    by_subprogram true e a =
-        after-here outermost outermost a refl ∙ owner-more (is_outermost (holds_address s unit a)) (kept before) here (in_group outermost drafts.claims) (known_ranges s unit entry) number a (sizes before drafts bound f) (f.outermost a) (rw e refl)
-    by_subprogram false e a =
-        after-elsewhere (innermost drafts) outermost a (not-outermost (innermost drafts) lies)
-        ∙ f.outermost a ∙ sym (push-false (is_outermost (holds_address s unit a)) (kept before) here (and_left (is_subprogram entry) (holds_address s unit a entry) e))
+    by_subprogram b e a =
+        grind (arith, after-here, owner-more, sizes, after-elsewhere, not-outermost, lies, push-false, and_left)
 
     unchanged : (k a : ℕ) (p : Placed) → slice_get (kept before) k ≡ Some p → lies_in (holds_address s unit a) (offset_of p) here ≡ false → owner_in drafts.claims (inside k) a ≡ first (lies_in (holds_address s unit a) (offset_of p)) (kept before ++ here ∷ [])
-    unchanged k a p e out =
-        f.inlined k a p e ∙ sym (push-false (lies_in (holds_address s unit a) (offset_of p)) (kept before) here out)
+    unchanged k a p e out = grind (arith, push-false)
 
     -- functions of one offset have one number
     one-number : (k m : ℕ) (p q : Placed) → slice_get (kept before) k ≡ Some p → slice_get (kept before) m ≡ Some q → offset_of q ≡ offset_of p → m ≡ k
@@ -254,58 +201,24 @@ module _ (s : Sections) (unit : DwarfUnit) where
 
     -- what is inlined in each function of before
     by_group : is_inlined entry ≡ true → (group : ℕ) → Names (kept before) group here.1 → (k a : ℕ) (p : Placed) → slice_get (kept before) k ≡ Some p → owner_in (after group) (inside k) a ≡ first (lies_in (holds_address s unit a) (offset_of p)) (kept before ++ here ∷ [])
-    by_group inlined zero h k a p e = absurd h
-    by_group inlined (suc zero) h k a p e =
-        after-elsewhere nowhere (inside k) a (λ same. absurd (omega (arith, same)))
-        ∙ unchanged k a p e (and_right (is_inlined entry && holds_address s unit a entry) (is_at here.1 (offset_of p)) (none-at (kept before) here.1 k p h e))
-    by_group inlined (suc (suc m)) h k a p e = elim (same_or_apart m k) [
-      | inl same ↦ (
-          let q = h.0 in
-          let at : offset_of q ≡ offset_of p = ap offset_of (same_Some q p (sym h.1 ∙ ap (slice_get (kept before)) same ∙ e)) in
-          let lies_there : lies_in (holds_address s unit a) (offset_of p) here ≡ covers a (known_ranges s unit entry) =
-          rw (inlined, h.2, eq-eqb (offset_of q) (offset_of p) at) (and-true (covers a (known_ranges s unit entry))) in
-          ap (λ (group : ℕ). owner_in (after group) (inside k) a) (next-two m) ∙ after-here (inside m) (inside k) a (ap inside same)
-          ∙ owner-more (lies_in (holds_address s unit a) (offset_of p)) (kept before) here (in_group (inside k) drafts.claims) (known_ranges s unit entry) number a (sizes before drafts bound f) (f.inlined k a p e) lies_there)
-      | inr apart ↦ (
-          let q = h.0 in
-          let other : offset_of q ≡ offset_of p → ⊥ = λ at. apart (one-number k m p q e h.1 at) in
-          ap (λ (group : ℕ). owner_in (after group) (inside k) a) (next-two m) ∙ after-elsewhere (inside m) (inside k) a (λ same. apart (omega (arith, same)))
-          ∙ unchanged k a p e (and_right (is_inlined entry && holds_address s unit a entry) (is_at here.1 (offset_of p)) (rw (h.2) (ne_eqb (offset_of q) (offset_of p) other))))
-    ]
+    by_group inlined group h k a p e =
+        grind (arith, after-elsewhere, unchanged, and_right, none-at, same_or_apart, same_Some, eq-eqb, and-true, next-two, after-here, owner-more, sizes, one-number, ne_eqb)
 
     inlined-before : (b : Bool) → is_subprogram entry ≡ b → (k a : ℕ) (p : Placed) → slice_get (kept before) k ≡ Some p → owner_in (after (cond b outermost (innermost drafts))) (inside k) a ≡ first (lies_in (holds_address s unit a) (offset_of p)) (kept before ++ here ∷ [])
-    inlined-before true e k a p g =
-        after-elsewhere outermost (inside k) a (λ same. absurd (omega (arith, same)))
-        ∙ unchanged k a p g (and_left (is_inlined entry && holds_address s unit a entry) (is_at here.1 (offset_of p)) (and_left (is_inlined entry) (holds_address s unit a entry) (subprogram-only entry e)))
-    inlined-before false e k a p g = by_group (inlined-only entry function e) (innermost drafts) lies k a p g
+    inlined-before b e k a p g =
+        grind (arith, after-elsewhere, unchanged, and_left, subprogram-only, by_group, inlined-only, lies)
 
     none-owned : (b : Bool) (k a : ℕ) → length (kept before) ≤ k → owner_in (after (cond b outermost (innermost drafts))) (inside k) a ≡ None
-    none-owned true k a past = after-elsewhere outermost (inside k) a (λ same. absurd (omega (arith, same))) ∙ f.unowned k a past
-    none-owned false k a past = after-elsewhere (innermost drafts) (inside k) a (λ same. by_group_of (innermost drafts) lies same) ∙ f.unowned k a past
-      where
-        by_group_of : (group : ℕ) → Names (kept before) group here.1 → group ≡ inside k → ⊥
-        by_group_of zero h same = h
-        by_group_of (suc zero) h same = absurd (omega (arith, same))
-        by_group_of (suc (suc m)) h same = let w = slice_get_within (kept before) m h.0 h.1 in absurd (omega (arith, same, w, past))
+    none-owned b k a past = grind (arith, after-elsewhere, lies, slice_get_within)
 
     offsets-push : map offset_of (kept before ++ here ∷ []) ≡ map offset_of (kept before) ++ entry.offset ∷ []
     offsets-push = map_push offset_of (kept before) here
 
     rises-here : bound ≤ entry.offset → Rises (map offset_of (kept before ++ here ∷ []))
-    rises-here h =
-        rw offsets-push (rises-push (map offset_of (kept before)) entry.offset f.rises (λ k x e.
-        let p = get-unmapped offset_of (kept before) k x e in
-        let b = f.below k p.0 p.1 in
-        let is = p.2 in omega (arith, b, is, h)))
+    rises-here h = grind (arith, offsets-push, rises-push, get-unmapped)
 
     around-here : bound ≤ entry.offset → (k : ℕ) (p : Placed) (e : Node) → slice_get (kept before ++ here ∷ []) k ≡ Some p → p.1 ≡ Some e → e.entry.offset < offset_of p
-    around-here low k p e g is = elim (get-pushed (kept before) here k p g) [
-      | inl old ↦ f.around k p e old is
-      | inr new ↦ (
-          let at : entry.offset ≡ offset_of p = ap offset_of new.1 in
-          let less = near-below node.depth bound before e f.falls (sym (enclosing-one node before) ∙ ap (λ (p : Placed). p.1) new.1 ∙ is) in
-          omega (arith, at, less, low))
-    ]
+    around-here low k p e g is = grind (arith, get-pushed, near-below, enclosing-one)
 
     follows-kept : bound ≤ entry.offset → entry.offset < next → is_kept s unit entry ≡ true
         → Follows s unit (node ∷ before) (with_function entry (known_ranges s unit entry) drafts) next

@@ -1,5 +1,5 @@
 -- The chain of a tree, number by number.
-use Rattle.std.proofs.Common.{◌≡◌, ℕ, zero, suc, ◌+◌, ◌-◌, ◌≤◌, ◌<◌, List, [], ◌∷◌, ◌++◌, length, get_or, Option, Some, None, refl, sym, ap, ◌∙◌, arith}
+use Rattle.std.proofs.Common.{◌≡◌, ℕ, ◌+◌, ◌-◌, ◌≤◌, ◌<◌, List, [], ◌∷◌, ◌++◌, length, get_or, Option, Some, None, refl, sym, ap, ◌∙◌, arith}
 use Rattle.std.specs.Prelude.{slice_get}
 use Rattle.std.proofs.lemmas.List.{append-nil, append_assoc}
 use Rattle.std.proofs.lemmas.Option.{slice_get_read, slice_get_past}
@@ -16,19 +16,15 @@ inwards-zero tables chains a number = refl
 
 pub inwards-none : (tables : Tables) (chains : Chains) (a most : ℕ) → inwards tables chains a most None ≡ []
 unfolding inwards
-inwards-none tables chains a zero = refl
-inwards-none tables chains a (suc most) = refl
+inwards-none tables chains a most = grind arith
 
 pub inwards-nowhere : (tables : Tables) (chains : Chains) (a most k : ℕ) → slice_get chains.functions.items k ≡ None → inwards tables chains a most (Some k) ≡ []
 unfolding inwards
-inwards-nowhere tables chains a zero k e = refl
-inwards-nowhere tables chains a (suc most) k e = rw e refl
+inwards-nowhere tables chains a most k e = grind arith
 
 pub inwards-on : (tables : Tables) (chains : Chains) (a n i k : ℕ) (offset : ℕ) → i < n → slice_get chains.functions.items k ≡ Some offset → inwards tables chains a (n - i) (Some k) ≡ id_of chains offset ∷ inwards tables chains a (n - (i + 1)) (owner_of tables chains.owners (inside k) a)
 unfolding inwards
-inwards-on tables chains a n i k offset h e =
-    let step : n - i ≡ suc (n - (i + 1)) = omega (arith, h) in
-    rw (step, e) refl
+inwards-on tables chains a n i k offset h e = grind arith
 
 -- what was found so far, and what is still found further inwards, is all
 abbrev pub Found : Tables → Chains → ℕ → List EntryId → ℕ → Option ℕ → List EntryId → Type 0
@@ -38,16 +34,12 @@ pub found-all : (tables : Tables) (chains : Chains) (a most : ℕ) (number : Opt
 found-all tables chains a most number ids all e h = sym (append-nil ids) ∙ ap (λ (rest : List EntryId). ids ++ rest) (sym e) ∙ h
 
 pub found-more : (tables : Tables) (chains : Chains) (a n i k : ℕ) (offset : ℕ) (ids all : List EntryId) → i < n → slice_get chains.functions.items k ≡ Some offset → Found tables chains a ids (n - i) (Some k) all → Found tables chains a (ids ++ id_of chains offset ∷ []) (n - (i + 1)) (owner_of tables chains.owners (inside k) a) all
-found-more tables chains a n i k offset ids all h e f =
-    append_assoc ids (id_of chains offset ∷ []) (inwards tables chains a (n - (i + 1)) (owner_of tables chains.owners (inside k) a))
-    ∙ ap (λ (rest : List EntryId). ids ++ rest) (sym (inwards-on tables chains a n i k offset h e)) ∙ f
+found-more tables chains a n i k offset ids all h e f = grind (arith, append_assoc, inwards-on)
 
 -- ---- offsets as they are read
 
 pub kept-there : (chains : Chains) (read : List ℕ) (k offset : ℕ) → read ≡ chains.functions.items → k < length read → offset ≡ get_or read k offset → slice_get chains.functions.items k ≡ Some offset
-kept-there chains read k offset same within is =
-    ap (λ (offsets : List ℕ). slice_get offsets k) (sym same) ∙ slice_get_read read (length read) k offset refl within is
+kept-there chains read k offset same within is = grind (arith, slice_get_read)
 
 pub kept-nowhere : (chains : Chains) (read : List ℕ) (k : ℕ) → read ≡ chains.functions.items → length read ≤ k → slice_get chains.functions.items k ≡ None
-kept-nowhere chains read k same past =
-    slice_get_past chains.functions.items k (let r = ap (λ (offsets : List ℕ). length offsets) same in omega (arith, r, past))
+kept-nowhere chains read k same past = grind (arith, slice_get_past)

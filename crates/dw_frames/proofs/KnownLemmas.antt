@@ -1,6 +1,6 @@
 -- Functions whose range lists were read for earlier ones.
 use Rattle.std.proofs.Common.{◌≡◌, ◌∙◌, ◌⊎◌, inl, inr, ℕ, ◌<◌, Bool, true, false, List, [], ◌∷◌, ◌++◌, length, Option, Some, None, Result, Ok, Err, refl, sym, ap, subst, arith, length-append}
-use Rattle.std.specs.Prelude.{is_err, ◌==◌, ◌||◌}
+use Rattle.std.specs.Prelude.{is_err, not, ◌==◌, ◌||◌}
 use Rattle.std.specs.Result.{result_unwrap_or}
 use Rattle.std.proofs.lemmas.Bool.{ne_eqb}
 use Rattle.std.proofs.lemmas.List.{append-nil}
@@ -17,6 +17,7 @@ use Rattle.dw_model.proofs.StepLemmas.{ok_is}
 use Rattle.dw_ranges.specs.declared.range_list.RangeList.{RangeList}
 use Rattle.dw_ranges.specs.Claims.{claims_in, in_group}
 use Rattle.dw_ranges.specs.Held.{listed}
+use Rattle.dw_ranges.specs.ListIndex.{IndexedList, IsOfList, TellsSome, listed_from, ranges_by}
 use Rattle.dw_ranges.specs.Lists.{ranges_of_list}
 use Rattle.dw_ranges.specs.Owned.{AreOwned, owned}
 use Rattle.dw_ranges.specs.ReadLists.{Has}
@@ -24,7 +25,7 @@ use Rattle.dw_ranges.specs.Tails.{EndsAs, ReadsNew, onto_front, tail_at}
 use Rattle.dw_ranges.proofs.GroupLemmas.{group-append, group-here, group-elsewhere, same_or_apart}
 use Rattle.dw_ranges.proofs.OwnedLemmas.{behind-owned, still-owned, now-owned}
 use Rattle.dw_frames.specs.Drafts.{Drafts, group_of, with_list, with_function, without_list, behind_function}
-use Rattle.dw_frames.specs.Known.{IsOwned, Knows, Same, WasAdded, WasRead}
+use Rattle.dw_frames.specs.Known.{HasRanges, IsOwned, Knows, Same, WasAdded}
 use Rattle.dw_frames.specs.Placed.{Follows}
 use Rattle.dw_frames.specs.Reading.{Reading}
 use Rattle.dw_frames.specs.UnitIn.{UnitIn}
@@ -74,10 +75,10 @@ left-out entry front rest drafts h = record {
 
 pub knows-list : (reading : Reading) (drafts new : Drafts) (children : Bool) (group : ℕ) → new ≡ with_list children group drafts → Knows reading drafts → Knows reading new
 knows-list reading drafts new children group e h =
-    subst (Knows reading) (sym e) (record { of = h.of; read = h.read; owned = h.owned })
+    subst (Knows reading) (sym e) (record { of = h.of; owned = h.owned })
 
 pub knows-ended : (reading : Reading) (drafts new : Drafts) → new ≡ without_list drafts → Knows reading drafts → Knows reading new
-knows-ended reading drafts new e h = subst (Knows reading) (sym e) (record { of = h.of; read = h.read; owned = h.owned })
+knows-ended reading drafts new e h = subst (Knows reading) (sym e) (record { of = h.of; owned = h.owned })
 
 owned-same : (drafts new : Drafts) (ranges : List Range) (k : ℕ) → Same drafts new → AreOwned (in_group k drafts.claims) (length drafts.functions) ranges → AreOwned (in_group k new.claims) (length new.functions) ranges
 owned-same drafts new ranges k same h = λ a held.
@@ -91,12 +92,10 @@ less functions offset = let l = length-append functions (offset ∷ []) in omega
 
 -- a reader of the same unit that has the same notes, or some more
 pub knows-noted : (reading other : Reading) (drafts : Drafts) → other.of ≡ reading.of
-    → ((known : RangeList × ℕ) → Has other.read known → WasRead reading.of.sections.tables known.0 known.1 ⊎ Has reading.read known)
     → ((known : RangeList × ℕ) → Has other.owned known → IsOwned reading.of.sections.tables drafts known.0 known.1 ⊎ Has reading.owned known)
     → Knows reading drafts → Knows other drafts
-knows-noted reading other drafts of read owned h = record {
+knows-noted reading other drafts of owned h = record {
   of = h.of ∙ sym of;
-  read = λ known has. subst (λ (of : UnitIn). WasRead of.sections.tables known.0 known.1) (sym of) (elim (read known has) [ inl new ↦ new | inr old ↦ h.read known old ]);
   owned = λ known has. subst (λ (of : UnitIn). IsOwned of.sections.tables drafts known.0 known.1) (sym of) (elim (owned known has) [ inl new ↦ new | inr old ↦ h.owned known old ]);
 }
 
@@ -109,10 +108,9 @@ one-noted P one notes was more same h noted known has = elim (noted known has) [
 pub none-noted : (P : RangeList × ℕ → Type 0) (notes more : List (RangeList × ℕ)) → more ≡ notes → (known : RangeList × ℕ) → Has more known → P known ⊎ Has notes known
 none-noted P notes more same known has = inr (subst (λ (notes : List (RangeList × ℕ)). Has notes known) same has)
 
-pub knows-same : (reading other : Reading) (drafts : Drafts) → other.of ≡ reading.of → other.read ≡ reading.read → other.owned ≡ reading.owned → Knows reading drafts → Knows other drafts
-knows-same reading other drafts of read owned h =
-    knows-noted reading other drafts of (none-noted (λ known. WasRead reading.of.sections.tables known.0 known.1) reading.read other.read read)
-    (none-noted (λ known. IsOwned reading.of.sections.tables drafts known.0 known.1) reading.owned other.owned owned) h
+pub knows-same : (reading other : Reading) (drafts : Drafts) → other.of ≡ reading.of → other.owned ≡ reading.owned → Knows reading drafts → Knows other drafts
+knows-same reading other drafts of owned h =
+    knows-noted reading other drafts of (none-noted (λ known. IsOwned reading.of.sections.tables drafts known.0 known.1) reading.owned other.owned owned) h
 
 -- ---- a function that is kept
 
@@ -123,7 +121,6 @@ module _ (reading : Reading) (drafts new : Drafts) (entry : Entry) (ranges : Lis
   pub knows-function : Knows reading drafts → Knows reading new
   knows-function h = record {
     of = same.of ∙ h.of;
-    read = h.read;
     owned = λ known has.
         let old = h.owned known has in
         let up = less drafts.functions entry.offset in (
@@ -153,10 +150,16 @@ pub passed-on : (reading : Reading) (drafts new : Drafts) (entry : Entry) (list 
 passed-on reading drafts new entry list owns is =
     subst (Same (with_function entry owns.0.0 drafts)) (sym is) (left-out entry [] owns.0.0 drafts owns.1)
 
--- its list, which was read before, is held by name
-pub held-on : (tables : Tables) (drafts new : Drafts) (entry : Entry) (list : RangeList) (ranges : List Range) → ranges_of_list tables list ≡ Ok ranges → drafts.of.sections.tables ≡ tables → new ≡ with_function entry (listed drafts.of.sections.tables list) drafts → Same (with_function entry ranges drafts) new
-held-on tables drafts new entry list ranges e same is =
-    same-as (with_function entry ranges drafts) new (is ∙ ap (λ (read : Result (List Range) Bad). with_function entry (result_unwrap_or read []) drafts) (ap (λ (tables : Tables). ranges_of_list tables list) same ∙ e))
+-- the ranges of a list with an index that says it has some
+pub indexed-ranges : (tables : Tables) (list : RangeList) (indexed : IndexedList) (some : Bool) → IsOfList tables list indexed → TellsSome (Ok some) (ranges_by indexed list.base) → some ≡ true → HasRanges tables list
+indexed-ranges tables list indexed some of_list told is =
+    (told.0, ap (λ (indexed : IndexedList). ranges_by indexed list.base) (sym of_list) ∙ told.1, told.2 ∙ ap not is)
+
+-- its list is held by an index
+pub held-on : (tables : Tables) (drafts new : Drafts) (entry : Entry) (list : RangeList) (indexed : IndexedList) (ranges : List Range) → ranges_of_list tables list ≡ Ok ranges → IsOfList tables list indexed → new ≡ with_function entry (listed_from indexed list.base) drafts → Same (with_function entry ranges drafts) new
+held-on tables drafts new entry list indexed ranges e of_list is =
+    same-as (with_function entry ranges drafts) new (is ∙ ap (λ (ranges : List Range). with_function entry ranges drafts)
+    (ap (λ (indexed : IndexedList). listed_from indexed list.base) of_list ∙ ap (λ (read : Result (List Range) Bad). result_unwrap_or read []) e))
 
 -- its ranges were read, or the first of them, where earlier functions own the others
 pub read-on : (tables : Tables) (drafts new : Drafts) (entry : Entry) (list : RangeList) (front rest : List Range) → ranges_of_list tables list ≡ Ok (front ++ rest) → drafts.of.sections.tables ≡ tables → AreOwned (in_group (group_of (is_subprogram entry) drafts) drafts.claims) (length drafts.functions) rest

@@ -1,7 +1,8 @@
 -- The nearest function in which a node lies, by depths alone.
-use Rattle.std.proofs.Common.{◌≡◌, ℕ, ◌<◌, ◌≤◌, min, Bool, true, false, cond, List, [], ◌∷◌, Some, refl, ap, ◌∙◌, arith}
+use Rattle.std.proofs.Common.{◌≡◌, ℕ, ◌<◌, ◌≤◌, min, cond, List, [], ◌∷◌, Some, refl, ap, ◌∙◌, arith}
 use Rattle.std.specs.Prelude.{◌&&◌, nat_lt}
 use Rattle.std.specs.List.{list_all}
+use Rattle.std.proofs.Math.Bool.{and-true}
 use Rattle.std.proofs.lemmas.Bool.Decides.{nat_tests}
 use Rattle.std.proofs.lemmas.Option.{same_Some}
 use Rattle.dw_model.specs.Tree.{Node, is_function, enclosing}
@@ -9,10 +10,6 @@ use Rattle.dw_frames.specs.Placed.{near, Falls}
 
 lt-min : (k d e : ℕ) → (nat_lt k e && nat_lt k d) ≡ nat_lt k (min d e)
 lt-min k d e = grind (arith, nat_tests)
-
-and-true : (b : Bool) → (b && true) ≡ b
-and-true true = refl
-and-true false = refl
 
 pub enclosing-near : (between before : List Node) (d : ℕ) → ((k : ℕ) → list_all (λ node. nat_lt k node.depth) between ≡ nat_lt k d) → enclosing between before ≡ near d before
 unfolding enclosing near
@@ -32,8 +29,5 @@ falls-on bound next (node ∷ before) h f = (let less = f.0 in omega (arith, les
 pub near-below : (d bound : ℕ) (before : List Node) (e : Node) → Falls bound before → near d before ≡ Some e → e.entry.offset < bound
 unfolding near
 near-below d bound [] e f h = absurd cc
-near-below d bound (node ∷ before) e f h = by_test (near-below (min d node.depth) node.entry.offset before e f.1) (is_function node.entry && nat_lt node.depth d) h
-  where
-    by_test : (near (min d node.depth) before ≡ Some e → e.entry.offset < node.entry.offset) → (b : Bool) → cond b (Some node) (near (min d node.depth) before) ≡ Some e → e.entry.offset < bound
-    by_test rest true h = let same : node.entry.offset ≡ e.entry.offset = ap (λ (n : Node). n.entry.offset) (same_Some node e h) in let less = f.0 in omega (arith, same, less)
-    by_test rest false h = let less = rest h in let first = f.0 in omega (arith, less, first)
+near-below d bound (node ∷ before) e f h =
+    grind (arith, same_Some, near-below (min d node.depth) node.entry.offset before e f.1)

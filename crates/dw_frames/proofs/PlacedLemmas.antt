@@ -1,5 +1,5 @@
 -- The functions of a tree in order, each with the nearest function around it.
-use Rattle.std.proofs.Common.{◌≡◌, Bool, true, false, cond, List, [], ◌∷◌, ◌++◌, reverse, Option, Some, None, refl, sym, ap, ◌∙◌}
+use Rattle.std.proofs.Common.{◌≡◌, Bool, false, cond, List, [], ◌∷◌, ◌++◌, reverse, Option, Some, None, refl, ap, arith}
 use Rattle.std.specs.Prelude.{option_map, find}
 use Rattle.std.specs.Option.{option_or}
 use Rattle.std.proofs.lemmas.List.{append-nil, append_assoc, reverse-reverse}
@@ -12,8 +12,7 @@ use Rattle.dw_frames.specs.Placed.{Placed, placed}
 -- ---- the first node of all
 
 or-some : {X : Type 0} (b : Bool) (found later : Option X) (x : X) → cond b (Some x) (option_or found later) ≡ option_or (cond b (Some x) found) later
-or-some true found later x = refl
-or-some false found later x = refl
+or-some b found later x = grind arith
 
 pub find_node-push : (test : List Node → Node → Bool) (before nodes : List Node) (node : Node) → find_node test before (nodes ++ node ∷ []) ≡ option_or (find_node test before nodes) (cond (test (reverse nodes ++ before) node) (Some node) None)
 unfolding find_node
@@ -22,16 +21,13 @@ find_node-push test before (first ∷ nodes) node =
     rw (find_node-push test (first ∷ before) nodes node, reverse-cons first nodes, append_assoc (reverse nodes) (first ∷ []) before) (or-some (test before first) (find_node test (first ∷ before) nodes) (cond (test (reverse nodes ++ first ∷ before) node) (Some node) None) first)
 
 map-or : {X Y : Type 0} (f : X → Y) (found later : Option X) → option_map f (option_or found later) ≡ option_or (option_map f found) (option_map f later)
-map-or f None later = refl
-map-or f (Some x) later = refl
+map-or f found later = grind arith
 
 pub or-none : {X : Type 0} (found : Option X) → option_or found None ≡ found
-or-none None = refl
-or-none (Some x) = refl
+or-none found = grind arith
 
 map-cond : {X Y : Type 0} (f : X → Y) (b : Bool) (x : X) → option_map f (cond b (Some x) None) ≡ cond b (Some (f x)) None
-map-cond f true x = refl
-map-cond f false x = refl
+map-cond f b x = grind arith
 
 -- a test that only nodes pass which are kept finds one of these
 module _ (kept : Entry → Bool) (test : List Node → Node → Bool) (placed_test : Placed → Bool)
@@ -40,20 +36,13 @@ module _ (kept : Entry → Bool) (test : List Node → Node → Bool) (placed_te
   step : (node : Node) (before : List Node) (b : Bool) → kept node.entry ≡ b
       → option_or (option_map (λ (p : Placed). p.0) (find placed_test (placed kept before))) (cond (test before node) (Some node) None)
       ≡ option_map (λ (p : Placed). p.0) (find placed_test (cond b (placed kept before ++ (node, enclosing (node ∷ []) before) ∷ []) (placed kept before)))
-  step node before true e =
-      sym (ap (option_map (λ (p : Placed). p.0)) (find-append placed_test (placed kept before) ((node, enclosing (node ∷ []) before) ∷ []))
-      ∙ map-or (λ (p : Placed). p.0) (find placed_test (placed kept before)) (find placed_test ((node, enclosing (node ∷ []) before) ∷ []))
-      ∙ ap (option_or (option_map (λ (p : Placed). p.0) (find placed_test (placed kept before)))) (map-cond (λ (p : Placed). p.0) (placed_test (node, enclosing (node ∷ []) before)) (node, enclosing (node ∷ []) before) ∙ ap (λ t. cond t (Some node) None) (same node before)))
-  step node before false e =
-      rw (others node before e) (or-none (option_map (λ (p : Placed). p.0) (find placed_test (placed kept before))))
+  step node before b e = grind (arith, find-append, map-or, map-cond, or-none)
 
   pub find_node-placed : (before : List Node) → find_node test [] (reverse before) ≡ option_map (λ (p : Placed). p.0) (find placed_test (placed kept before))
   unfolding find_node placed
   find_node-placed [] = refl
   find_node-placed (node ∷ before) =
-      let all : reverse (reverse before) ++ [] ≡ before = append-nil (reverse (reverse before)) ∙ reverse-reverse before in
-      ap (find_node test []) (reverse-cons node before) ∙ find_node-push test [] (reverse before) node
-      ∙ rw (all, find_node-placed before) (step node before (kept node.entry) refl)
+      grind (arith, append-nil, reverse-reverse, reverse-cons, find_node-push, step, find_node-placed before)
 
 -- the same of a test that looks at the node alone
 pub find-alone : (test : Node → Bool) (before nodes : List Node) → find_node (λ _ node. test node) before nodes ≡ find test nodes

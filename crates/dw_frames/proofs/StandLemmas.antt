@@ -1,10 +1,9 @@
 -- Each node of a unit's tree is the entry that is at its offset.
-use Rattle.std.proofs.Common.{◌≡◌, ◌∙◌, ℕ, zero, suc, ◌+◌, ◌≤◌, Bool, true, false, cond, List, [], ◌∷◌, length, map, length-drop, take, drop, Option, Some, None, Result, Ok, Err, refl, sym, ap, subst, arith}
-use Rattle.std.specs.Prelude.{All, IsSome, find, filter_map, option_map, option_and_then, ◌&&◌, ◌||◌, ◌==◌}
+use Rattle.std.proofs.Common.{◌≡◌, ◌∙◌, ℕ, zero, suc, ◌≤◌, Bool, true, false, cond, List, [], ◌∷◌, length, map, length-drop, length-take, take, drop, Option, Some, None, Result, Ok, Err, refl, sym, ap, subst, arith}
+use Rattle.std.specs.Prelude.{All, IsSome, find, filter_map, option_map, option_and_then, ◌&&◌, ◌==◌}
 use Rattle.std.specs.List.{AllByRecursion}
 use Rattle.std.specs.Option.{option_map_or}
 use Rattle.std.proofs.lemmas.Bool.{and_parts, eqb-true}
-use Rattle.std.proofs.lemmas.List.{drop-drop}
 use Rattle.std.proofs.lemmas.Option.{same_Some}
 use Rattle.dw_model.specs.Results.{◌>>=◌, or_fault}
 use Rattle.dw_model.specs.Reading.{Place, items, AreItems}
@@ -16,7 +15,7 @@ use Rattle.dw_model.specs.Section.{Sections}
 use Rattle.dw_model.specs.Unit.{DwarfUnit}
 use Rattle.dw_model.specs.Root as root
 use Rattle.dw_model.specs.Root.{place_in}
-use Rattle.dw_model.specs.Tree.{Node, Reading, is_function, checked, depth_behind, next_node, nodes_below, nodes_from, tree, entry_ranges_in}
+use Rattle.dw_model.specs.Tree.{Node, Reading, is_function, checked, next_node, nodes_below, nodes_from, tree, entry_ranges_in}
 use Rattle.dw_model.proofs.StepLemmas.{bind_ok, ok_is}
 use Rattle.dw_model.proofs.InstructionLemmas.{or_fault-ok}
 use Rattle.dw_model.proofs.ItemsLemmas.{read_by}
@@ -27,12 +26,8 @@ use Rattle.dw_frames.specs.declared.function.EntryId.{EntryId}
 use Rattle.dw_frames.specs.Told.{told_of}
 use Rattle.dw_frames.specs.Tree.{nodes_of, function_at, function_of, told_at}
 use Rattle.dw_frames.specs.UnitIn.{UnitIn}
-use Rattle.dw_frames.proofs.MoveLemmas.{On, entry-moves}
-
-take-short : (n : ℕ) (xs : List ℕ) → length (take n xs) ≤ n
-take-short zero xs = omega arith
-take-short (suc n) [] = omega arith
-take-short (suc n) (x ∷ xs) = let rest = take-short n xs in omega (arith, rest)
+use Rattle.dw_forms.proofs.OntoLemmas.{Onto}
+use Rattle.dw_frames.proofs.MoveLemmas.{entry-moves, onto-left}
 
 module _ (s : Sections) (unit : DwarfUnit) where
   -- the entry of a node is at its offset
@@ -44,15 +39,8 @@ module _ (s : Sections) (unit : DwarfUnit) where
     from : unit.first_entry ≤ p.at
     here : p ≡ place_in s unit p.at
 
-  among-on : (p q : Place) → Among p → On p q → Among q
-  among-on p q a on =
-      let at : q.at ≡ p.at + on.0 = ap (λ (q : Place). q.at) on.1 in
-      let from = a.from in
-      let left : q.left ≡ drop q.at (take unit.end s.info) = ap (λ (q : Place). q.left) on.1 ∙ ap (λ (p : Place). drop on.0 p.left) a.here ∙ drop-drop on.0 p.at (take unit.end s.info) ∙ ap (λ (n : ℕ). drop n (take unit.end s.info)) (sym at) in
-      record {
-        from = omega (arith, from, at);
-        here = ap (λ (left : List ℕ). record { at = q.at; left = left }) left;
-      }
+  among-on : (p q : Place) → Among p → Onto p q → Among q
+  among-on p q a onto = grind (arith, onto-left)
 
   module _ (declarations : List Declaration) (declared : abbreviations s.abbrevs unit.debug_abbrev_offset ≡ Ok declarations) where
     stands-at : (p q : Place) (entry : Entry) (depth : ℕ) → Among p → entry_at unit.offset_size declarations p ≡ Ok (Some entry, q) → Stands (record { depth = depth; entry = entry })
@@ -60,9 +48,8 @@ module _ (s : Sections) (unit : DwarfUnit) where
         let moves = entry-moves unit.offset_size declarations p (Some entry, q) e in
         let less = entry-onward unit.offset_size declarations p (Some entry, q) e in
         let left : length p.left ≡ length (drop p.at (take unit.end s.info)) = ap (λ (p : Place). length p.left) a.here in
-        let short = take-short unit.end s.info in
         let at : entry.offset ≡ p.at = moves.offset entry refl in
-        (q, ap (root.entry s unit) at ∙ inside s unit p.at declarations a.from (omega (arith, less, left, short, length-drop p.at (take unit.end s.info))) declared ∙ ap (entry_at unit.offset_size declarations) (sym a.here) ∙ e)
+        (q, ap (root.entry s unit) at ∙ inside s unit p.at declarations a.from (omega (arith, less, left, length-drop p.at (take unit.end s.info), length-take unit.end s.info)) declared ∙ ap (entry_at unit.offset_size declarations) (sym a.here) ∙ e)
 
     abbrev ranges : Entry → Result (List Range) Bad
     ranges = entry_ranges_in s unit
@@ -74,21 +61,14 @@ module _ (s : Sections) (unit : DwarfUnit) where
     next-reads : (t r : Reading) (item : Option Node) → next t ≡ Ok (Some item, r)
         → (found : Option Entry × Place) × (entry_at unit.offset_size declarations t.place ≡ Ok found) × (item ≡ option_map (λ entry. record { depth = t.depth; entry = entry }) found.0) × (r.place ≡ found.1)
     unfolding next_node
-    next-reads t r item e =
-        let node : Option Entry × Place → Result (Option (Option Node) × Reading) TreeFault = λ found. option_map_or (checked ranges t.depth) found.0 (Ok tt) >>= λ _. Ok (Some (option_map (λ entry. record { depth = t.depth; entry = entry }) found.0), record { place = found.1; depth = depth_behind t.depth found.0 }) in
-        let more = past_none (t.depth == 0 || length t.place.left == 0) t (or_fault entry_fault (entry_at unit.offset_size declarations t.place) >>= node) item r e in
-        let found = bind_ok (or_fault entry_fault (entry_at unit.offset_size declarations t.place)) node (Some item, r) more in
-        let passed = bind_ok (option_map_or (checked ranges t.depth) found.0.0 (Ok tt)) (λ _. Ok (Some (option_map (λ entry. record { depth = t.depth; entry = entry }) found.0.0), record { place = found.0.1; depth = depth_behind t.depth found.0.0 })) (Some item, r) found.2 in
-        let same = ok_is (Some (option_map (λ entry. record { depth = t.depth; entry = entry }) found.0.0), record { place = found.0.1; depth = depth_behind t.depth found.0.0 }) (Some item, r) passed.2 in
-        let one : Some item ≡ Some (option_map (λ entry. record { depth = t.depth; entry = entry }) found.0.0) = sym (ap (λ (x : Option (Option Node) × Reading). x.0) same) in
-        (found.0, or_fault-ok entry_fault (entry_at unit.offset_size declarations t.place) found.0 found.1, same_Some item _ one, sym (ap (λ (x : Option (Option Node) × Reading). x.1.place) same))
+    next-reads t r item e = grind (arith, past_none, bind_ok, ok_is, or_fault-ok, same_Some)
 
     stand-below : (all : List (Option Node)) (t u : Reading) → Among t.place → AreItems next t all u → AllByRecursion Stands (filter_map (λ node. node) all)
     stand-below [] t u a h = tt
     stand-below (item ∷ others) t u a h =
         let read = next-reads t h.0 item h.1 in
         let moves = entry-moves unit.offset_size declarations t.place read.0 read.1 in
-        let rest = stand-below others h.0 u (among-on t.place h.0.place a (subst (On t.place) (sym read.3) moves.on)) h.2 in
+        let rest = stand-below others h.0 u (among-on t.place h.0.place a (subst (Onto t.place) (sym read.3) moves.onto)) h.2 in
         by_found item read.0.0 read.0.1 read.1 read.2 rest
       where
         by_found : (item : Option Node) (found : Option Entry) (q : Place) → entry_at unit.offset_size declarations t.place ≡ Ok (found, q) → item ≡ option_map (λ entry. record { depth = t.depth; entry = entry }) found
@@ -113,7 +93,7 @@ module _ (s : Sections) (unit : DwarfUnit) where
         let checks = bind_ok (checked ranges 0 first) (λ _. below >>= λ others. Ok (record { depth = 0; entry = first } ∷ others)) nodes e in
         let others = bind_ok below (λ others. Ok (record { depth = 0; entry = first } ∷ others)) nodes checks.2 in
         let moves = entry-moves unit.offset_size declarations p (Some first, q) read in
-        subst (AllByRecursion Stands) (ok_is (record { depth = 0; entry = first } ∷ others.0) nodes others.2) (stands-at p q first 0 a read, stand-children first.children q others.0 (among-on p q a moves.on) others.1)
+        subst (AllByRecursion Stands) (ok_is (record { depth = 0; entry = first } ∷ others.0) nodes others.2) (stands-at p q first 0 a read, stand-children first.children q others.0 (among-on p q a moves.onto) others.1)
 
     stand-from : (nodes : List Node) → nodes_from ranges unit.offset_size declarations (place_in s unit unit.first_entry) ≡ Ok nodes → AllByRecursion Stands nodes
     unfolding nodes_from
@@ -124,18 +104,12 @@ module _ (s : Sections) (unit : DwarfUnit) where
 
   all-stand : (nodes : List Node) → tree s unit ≡ Ok nodes → AllByRecursion Stands nodes
   unfolding tree
-  all-stand nodes e =
-      let declarations = bind_ok (or_fault entry_fault (abbreviations s.abbrevs unit.debug_abbrev_offset)) (λ declarations. nodes_from (entry_ranges_in s unit) unit.offset_size declarations (place_in s unit unit.first_entry)) nodes e in
-      stand-from declarations.0 (or_fault-ok entry_fault (abbreviations s.abbrevs unit.debug_abbrev_offset) declarations.0 declarations.1) nodes declarations.2
+  all-stand nodes e = grind (arith, bind_ok, stand-from, or_fault-ok)
 
 -- what is found has what holds of all, and passes the test
 found-has : {X : Type 0} (P : X → Type 0) (test : X → Bool) (xs : List X) (x : X) → AllByRecursion P xs → find test xs ≡ Some x → P x × (test x ≡ true)
 found-has P test [] x all e = absurd cc
-found-has P test (y ∷ xs) x all e = by_test (found-has P test xs x all.1) (test y) refl e
-  where
-    by_test : (find test xs ≡ Some x → P x × (test x ≡ true)) → (b : Bool) → test y ≡ b → cond b (Some y) (find test xs) ≡ Some x → P x × (test x ≡ true)
-    by_test rest true t e = subst (λ x. P x × (test x ≡ true)) (same_Some y x e) (all.0, t)
-    by_test rest false t e = rest e
+found-has P test (y ∷ xs) x all e = grind (arith, same_Some, found-has P test xs)
 
 heads : {X : Type 0} (x y : X) (xs ys : List X) → ◌≡◌ {A = List X} (x ∷ xs) (y ∷ ys) → (x ≡ y) × (xs ≡ ys)
 heads x y xs ys e = (cc, cc)
@@ -173,9 +147,5 @@ all-told of (id ∷ ids) (node ∷ nodes) read e =
 pub all-named : (of : UnitIn) (ids : List EntryId) (nodes : List Node) → map (function_at of) ids ≡ map Some nodes → All (λ id. IsSome (function_at of id)) ids
 all-named of [] nodes e k d within = absurd (omega (arith, within))
 all-named of (id ∷ ids) [] e k d within = absurd cc
-all-named of (id ∷ ids) (node ∷ nodes) e zero d within =
-    let parts = heads (function_at of id) (Some node) (map (function_at of) ids) (map Some nodes) e in
-    rw (parts.0) refl
-all-named of (id ∷ ids) (node ∷ nodes) e (suc k) d within =
-    let parts = heads (function_at of id) (Some node) (map (function_at of) ids) (map Some nodes) e in
-    all-named of ids nodes parts.1 k d (omega (arith, within))
+all-named of (id ∷ ids) (node ∷ nodes) e zero d within = grind (arith, heads)
+all-named of (id ∷ ids) (node ∷ nodes) e (suc k) d within = grind (arith, heads, all-named of ids nodes)

@@ -1,5 +1,5 @@
 -- The tree of a unit: its first entry, and those below it.
-use Rattle.std.proofs.Common.{◌≡◌, ℕ, Bool, true, false, cond, List, [], ◌∷◌, ◌++◌, length, reverse, Option, Some, None, Result, Ok, Err, refl, sym, ap, subst, ◌∙◌}
+use Rattle.std.proofs.Common.{◌≡◌, ℕ, Bool, cond, List, [], ◌∷◌, ◌++◌, length, reverse, Option, Some, None, Result, Ok, Err, refl, sym, ap, subst, ◌∙◌, arith}
 use Rattle.std.specs.Prelude.{MatchOption, option_map}
 use Rattle.dw_model.specs.Answers.{Tells}
 use Rattle.dw_model.specs.Faults.{Fault, TreeFault, entry_fault}
@@ -16,10 +16,9 @@ use Rattle.dw_model.proofs.AdvanceLemmas.{nodes_advance}
 use Rattle.dw_index.specs.Owners.{least_owner}
 use Rattle.dw_units.specs.Entries.{Walk, IsNext}
 use Rattle.dw_units.specs.declared.entries.Next.{Next}
-use Rattle.dw_units.specs.declared.entries.Next.TheVariants.{Null, Function, Unranged, Passed}
+use Rattle.dw_units.specs.declared.entries.Next.TheVariants.{Null}
 use Rattle.dw_frames.specs.declared.fault.TreeFault as frames
 use Rattle.dw_frames.specs.Drafts.{Drafts, no_drafts, behind}
-use Rattle.dw_frames.specs.Fault.{tree_fault}
 use Rattle.dw_frames.specs.Known.{Same}
 use Rattle.dw_frames.specs.Placed.{placed, first, Follows}
 use Rattle.dw_frames.specs.Reader.{can_be_used, nodes_on, read_into, FollowsOn, FollowsAll}
@@ -28,25 +27,12 @@ use Rattle.dw_frames.proofs.KnownLemmas.{follows-same}
 use Rattle.dw_frames.proofs.WalkLemmas.{next, state, behind-depth, next-ended, follows-entry}
 
 pub found-some : (ranged : Bool) (next : Next) (found last : Option Entry) → IsNext ranged next found last → (next ≡ Null → ⊥) → (entry : Entry) × (found ≡ Some entry)
-found-some ranged Null found last is other = absurd (other refl)
-found-some ranged Function found last is other = (is.0, is.1)
-found-some ranged (Unranged children) found last is other = (is.0, is.1)
-found-some ranged (Passed children) found last is other = (is.0, is.1)
+found-some ranged next found last is other = grind arith
 
 -- before any entry
 follows-none : (s : Sections) (unit : DwarfUnit) (of : UnitIn) (bound : ℕ) → Follows s unit [] (no_drafts of) bound
 unfolding placed first least_owner
-follows-none s unit of bound = record {
-  functions = refl;
-  falls = tt;
-  rises = λ i j x y h e f. absurd cc;
-  below = λ k p e. absurd cc;
-  around = λ k p e g is. absurd cc;
-  outermost = λ a. refl;
-  inlined = λ k a p e. absurd cc;
-  unowned = λ k a past. refl;
-  lists = λ i group e. absurd cc;
-}
+follows-none s unit of bound = grind arith
 
 module _ (s : Sections) (unit : DwarfUnit) (walk : Walk) (size : walk.offset_size ≡ unit.offset_size) (declared : abbreviations s.abbrevs unit.debug_abbrev_offset ≡ Ok walk.declarations) (begins : walk.place ≡ place_in s unit unit.first_entry) where
   abbrev from_first : Result (List Node) TreeFault
@@ -66,17 +52,13 @@ module _ (s : Sections) (unit : DwarfUnit) (walk : Walk) (size : walk.offset_siz
 
   unused : (found : Option Entry) (q : Place) (told : TreeFault) → entry_at walk.offset_size walk.declarations walk.place ≡ Ok (found, q) → can_be_used s unit 0 found ≡ Err told → from_first ≡ Err told
   unfolding nodes_from
-  unused None q told e h = absurd cc
-  unused (Some entry) q told e h = rw (e, h) refl
+  unused found q told e h = grind arith
 
   none-below : (p : Place) → nodes_on s unit (record { declarations = walk.declarations; offset_size = walk.offset_size; place = p; last = None }) 0 ≡ Ok []
-  none-below p =
-      let ended = next-ended s unit walk.offset_size walk.declarations p 0 refl in
-      rw (items-turn (next s unit walk.offset_size walk.declarations) (λ s. s.place.left) (nodes_advance (entry_ranges_in s unit) walk.offset_size walk.declarations) (state p 0), ended) refl
+  none-below p = search (arith, next-ended, items-turn, next, nodes_advance, state)
 
   children-below : (children : Bool) (q : Place) → cond children (nodes_below (entry_ranges_in s unit) walk.offset_size walk.declarations q) (Ok []) ≡ nodes_on s unit (record { declarations = walk.declarations; offset_size = walk.offset_size; place = q; last = None }) (cond children 1 0)
-  children-below true q = refl
-  children-below false q = sym (none-below q)
+  children-below children q = grind (arith, none-below)
 
   below : (entry : Entry) (q : Place) → entry_at walk.offset_size walk.declarations walk.place ≡ Ok (Some entry, q) → can_be_used s unit 0 (Some entry) ≡ Ok tt
       → from_first ≡ (nodes_on s unit (record { declarations = walk.declarations; offset_size = walk.offset_size; place = q; last = None }) (depth_behind 0 (Some entry)) >>= λ others. Ok (record { depth = 0; entry = entry } ∷ others))
@@ -86,17 +68,14 @@ module _ (s : Sections) (unit : DwarfUnit) (walk : Walk) (size : walk.offset_siz
   -- ---- as the code reads it
 
   pub root-unread : (told : Option Fault) → Tells told (entry_at walk.offset_size walk.declarations walk.place) → MatchOption (option_map (λ _. entry_fault) told) (Unit {0}) (λ told. tree s unit ≡ Err told)
-  root-unread None e = absurd e
-  root-unread (Some fault) e = tree-is ∙ unread fault e
+  root-unread told e = grind (arith, tree-is, unread)
 
   pub root-null : (found : Option Entry) (q : Place) → entry_at walk.offset_size walk.declarations walk.place ≡ Ok (found, q) → found ≡ None → tree s unit ≡ Err entry_fault
   root-null found q e none = tree-is ∙ null q (e ∙ ap (λ (found : Option Entry). Ok (found, q)) none)
 
   pub root-unused : (of : UnitIn) (drafts : Drafts) (found : Option Entry) (q : Place) (told : Option TreeFault) → drafts ≡ no_drafts of → entry_at walk.offset_size walk.declarations walk.place ≡ Ok (found, q)
       → MatchOption told (Unit {0}) (λ told. can_be_used s unit (length drafts.lists) found ≡ Err told) → MatchOption told (Unit {0}) (λ told. tree s unit ≡ Err told)
-  root-unused of drafts found q None is e h = tt
-  root-unused of drafts found q (Some told) is e h =
-      tree-is ∙ unused found q told e (ap (λ (drafts : Drafts). can_be_used s unit (length drafts.lists) found) (sym is) ∙ h)
+  root-unused of drafts found q told is e h = grind (arith, tree-is, unused)
 
   -- where the first entry was kept
   pub record Began (drafts new_drafts : Drafts) (new : Walk) : Type 0 where
@@ -120,19 +99,14 @@ module _ (s : Sections) (unit : DwarfUnit) (walk : Walk) (size : walk.offset_siz
       }
 
   below-faults : (drafts new_drafts : Drafts) (new : Walk) (told : Option TreeFault) → Began drafts new_drafts new → MatchOption told (Unit {0}) (λ told. nodes_on s unit new (length new_drafts.lists) ≡ Err told) → MatchOption told (Unit {0}) (λ told. tree s unit ≡ Err told)
-  below-faults drafts new_drafts new None b h = tt
-  below-faults drafts new_drafts new (Some told) b h = b.nodes ∙ rw h refl
+  below-faults drafts new_drafts new told b h = grind arith
 
   below-follows : (drafts new_drafts last : Drafts) (new : Walk) (b : Began drafts new_drafts new)
       → (found after : List Node) × (bound : ℕ) × (nodes_on s unit new (length new_drafts.lists) ≡ Ok found) × (reverse after ≡ reverse (record { depth = 0; entry = b.entry } ∷ []) ++ found) × Follows s unit after last bound
       → (after : List Node) × (bound : ℕ) × (tree s unit ≡ Ok (reverse after)) × Follows s unit after last bound
-  below-follows drafts new_drafts last new b h =
-      let node : Node = record { depth = 0; entry = b.entry } in
-      let nodes : tree s unit ≡ Ok (node ∷ h.0) = b.nodes ∙ rw (h.3) refl in
-      (h.1, h.2, nodes ∙ ap Ok (sym h.4), h.5)
+  below-follows drafts new_drafts last new b h = grind arith
 
   -- what was read below the first entry, or the fault there
   pub below-read : (drafts new_drafts last : Drafts) (new : Walk) (result : Result (Unit {0}) frames.TreeFault) (b : Began drafts new_drafts new)
       → FollowsOn s unit (record { depth = 0; entry = b.entry } ∷ []) (nodes_on s unit new (length new_drafts.lists)) result last → FollowsAll s unit (read_into result last)
-  below-read drafts new_drafts last new (Ok done) b h = below-follows drafts new_drafts last new b h
-  below-read drafts new_drafts last new (Err fault) b h = below-faults drafts new_drafts new (tree_fault fault) b h
+  below-read drafts new_drafts last new result b h = grind (arith, below-follows, below-faults)

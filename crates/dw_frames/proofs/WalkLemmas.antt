@@ -1,5 +1,5 @@
 -- The entries of a unit one after the other, and what is kept of them.
-use Rattle.std.proofs.Common.{◌≡◌, ℕ, ◌+◌, ◌-◌, ◌<◌, ◌≤◌, Bool, true, false, cond, List, [], ◌∷◌, ◌++◌, length, reverse, Option, Some, None, Result, Ok, Err, refl, sym, ap, ◌∙◌, arith, length-append}
+use Rattle.std.proofs.Common.{◌≡◌, ℕ, ◌+◌, ◌-◌, ◌<◌, ◌≤◌, Bool, true, false, cond, List, [], ◌∷◌, ◌++◌, length, reverse, Option, Some, None, Result, Ok, Err, refl, sym, ◌∙◌, arith, length-append}
 use Rattle.std.specs.Prelude.{MatchOption, option_map, filter_map, ◌||◌, ◌==◌}
 use Rattle.std.proofs.lemmas.List.{append-nil, append_assoc}
 use Rattle.std.proofs.lemmas.List.Elements.{filter_map-append}
@@ -14,7 +14,7 @@ use Rattle.dw_model.specs.Tree.{Node, Reading, is_function, next_node, depth_beh
 use Rattle.dw_model.proofs.ItemsLemmas.{with_front, with_front-nil, loop_more, loop_done, loop_fault}
 use Rattle.dw_model.proofs.AdvanceLemmas.{nodes_advance}
 use Rattle.dw_units.specs.Entries.{Walk}
-use Rattle.dw_frames.specs.Drafts.{Drafts, behind, behind_function, is_idle, inside, nowhere, with_list, innermost, without_last}
+use Rattle.dw_frames.specs.Drafts.{Drafts, behind, behind_function, is_idle, with_list, innermost, without_last}
 use Rattle.dw_frames.specs.Known.{Same}
 use Rattle.dw_frames.specs.Placed.{Follows}
 use Rattle.dw_frames.specs.Reader.{can_be_used, nodes_on}
@@ -41,20 +41,13 @@ module _ (s : Sections) (unit : DwarfUnit) where
   -- ---- the depth after an entry
 
   children-depth : (children : Bool) (lists : List ℕ) (number : ℕ) → length (cond children (lists ++ number ∷ []) lists) ≡ cond children (length lists + 1) (length lists)
-  children-depth true lists number = length-append lists (number ∷ [])
-  children-depth false lists number = refl
+  children-depth children lists number = grind (arith, length-append)
 
   function-depth : (entry : Entry) (drafts : Drafts) (idle : Bool) → is_idle s unit entry ≡ idle → length (behind_function s unit entry drafts).lists ≡ cond entry.children (length drafts.lists + 1) (length drafts.lists)
-  function-depth entry drafts true e = rw e (children-depth entry.children drafts.lists nowhere)
-  function-depth entry drafts false e = rw e (children-depth entry.children drafts.lists (inside (length drafts.functions)))
+  function-depth entry drafts idle e = grind (arith, children-depth)
 
   pub behind-depth : (found : Option Entry) (drafts : Drafts) → length (behind s unit found drafts).lists ≡ depth_behind (length drafts.lists) found
-  behind-depth None drafts = without-last-length drafts.lists
-  behind-depth (Some entry) drafts = by_kind (is_function entry)
-    where
-      by_kind : (b : Bool) → length (cond b (behind_function s unit entry drafts) (with_list entry.children (innermost drafts) drafts)).lists ≡ cond entry.children (length drafts.lists + 1) (length drafts.lists)
-      by_kind true = function-depth entry drafts (is_idle s unit entry) refl
-      by_kind false = children-depth entry.children drafts.lists (innermost drafts)
+  behind-depth found drafts = grind (arith, without-last-length, function-depth, children-depth)
 
   -- ---- what is kept after an entry
 
@@ -114,8 +107,7 @@ module _ (s : Sections) (unit : DwarfUnit) where
 
   -- the entry that is read next is the same
   same-entry : (start walk : Walk) → walk.declarations ≡ start.declarations → walk.offset_size ≡ start.offset_size → entry_at start.offset_size start.declarations walk.place ≡ entry_at walk.offset_size walk.declarations walk.place
-  same-entry start walk same size =
-      ap (λ (ds : List Declaration). entry_at start.offset_size ds walk.place) (sym same) ∙ ap (λ (n : ℕ). entry_at n walk.declarations walk.place) (sym size)
+  same-entry start walk same size = grind arith
 
   pub starts : (before : List Node) (start : Walk) (drafts : Drafts) → Follows s unit before drafts start.place.at → SoFar before start (length drafts.lists) drafts start
   starts before start drafts f = record {
@@ -129,12 +121,7 @@ module _ (s : Sections) (unit : DwarfUnit) where
   }
 
   order-on : (before after : List Node) (front : List (Option Node)) (depth : ℕ) (found : Option Entry) → reverse after ≡ reverse before ++ filter_map (λ node. node) front → reverse (after_entry depth found after) ≡ reverse before ++ filter_map (λ node. node) (front ++ node_at depth found ∷ [])
-  order-on before after front depth None h =
-      h ∙ ap (λ (nodes : List Node). reverse before ++ nodes) (sym (filter_map-append (λ node. node) front (None ∷ []) ∙ append-nil (filter_map (λ node. node) front)))
-  order-on before after front depth (Some entry) h =
-      let node : Node = record { depth = depth; entry = entry } in
-      reverse-cons node after ∙ ap (λ (nodes : List Node). nodes ++ node ∷ []) h ∙ append_assoc (reverse before) (filter_map (λ node. node) front) (node ∷ [])
-      ∙ ap (λ (nodes : List Node). reverse before ++ nodes) (sym (filter_map-append (λ node. node) front (Some node ∷ [])))
+  order-on before after front depth found h = grind (arith, filter_map-append, append-nil, reverse-cons, append_assoc)
 
   pub goes-on : (before : List Node) (start : Walk) (depth : ℕ) (drafts new_drafts : Drafts) (walk new : Walk) (found : Option Entry) → (length drafts.lists == 0 || length walk.place.left == 0) ≡ false
       → new.declarations ≡ walk.declarations → new.offset_size ≡ walk.offset_size → entry_at walk.offset_size walk.declarations walk.place ≡ Ok (found, new.place) → can_be_used s unit (length drafts.lists) found ≡ Ok tt → Same (behind s unit found drafts) new_drafts → SoFar before start depth drafts walk → SoFar before start depth new_drafts new

@@ -1,5 +1,5 @@
 -- Range lists that were read for earlier functions of a unit.
-use Rattle.std.specs.Prelude.{◌≡◌, ◌⊎◌, ℕ, zero, suc, false, List, [], length, Option, Some, Ok, ◌==◌}
+use Rattle.std.specs.Prelude.{◌≡◌, ◌⊎◌, ℕ, false, List, length, Option, Some, Ok, ◌==◌}
 use Rattle.dw_model.specs.Entry.{Entry}
 use Rattle.dw_model.specs.Ranges.{Range}
 use Rattle.dw_model.specs.Text.{Tables}
@@ -17,21 +17,15 @@ abbrev pub HasRanges : Tables → RangeList → Type 0
 HasRanges tables list =
     (ranges : List Range) × (ranges_of_list tables list ≡ Ok ranges) × ((length ranges == 0) ≡ false)
 
--- what is noted of a list that was read: 0 where it has no ranges, and else 1
-abbrev pub WasRead : Tables → RangeList → ℕ → Type 0
-WasRead tables list zero = ranges_of_list tables list ≡ Ok []
-WasRead tables list (suc n) = HasRanges tables list
-
 -- a list has ranges, each address of which has an owner in a group
 abbrev pub IsOwned : Tables → Drafts → RangeList → (group : ℕ) → Type 0
 IsOwned tables drafts list group =
     (some : HasRanges tables list) × AreOwned (in_group group drafts.claims) (length drafts.functions) some.0
 
--- The unit is the same, and what is known of the lists that were read: whether they have ranges,
--- and in which groups earlier functions own each address of theirs.
+-- The unit is the same, and of lists it is known in which groups earlier functions own each address
+-- of theirs.
 pub record Knows (reading : Reading) (drafts : Drafts) : Type 0 where
   pub of : drafts.of ≡ reading.of
-  pub read : (known : RangeList × ℕ) → Has reading.read known → WasRead reading.of.sections.tables known.0 known.1
   pub owned : (known : RangeList × ℕ) → Has reading.owned known
       → IsOwned reading.of.sections.tables drafts known.0 known.1
 
@@ -43,7 +37,7 @@ pub record Same (drafts other : Drafts) : Type 0 where
   pub lists : other.lists ≡ drafts.lists
   pub owners : (group a : ℕ) → owner_in other.claims group a ≡ owner_in drafts.claims group a
 
--- A function was added with its ranges, or with those of its list, which is held by name.
+-- A function was added with its ranges, or with those of its list, which is held.
 abbrev pub WasAdded : Entry → List Range → Option RangeList → Drafts → Drafts → Type 0
 WasAdded entry ranges list old new =
     Same (with_function entry ranges old) new

@@ -5,11 +5,9 @@ use Rattle.dw_ranges.specs.declared.range_list.RangeList.{RangeList}
 use Rattle.dw_frames.specs.UnitIn.{UnitIn}
 
 -- The unit; the ranges of the list that was read last, and the places where lists begin that end as
--- it does; the lists that were read, each with what is noted of it; and the lists whose addresses
--- earlier functions own, each with the group.
+-- it does; and the lists whose addresses earlier functions own, each with the group.
 pub record Reading : Type 0 where
   pub of : UnitIn
   pub ranges : List Range
   pub begins : List ℕ
-  pub read : List (RangeList × ℕ)
   pub owned : List (RangeList × ℕ)

@@ -13,16 +13,16 @@ use std::alloc::{AllocError, Global};
 /// The functions of a unit that have ranges. Their numbers are those of their order. Whoever asks
 /// for those at an address passes the tables of the file.
 #[derive(Drop)]
-pub(crate) struct Chains {
+pub(crate) struct Chains<'a> {
     /// The index of the unit.
     pub(crate) unit: usize,
     /// The offsets of all functions, in order.
     pub(crate) functions: Vec<u64>,
     /// Their numbers, by their ranges.
-    pub(crate) owners: Owners,
+    pub(crate) owners: Owners<'a>,
 }
 
-impl Chains {
+impl<'a> Chains<'a> {
     /// The functions at an address, outermost first.
     pub(crate) fn at(
         &self,

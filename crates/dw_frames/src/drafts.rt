@@ -2,8 +2,7 @@
 
 ghost use Rattle.std.specs.Prelude.{◌≡◌, ◌≤◌, ◌+◌, ℕ, [], None, OnOk, IfOk, length, map};
 ghost use Rattle.dw_index.specs.Range.{range_shown};
-ghost use Rattle.dw_ranges.specs.Claims.{owner_in, owner_of};
-ghost use Rattle.dw_ranges.specs.Held.{listed};
+ghost use Rattle.dw_ranges.specs.Claims.{held_ranges, owner_in, owner_of};
 ghost use Rattle.dw_units.specs.OpenUnit.{unit_of};
 ghost use Rattle.dw_model.specs.Tree.{is_subprogram};
 ghost use Rattle.dw_frames.specs.Drafts as model;
@@ -13,7 +12,7 @@ ghost use Rattle.dw_frames.specs.UnitIn.{unit_in};
 
 use crate::chains::Chains;
 use dw_model::dwarf::DW_TAG_subprogram;
-use dw_ranges::{Claims, Owners, Range, RangeList};
+use dw_ranges::{Claims, ListIndexes, Listed, Owners, Range, RangeList};
 use dw_units::{EntryView, OpenUnit};
 use std::alloc::{AllocError, Global};
 use std::marker::Model;
@@ -40,7 +39,7 @@ pub(crate) struct Drafts<'b, 'a> {
     /// The offsets of those that have ranges, in order. The number of a function is its index here.
     functions: Vec<u64>,
     /// Their ranges.
-    claims: Claims,
+    claims: Claims<'a>,
     /// The lists of children that are open, the outermost first: each has the group of what is
     /// inlined there.
     lists: Vec<usize>,
@@ -116,11 +115,6 @@ impl<'b, 'a> Drafts<'b, 'a> {
         Ok(())
     }
 
-    /// Further lists of more than one range are held by name.
-    pub(crate) fn is_full(&self) -> bool {
-        self.claims.is_full()
-    }
-
     /// One more function with its ranges: those of a list, the first of them, or one at most.
     #[inline(always)]
     pub(crate) fn add(
@@ -128,26 +122,29 @@ impl<'b, 'a> Drafts<'b, 'a> {
         entry: &EntryView<'_, '_>,
         ranges: &[Range],
         list: Option<RangeList>,
+        indexes: &mut ListIndexes<'a>,
     ) -> Result<(), AllocError>
         requires { list ≡ None → length ranges.now ≤ 1 }
-        ensures { OnOk result (WasAdded entry.now (map range_shown ranges.now) list self.old self.new) }
+        ensures tables { indexes.new ≡ indexes.old }
+        ensures added { self.old.of.sections.tables ≡ indexes.old
+            → OnOk result (WasAdded entry.now (map range_shown ranges.now) list self.old self.new) }
     {
         let number = self.functions.len();
         let group = self.group_of(entry);
         self.functions.push(entry.offset())?;
-        self.claims.add(group, ranges, number, list)?;
+        self.claims.add(group, ranges, number, list, indexes)?;
         self.begin_list(entry.children(), number + 2)?;
         Ok(())
     }
 
-    /// One more function, whose list is held by name.
+    /// One more function, whose list is held.
     pub(crate) fn hold(
         &mut self,
         entry: &EntryView<'_, '_>,
-        list: RangeList,
+        list: Listed<'a>,
     ) -> Result<(), AllocError>
         ensures { OnOk result (self.new
-            ≡ model.with_function entry.now (listed self.old.of.sections.tables list) self.old) }
+            ≡ model.with_function entry.now (held_ranges self.old.of.sections.tables list.entry) self.old) }
     {
         let number = self.functions.len();
         let group = self.group_of(entry);
@@ -171,7 +168,7 @@ impl<'b, 'a> Drafts<'b, 'a> {
 
 impl<'b, 'a> Drafts<'b, 'a> {
     /// The functions of the unit, all of whose entries were read.
-    pub(crate) fn chains(self, alloc: Global) -> Result<Chains, AllocError>
+    pub(crate) fn chains(self, alloc: Global) -> Result<Chains<'a>, AllocError>
         ensures unit { IfOk result (λ chains. chains.unit ≡ self.entry.of.index) }
         ensures functions { IfOk result (λ chains. chains.functions.items ≡ self.entry.functions) }
         ensures owners { IfOk result (λ chains. (group a : ℕ)

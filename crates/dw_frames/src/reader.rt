@@ -7,12 +7,14 @@ ghost use Rattle.dw_model.specs.Faults.{depth_fault};
 ghost use Rattle.dw_model.specs.Tree.{most_depth, entry_ranges_in, is_subprogram};
 ghost use Rattle.dw_model.specs.Answers.{Gives};
 ghost use Rattle.dw_index.specs.Range.{range_shown};
+ghost use Rattle.dw_ranges.specs.ListIndex.{IsOfList};
 ghost use Rattle.dw_ranges.specs.Lists.{IsOneAtMost, ranges_of_list};
 ghost use Rattle.dw_ranges.specs.ReadLists.{Has};
 ghost use Rattle.dw_ranges.specs.Tails.{EndsAs, ReadsNew, tail_at};
 ghost use Rattle.dw_model.specs.Entry.{Entry as ModelEntry};
 ghost use Rattle.dw_units.specs.Entries.{IsNext};
 ghost use Rattle.dw_units.specs.NamedRanges.{IsNamed};
+ghost use Rattle.dw_units.specs.OpenUnit.{sections_of};
 ghost use Rattle.dw_frames.specs.Fault.{tree_fault};
 ghost use Rattle.dw_frames.specs.Drafts as model;
 ghost use Rattle.dw_frames.specs.Known.{Knows};
@@ -22,19 +24,16 @@ ghost use Rattle.dw_frames.specs.Reader.{AddsFunction, Keeps};
 use crate::drafts::{Drafts, NOWHERE, OUTERMOST};
 use crate::fault::TreeFault;
 use dw_ranges::{
-    Range, RangeFault, RangeList, ReadLists, list_of, read_list, read_new, read_ranges,
+    ListIndex, ListIndexes, Listed, Range, RangeFault, RangeList, ReadLists, list_of, read_list,
+    read_new, read_ranges,
 };
 use dw_units::{Entries, EntryView, NamedRanges, Next, OpenUnit};
 use std::alloc::{AllocError, Global};
 use std::marker::Model;
+use std::sync::Arc;
 
 /// Below how many entries one may be.
 const DEPTH: usize = 512;
-
-/// What is noted of a list that was read.
-const WITHOUT_RANGES: usize = 0;
-
-const WITH_RANGES: usize = 1;
 
 /// What reads the functions of a unit. Contracts see the unit, and what is known of lists.
 #[derive(Drop)]
@@ -44,26 +43,25 @@ pub(crate) struct Reader<'b, 'a> {
     pub(crate) ranges: Vec<Range>,
     /// The places where lists begin that have ranges and end as the list that was read last.
     pub(crate) begins: Vec<u64>,
-    /// How many bytes of lists may still be read before lists are noted: as many as .debug_rnglists
-    /// has in all, so that no look-up is paid for where few functions name one list, as in what
-    /// compilers write.
+    /// How many bytes of lists may still be read before lists are noted, or get an index: as many
+    /// as the unit has, so that no look-up is paid for where few functions name one list, as in
+    /// what compilers write.
     pub(crate) left: usize,
-    /// The lists that were read: those without ranges; and those with ranges, once further lists
-    /// are held by name.
-    pub(crate) read: ReadLists,
+    /// The indexes of lists, which readers of other units made too.
+    pub(crate) indexes: ListIndexes<'a>,
     /// The lists whose addresses earlier functions own, each with the group.
     pub(crate) owned: ReadLists,
 }
 
 impl<'b, 'a> Model for Reader<'b, 'a> {
     ghost use Rattle.dw_frames.specs.Reading.{Reading};
-    ghost use Rattle.dw_frames.specs.ReaderInside.{reading_of};
+    ghost use Rattle.dw_frames.specs.ReaderInside.{IsReader, reading_of};
 
     ghost Value = { Reading };
 
     ghost view = { reading_of };
 
-    ghost invariant = { λ reader. Unit {0} };
+    ghost invariant = { IsReader };
 }
 
 /// An entry may not be too deep.
@@ -96,25 +94,27 @@ fn has_none(tail: Option<RangeList>, ranges: &[Range]) -> bool
 
 impl<'b, 'a> Reader<'b, 'a> {
     /// No function of a unit was read yet.
-    pub(crate) fn new(alloc: Global, unit: OpenUnit<'b, 'a>) -> Self
+    pub(crate) fn new(alloc: Global, unit: OpenUnit<'b, 'a>, indexes: ListIndexes<'a>) -> Self
+        requires { indexes ≡ (sections_of unit).tables }
         ensures of { result.of ≡ unit_in unit.entry }
         ensures knows { Knows result (model.no_drafts (unit_in unit.entry)) }
     {
+        let here = unit.unit();
         Reader {
             unit,
             ranges: Vec::new(alloc),
             begins: Vec::new(alloc),
-            left: unit.units().tables().rnglists.len(),
-            read: ReadLists::new(alloc),
+            left: here.end.saturating_sub(here.offset) as usize,
+            indexes,
             owned: ReadLists::new(alloc),
         }
     }
 
-    /// The list was read, and this is noted of it.
-    fn was_read(&self, list: RangeList, note: usize) -> bool
-        ensures { result ≡ true → Has self.now.read (list, note) }
+    /// The indexes of lists, for readers of other units.
+    pub(crate) fn into_indexes(self) -> ListIndexes<'a>
+        ensures { result ≡ self.entry.of.sections.tables }
     {
-        self.left == 0 && self.read.has(list, note)
+        self.indexes
     }
 
     /// Earlier functions own each address of a list in a group.
@@ -124,21 +124,10 @@ impl<'b, 'a> Reader<'b, 'a> {
         self.left == 0 && self.owned.has(list, group)
     }
 
-    /// Notes a list without ranges.
-    fn note_idle(&mut self, list: RangeList) -> Result<(), AllocError>
-        ensures of { self.new.of ≡ self.old.of }
-        ensures owned { self.new.owned ≡ self.old.owned }
-        ensures read { OnOk result ((known : _) → Has self.new.read known → Has ((list, 0) ∷ self.old.read) known) }
-    {
-        self.read.note(list, WITHOUT_RANGES)?;
-        Ok(())
-    }
-
     /// Notes the list of a function that is kept, once lists are noted.
     fn note_owned(&mut self, list: RangeList, group: usize) -> Result<(), AllocError>
         ensures of { self.new.of ≡ self.old.of }
         ensures begins { self.new.begins ≡ self.old.begins }
-        ensures read { self.new.read ≡ self.old.read }
         ensures owned { OnOk result ((known : _) → Has self.new.owned known
             → Has ((list, group) ∷ self.old.owned) known) }
     {
@@ -149,22 +138,14 @@ impl<'b, 'a> Reader<'b, 'a> {
         Ok(())
     }
 
-    /// Notes what else is known of the list that was read last: that it has ranges, where further
-    /// lists are held by name, and the places where lists begin that end as it does.
-    fn note_read(&mut self, list: RangeList, is_full: bool) -> Result<(), AllocError>
+    /// Notes the places where lists begin that end as the list that was read last.
+    fn note_tails(&mut self, list: RangeList) -> Result<(), AllocError>
         ensures of { self.new.of ≡ self.old.of }
-        ensures read { OnOk result ((known : _) → Has self.new.read known → Has ((list, 1) ∷ self.old.read) known) }
         ensures owned { OnOk result ((known : _) → Has self.new.owned known
             → ((begin : ℕ) × Has self.old.begins begin × (known ≡ (tail_at list begin, 0)))
             ⊎ Has self.old.owned known) }
     {
-        if self.left > 0 {
-            return Ok(());
-        }
-        if is_full {
-            self.read.note(list, WITH_RANGES)?;
-        }
-        if self.begins.is_empty() {
+        if self.left > 0 || self.begins.is_empty() {
             return Ok(());
         }
         let size = self.unit.units().tables().rnglists.len();
@@ -172,11 +153,40 @@ impl<'b, 'a> Reader<'b, 'a> {
         Ok(())
     }
 
+    /// Makes an index of a list, so that it isn't read again.
+    fn make_index(&mut self, list: RangeList) -> Result<(), AllocError>
+        ensures { self.new ≡ self.old }
+    {
+        self.indexes.make(list)?;
+        Ok(())
+    }
+
+    /// So many bytes of a list were read: where they are more than may still be, it gets an index.
+    fn spend(&mut self, list: RangeList, size: usize) -> Result<(), AllocError>
+        ensures { self.new ≡ self.old }
+    {
+        if size <= self.left {
+            self.left -= size;
+            return Ok(());
+        }
+        self.left = 0;
+        self.make_index(list)
+    }
+
+    /// Notes a list without ranges, once lists are noted.
+    fn note_idle(&mut self, list: RangeList) -> Result<(), AllocError>
+        ensures { self.new ≡ self.old }
+    {
+        if self.left > 0 {
+            return Ok(());
+        }
+        self.make_index(list)
+    }
+
     /// Reads the ranges of a list: for a subprogram, once lists are noted, up to where the list
     /// goes on as one that was read for an earlier one, which owns the addresses from there on.
     fn read(&mut self, list: RangeList, group: usize) -> Result<Option<RangeList>, RangeFault>
         ensures of { self.new.of ≡ self.old.of }
-        ensures read { self.new.read ≡ self.old.read }
         ensures owned { self.new.owned ≡ self.old.owned }
         ensures ranges { ReadsNew self.old.of.sections.tables self.old.owned list result self.new.ranges }
         ensures group { (tail : RangeList) → result ≡ Ok (Some tail) → group ≡ 0 }
@@ -196,8 +206,54 @@ impl<'b, 'a> Reader<'b, 'a> {
         }
         self.begins.clear();
         let size = read_list(&mut self.ranges, list, tables)?;
-        self.left = self.left.saturating_sub(size);
+        self.spend(list, size)?;
         Ok(None)
+    }
+
+    /// The same; a list that can't be read gets an index, so that it isn't read again.
+    fn read_noted(&mut self, list: RangeList, group: usize) -> Result<Option<RangeList>, RangeFault>
+        ensures of { self.new.of ≡ self.old.of }
+        ensures owned { self.new.owned ≡ self.old.owned }
+        ensures ranges { ReadsNew self.old.of.sections.tables self.old.owned list result self.new.ranges }
+        ensures group { (tail : RangeList) → result ≡ Ok (Some tail) → group ≡ 0 }
+        ensures begins { OnOk result ((begin : ℕ) → Has self.new.begins begin
+            → (group ≡ 0) × EndsAs self.old.of.sections.tables list (tail_at list begin)) }
+    {
+        match self.read(list, group) {
+            Err(RangeFault::Bad) => {
+                self.make_index(list)?;
+                Err(RangeFault::Bad)
+            }
+            read => read,
+        }
+    }
+
+    /// Keeps a function whose list has an index, where the list has ranges: it isn't read.
+    fn add_indexed(
+        &mut self,
+        drafts: &mut Drafts<'b, 'a>,
+        entry: &EntryView<'_, 'a>,
+        list: RangeList,
+        index: Arc<ListIndex<'a>>,
+    ) -> Result<(), TreeFault>
+        requires { IsOfList self.now.of.sections.tables list index.value }
+        ensures same { self.new.of ≡ self.old.of }
+        ensures function { Knows self.old drafts.old
+            → entry_ranges_in self.old.of.sections self.old.of.unit entry.now
+            ≡ ranges_of_list self.old.of.sections.tables list
+            → AddsFunction self.old.of.sections self.old.of.unit entry.now result drafts.old drafts.new }
+        ensures known { Knows self.old drafts.old
+            → entry_ranges_in self.old.of.sections self.old.of.unit entry.now
+            ≡ ranges_of_list self.old.of.sections.tables list → OnOk result (Knows self.new drafts.new) }
+    {
+        if !index.has_ranges(list.base)? {
+            leave_out(drafts, entry)?;
+            return Ok(());
+        }
+        let group = drafts.group_of(entry);
+        drafts.hold(entry, Listed::Indexed(index, list.base))?;
+        self.note_owned(list, group)?;
+        Ok(())
     }
 
     /// Keeps a function that names a range list, where the list has ranges. A list is read once for
@@ -217,29 +273,23 @@ impl<'b, 'a> Reader<'b, 'a> {
             → entry_ranges_in self.old.of.sections self.old.of.unit entry.now
             ≡ ranges_of_list self.old.of.sections.tables list → OnOk result (Knows self.new drafts.new) }
     {
-        if self.was_read(list, WITHOUT_RANGES) {
-            leave_out(drafts, entry)?;
-            return Ok(());
-        }
         let group = drafts.group_of(entry);
         if self.is_owned(list, group) {
             drafts.pass(entry)?;
             return Ok(());
         }
-        if drafts.is_full() && self.was_read(list, WITH_RANGES) {
-            drafts.hold(entry, list)?;
-            self.note_owned(list, group)?;
-            return Ok(());
+        if let Some(index) = self.indexes.get(list)? {
+            return self.add_indexed(drafts, entry, list, index);
         }
-        let tail = self.read(list, group)?;
+        let tail = self.read_noted(list, group)?;
         if has_none(tail, &self.ranges) {
             self.note_idle(list)?;
             leave_out(drafts, entry)?;
             return Ok(());
         }
-        drafts.add(entry, &self.ranges, Some(list))?;
+        drafts.add(entry, &self.ranges, Some(list), &mut self.indexes)?;
         self.note_owned(list, group)?;
-        self.note_read(list, drafts.is_full())?;
+        self.note_tails(list)?;
         Ok(())
     }
 
@@ -263,7 +313,7 @@ impl<'b, 'a> Reader<'b, 'a> {
             leave_out(drafts, entry)?;
             return Ok(());
         }
-        drafts.add(entry, &self.ranges, None)?;
+        drafts.add(entry, &self.ranges, None, &mut self.indexes)?;
         Ok(())
     }
 

@@ -25,6 +25,7 @@ use crate::function::{Call, Described, EntryId, call_of, no_call};
 use crate::name::{UnitEntry, name_of};
 use crate::walk::read_all;
 use dw_model::dwarf::{DW_TAG_inlined_subroutine, DW_TAG_subprogram};
+use dw_ranges::ListIndexes;
 use dw_units::{Layouts, Units};
 use std::alloc::{AllocError, Global};
 use std::marker::Model;
@@ -35,7 +36,7 @@ use std::sync::Arc;
 #[derive(Drop)]
 pub struct Tree<'a> {
     units: Arc<Units<'a>>,
-    chains: Chains,
+    chains: Chains<'a>,
     /// The layouts of its declarations.
     layouts: Layouts<'a>,
     /// What was told of its functions. Contracts don't see it.
@@ -70,11 +71,34 @@ impl<'a> Tree<'a> {
         ensures fault { IfErr result (λ fault. MatchOption (tree_fault fault) (Unit {0})
             (λ told. model.tree units.now.value (unit_at units.now.value i) ≡ Err told)) }
     {
+        let mut indexes = ListIndexes::new(alloc, units.tables());
+        Tree::read_with(alloc, units, i, &mut indexes)
+    }
+
+    /// The same, with indexes of range lists of the file that many functions name: a list that has
+    /// one isn't read, and others may get one.
+    pub fn read_with(
+        alloc: Global,
+        units: &Arc<Units<'a>>,
+        i: usize,
+        indexes: &mut ListIndexes<'a>,
+    ) -> Result<Self, TreeFault>
+        requires within { i < length (cut.units units.now.value.info) }
+        requires kept { IfSome (slice_get (cut.units units.now.value.info) i) (λ unit. is_skipped unit.kind ≡ false) }
+        requires tables { indexes.old ≡ units.now.value.tables }
+        ensures tables { indexes.new ≡ indexes.old }
+        ensures unit { IfOk result (λ tree. tree
+            ≡ record { index = i; sections = units.now.value; unit = unit_at units.now.value i }) }
+        ensures tree { IfOk result (λ tree. model.tree tree.sections tree.unit
+            ≡ Ok (nodes_of tree.sections tree.unit)) }
+        ensures fault { IfErr result (λ fault. MatchOption (tree_fault fault) (Unit {0})
+            (λ told. model.tree units.now.value (unit_at units.now.value i) ≡ Err told)) }
+    {
         let unit = units.at(i);
         let Some(mut entries) = unit.entries(alloc) else {
             return Err(TreeFault::Entry);
         };
-        let drafts = read_all(alloc, unit, &mut entries)?;
+        let drafts = read_all(alloc, unit, &mut entries, indexes)?;
         let chains = drafts.chains(alloc)?;
         Ok(Tree {
             units: Arc::try_clone(units)?,

@@ -13,8 +13,10 @@ ghost use Rattle.dw_frames.specs.UnitIn.{unit_in};
 use crate::drafts::Drafts;
 use crate::fault::TreeFault;
 use crate::reader::Reader;
+use dw_ranges::ListIndexes;
 use dw_units::{Entries, Next, OpenUnit};
 use std::alloc::Global;
+use std::mem;
 
 /// Reads entries until the list below the unit's first one has ended, or the unit has.
 fn read_below<'b, 'a>(
@@ -23,6 +25,7 @@ fn read_below<'b, 'a>(
     drafts: &mut Drafts<'b, 'a>,
 ) -> Result<(), TreeFault>
     ensures declarations { OnOk result (entries.new.declarations ≡ entries.old.declarations) }
+    ensures reader { reader.new.of ≡ reader.old.of }
     ensures of { Knows reader.old drafts.old → OnOk result (drafts.new.of ≡ reader.old.of) }
     ensures follows { Knows reader.old drafts.old → (before : List Node)
         → Follows reader.old.of.sections reader.old.of.unit before drafts.old entries.old.place.at
@@ -43,6 +46,7 @@ fn read_from_first<'b, 'a>(
     drafts: &mut Drafts<'b, 'a>,
 ) -> Result<(), TreeFault>
     ensures declarations { OnOk result (entries.new.declarations ≡ entries.old.declarations) }
+    ensures reader { reader.new.of ≡ reader.old.of }
     ensures of { Knows reader.old drafts.old → OnOk result (drafts.new.of ≡ reader.old.of) }
     ensures follows { Knows reader.old drafts.old → drafts.old ≡ no_drafts reader.old.of
         → WalksFrom reader.old.of.sections reader.old.of.unit (Some entries.old)
@@ -61,14 +65,20 @@ pub(crate) fn read_all<'b, 'a>(
     alloc: Global,
     unit: OpenUnit<'b, 'a>,
     entries: &mut Entries<'b, 'a>,
+    indexes: &mut ListIndexes<'a>,
 ) -> Result<Drafts<'b, 'a>, TreeFault>
-    requires { WalksFrom (sections_of unit) (unit_of unit) (Some entries.old) }
+    requires walk { WalksFrom (sections_of unit) (unit_of unit) (Some entries.old) }
+    requires tables { indexes.old ≡ (sections_of unit).tables }
+    ensures tables { indexes.new ≡ indexes.old }
     ensures declarations { OnOk result (entries.new.declarations ≡ entries.old.declarations) }
     ensures of { IfOk result (λ drafts. drafts.of ≡ unit_in unit.entry) }
     ensures follows { FollowsAll (sections_of unit.entry) (unit_of unit.entry) result }
 {
-    let mut reader = Reader::new(alloc, unit);
+    let none = ListIndexes::new(alloc, unit.units().tables());
+    let mut reader = Reader::new(alloc, unit, mem::replace(indexes, none));
     let mut drafts = Drafts::new(alloc, unit);
-    read_from_first(&mut reader, entries, &mut drafts)?;
+    let read = read_from_first(&mut reader, entries, &mut drafts);
+    *indexes = reader.into_indexes();
+    read?;
     Ok(drafts)
 }

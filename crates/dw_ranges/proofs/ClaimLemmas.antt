@@ -12,8 +12,7 @@ use Rattle.dw_index.proofs.LawLemmas.{of_list}
 use Rattle.dw_index.proofs.OwnerLemmas.{least-assoc, least-none, least_owner-append}
 use Rattle.dw_ranges.specs.declared.held.HeldList.{HeldList}
 use Rattle.dw_ranges.specs.declared.range_list.RangeList.{RangeList}
-use Rattle.dw_ranges.specs.Claims.{Claim, Adds, AddsListed, ClaimsState, OwnersState, all_claims, claims_in, held_claims, in_group, kept_owner, owner_in, owner_of, raised}
-use Rattle.dw_ranges.specs.Held.{listed}
+use Rattle.dw_ranges.specs.Claims.{Claim, Adds, AddsListed, ClaimsState, OwnersState, all_claims, claims_in, held_claims, held_ranges, in_group, kept_owner, owner_in, owner_of, raised}
 use Rattle.dw_ranges.specs.Owned.{owned}
 use Rattle.dw_ranges.proofs.GroupLemmas.{all-elsewhere, all-here, group-append, group-elsewhere, group-here}
 
@@ -97,19 +96,19 @@ module _ (pairs : List (Range × ℕ)) (owners : OwnersState) (index : (a : ℕ)
 
 -- ---- lists that are held by name
 
-pub held-push : (tables : Tables) (lists : List HeldList) (held : HeldList) → held_claims tables (lists ++ held ∷ []) ≡ held_claims tables lists ++ claims_in held.group (owned (listed tables held.list) held.owner)
+pub held-push : (tables : Tables) (lists : List HeldList) (held : HeldList) → held_claims tables (lists ++ held ∷ []) ≡ held_claims tables lists ++ claims_in held.group (owned (held_ranges tables held.list) held.owner)
 unfolding held_claims
-held-push tables [] held = append-nil (claims_in held.group (owned (listed tables held.list) held.owner))
+held-push tables [] held = append-nil (claims_in held.group (owned (held_ranges tables held.list) held.owner))
 held-push tables (list ∷ lists) held =
-    ap (λ (rest : List Claim). claims_in list.group (owned (listed tables list.list) list.owner) ++ rest) (held-push tables lists held)
-    ∙ sym (append_assoc (claims_in list.group (owned (listed tables list.list) list.owner)) (held_claims tables lists) (claims_in held.group (owned (listed tables held.list) held.owner)))
+    ap (λ (rest : List Claim). claims_in list.group (owned (held_ranges tables list.list) list.owner) ++ rest) (held-push tables lists held)
+    ∙ sym (append_assoc (claims_in list.group (owned (held_ranges tables list.list) list.owner)) (held_claims tables lists) (claims_in held.group (owned (held_ranges tables held.list) held.owner)))
 
 pub held-on : (tables : Tables) (kept : List Claim) (lists new : List HeldList) (held : HeldList) (room : ℕ) (old : ClaimsState) → new ≡ lists ++ held ∷ [] → record { kept = kept; held = lists; room = room } ≡ old
-    → kept ++ held_claims tables new ≡ all_claims tables old ++ claims_in held.group (owned (listed tables held.list) held.owner)
+    → kept ++ held_claims tables new ≡ all_claims tables old ++ claims_in held.group (owned (held_ranges tables held.list) held.owner)
 held-on tables kept lists new held room old pushed is =
     ap (λ (all : List Claim). kept ++ all) (ap (held_claims tables) pushed ∙ held-push tables lists held)
-    ∙ sym (append_assoc kept (held_claims tables lists) (claims_in held.group (owned (listed tables held.list) held.owner)))
-    ∙ ap (λ (old : ClaimsState). all_claims tables old ++ claims_in held.group (owned (listed tables held.list) held.owner)) is
+    ∙ sym (append_assoc kept (held_claims tables lists) (claims_in held.group (owned (held_ranges tables held.list) held.owner)))
+    ∙ ap (λ (old : ClaimsState). all_claims tables old ++ claims_in held.group (owned (held_ranges tables held.list) held.owner)) is
 
 pub on-ok : {A E P Q : Type 0} (result : Result A E) → (P → Q) → OnOk result P → OnOk result Q
 on-ok (Ok x) f h = f h
@@ -147,20 +146,19 @@ module _ (tables : Tables) (lists : List HeldList) (group a : ℕ) (found : Opti
   pub found-all : (i : ℕ) (last : Option ℕ) → length lists ≤ i → FoundOf i last → last ≡ least found (owner_in (held_claims tables lists) group a)
   found-all i last h e = e ∙ ap (λ (all : List HeldList). least found (owner_in (held_claims tables all) group a)) (take_all i lists h)
 
-  module _ (i : ℕ) (d : HeldList) (last next : Option ℕ) (within : i < length lists) (before : FoundOf i last) where
-    abbrev item : HeldList
-    item = get_or lists i d
-
+  module _ (i : ℕ) (one : HeldList) (is : one ≡ get_or lists i one) (last next : Option ℕ) (within : i < length lists) (before : FoundOf i last) where
     abbrev pairs : List (Range × ℕ)
-    pairs = owned (listed tables item.list) item.owner
+    pairs = owned (held_ranges tables one.list) one.owner
 
-    one-more : held_claims tables (take (i + 1) lists) ≡ held_claims tables (take i lists) ++ claims_in item.group pairs
-    one-more = ap (held_claims tables) (take_more lists i d within) ∙ held-push tables (take i lists) item
+    one-more : held_claims tables (take (i + 1) lists) ≡ held_claims tables (take i lists) ++ claims_in one.group pairs
+    one-more =
+        ap (held_claims tables) (take_more lists i one within) ∙ held-push tables (take i lists) (get_or lists i one)
+        ∙ ap (λ (item : HeldList). held_claims tables (take i lists) ++ claims_in item.group (owned (held_ranges tables item.list) item.owner)) (sym is)
 
-    pub found-here : item.group ≡ group → next ≡ least last (least_owner pairs a) → FoundOf (i + 1) next
+    pub found-here : one.group ≡ group → next ≡ least last (least_owner pairs a) → FoundOf (i + 1) next
     found-here same e =
-        rw (one-more, group-here group item.group (held_claims tables (take i lists)) pairs same)
+        rw (one-more, group-here group one.group (held_claims tables (take i lists)) pairs same)
         (e ∙ rw before (least-assoc found (owner_in (held_claims tables (take i lists)) group a) (least_owner pairs a) ∙ ap (least found) (sym (least_owner-append (in_group group (held_claims tables (take i lists))) pairs a))))
 
-    pub found-elsewhere : (item.group ≡ group → ⊥) → next ≡ last → FoundOf (i + 1) next
-    found-elsewhere apart e = rw (one-more, group-elsewhere group item.group (held_claims tables (take i lists)) pairs apart) (e ∙ before)
+    pub found-elsewhere : (one.group ≡ group → ⊥) → next ≡ last → FoundOf (i + 1) next
+    found-elsewhere apart e = rw (one-more, group-elsewhere group one.group (held_claims tables (take i lists)) pairs apart) (e ∙ before)

@@ -7,7 +7,9 @@ pub mod HeldLemmas
 pub mod PlaceLemmas
 pub mod MarkLemmas
 pub mod NewLemmas
-pub mod BaseLemmas
+pub mod MakesLemmas
+pub mod PartsLemmas
+pub mod IndexLemmas
 pub mod GetLemmas
 pub mod GroupLemmas
 pub mod LinkLemmas

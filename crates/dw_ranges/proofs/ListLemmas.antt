@@ -29,7 +29,7 @@ pub front-nil : (later : Ranges) → onto_front [] later ≡ later
 front-nil (Ok ranges) = refl
 front-nil (Err e) = refl
 
-front-append : (first second : List Range) (later : Ranges) → onto_front first (onto_front second later) ≡ onto_front (first ++ second) later
+pub front-append : (first second : List Range) (later : Ranges) → onto_front first (onto_front second later) ≡ onto_front (first ++ second) later
 front-append first second (Ok ranges) = ap Ok (sym (append_assoc first second ranges))
 front-append first second (Err e) = refl
 
@@ -72,7 +72,7 @@ entry-step tables bases base (start_length start length) entries = kept-onto sta
 
 -- ---- the entries that are left
 
-one_fault : (e f : Bad) → e ≡ f
+pub one_fault : (e f : Bad) → e ≡ f
 one_fault bad bad = refl
 
 any_fault : (done : Result Outcome Bad) (after : Outcome → Ranges) (e : Bad) → ((o : Outcome) → after o ≡ Err e) → (done >>= after) ≡ Err e
@@ -87,18 +87,18 @@ turned tables bases base entry (Ok found) = entry-step tables bases base entry f
 turned tables bases base entry (Err e) =
     sym (any_fault (step tables bases base entry) _ e (λ o. refl))
 
-ranges-turn : (tables : Tables) (bases : Bases) (base : Result ℕ Bad) (entry : RangeEntry) (p q : Place) → next_range_entry p ≡ Ok (Some entry, q) → ranges_from tables bases base p ≡ (step tables bases base entry >>= λ o. onto_front (option_to_list o.range) (ranges_from tables bases o.base q))
+pub ranges-turn : (tables : Tables) (bases : Bases) (base : Result ℕ Bad) (entry : RangeEntry) (p q : Place) → next_range_entry p ≡ Ok (Some entry, q) → ranges_from tables bases base p ≡ (step tables bases base entry >>= λ o. onto_front (option_to_list o.range) (ranges_from tables bases o.base q))
 ranges-turn tables bases base entry p q e =
     let read : items (λ r. r.left) next_range_entry p ≡ onto entry (items (λ r. r.left) next_range_entry q) = rw (items-turn next_range_entry (λ r. r.left) range_entries_advance p, e) refl in
     rw read (turned tables bases base entry (items (λ r. r.left) next_range_entry q))
 
-ranges-end : (tables : Tables) (bases : Bases) (base : Result ℕ Bad) (p q : Place) → next_range_entry p ≡ Ok (None, q) → ranges_from tables bases base p ≡ Ok []
+pub ranges-end : (tables : Tables) (bases : Bases) (base : Result ℕ Bad) (p q : Place) → next_range_entry p ≡ Ok (None, q) → ranges_from tables bases base p ≡ Ok []
 unfolding entry_ranges
 ranges-end tables bases base p q e =
     let read : items (λ r. r.left) next_range_entry p ≡ Ok ([], q) = rw (items-turn next_range_entry (λ r. r.left) range_entries_advance p, e) refl in
     rw read refl
 
-ranges-fault : (tables : Tables) (bases : Bases) (base : Result ℕ Bad) (p : Place) (f : Bad) → next_range_entry p ≡ Err f → ranges_from tables bases base p ≡ Err f
+pub ranges-fault : (tables : Tables) (bases : Bases) (base : Result ℕ Bad) (p : Place) (f : Bad) → next_range_entry p ≡ Err f → ranges_from tables bases base p ≡ Err f
 ranges-fault tables bases base p f e =
     let read : items (λ r. r.left) next_range_entry p ≡ Err f = rw (items-turn next_range_entry (λ r. r.left) range_entries_advance p, e) refl in
     rw read refl

@@ -1,24 +1,26 @@
 -- Ranges of which those are kept that matter in a window of addresses.
-use Rattle.std.proofs.Common.{◌≡◌, ◌∙◌, ℕ, ◌<◌, ◌≤◌, Bool, true, false, List, [], ◌∷◌, ◌++◌, map, Option, Some, None, refl, sym, ap, subst, append_assoc, take, length, get_or, ◌+◌, arith}
-use Rattle.std.specs.Prelude.{◌&&◌, nat_le, nat_lt}
+use Rattle.std.proofs.Common.{◌≡◌, ◌∙◌, ℕ, ◌<◌, ◌≤◌, Bool, true, false, cond, List, [], ◌∷◌, ◌++◌, map, Option, Some, None, refl, sym, ap, subst, append_assoc, take, length, get_or, ◌+◌, arith}
+use Rattle.std.specs.Prelude.{◌&&◌, ◌||◌, nat_le, nat_lt}
 use Rattle.std.proofs.lemmas.Bool.Decides.{nat_tests}
-use Rattle.std.proofs.lemmas.List.{map-append, take_all, take_more}
-use Rattle.dw_model.specs.Ranges.{Range}
+use Rattle.std.proofs.lemmas.List.{append-nil, map-append, take_all, take_more}
+use Rattle.std.proofs.lemmas.List.Folds.{list_any-append}
+use Rattle.dw_model.specs.Ranges.{Range, covers, holds}
 use Rattle.dw_model.specs.Text.{Tables}
 use Rattle.dw_index.specs.declared.range.Range.{Range as CodeRange}
 use Rattle.dw_index.specs.declared.segment.Segment.{Segment}
 use Rattle.dw_index.specs.Owners.{least, least_owner, owner_in}
 use Rattle.dw_index.specs.Range.{range_shown, pair_shown}
 use Rattle.dw_index.specs.Segments.{owner_at}
+use Rattle.dw_index.proofs.LawLemmas.{of_list}
 use Rattle.dw_index.proofs.OwnerLemmas.{least_owner-append, least-none}
-use Rattle.dw_ranges.specs.Held.{listed}
 use Rattle.dw_ranges.specs.declared.held.HeldList.{HeldList}
 use Rattle.dw_ranges.specs.declared.window.draft.Draft.{Draft}
-use Rattle.dw_ranges.specs.Claims.{claims_in, held_claims, in_group}
+use Rattle.dw_ranges.specs.Claims.{claims_in, held_claims, held_ranges, in_group}
 use Rattle.dw_ranges.specs.Owned.{owned}
-use Rattle.dw_ranges.specs.Window.{ArePieces, HasOwners}
+use Rattle.dw_ranges.specs.Window.{ArePieces, HasOwners, PiecesTo}
 use Rattle.dw_ranges.proofs.ClaimLemmas.{held-push}
 use Rattle.dw_ranges.proofs.GroupLemmas.{group-here, group-elsewhere}
+use Rattle.dw_ranges.proofs.MakesLemmas.{or-false}
 
 -- one range more
 with-one : (pairs : List (Range × ℕ)) (one : Range × ℕ) (a : ℕ) → least_owner (pairs ++ one ∷ []) a ≡ least (least_owner pairs a) (owner_in a one)
@@ -144,22 +146,84 @@ pub all-added : (ranges : List CodeRange) (owner k : ℕ) (old new : Draft) → 
 all-added ranges owner k old new past added all from has =
     subst (λ (ranges : List CodeRange). HasOwners (all ++ shown ranges owner) from new) (take_all k ranges past) (added all from has)
 
--- ---- lists that are held by name
+-- ---- the pieces of a list that has an index
 
-module _ (tables : Tables) (held : List HeldList) (k from : ℕ) (d : HeldList) (within : k < length held) where
-  abbrev one : HeldList
-  one = get_or held k d
+pub no-piece : (ranges : List Range) (owner : ℕ) (draft : Draft) → PiecesTo ranges owner draft.from draft draft
+no-piece ranges owner draft = record {
+  pieces = [];
+  reached = omega arith;
+  below = λ a low high. absurd (omega (arith, low, high));
+  above = λ a up. refl;
+  added = λ all from has. rw (append-nil all) has;
+}
 
-  one-more : held_claims tables (take (k + 1) held) ≡ held_claims tables (take k held) ++ claims_in one.group (owned (listed tables one.list) one.owner)
-  one-more = ap (held_claims tables) (take_more held k d within) ∙ held-push tables (take k held) one
+module _ (ranges : List Range) (owner at next : ℕ) (old draft : Draft) (on : at < next) (steady : (a : ℕ) → at ≤ a → a < next → covers a ranges ≡ covers at ranges) (to : PiecesTo ranges owner at old draft) where
+  pub gap-passed : covers at ranges ≡ false → PiecesTo ranges owner next old draft
+  gap-passed none = record {
+    pieces = to.pieces;
+    reached = let low = to.reached in omega (arith, low, on);
+    below = λ a low high. by a low high (nat_lt a at) refl;
+    above = λ a up. to.above a (omega (arith, on, up));
+    added = to.added;
+  }
+    where
+      by : (a : ℕ) → old.from ≤ a → a < next → (test : Bool) → nat_lt a at ≡ test → covers a to.pieces ≡ covers a ranges
+      by a low high true e = to.below a low (grind (arith, nat_tests, e))
+      by a low high false e =
+          let up : at ≤ a = grind (arith, nat_tests, e) in
+          to.above a up ∙ sym (steady a up high ∙ none)
+
+  pub piece-passed : (new : Draft) → covers at ranges ≡ true → ((all : List (Range × ℕ)) (from : ℕ) → HasOwners all from draft → HasOwners (all ++ (record { begin = at; end = next }, owner) ∷ []) from new) → PiecesTo ranges owner next old new
+  piece-passed new some push = record {
+    pieces = to.pieces ++ one ∷ [];
+    reached = let low = to.reached in omega (arith, low, on);
+    below = λ a low high. list_any-append (holds a) to.pieces (one ∷ []) ∙ by a low high (nat_lt a at) refl;
+    above = λ a up. list_any-append (holds a) to.pieces (one ∷ []) ∙ rw (to.above a (omega (arith, on, up)), after-end at next a up) refl;
+    added = λ all from has.
+        subst (λ all. HasOwners all from new) (append_assoc all (owned to.pieces owner) ((one, owner) ∷ []) ∙ ap (λ others. all ++ others) (sym (map-append (λ (range : Range). (range, owner)) to.pieces (one ∷ []))))
+        (push (all ++ owned to.pieces owner) from (to.added all from has));
+  }
+    where
+      one : Range
+      one = record { begin = at; end = next }
+
+      by : (a : ℕ) → old.from ≤ a → a < next → (test : Bool) → nat_lt a at ≡ test → (covers a to.pieces || (holds a one || false)) ≡ covers a ranges
+      by a low high true e =
+          let before : a < at = grind (arith, nat_tests, e) in
+          rw (below-begin at next a before) (or-false (covers a to.pieces) ∙ to.below a low before)
+      by a low high false e =
+          let up : at ≤ a = grind (arith, nat_tests, e) in
+          rw (to.above a up, between at next a up high) (sym (steady a up high ∙ some))
+
+pub pieces-all : (ranges : List Range) (owner at : ℕ) (old draft : Draft) → draft.until ≤ at → PiecesTo ranges owner at old draft → (all : List (Range × ℕ)) (from : ℕ) → HasOwners all from old → HasOwners (all ++ owned ranges owner) from draft
+pieces-all ranges owner at old draft past to all from has =
+    let added = to.added all from has in
+    record {
+      begin = added.begin;
+      some = added.some;
+      owners = λ a low high.
+          let same : covers a to.pieces ≡ covers a ranges = to.below a (let at_from = has.begin in omega (arith, at_from, low)) (omega (arith, past, high)) in
+          added.owners a low high
+          ∙ least_owner-append all (owned to.pieces owner) a
+          ∙ ap (least (least_owner all a)) (of_list to.pieces owner a ∙ ap (λ (held : Bool). cond held (Some owner) None) same ∙ sym (of_list ranges owner a))
+          ∙ sym (least_owner-append all (owned ranges owner) a);
+    }
+
+-- ---- lists that are held
+
+module _ (tables : Tables) (held : List HeldList) (k from : ℕ) (one : HeldList) (is : one ≡ get_or held k one) (within : k < length held) where
+  one-more : held_claims tables (take (k + 1) held) ≡ held_claims tables (take k held) ++ claims_in one.group (owned (held_ranges tables one.list) one.owner)
+  one-more =
+      ap (held_claims tables) (take_more held k one within) ∙ held-push tables (take k held) (get_or held k one)
+      ∙ ap (λ (item : HeldList). held_claims tables (take k held) ++ claims_in item.group (owned (held_ranges tables item.list) item.owner)) (sym is)
 
   pub other-group : (draft : Draft) → (one.group ≡ 0 → ⊥) → HasOwners (in_group 0 (held_claims tables (take k held))) from draft → HasOwners (in_group 0 (held_claims tables (take (k + 1) held))) from draft
   other-group draft apart has =
-      rw (one-more, group-elsewhere 0 one.group (held_claims tables (take k held)) (owned (listed tables one.list) one.owner) apart) has
+      rw (one-more, group-elsewhere 0 one.group (held_claims tables (take k held)) (owned (held_ranges tables one.list) one.owner) apart) has
 
-  pub one-held : (ranges : List CodeRange) (old new : Draft) → one.group ≡ 0 → map range_shown ranges ≡ listed tables one.list → HasOwners (in_group 0 (held_claims tables (take k held))) from old
-      → ((all : List (Range × ℕ)) (from : ℕ) → HasOwners all from old → HasOwners (all ++ shown ranges one.owner) from new)
+  pub one-held : (old new : Draft) → one.group ≡ 0 → HasOwners (in_group 0 (held_claims tables (take k held))) from old
+      → ((all : List (Range × ℕ)) (from : ℕ) → HasOwners all from old → HasOwners (all ++ owned (held_ranges tables one.list) one.owner) from new)
       → HasOwners (in_group 0 (held_claims tables (take (k + 1) held))) from new
-  one-held ranges old new same is has add =
-      rw (one-more, group-here 0 one.group (held_claims tables (take k held)) (owned (listed tables one.list) one.owner) same, ← is)
+  one-held old new same has add =
+      rw (one-more, group-here 0 one.group (held_claims tables (take k held)) (owned (held_ranges tables one.list) one.owner) same)
       (add (in_group 0 (held_claims tables (take k held))) from has)

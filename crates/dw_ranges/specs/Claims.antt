@@ -7,8 +7,11 @@ use Rattle.dw_index.specs.declared.segment.Segment.{Segment}
 use Rattle.dw_index.specs.Owners.{least, least_owner}
 use Rattle.dw_index.specs.Segments.{owner_at}
 use Rattle.dw_ranges.specs.declared.held.HeldList.{HeldList}
+use Rattle.dw_ranges.specs.declared.held.Listed.{Listed}
+use Rattle.dw_ranges.specs.declared.held.Listed.TheVariants.{Named, Indexed}
 use Rattle.dw_ranges.specs.declared.range_list.RangeList.{RangeList}
 use Rattle.dw_ranges.specs.Held.{listed}
+use Rattle.dw_ranges.specs.ListIndex.{listed_from}
 use Rattle.dw_ranges.specs.Owned.{owned}
 
 -- a range with its owner, in a group
@@ -37,11 +40,16 @@ abbrev pub Adds : (group : ℕ) → List Range → (owner : ℕ) → (old new : 
 Adds group ranges owner old new =
     (k a : ℕ) → owner_in new k a ≡ owner_in (old ++ claims_in group (owned ranges owner)) k a
 
--- the ranges of lists that are held by name
+-- the ranges of a list that is held by name, or by its index
+abbrev pub held_ranges : Tables → Listed → List Range
+held_ranges tables (Named list) = listed tables list
+held_ranges tables (Indexed index base) = listed_from index.value base
+
+-- the ranges of lists that are held
 unfoldable pub held_claims : Tables → List HeldList → List Claim
 held_claims tables [] = []
 held_claims tables (held ∷ lists) =
-    claims_in held.group (owned (listed tables held.list) held.owner) ++ held_claims tables lists
+    claims_in held.group (owned (held_ranges tables held.list) held.owner) ++ held_claims tables lists
 
 -- ---- while they are gathered
 
@@ -55,7 +63,7 @@ pub record ClaimsState : Type 0 where
 abbrev pub all_claims : Tables → ClaimsState → List Claim
 all_claims tables claims = claims.kept ++ held_claims tables claims.held
 
--- An owner claims ranges, or those of their list, which is held by name.
+-- An owner claims ranges, or those of their list, which is held.
 abbrev pub AddsListed : Tables → (group : ℕ) → List Range → (owner : ℕ) → Option RangeList
     → (old new : ClaimsState) → Type 0
 AddsListed tables group ranges owner list old new =

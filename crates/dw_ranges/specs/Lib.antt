@@ -7,6 +7,10 @@ pub mod Named
 pub mod Lists
 pub mod Held
 pub mod HeldInside
+pub mod ListIndex
+pub mod Parts
+pub mod PartsInside
+pub mod ListIndexesInside
 pub mod ReadLists
 pub mod ReadListsInside
 pub mod Tails

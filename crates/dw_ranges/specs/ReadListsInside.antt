@@ -12,4 +12,4 @@ marked_from begin base addr (true ∷ marks) =
 marked_from begin base addr (false ∷ marks) = marked_from (begin + 1) base addr marks
 
 abbrev pub reads_of : Inside → List (RangeList × ℕ)
-reads_of reads = (reads.rising.items ++ values reads.others) ++ marked_from 0 reads.base reads.addr reads.marks.items
+reads_of reads = values reads.read ++ marked_from 0 reads.base reads.addr reads.marks.items

@@ -1,6 +1,6 @@
 -- Owners whose lists are held by name, at the addresses of a window.
-use Rattle.std.specs.Prelude.{◌≡◌, ◌≤◌, ◌<◌, ℕ, List, None, map}
-use Rattle.dw_model.specs.Ranges.{Range}
+use Rattle.std.specs.Prelude.{◌≡◌, ◌≤◌, ◌<◌, ℕ, false, List, ◌++◌, None, map}
+use Rattle.dw_model.specs.Ranges.{Range, covers}
 use Rattle.dw_model.specs.Text.{Tables}
 use Rattle.dw_index.specs.declared.range.Range.{Range as CodeRange}
 use Rattle.dw_index.specs.declared.segment.Segment.{Segment}
@@ -11,6 +11,7 @@ use Rattle.dw_ranges.specs.declared.held.HeldList.{HeldList}
 use Rattle.dw_ranges.specs.declared.window.Window.{Window}
 use Rattle.dw_ranges.specs.declared.window.draft.Draft.{Draft}
 use Rattle.dw_ranges.specs.Claims.{held_claims, owner_in}
+use Rattle.dw_ranges.specs.Owned.{owned}
 
 -- the window has the address
 abbrev pub HasAddress : Window → ℕ → Type 0
@@ -33,3 +34,13 @@ pub record HasOwners (all : List (Range × ℕ)) (from : ℕ) (draft : Draft) : 
 pub record ArePieces (segments : List Segment) (from end : ℕ) (pieces : List (CodeRange × ℕ)) : Type 0 where
   pub below : (a : ℕ) → from ≤ a → a < end → least_owner (map pair_shown pieces) a ≡ owner_at segments a
   pub above : (a : ℕ) → end ≤ a → least_owner (map pair_shown pieces) a ≡ None
+
+-- Of the ranges of an owner those that begin below an address were added to a draft, as far as they
+-- matter in its window, as pieces.
+pub record PiecesTo (ranges : List Range) (owner at : ℕ) (old new : Draft) : Type 0 where
+  pub pieces : List Range
+  pub reached : old.from ≤ at
+  pub below : (a : ℕ) → old.from ≤ a → a < at → covers a pieces ≡ covers a ranges
+  pub above : (a : ℕ) → at ≤ a → covers a pieces ≡ false
+  pub added : (all : List (Range × ℕ)) (from : ℕ) → HasOwners all from old
+      → HasOwners (all ++ owned pieces owner) from new

@@ -3,31 +3,31 @@
 ghost use Rattle.std.specs.Prelude.{◌≡◌, ◌≤◌, ◌+◌, ◌++◌, [], None, OnOk, length, map};
 ghost use Rattle.dw_model.specs.Text.{Tables as ModelTables};
 ghost use Rattle.dw_index.specs.Range.{pair_shown, range_shown};
-ghost use Rattle.dw_ranges.specs.Claims.{Adds, AddsListed, all_claims, claims_in};
-ghost use Rattle.dw_ranges.specs.Held.{listed};
+ghost use Rattle.dw_ranges.specs.Claims.{Adds, AddsListed, all_claims, claims_in, held_ranges};
 ghost use Rattle.dw_ranges.specs.Owned.{owned};
 
-use crate::held::HeldList;
+use crate::held::{HeldList, Listed};
 use crate::links::Links;
+use crate::list_indexes::ListIndexes;
 use crate::range_list::RangeList;
 use dw_index::Range;
 use std::alloc::{AllocError, Global};
 use std::marker::Model;
 
 /// Ranges that owners claim in groups. Of lists with more than one range only so many ranges are
-/// kept; the lists beyond are held by name. Contracts see the ranges that are kept, the lists that
+/// kept; the lists beyond are held. Contracts see the ranges that are kept, the lists that
 /// are held, and how many ranges of lists may still be kept.
 #[derive(Drop)]
-pub struct Claims {
+pub struct Claims<'a> {
     /// The ranges in group 0, with their owners.
     pub(crate) first: Vec<(Range, usize)>,
     /// Those in groups from 1 on, of which the first is 0 here.
     pub(crate) others: Links,
-    pub(crate) held: Vec<HeldList>,
+    pub(crate) held: Vec<HeldList<'a>>,
     room: usize,
 }
 
-impl Model for Claims {
+impl<'a> Model for Claims<'a> {
     ghost use Rattle.dw_ranges.specs.Claims.{ClaimsState};
     ghost use Rattle.dw_ranges.specs.ClaimsInside.{claims_of};
 
@@ -54,7 +54,7 @@ fn push_ranges(
     Ok(())
 }
 
-impl Claims {
+impl<'a> Claims<'a> {
     /// None yet, and of lists so many ranges may be kept.
     pub fn new(alloc: Global, room: usize) -> Self
         ensures { result ≡ record { kept = []; held = []; room = room } }
@@ -83,25 +83,20 @@ impl Claims {
         Ok(())
     }
 
-    /// Holds the list of an owner by name.
-    pub fn hold(&mut self, group: usize, list: RangeList, owner: usize) -> Result<(), AllocError>
+    /// Holds a list of an owner, which claims its ranges in a group.
+    pub fn hold(&mut self, group: usize, list: Listed<'a>, owner: usize) -> Result<(), AllocError>
         ensures kept { self.new.kept ≡ self.old.kept }
         ensures room { self.new.room ≡ self.old.room }
         ensures claims { OnOk result ((tables : ModelTables) → all_claims tables self.new
-            ≡ all_claims tables self.old ++ claims_in group (owned (listed tables list) owner)) }
+            ≡ all_claims tables self.old ++ claims_in group (owned (held_ranges tables list.entry) owner)) }
     {
         self.held.push(HeldList { group, list, owner })?;
         Ok(())
     }
 
-    /// Further lists of more than one range are held by name.
-    pub fn is_full(&self) -> bool {
-        self.room == 0
-    }
-
     /// An owner claims ranges in a group: those of a list, the first of them, or one range at most.
-    /// A list is held by name from then on where there are more than may still be kept. One range
-    /// takes no more than the name, so it is always kept.
+    /// The list is held where there are more than may still be kept. One range takes no more than a
+    /// list that is held, so it is always kept.
     #[inline(always)]
     pub fn add(
         &mut self,
@@ -109,11 +104,13 @@ impl Claims {
         ranges: &[Range],
         owner: usize,
         list: Option<RangeList>,
+        indexes: &mut ListIndexes<'a>,
     ) -> Result<(), AllocError>
         requires one { list ≡ None → length ranges.now ≤ 1 }
+        ensures tables { indexes.new ≡ indexes.old }
         ensures few { length self.new.kept + self.new.room ≤ length self.old.kept + self.old.room + 1 }
-        ensures claims { OnOk result ((tables : ModelTables)
-            → AddsListed tables group (map range_shown ranges.now) owner list self.old self.new) }
+        ensures claims { OnOk result
+            (AddsListed indexes.old group (map range_shown ranges.now) owner list self.old self.new) }
     {
         let Some(list) = list else {
             return self.keep(group, ranges, owner);
@@ -122,8 +119,7 @@ impl Claims {
             return self.keep(group, ranges, owner);
         }
         if ranges.len() > self.room {
-            self.room = 0;
-            return self.hold(group, list, owner);
+            return self.hold(group, indexes.make(list)?, owner);
         }
         self.room -= ranges.len();
         self.keep(group, ranges, owner)

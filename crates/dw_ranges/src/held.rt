@@ -1,23 +1,45 @@
-//! Range lists that are held by name: their ranges are read anew for each address.
+//! Range lists that are held by name: they are asked by their indexes, or read anew for each
+//! address.
 
 ghost use Rattle.std.specs.Prelude.{◌≡◌, false, nat_le};
 ghost use Rattle.std.specs.Option.{option_map_or};
+ghost use Rattle.dw_model.specs.Ranges.{covers};
 ghost use Rattle.dw_forms.specs.Tables.{tables_shown};
 ghost use Rattle.dw_index.specs.Owners.{least, least_owner};
-ghost use Rattle.dw_ranges.specs.Claims.{held_claims, owner_in};
-ghost use Rattle.dw_ranges.specs.Held.{listed};
+ghost use Rattle.dw_ranges.specs.Claims.{held_claims, held_ranges, owner_in};
 ghost use Rattle.dw_ranges.specs.Owned.{owned};
 
 use crate::at_address::list_holds;
+use crate::list_index::ListIndex;
 use crate::range_list::RangeList;
 use dw_forms::Tables;
+use std::sync::Arc;
 
-/// A range list that is held by name, with the owner that claims its ranges in a group.
-#[derive(Clone, Copy)]
-pub struct HeldList {
+/// A range list, by name or by its index and the base before any entry sets one.
+#[derive(Drop)]
+pub enum Listed<'a> {
+    Named(RangeList),
+    Indexed(Arc<ListIndex<'a>>, Option<u64>),
+}
+
+/// A range list that is held, with the owner that claims its ranges in a group.
+#[derive(Drop)]
+pub struct HeldList<'a> {
     pub group: usize,
-    pub list: RangeList,
+    pub list: Listed<'a>,
     pub owner: usize,
+}
+
+impl<'a> Listed<'a> {
+    /// Whether the list has a range that holds an address; none where it can't be read.
+    fn holds(&self, tables: &Tables<'_>, a: u64) -> bool
+        ensures { result ≡ covers a (held_ranges (tables_shown tables.now) self.now) }
+    {
+        match self {
+            Listed::Named(list) => list_holds(*list, tables, a),
+            Listed::Indexed(index, base) => index.holds(*base, a),
+        }
+    }
 }
 
 /// Whether the owner that was found comes before another, or is that one.
@@ -32,14 +54,14 @@ fn is_before(found: Option<usize>, owner: usize) -> bool
 
 /// The lesser of an owner that was found, where there is one, and that of a list, where the list
 /// holds an address. The list is read only where its owner comes first.
-fn least_of(held: &HeldList, tables: &Tables<'_>, a: u64, found: Option<usize>) -> Option<usize>
+fn least_of(held: &HeldList<'_>, tables: &Tables<'_>, a: u64, found: Option<usize>) -> Option<usize>
     ensures { result ≡ least found
-        (least_owner (owned (listed (tables_shown tables.now) held.now.list) held.now.owner) a) }
+        (least_owner (owned (held_ranges (tables_shown tables.now) held.now.list) held.now.owner) a) }
 {
     if is_before(found, held.owner) {
         return found;
     }
-    if list_holds(held.list, tables, a) {
+    if held.list.holds(tables, a) {
         return Some(held.owner);
     }
     found
@@ -48,7 +70,7 @@ fn least_of(held: &HeldList, tables: &Tables<'_>, a: u64, found: Option<usize>) 
 /// The lesser of an owner that was found and the least owner in a group whose list holds an
 /// address.
 pub(crate) fn least_held(
-    held: &[HeldList],
+    held: &[HeldList<'_>],
     tables: &Tables<'_>,
     group: usize,
     a: u64,

@@ -2,10 +2,12 @@
 
 ghost use Rattle.std.specs.Prelude.{option_map};
 ghost use Rattle.dw_model.specs.Answers.{ReadsOn};
+ghost use Rattle.dw_model.specs.Ranges.{next_range_entry};
 ghost use Rattle.dw_forms.specs.Tables.{tables_shown, bases_shown};
 ghost use Rattle.dw_ranges.specs.Fault.{range_fault};
 ghost use Rattle.dw_ranges.specs.NextOutcome as model;
 ghost use Rattle.dw_ranges.specs.OutcomeShown.{base_shown, outcome_shown};
+ghost use Rattle.dw_ranges.specs.RangeEntry.{range_entry_shown};
 
 use crate::fault::RangeFault;
 use crate::range_entry::{RangeEntry, entry_behind, leb};
@@ -33,6 +35,15 @@ fn any_outcome(
     };
     let outcome = step(tables, bases, base, entry)?;
     Ok(Some(outcome))
+}
+
+/// The next entry of a list; `None` where it ends the list.
+#[tactic(auto, unfolding(dw_model::specs::Ranges::next_range_entry))]
+pub(crate) fn next_entry(cursor: &mut Cursor<'_>) -> Result<Option<RangeEntry>, RangeFault>
+    ensures { ReadsOn (option_map range_entry_shown) range_fault result (next_range_entry cursor.old) cursor.new }
+{
+    let code = cursor.u8().ok_or(RangeFault::Bad)?;
+    entry_behind(cursor, code)
 }
 
 /// What the next entry of a list does, where the base before it is this one; `None` where it ends

@@ -40,17 +40,17 @@ fn least(first: Option<usize>, second: Option<usize>) -> Option<usize>
 
 /// Who owns an address in a group. Whoever asks passes the tables of the file.
 #[derive(Drop)]
-pub struct Owners {
+pub struct Owners<'a> {
     /// The ranges in group 0 that are kept.
     index: Index,
     /// Those in groups from 1 on, of which the first is 0 here.
     others: Linked,
-    held: Vec<HeldList>,
+    held: Vec<HeldList<'a>>,
     /// How many ranges are kept.
     ranges: usize,
 }
 
-impl Model for Owners {
+impl<'a> Model for Owners<'a> {
     ghost use Rattle.dw_ranges.specs.Claims.{OwnersState};
     ghost use Rattle.dw_ranges.specs.ClaimsInside.{owners_of, IsCounted};
 
@@ -61,12 +61,12 @@ impl Model for Owners {
     ghost invariant = { IsCounted };
 }
 
-impl Owners {
+impl<'a> Owners<'a> {
     /// Of all ranges that owners claim.
-    pub fn build(alloc: Global, claims: Claims) -> Result<Self, AllocError>
+    pub fn build(alloc: Global, claims: Claims<'a>) -> Result<Self, AllocError>
         ensures owners { IfOk result (λ owners. (tables : ModelTables) (group a : ℕ)
-            → owner_of tables owners group a ≡ owner_in (all_claims tables claims) group a) }
-        ensures ranges { IfOk result (λ owners. owners.ranges ≡ length claims.kept) }
+            → owner_of tables owners group a ≡ owner_in (all_claims tables claims.entry) group a) }
+        ensures ranges { IfOk result (λ owners. owners.ranges ≡ length claims.entry.kept) }
     {
         let ranges = claims.len();
         let Claims {

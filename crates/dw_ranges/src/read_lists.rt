@@ -11,14 +11,9 @@ use std::marker::Model;
 
 /// Range lists that were read, each for an owner. Contracts see them as a list, in no order that
 /// matters.
-///
-/// Compilers write lists in the order in which entries name them: such a list is noted after the
-/// others, and seen to be a further one by one comparison.
 #[derive(Debug, Drop)]
 pub struct ReadLists {
-    /// Those that begin after all that were noted before.
-    rising: Vec<(RangeList, usize)>,
-    others: BTreeMap<(RangeList, usize), (RangeList, usize)>,
+    read: BTreeMap<(RangeList, usize), (RangeList, usize)>,
     /// Of each place of .debug_rnglists whether a list that begins there was read for the owner 0,
     /// with this base and this place of addresses; nothing before tails are noted.
     marks: Vec<bool>,
@@ -87,8 +82,7 @@ impl ReadLists {
         ensures { result ≡ [] }
     {
         ReadLists {
-            rising: Vec::new(alloc),
-            others: BTreeMap::new(alloc),
+            read: BTreeMap::new(alloc),
             marks: Vec::new(alloc),
             base: None,
             addr: None,
@@ -110,14 +104,6 @@ impl ReadLists {
         is_same_base(self.base, list.base) && is_same_base(self.addr, list.addr)
     }
 
-    /// A list begins after all those that were noted.
-    fn is_behind(&self, list: RangeList) -> bool {
-        match self.rising.last() {
-            Some(last) => last.0.begin < list.begin,
-            None => true,
-        }
-    }
-
     /// Whether the list was read for the owner.
     pub fn has(&self, list: RangeList, owner: usize) -> bool
         ensures noted { result ≡ true → Has self.now (list, owner) }
@@ -125,18 +111,7 @@ impl ReadLists {
         if owner == 0 && self.has_tail(list) {
             return true;
         }
-        if self.is_behind(list) {
-            return false;
-        }
-        let place = self
-            .rising
-            .partition_point(|read| read.0.begin < list.begin);
-        if let Some(read) = self.rising.get(place) {
-            if is_same(read, list, owner) {
-                return true;
-            }
-        }
-        let Some(read) = self.others.get(&(list, owner)) else {
+        let Some(read) = self.read.get(&(list, owner)) else {
             return false;
         };
         is_same(read, list, owner)
@@ -146,11 +121,7 @@ impl ReadLists {
     pub fn note(&mut self, list: RangeList, owner: usize) -> Result<(), AllocError>
         ensures { OnOk result ((read : _) → Has self.new read → Has ((list, owner) ∷ self.old) read) }
     {
-        if self.is_behind(list) {
-            self.rising.push((list, owner))?;
-            return Ok(());
-        }
-        self.others.insert((list, owner), (list, owner))?;
+        self.read.insert((list, owner), (list, owner))?;
         Ok(())
     }
 

@@ -1,25 +1,30 @@
-//! Who owns the addresses of a window, of owners whose lists are held by name.
+//! Who owns the addresses of a window, of owners whose lists are held.
 
-ghost use Rattle.std.specs.Prelude.{◌≡◌, ◌≤◌, ◌<◌, ℕ, IfOk, OnOk, map};
+ghost use Rattle.std.specs.Prelude.{◌≡◌, ◌≤◌, ◌<◌, ◌++◌, ℕ, List, IfOk, OnOk, map};
+ghost use Rattle.dw_model.specs.Ranges as model;
 ghost use Rattle.dw_model.specs.Steady.{last_address};
 ghost use Rattle.dw_forms.specs.Tables.{tables_shown};
 ghost use Rattle.dw_index.specs.Range.{range_shown};
+ghost use Rattle.dw_ranges.specs.Claims.{held_ranges};
 ghost use Rattle.dw_ranges.specs.Held.{listed};
-ghost use Rattle.dw_ranges.specs.Window.{HasAddress, IsWindow};
+ghost use Rattle.dw_ranges.specs.Owned.{owned};
+ghost use Rattle.dw_ranges.specs.Window.{HasAddress, HasOwners, IsWindow};
 
 mod draft;
+mod end;
 
 use crate::fault::RangeFault;
-use crate::held::HeldList;
+use crate::held::{HeldList, Listed};
 use crate::range_list::{RangeList, read_list};
 use draft::Draft;
 use dw_forms::Tables;
 use dw_index::{Index, Range};
+use end::end_of;
 use std::alloc::{AllocError, Global};
 
 /// Who owns each address from one on and below another, of the owners in group 0 whose lists are
-/// held by name. So whoever goes from border to border reads the lists once for each window, and
-/// not once for each border.
+/// held. So whoever goes from border to border asks the lists once for each window, and not once
+/// for each border.
 #[derive(Drop)]
 pub struct Window {
     pub(crate) from: u64,
@@ -30,7 +35,7 @@ pub struct Window {
 
 /// How many pieces a window has at most when there were too many ranges for it: one for eight bytes
 /// of .debug_rnglists, and four for each unit. So it takes memory in proportion to the file.
-fn most_pieces(held: &[HeldList], tables: &Tables<'_>) -> usize {
+fn most_pieces(held: &[HeldList<'_>], tables: &Tables<'_>) -> usize {
     let of_lists = tables.rnglists.len() / 8;
     of_lists.saturating_add(held.len().saturating_mul(4))
 }
@@ -62,6 +67,26 @@ fn read_listed(
     }
 }
 
+/// Adds the ranges of a list that is held, which are read into `ranges` where it has no index.
+fn add_held(
+    draft: &mut Draft,
+    ranges: &mut Vec<Range>,
+    held: &HeldList<'_>,
+    tables: &Tables<'_>,
+) -> Result<(), AllocError>
+    ensures { OnOk result ((all : List (model.Range × ℕ)) (from : ℕ) → HasOwners all from draft.old
+        → HasOwners (all ++ owned (held_ranges (tables_shown tables.now) held.now.list) held.now.owner)
+        from draft.new) }
+{
+    match &held.list {
+        Listed::Indexed(index, base) => draft.add_indexed(index, *base, held.owner),
+        Listed::Named(list) => {
+            read_listed(ranges, *list, tables)?;
+            draft.add(ranges, held.owner)
+        }
+    }
+}
+
 impl Window {
     /// A window without addresses.
     pub fn none(alloc: Global) -> Result<Self, AllocError>
@@ -75,25 +100,27 @@ impl Window {
         })
     }
 
-    /// The window that begins at an address.
+    /// The window that begins at an address, after one that had so many addresses.
     fn read(
         alloc: Global,
-        held: &[HeldList],
+        held: &[HeldList<'_>],
         tables: &Tables<'_>,
         from: u64,
+        width: u64,
     ) -> Result<Self, AllocError>
         requires { from < last_address }
         ensures address { IfOk result (λ window. HasAddress window from) }
         ensures window { IfOk result (IsWindow (tables_shown tables.now) held.now) }
     {
-        let mut draft = Draft::new(alloc, from, most_pieces(held, tables));
+        let most = most_pieces(held, tables);
+        let until = end_of(held, most, from, width);
+        let mut draft = Draft::new(alloc, from, until, most);
         let mut ranges = Vec::new(alloc);
         for one in held {
             if one.group != 0 {
                 continue;
             }
-            read_listed(&mut ranges, one.list, tables)?;
-            draft.add(&ranges, one.owner)?;
+            add_held(&mut draft, &mut ranges, one, tables)?;
         }
         let index = Index::build(alloc, &draft.pairs)?;
         Ok(Window {
@@ -107,7 +134,7 @@ impl Window {
     pub(crate) fn turn_to(
         &mut self,
         alloc: Global,
-        held: &[HeldList],
+        held: &[HeldList<'_>],
         tables: &Tables<'_>,
         a: u64,
     ) -> Result<(), AllocError>
@@ -119,7 +146,8 @@ impl Window {
         if self.from <= a && a < self.until {
             return Ok(());
         }
-        *self = Window::read(alloc, held, tables, a)?;
+        let width = self.until.saturating_sub(self.from);
+        *self = Window::read(alloc, held, tables, a, width)?;
         Ok(())
     }
 }

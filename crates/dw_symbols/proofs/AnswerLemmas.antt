@@ -1,5 +1,5 @@
 -- What the unit of an address answers is what the address means.
-use Rattle.std.proofs.Common.{◌≡◌, ◌∙◌, ℕ, List, [], ◌∷◌, map, Option, Some, None, Result, Ok, Err, refl, sym, ap, subst, false}
+use Rattle.std.proofs.Common.{◌≡◌, ◌∙◌, ℕ, List, [], ◌∷◌, map, Option, Some, None, Result, Ok, refl, sym, ap, subst, false, arith}
 use Rattle.dw_model.specs.Results.{◌>>=◌, with_code}
 use Rattle.dw_model.specs.Section.{Sections, sections}
 use Rattle.dw_model.specs.Unit.{DwarfUnit, is_skipped}
@@ -51,8 +51,7 @@ frames-told s unit lines here (node ∷ nodes) = frames-on s unit lines here (no
 
 by_lines : (s : Sections) (unit : DwarfUnit) (a : ℕ) (nodes : List Node) (read : Result (Option Lines) Code)
     → (read >>= λ table. Ok (frames_told table (row_location table (row_at table a)) (told s unit nodes))) ≡ (read >>= λ table. Ok (frames (named s unit) table (row_location table (row_at table a)) nodes))
-by_lines s unit a nodes (Err code) = refl
-by_lines s unit a nodes (Ok table) = ap Ok (frames-told s unit table (row_location table (row_at table a)) nodes)
+by_lines s unit a nodes read = grind (arith, frames-told)
 
 by_tree : (s : Sections) (unit : DwarfUnit) (a : ℕ) (nodes : List Node) → tree s unit ≡ Ok nodes → unit_told s unit (told s unit (chain s unit nodes a)) a ≡ unit_answer s unit a
 by_tree s unit a nodes read = rw read (by_lines s unit a (chain s unit nodes a) (with_code (λ _. line_fault) (lines s unit)))
@@ -76,6 +75,4 @@ module _ (here seen file : List ℕ) (unit : DwarfUnit) (a : ℕ) (found : here 
 
   pub answer-fault : (code : UnitFault) (offset : ℕ) → offset ≡ unit.offset → HasTreeFault (sections here) unit code → fault offset (code_shown code) ≡ model.answer file a
   unfolding answer_in
-  answer-fault code offset begins faults =
-      let at = subst (λ (file : List ℕ). HasTreeFault (sections file) unit code) found faults in
-      rw (begins, sym same, sym is, at) refl
+  answer-fault code offset begins faults = grind arith

@@ -1,15 +1,11 @@
 -- The frames of functions, one after the other.
-use Rattle.std.proofs.Common.{◌≡◌, ◌∙◌, ℕ, zero, suc, ◌+◌, ◌<◌, ◌≤◌, List, [], ◌∷◌, ◌++◌, length, drop, Option, Some, None, refl, sym, ap, append_assoc, arith}
+use Rattle.std.proofs.Common.{◌≡◌, ◌∙◌, ℕ, ◌+◌, ◌<◌, ◌≤◌, List, [], ◌∷◌, ◌++◌, length, drop, Option, Some, None, sym, ap, append_assoc, arith}
 use Rattle.std.specs.Prelude.{slice_get}
-use Rattle.std.proofs.lemmas.List.{append-nil, drop_all}
+use Rattle.std.proofs.lemmas.List.{append-nil, drop_all, drop_more}
+use Rattle.std.proofs.lemmas.Option.{get_or_from_slice_get, slice_get_within}
 use Rattle.dw_model.specs.Answer.{Frame, Location, Lines}
 use Rattle.dw_frames.specs.Told.{Told}
 use Rattle.dw_symbols.specs.Frames.{called_at, frames_on, frames_told}
-
-drop-at : {X : Type 0} (xs : List X) (i : ℕ) (x : X) → slice_get xs i ≡ Some x → drop i xs ≡ x ∷ drop (suc i) xs
-drop-at [] i x e = absurd cc
-drop-at (y ∷ xs) zero x e = let same : y ≡ x = cc in ap (λ (x : _). x ∷ xs) same
-drop-at (y ∷ xs) (suc i) x e = drop-at xs i x e
 
 -- the frames so far, and then those from a location and a place on, are all
 abbrev pub SoFar : Option Lines → List Told → ℕ → List Frame → (here first : Location) → Type 0
@@ -20,21 +16,13 @@ pub goes_on : (lines : Option Lines) (functions : List Told) (k : ℕ) (told : T
 goes_on lines functions k told front here first next there is so_far =
     let frame : Frame = record { name = told.name; location = here } in
     let others = frames_on lines next (drop (k + 1) functions) in
-    let step : suc k ≡ k + 1 = omega arith in
-    let rest : drop k functions ≡ told ∷ drop (k + 1) functions = drop-at functions k told there ∙ ap (λ (n : ℕ). told ∷ drop n functions) step in
+    let read = drop_more functions k told (slice_get_within functions k told there) in
+    let rest : drop k functions ≡ told ∷ drop (k + 1) functions = read ∙ ap (λ (one : Told). one ∷ drop (k + 1) functions) (get_or_from_slice_get functions k told told there) in
     let whole : frames_on lines here (drop k functions) ≡ frame ∷ others = rw rest (ap (λ (at : Location). frame ∷ frames_on lines at (drop (k + 1) functions)) (sym is)) in
     append_assoc front (frame ∷ []) others ∙ ap (λ (all : List Frame). front ++ all) (sym whole) ∙ so_far
 
 pub ends : (lines : Option Lines) (functions : List Told) (k : ℕ) (front : List Frame) (here first : Location) → 0 < length functions → length functions ≤ k → SoFar lines functions k front here first → front ≡ frames_told lines first functions
-ends lines functions k front here first some past so_far =
-    let none : drop k functions ≡ [] = drop_all k functions past in
-    let whole : front ≡ front ++ frames_on lines here (drop k functions) = rw none (sym (append-nil front)) in
-    whole ∙ so_far ∙ by functions some
-  where
-    by : (functions : List Told) → 0 < length functions → frames_on lines first functions ≡ frames_told lines first functions
-    by [] some = absurd (omega (arith, some))
-    by (told ∷ outer) some = refl
+ends lines functions k front here first some past so_far = grind (arith, drop_all, append-nil)
 
 pub no-frames : (lines : Option Lines) (functions : List Told) (first : Location) → length functions ≡ 0 → record { name = None; location = first } ∷ [] ≡ frames_told lines first functions
-no-frames lines [] first none = refl
-no-frames lines (told ∷ outer) first none = absurd (omega (arith, none))
+no-frames lines functions first none = grind arith

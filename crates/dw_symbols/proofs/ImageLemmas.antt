@@ -1,5 +1,5 @@
 -- Which condition a file fails first.
-use Rattle.std.proofs.Common.{◌≡◌, ◌∙◌, ℕ, List, Option, Some, None, sym, ap, subst}
+use Rattle.std.proofs.Common.{◌≡◌, ℕ, List, Option, Some, None, arith}
 use Rattle.std.specs.Prelude.{MatchOption, option_map}
 use Rattle.dw_model.specs.Faults.{Refusal}
 use Rattle.dw_model.specs.Section.{Sections, sections, elf_refusal}
@@ -13,20 +13,13 @@ use Rattle.dw_symbols.specs.Owners.{FindsUnits, first_unit}
 
 pub by-ranges : (file : List ℕ) (s : Sections) (told : Option Refusal) → s ≡ sections file → elf_refusal file ≡ None → unit_refusal s ≡ None → ranges_refusal s ≡ told → refusal file ≡ told
 unfolding refusal
-by-ranges file s told same elf units ranges =
-    let accepted : unit_refusal (sections file) ≡ None = ap unit_refusal (sym same) ∙ units in
-    let read : ranges_refusal (sections file) ≡ told = ap ranges_refusal (sym same) ∙ ranges in
-    rw (elf, accepted) read
+by-ranges file s told same elf units ranges = grind arith
 
 pub told-by-ranges : (file : List ℕ) (s : Sections) (told : Option Refusal) → s ≡ sections file → elf_refusal file ≡ None → unit_refusal s ≡ None → MatchOption told (Unit {0}) (λ fault. ranges_refusal s ≡ Some fault) → MatchOption told (Unit {0}) (λ fault. refusal file ≡ Some fault)
-told-by-ranges file s None same elf units ranges = tt
-told-by-ranges file s (Some fault) same elf units ranges = by-ranges file s (Some fault) same elf units ranges
+told-by-ranges file s told same elf units ranges = grind (arith, by-ranges)
 
 -- ---- the unit of an address
 
 pub found-unit : (file seen : List ℕ) (tables : Tables) (cover : OwnersState) → file ≡ seen → tables ≡ (sections file).tables → FindsUnits (sections file) cover
     → (found : Option ℕ) (a : ℕ) → found ≡ first_unit tables cover a → option_map (unit_at (sections seen)) found ≡ unit_of (sections seen) a
-found-unit file seen tables cover view same finds found a is =
-    let first : found ≡ first_unit (sections file).tables cover a = is ∙ ap (λ (tables : Tables). first_unit tables cover a) same in
-    subst (λ (file : List ℕ). option_map (unit_at (sections file)) found ≡ unit_of (sections file) a) view
-    (ap (λ (owner : Option ℕ). option_map (unit_at (sections file)) owner) first ∙ finds a)
+found-unit file seen tables cover view same finds found a is = grind arith

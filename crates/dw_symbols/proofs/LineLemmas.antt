@@ -1,10 +1,10 @@
 -- The line table that a unit names, as the unit sees it.
-use Rattle.std.proofs.Common.{◌≡◌, ◌∙◌, ℕ, List, Option, Some, None, Result, Ok, Err, refl, subst}
+use Rattle.std.proofs.Common.{◌≡◌, ℕ, List, Option, Some, None, Result, Ok, Err, refl, subst, arith}
 use Rattle.std.specs.Prelude.{option_and_then}
 use Rattle.std.specs.Option.{option_map_or}
 use Rattle.dw_model.specs.declared.dwarf.TheConstants.{DW_AT_stmt_list, DW_AT_comp_dir}
 use Rattle.dw_model.specs.Results.{◌>>=◌}
-use Rattle.dw_model.specs.Faults.{Bad as ModelBad, bad}
+use Rattle.dw_model.specs.Faults.{Bad as ModelBad}
 use Rattle.dw_model.specs.Text.{text}
 use Rattle.dw_model.specs.LineHeader.{LineHeader, line_header}
 use Rattle.dw_model.specs.Instruction.{Instruction, instructions}
@@ -19,7 +19,7 @@ use Rattle.dw_line.specs.declared.fault.LineFault.TheVariants.{Bad}
 use Rattle.dw_line.specs.Lines.{Table, lines_shown, lines_of, TellsEach}
 use Rattle.dw_symbols.specs.declared.answer.UnitFault.{UnitFault}
 use Rattle.dw_symbols.specs.declared.answer.UnitFault.TheVariants.{Line}
-use Rattle.dw_symbols.specs.UnitParts.{named_table, directory_of, lines_seen, IsTableAt, IsTableOf, IsNamed, AreTurned, HasLines}
+use Rattle.dw_symbols.specs.UnitParts.{named_table, directory_of, IsTableAt, IsNamed, AreTurned, HasLines}
 
 -- ---- the table at an offset
 
@@ -43,13 +43,11 @@ placed_by section offset directory header program =
 
 by_program : (section : List ℕ) (offset : ℕ) (directory : Option (List ℕ)) (header : LineHeader) (program : Result (List Instruction) ModelBad)
     → seen (program >>= λ program. Ok (shown_by directory header program)) ≡ seen_of (program >>= λ program. Ok (placed_by section offset directory header program))
-by_program section offset directory header (Ok program) = refl
-by_program section offset directory header (Err e) = refl
+by_program section offset directory header program = grind arith
 
 by_header : (section : List ℕ) (offset : ℕ) (directory : Option (List ℕ)) (header : Result LineHeader ModelBad)
     → seen (header >>= λ header. instructions header >>= λ program. Ok (shown_by directory header program)) ≡ seen_of (header >>= λ header. instructions header >>= λ program. Ok (placed_by section offset directory header program))
-by_header section offset directory (Ok header) = by_program section offset directory header (instructions header)
-by_header section offset directory (Err e) = refl
+by_header section offset directory header = grind (arith, by_program)
 
 table-at : (s : Sections) (unit : DwarfUnit) (first : Entry) (offset : ℕ)
     → seen (lines_at s unit first offset) ≡ seen_of (lines_of s.tables (bases s unit) s.line (directory_by s unit first) offset)
@@ -68,12 +66,10 @@ lines_in s unit root =
     option_map_or (λ first. option_map_or (λ offset. seen (lines_at s unit first offset)) (option_and_then as_section_offset (attribute DW_AT_stmt_list first)) (Ok None)) root (Ok None)
 
 named-in : (s : Sections) (unit : DwarfUnit) (root : Option Entry) (offset : ℕ) → named_in root ≡ Some offset → lines_in s unit root ≡ seen_of (lines_of s.tables (bases s unit) s.line (directory_in s unit root) offset)
-named-in s unit None offset e = absurd cc
-named-in s unit (Some first) offset e = rw e (table-at s unit first offset)
+named-in s unit root offset e = grind (arith, table-at)
 
 unnamed-in : (s : Sections) (unit : DwarfUnit) (root : Option Entry) → named_in root ≡ None → lines_in s unit root ≡ Ok None
-unnamed-in s unit None e = refl
-unnamed-in s unit (Some first) e = rw e refl
+unnamed-in s unit root e = grind arith
 
 lines-named : (s : Sections) (unit : DwarfUnit) (offset : ℕ) → named_table s unit ≡ Some offset → lines s unit ≡ seen_of (lines_of s.tables (bases s unit) s.line (directory_of s unit) offset)
 unfolding lines
@@ -91,35 +87,10 @@ bad-table line offset e is each = (refl, subst (λ (e : LineFault). TellsEach li
 
 module _ (s : Sections) (unit : DwarfUnit) where
   pub fault-turned : (code : UnitFault) → IsNamed s unit (Err code) → HasLines s unit (Err code)
-  fault-turned code is = by (named_table s unit) refl is
-    where
-      by : (named : Option ℕ) → named_table s unit ≡ named → IsTableOf s.line named (Err code) → HasLines s unit (Err code)
-      by None e is = absurd cc
-      by (Some offset) e is =
-          let none : lines s unit ≡ Err bad = lines-named s unit offset e ∙ rw (is.1 s.tables (bases s unit) (directory_of s unit)) refl in
-          rw (none, is.0) refl
+  fault-turned code is = grind (arith, lines-named)
 
   pub table-turned : (old new : Option Table) → IsNamed s unit (Ok old) → AreTurned s unit old new → HasLines s unit (Ok new)
-  table-turned old new is turned = by (named_table s unit) old new refl is turned
-    where
-      by : (named : Option ℕ) (old new : Option Table) → named_table s unit ≡ named → IsTableOf s.line named (Ok old) → AreTurned s unit old new → HasLines s unit (Ok new)
-      by None None None e is turned = rw (lines-unnamed s unit e) refl
-      by None None (Some new) e is turned = absurd turned
-      by None (Some old) new e is turned = absurd cc
-      by (Some offset) None new e is turned = absurd is
-      by (Some offset) (Some old) None e is turned = absurd turned
-      by (Some offset) (Some old) (Some new) e is turned =
-          let placed = subst (λ (n : ℕ). lines_seen s unit old.section n ≡ Ok new) is.1 turned.lines in
-          let here = subst (λ (line : List ℕ). lines_seen s unit line offset ≡ Ok new) is.0 placed in
-          rw (lines-named s unit offset e, here) refl
+  table-turned old new is turned = grind (arith, lines-unnamed, lines-named)
 
   pub named-turned : (old new : Option Table) → IsNamed s unit (Ok old) → AreTurned s unit old new → IsNamed s unit (Ok new)
-  named-turned old new is turned = by (named_table s unit) old new is turned
-    where
-      by : (named : Option ℕ) (old new : Option Table) → IsTableOf s.line named (Ok old) → AreTurned s unit old new → IsTableOf s.line named (Ok new)
-      by None None None is turned = refl
-      by None None (Some new) is turned = absurd turned
-      by None (Some old) new is turned = absurd cc
-      by (Some n) None new is turned = absurd is
-      by (Some n) (Some old) None is turned = absurd turned
-      by (Some n) (Some old) (Some new) is turned = (turned.section ∙ is.0, turned.offset ∙ is.1)
+  named-turned old new is turned = grind arith

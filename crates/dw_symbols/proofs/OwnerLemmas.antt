@@ -1,11 +1,11 @@
 -- What units claim: the first unit that answers an address owns it.
-use Rattle.std.proofs.Common.{◌≡◌, ◌∙◌, ◌⊎◌, inl, inr, ℕ, zero, suc, ◌+◌, ◌<◌, ◌≤◌, Bool, true, false, cond, List, [], ◌∷◌, ◌++◌, length, map, take, drop, Option, Some, None, Result, Ok, Err, refl, sym, ap, subst, arith}
+use Rattle.std.proofs.Common.{◌≡◌, ◌∙◌, inl, inr, ℕ, ◌+◌, ◌<◌, ◌≤◌, Bool, true, false, cond, List, [], ◌∷◌, ◌++◌, length, map, take, drop, Option, Some, None, Result, Ok, Err, refl, sym, ap, subst, arith}
 use Rattle.std.specs.Prelude.{IfSome, MatchOption, find, option_map, option_and_then, option_to_list, slice_get, is_err, ◌&&◌}
 use Rattle.std.specs.Option.{option_or}
 use Rattle.std.specs.Result.{result_unwrap_or}
-use Rattle.std.proofs.lemmas.List.{length-map, length-take, take-append-drop, take_all}
+use Rattle.std.proofs.lemmas.List.{length-map, length-take, take-append-drop, take_all, take_more}
 use Rattle.std.proofs.lemmas.List.Folds.{find-append}
-use Rattle.std.proofs.lemmas.Option.{slice_get-get_or, slice_get_within}
+use Rattle.std.proofs.lemmas.Option.{get_or_from_slice_get, slice_get-get_or, slice_get_within}
 use Rattle.dw_model.specs.Results.{or_fault}
 use Rattle.dw_model.specs.Faults.{Refusal, Bad, root_ranges}
 use Rattle.dw_model.specs.Section.{Sections}
@@ -22,34 +22,28 @@ use Rattle.dw_units.specs.UnitAt.{absent, unit_at}
 use Rattle.dw_index.specs.declared.range.Range.{Range as CodeRange}
 use Rattle.dw_index.specs.Range.{range_shown}
 use Rattle.dw_index.specs.Owners.{least_owner}
+use Rattle.dw_ranges.specs.declared.held.Listed.{Listed}
 use Rattle.dw_ranges.specs.declared.range_list.RangeList.{RangeList}
-use Rattle.dw_ranges.specs.Claims.{Adds, AddsListed, Claim, ClaimsState, OwnersState, all_claims, claims_in, held_claims, in_group, owner_in}
+use Rattle.dw_ranges.specs.Claims.{Adds, AddsListed, Claim, ClaimsState, OwnersState, all_claims, claims_in, held_claims, held_ranges, in_group, owner_in}
 use Rattle.dw_ranges.specs.Held.{listed}
 use Rattle.dw_ranges.specs.Lists.{IsOneAtMost, ranges_of_list}
 use Rattle.dw_ranges.specs.Owned.{AreOwned, owned}
 use Rattle.dw_ranges.specs.ReadLists.{Has}
-use Rattle.dw_ranges.proofs.BaseLemmas.{read-from}
 use Rattle.dw_ranges.proofs.ClaimLemmas.{adds-same}
 use Rattle.dw_ranges.proofs.GroupLemmas.{group-here}
 use Rattle.dw_ranges.proofs.OwnedLemmas.{still-owned, now-owned, passed-over}
 use Rattle.dw_frames.specs.Placed.{first}
 use Rattle.dw_frames.proofs.FirstLemmas.{first-find, first-push, first-within, owner-push}
-use Rattle.dw_symbols.specs.Owners.{Holds, IsFromZero, Owns, answers_at, checked_ranges, first_unit, ranges_in}
+use Rattle.dw_symbols.specs.Owners.{Holds, IsNamed, Owns, answers_at, checked_ranges, first_unit, ranges_in}
 
 -- ---- units, one after the other
 
 pub opened-at : (s : Sections) (i : ℕ) (here : OpenUnit) → i < length (model.units s.info) → opened.unit_of here ≡ unit_at s i → slice_get (model.units s.info) i ≡ Some (opened.unit_of here)
 opened-at s i here within is = slice_get-get_or (model.units s.info) i absent within ∙ ap Some (sym is)
 
-take-next : {X : Type 0} (xs : List X) (i : ℕ) (x : X) → slice_get xs i ≡ Some x → take (suc i) xs ≡ take i xs ++ x ∷ []
-take-next [] i x e = absurd cc
-take-next (y ∷ xs) zero x e = let same : y ≡ x = cc in ap (λ (x : _). x ∷ []) same
-take-next (y ∷ xs) (suc i) x e = ap (λ (rest : List _). y ∷ rest) (take-next xs i x e)
-
 take-one : {X : Type 0} (xs : List X) (i : ℕ) (x : X) → slice_get xs i ≡ Some x → take (i + 1) xs ≡ take i xs ++ x ∷ []
-take-one xs i x e =
-    let next : i + 1 ≡ suc i = omega arith in
-    ap (λ (n : ℕ). take n xs) next ∙ take-next xs i x e
+take-one {X = X} xs i x e =
+    take_more xs i x (slice_get_within xs i x e) ∙ ap (λ (one : X). take i xs ++ one ∷ []) (get_or_from_slice_get xs i x x e)
 
 -- ---- units whose ranges are bad
 
@@ -109,30 +103,23 @@ module _ (s : Sections) (i : ℕ) (unit : DwarfUnit) (at : slice_get (model.unit
 
 -- ---- what was gathered
 
--- what a unit's list is, where it names one
-abbrev pub IsNamed : Sections → DwarfUnit → Option RangeList → Type 0
-IsNamed s unit list = MatchOption list (IsOneAtMost (ranges_in s unit)) (λ list. ranges_in s unit ≡ ranges_of_list s.tables list)
-
 -- a list has ranges that earlier units own
 abbrev IsRead : Sections → List Claim → ℕ → RangeList → Type 0
 IsRead s claims i list = (ranges : List Range) × (ranges_of_list s.tables list ≡ Ok ranges) × AreOwned (in_group 0 claims) i ranges
 
--- Claims are those of the units before a place; the lists that were read have owners, and those that
--- are good can be read.
-pub record Gathered (s : Sections) (most : ℕ) (claims : ClaimsState) (read good : List (RangeList × ℕ)) (i : ℕ) : Type 0 where
+-- Claims are those of the units before a place, and the lists that were read have owners.
+pub record Gathered (s : Sections) (most : ℕ) (claims : ClaimsState) (read : List (RangeList × ℕ)) (i : ℕ) : Type 0 where
   pub units_are : AreGood s i
   pub owns : Owns s (take i (model.units s.info)) (all_claims s.tables claims)
   pub lists : (known : RangeList × ℕ) → Has read known → IsRead s (all_claims s.tables claims) i known.0
-  pub good_are : (known : RangeList × ℕ) → Has good known → (ranges : List Range) × (ranges_of_list s.tables known.0 ≡ Ok ranges)
   pub few : length claims.kept + claims.room ≤ most + i
 
-pub none-gathered : (s : Sections) (most room : ℕ) (claims : ClaimsState) (read good : List (RangeList × ℕ)) → claims ≡ record { kept = []; held = []; room = room } → room ≡ most → read ≡ [] → good ≡ [] → Gathered s most claims read good 0
+pub none-gathered : (s : Sections) (most room : ℕ) (claims : ClaimsState) (read : List (RangeList × ℕ)) → claims ≡ record { kept = []; held = []; room = room } → room ≡ most → read ≡ [] → Gathered s most claims read 0
 unfolding least_owner held_claims first
-none-gathered s most room claims read good is same none none_good = record {
+none-gathered s most room claims read is same none = record {
   units_are = refl;
   owns = λ a. rw is refl;
   lists = λ known h. absurd (subst (λ (read : List (RangeList × ℕ)). Has read known) none h);
-  good_are = λ known h. absurd (subst (λ (good : List (RangeList × ℕ)). Has good known) none_good h);
   few = rw is (omega (arith, same));
 }
 
@@ -142,16 +129,16 @@ one-range s unit None ranges few e none =
     omega (arith, few (map range_shown ranges) (or_fault-ok (root_ranges unit.offset) (ranges_in s unit) (map range_shown ranges) e), length-map ranges range_shown)
 one-range s unit (Some list) ranges few e none = absurd cc
 
-module _ (s : Sections) (most : ℕ) (old : ClaimsState) (read good : List (RangeList × ℕ)) (i : ℕ) (unit : DwarfUnit) (at : slice_get (model.units s.info) i ≡ Some unit) (was : Gathered s most old read good i) (list : Option RangeList) (named : IsNamed s unit list) where
+module _ (s : Sections) (most : ℕ) (old : ClaimsState) (read : List (RangeList × ℕ)) (i : ℕ) (unit : DwarfUnit) (at : slice_get (model.units s.info) i ≡ Some unit) (was : Gathered s most old read i) (list : Option RangeList) (named : IsNamed s unit list) where
   -- the ranges of its list
   of-list : (one : RangeList) → list ≡ Some one → ranges_in s unit ≡ ranges_of_list s.tables one
   of-list one is = subst (λ list. MatchOption list (IsOneAtMost (ranges_in s unit)) (λ list. ranges_in s unit ≡ ranges_of_list s.tables list)) is named
 
   -- its list was read for an earlier unit
-  pub read-again : MatchOption list ⊥ (λ list. Has read (list, 0)) → Gathered s most old read good (i + 1)
+  pub read-again : MatchOption list ⊥ (λ list. Has read (list, 0)) → Gathered s most old read (i + 1)
   read-again had = by_list list of-list had
     where
-      by_list : (list : Option RangeList) → ((one : RangeList) → list ≡ Some one → ranges_in s unit ≡ ranges_of_list s.tables one) → MatchOption list ⊥ (λ list. Has read (list, 0)) → Gathered s most old read good (i + 1)
+      by_list : (list : Option RangeList) → ((one : RangeList) → list ≡ Some one → ranges_in s unit ≡ ranges_of_list s.tables one) → MatchOption list ⊥ (λ list. Has read (list, 0)) → Gathered s most old read (i + 1)
       by_list None is had = absurd had
       by_list (Some list) is had =
           let known = was.lists (list, 0) had in
@@ -160,32 +147,19 @@ module _ (s : Sections) (most : ℕ) (old : ClaimsState) (read good : List (Rang
             units_are = good-on s i unit at was.units_are known.0 ranges;
             owns = λ a. sym (passed-over (in_group 0 (all_claims s.tables old)) known.0 i known.2 a) ∙ owns-more s i unit at (all_claims s.tables old) was.owns known.0 ranges a;
             lists = λ other h. (let one = was.lists other h in (one.0, one.1, λ a held. let o = one.2 a held in let below = o.2 in (o.0, o.1, omega (arith, below))));
-            good_are = was.good_are;
             few = let few = was.few in omega (arith, few);
           }
 
   -- its ranges are claimed
-  module _ (ranges : List Range) (is : ranges_in s unit ≡ Ok ranges) (new : ClaimsState) (after more : List (RangeList × ℕ))
-      (noted : (known : RangeList × ℕ) → Has after known → Has (map (λ list. (list, 0)) (option_to_list list) ++ read) known)
-      (noted_good : (known : RangeList × ℕ) → Has more known → MatchOption list ⊥ (λ list. IsFromZero list known.0) ⊎ Has good known) where
+  module _ (ranges : List Range) (is : ranges_in s unit ≡ Ok ranges) (new : ClaimsState) (after : List (RangeList × ℕ)) (noted : (known : RangeList × ℕ) → Has after known → Has (map (λ list. (list, 0)) (option_to_list list) ++ read) known) where
     listed-is : (one : RangeList) → list ≡ Some one → listed s.tables one ≡ ranges
     listed-is one e = ap (λ (read : Result (List Range) Bad). result_unwrap_or read []) (sym (of-list one e) ∙ is)
 
-    good-after : (known : RangeList × ℕ) → Has more known → (ranges : List Range) × (ranges_of_list s.tables known.0 ≡ Ok ranges)
-    good-after known has = elim (noted_good known has) [ inl new ↦ by_list list of-list new | inr old ↦ was.good_are known old ]
-      where
-        by_list : (list : Option RangeList) → ((one : RangeList) → list ≡ Some one → ranges_in s unit ≡ ranges_of_list s.tables one) → MatchOption list ⊥ (λ list. IsFromZero list known.0) → (ranges : List Range) × (ranges_of_list s.tables known.0 ≡ Ok ranges)
-        by_list None of new = absurd new
-        by_list (Some one) of counted =
-            let from = read-from s.tables one counted.0 0 ranges counted.1 (sym (of one refl) ∙ is) in
-            (from.0, ap (ranges_of_list s.tables) counted.2 ∙ from.1)
-
-    claimed-on : Adds 0 ranges i (all_claims s.tables old) (all_claims s.tables new) → length new.kept + new.room ≤ length old.kept + old.room + 1 → Gathered s most new after more (i + 1)
+    claimed-on : Adds 0 ranges i (all_claims s.tables old) (all_claims s.tables new) → length new.kept + new.room ≤ length old.kept + old.room + 1 → Gathered s most new after (i + 1)
     claimed-on adds few = record {
       units_are = good-on s i unit at was.units_are ranges is;
       owns = λ a. here a ∙ owns-more s i unit at (all_claims s.tables old) was.owns ranges is a;
       lists = λ known h. by_list known list of-list (noted known h);
-      good_are = good-after;
       few = let before = was.few in omega (arith, few, before);
     }
       where
@@ -207,26 +181,21 @@ module _ (s : Sections) (most : ℕ) (old : ClaimsState) (read good : List (Rang
             (ranges, sym (of one refl) ∙ is, seen ranges (now-owned (in_group 0 (all_claims s.tables old)) ranges i (i + 1) (omega arith)))
         by_list known (Some one) of (inr has) = still known has
 
-    pub read-on : AddsListed s.tables 0 ranges i list old new → length new.kept + new.room ≤ length old.kept + old.room + 1 → Gathered s most new after more (i + 1)
+    pub read-on : AddsListed s.tables 0 ranges i list old new → length new.kept + new.room ≤ length old.kept + old.room + 1 → Gathered s most new after (i + 1)
     read-on (inl adds) few = claimed-on adds few
     read-on (inr adds) few = claimed-on (subst (λ (ranges : List Range). Adds 0 ranges i (all_claims s.tables old) (all_claims s.tables new)) (listed-is adds.0 adds.1) adds.2) few
 
-    pub held-on : Holds list i old new → Gathered s most new after more (i + 1)
-    held-on held =
-        claimed-on (adds-same 0 ranges i (all_claims s.tables old) (all_claims s.tables new) (held.claims s.tables ∙ ap (λ (ranges : List Range). all_claims s.tables old ++ claims_in 0 (owned ranges i)) (listed-is held.named held.is)))
-        (let size : length new.kept ≡ length old.kept = ap (λ (kept : List Claim). length kept) held.kept in let room = held.room in omega (arith, size, room))
+    pub held-on : (held : Listed) → held_ranges s.tables held ≡ ranges → new.kept ≡ old.kept → new.room ≡ old.room → all_claims s.tables new ≡ all_claims s.tables old ++ claims_in 0 (owned (held_ranges s.tables held) i) → Gathered s most new after (i + 1)
+    held-on held same kept room claims =
+        claimed-on (adds-same 0 ranges i (all_claims s.tables old) (all_claims s.tables new) (claims ∙ ap (λ (ranges : List Range). all_claims s.tables old ++ claims_in 0 (owned ranges i)) same))
+        (let size : length new.kept ≡ length old.kept = ap (λ (kept : List Claim). length kept) kept in omega (arith, size, room))
 
-  -- its list was held for an earlier unit that counts from another base
-  pub held-ranges : MatchOption list ⊥ (λ list. (other : RangeList) × IsFromZero list other × Has good (other, 0)) → (ranges : List Range) × (ranges_in s unit ≡ Ok ranges)
-  held-ranges had = by_list list of-list had
-    where
-      by_list : (list : Option RangeList) → ((one : RangeList) → list ≡ Some one → ranges_in s unit ≡ ranges_of_list s.tables one) → MatchOption list ⊥ (λ list. (other : RangeList) × IsFromZero list other × Has good (other, 0)) → (ranges : List Range) × (ranges_in s unit ≡ Ok ranges)
-      by_list None of had = absurd had
-      by_list (Some one) of had =
-          let counted = had.1 in
-          let known = was.good_are (had.0, 0) had.2 in
-          let from = read-from s.tables (record { begin = one.begin; base = Some 0; addr = one.addr }) 0 counted.0 known.0 refl (ap (ranges_of_list s.tables) (sym counted.2) ∙ known.1) in
-          (from.0, of one refl ∙ ap (λ (base : Option ℕ). ranges_of_list s.tables (record { begin = one.begin; base = base; addr = one.addr })) counted.1 ∙ from.1)
+  -- its list is held by an index
+  pub held-ranges : (held : Listed) → (holds : Holds s.tables list held) → (ranges_in s unit ≡ Ok holds.ranges) × (held_ranges s.tables held ≡ holds.ranges)
+  held-ranges held holds = (
+    of-list holds.named holds.is ∙ holds.read,
+    holds.same ∙ ap (λ (read : Result (List Range) Bad). result_unwrap_or read []) holds.read,
+  )
 
 -- ---- all units
 

@@ -1,6 +1,6 @@
 -- Paths that are known.
-use Rattle.std.proofs.Common.{◌≡◌, ◌∙◌, ◌<◌, ℕ, zero, suc, List, [], ◌∷◌, ◌++◌, get_or, length, Option, Some, None, refl, ap, subst, arith}
-use Rattle.std.specs.Prelude.{option_and_then, slice_set}
+use Rattle.std.proofs.Common.{◌≡◌, ◌<◌, ℕ, zero, suc, List, [], ◌∷◌, ◌++◌, get_or, length, Option, Some, None, arith}
+use Rattle.std.specs.Prelude.{slice_set}
 use Rattle.std.proofs.lemmas.List.{length-set, length-append}
 use Rattle.std.proofs.lemmas.Option.{same_Some, get_or_from_slice_get, slice_get_read}
 use Rattle.dw_model.specs.Answer.{Lines}
@@ -9,9 +9,7 @@ use Rattle.dw_symbols.specs.Paths.{file_path, path_in, path_shown, AreOfFiles, A
 
 each-with : (table : Lines) (paths : List (Option KnownPath)) (place : ℕ) (one : KnownPath) → AreOfFiles table paths → path_shown one ≡ file_path table one.number → AreOfFiles table (slice_set paths place (Some one))
 each-with table [] place one are is k known there = absurd cc
-each-with table (x ∷ paths) zero one are is zero known there =
-    let same = same_Some one known (same_Some (Some one) (Some known) there) in
-    subst (λ (known : KnownPath). path_shown known ≡ file_path table known.number) same is
+each-with table (x ∷ paths) zero one are is zero known there = grind (arith, same_Some)
 each-with table (x ∷ paths) zero one are is (suc k) known there = are (suc k) known there
 each-with table (x ∷ paths) (suc place) one are is zero known there = are 0 known there
 each-with table (x ∷ paths) (suc place) one are is (suc k) known there =
@@ -19,10 +17,7 @@ each-with table (x ∷ paths) (suc place) one are is (suc k) known there =
 
 -- one more is known
 pub known-more : (table : Lines) (paths : List (Option KnownPath)) (place : ℕ) (one : KnownPath) → ArePathsOf table paths → path_shown one ≡ file_path table one.number → ArePathsOf table (slice_set paths place (Some one))
-known-more table paths place one are is = record {
-  few = omega (arith, length-set paths place (Some one), are.few);
-  each = each-with table paths place one are.each is;
-}
+known-more table paths place one are is = grind (arith, length-set, each-with)
 
 each-none : (table : Lines) (paths : List (Option KnownPath)) → AreOfFiles table paths → AreOfFiles table (paths ++ None ∷ [])
 each-none table [] are zero known there = absurd cc
@@ -32,16 +27,10 @@ each-none table (x ∷ paths) are (suc k) known there = each-none table paths (�
 
 -- there is one place more
 pub one-place : (table : Lines) (paths : List (Option KnownPath)) → ArePathsOf table paths → length paths < 64 → ArePathsOf table (paths ++ None ∷ [])
-one-place table paths are less = record {
-  few = omega (arith, length-append paths (None ∷ []), less);
-  each = each-none table paths are.each;
-}
+one-place table paths are less = grind (arith, length-append, each-none)
 
 -- the path of a file that is known
 pub known-at : (table : Lines) (paths : List (Option KnownPath)) (place number : ℕ) (slot : Option KnownPath) (known : KnownPath) → ArePathsOf table paths → place < length paths → slot ≡ get_or paths place slot → slot ≡ Some known → known.number ≡ number
     → path_in paths place ≡ file_path table number
 known-at table paths place number slot known are within is some same =
-    let there = slice_get_read paths (length paths) place slot refl within is in
-    ap (λ (slot : Option KnownPath). option_and_then path_shown slot) (get_or_from_slice_get paths place slot None there ∙ some)
-    ∙ are.each place known (there ∙ ap Some some)
-    ∙ ap (file_path table) same
+    grind (arith, slice_get_read, get_or_from_slice_get)

@@ -1,14 +1,14 @@
 -- The pieces of a span by line tables.
-use Rattle.std.proofs.Common.{◌≡◌, ◌≤◌, ◌<◌, ℕ, zero, suc, List, [], ◌∷◌, ◌++◌, get_or, map, Option, Some, None, Bool, true, false, Result, Ok, Err, length, ◌-◌, ◌+◌, refl, sym, subst, ap, ◌∙◌, arith}
-use Rattle.std.specs.Prelude.{slice_set, ◌↔◌, option_map, ◌==◌}
+use Rattle.std.proofs.Common.{◌≡◌, ◌≤◌, ◌<◌, ℕ, zero, suc, List, [], ◌∷◌, ◌++◌, get_or, map, Option, Some, None, true, false, Result, Ok, Err, length, ◌-◌, ◌+◌, refl, sym, subst, ap, ◌∙◌, arith}
+use Rattle.std.specs.Prelude.{slice_set, ◌↔◌, option_map}
 use Rattle.dw_model.specs.Answer as model
 use Rattle.dw_model.specs.Answer.{Lines, Code, line_fault, unit_of, lines, row_at, row_location}
 use Rattle.dw_model.specs.Pieces.{UnitFault, ArePieces, IsFirstFault, HaveLocation, joins, with_piece, unit_place, place, pieces_from, as_answer, pieces_in}
 use Rattle.dw_line.specs.declared.rows.Row.{Row}
 use Rattle.dw_line.specs.declared.walk.Stretch.{Stretch}
 use Rattle.dw_symbols.specs.declared.answer.Piece.{Piece}
-use Rattle.dw_symbols.specs.Answer.{piece_shown}
-use Rattle.dw_line.specs.Search.{told_at}
+use Rattle.dw_symbols.specs.Answer.{piece_shown, code_shown}
+use Rattle.dw_line.specs.Search.{told_at, row_told}
 use Rattle.dw_line.specs.Walked.{IsStretch}
 use Rattle.dw_symbols.specs.Paths.{file_path}
 use Rattle.dw_symbols.specs.Pieces.{row_place, with_path, AddsStretch, AddsRows}
@@ -17,10 +17,8 @@ use Rattle.dw_model.specs.Faults.{Bad}
 use Rattle.dw_model.specs.Matrix.{Row as ModelRow, row_of}
 use Rattle.dw_model.specs.Section.{Sections}
 use Rattle.dw_model.specs.Unit.{DwarfUnit}
-use Rattle.dw_line.specs.Search.{row_told}
 use Rattle.dw_symbols.specs.declared.answer.UnitFault.{UnitFault as CodeFault}
 use Rattle.dw_symbols.specs.declared.span.Span.{Span}
-use Rattle.dw_symbols.specs.Answer.{code_shown}
 use Rattle.dw_line.specs.Lines.{Table, lines_shown}
 use Rattle.dw_symbols.specs.UnitParts.{HasLines}
 use Rattle.dw_symbols.specs.ImageUnit.{IsUnitOf}
@@ -73,14 +71,7 @@ adds_one table stretch row old next is same law = λ rises location low order ar
 -- a row's piece, of which the path was found apart
 pub placed : (table : Lines) (row : Row) (begin end : ℕ) (path : Option (List ℕ)) (location : model.Location) → path ≡ file_path table row.file → location ≡ model.location_at None (Some row.line) (Some row.column)
     → with_path path (record { begin = begin; end = end; location = location }) ≡ record { begin = begin; end = end; location = row_place table row }
-placed table row begin end path location same is =
-    ap (λ (location : model.Location). with_path path (record { begin = begin; end = end; location = location })) is
-    ∙ by_line (row.line == 0) refl
-    ∙ ap (λ (path : Option (List ℕ)). record { begin = begin; end = end; location = model.location_at path (Some row.line) (Some row.column) }) same
-  where
-    by_line : (zero : Bool) → (row.line == 0) ≡ zero → with_path path (record { begin = begin; end = end; location = model.location_at None (Some row.line) (Some row.column) }) ≡ record { begin = begin; end = end; location = model.location_at path (Some row.line) (Some row.column) }
-    by_line true e = rw e refl
-    by_line false e = rw e refl
+placed table row begin end path location same is = grind arith
 
 -- they are the pieces of the addresses before one of the span, if each has the location of its row
 abbrev pub AddedTo : Lines → (low high at : ℕ) → (old now : List model.Piece) → Type 0
@@ -111,17 +102,10 @@ rows_place s unit a read =
     with_code (λ _. (unit.offset, line_fault)) read >>= λ table. Ok (option_map (λ row. row_location table (Some row)) (row_at table a))
 
 place_ok : (s : Sections) (unit : DwarfUnit) (table : Option Lines) (a : ℕ) → Ok table ≡ with_code (λ _. line_fault) (lines s unit) → unit_place s unit a ≡ Ok (option_map (λ row. row_location table (Some row)) (row_at table a))
-place_ok s unit table a h = by (lines s unit) refl h
-  where
-    by : (read : Result (Option Lines) Bad) → lines s unit ≡ read → Ok table ≡ with_code (λ _. line_fault) read → rows_place s unit a (lines s unit) ≡ Ok (option_map (λ row. row_location table (Some row)) (row_at table a))
-    by (Ok other) e h =
-        let same : other ≡ table = cc in
-        ap (rows_place s unit a) (e ∙ ap Ok same)
-    by (Err bad) e h = absurd cc
+place_ok s unit table a h = grind arith
 
 same_place : (table : Lines) (found : Option ModelRow) → option_map (row_place table) (option_map row_told found) ≡ option_map (λ row. row_location (Some table) (Some row)) found
-same_place table None = refl
-same_place table (Some row) = refl
+same_place table found = grind arith
 
 pub unit_adds : (s : Sections) (unit : DwarfUnit) (span : Span) (table : Table) (old new : List model.Piece) → HasLines s unit (Ok (Some table)) → AddsRows (lines_shown table) span.low span.high old new → AddsUnit s unit span None old new
 unit_adds s unit span table old new has adds = λ same from order are.

@@ -1,5 +1,5 @@
 -- Answers that show what their queries mean are the file's.
-use Rattle.std.proofs.Common.{◌≡◌, ℕ, List, [], ◌∷◌, map, refl}
+use Rattle.std.proofs.Common.{◌≡◌, ℕ, List, [], ◌∷◌, map, refl, arith}
 use Rattle.ticket_core.specs.declared.query.Query.{Query}
 use Rattle.dw_symbols.specs.declared.answer.Answer.{Answer}
 use Rattle.dw_symbols.specs.Answer.{answer_shown}
@@ -14,7 +14,4 @@ same_answers file [] [] same = refl
 same_answers file [] (answer ∷ answers) same = cc
 same_answers file (query ∷ queries) [] same = cc
 same_answers file (query ∷ queries) (answer ∷ answers) same =
-    let first : told answer ≡ meaning file query = cc in
-    let others : map told answers ≡ map (meaning file) queries = cc in
-    let is : answer_shown answer ≡ means file query = same_answer file query answer first in
-    let are = same_answers file queries answers others in cc
+    grind (arith, same_answer, same_answers file queries answers)

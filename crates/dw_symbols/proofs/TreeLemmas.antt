@@ -1,26 +1,19 @@
 -- The faults of a unit's functions, and which units have some.
-use Rattle.std.proofs.Common.{◌≡◌, ℕ, Bool, true, false, cond, List, [], ◌∷◌, Some, refl, subst}
+use Rattle.std.proofs.Common.{◌≡◌, ℕ, Bool, true, false, List, [], ◌∷◌, Some, arith}
 use Rattle.std.specs.Prelude.{find, ◌&&◌}
 use Rattle.dw_model.specs.Section.{Sections}
-use Rattle.dw_model.specs.Unit.{Kind, compile, partial, skeleton, skipped, DwarfUnit, is_skipped, units}
+use Rattle.dw_model.specs.Unit.{Kind, DwarfUnit, is_skipped, units}
 use Rattle.dw_model.specs.Root.{answers}
 use Rattle.dw_model.specs.Answer.{unit_of}
 
 -- ---- a unit that answers isn't skipped
 
 kept-kind : (kind : Kind) (test : Bool) → (answers kind && test) ≡ true → is_skipped kind ≡ false
-kept-kind compile test e = refl
-kept-kind partial test e = refl
-kept-kind skeleton test e = refl
-kept-kind skipped test e = absurd cc
+kept-kind kind test e = grind arith
 
 found-passes : {X : Type 0} (p : X → Bool) (xs : List X) (x : X) → find p xs ≡ Some x → p x ≡ true
 found-passes p [] x e = absurd cc
-found-passes p (y ∷ xs) x e = by_test (p y) refl (found-passes p xs x) e
-  where
-    by_test : (here : Bool) → p y ≡ here → (find p xs ≡ Some x → p x ≡ true) → cond here (Some y) (find p xs) ≡ Some x → p x ≡ true
-    by_test true t others e = let same : y ≡ x = cc in subst (λ y. p y ≡ true) same t
-    by_test false t others e = others e
+found-passes p (y ∷ xs) x e = grind (arith, found-passes p xs x)
 
 pub answering-kept : (s : Sections) (a : ℕ) (unit : DwarfUnit) → unit_of s a ≡ Some unit → is_skipped unit.kind ≡ false
 unfolding unit_of

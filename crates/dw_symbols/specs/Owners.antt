@@ -1,5 +1,5 @@
 -- Which unit owns an address.
-use Rattle.std.specs.Prelude.{◌≡◌, ℕ, ◌+◌, ◌/◌, ◌&&◌, length, List, [], ◌++◌, Bool, Option, Some, MatchOption}
+use Rattle.std.specs.Prelude.{◌≡◌, ℕ, ◌+◌, ◌/◌, ◌&&◌, length, List, [], Bool, Option, Some, MatchOption}
 use Rattle.std.specs.Prelude.{Result, Ok, option_map, if◌then◌else◌}
 use Rattle.std.specs.Result.{result_unwrap_or}
 use Rattle.dw_model.specs.Results.{or_fault}
@@ -12,10 +12,11 @@ use Rattle.dw_model.specs.Ranges.{Range, covers}
 use Rattle.dw_model.specs.Refusal.{ranges_refusal, unit_ranges}
 use Rattle.dw_model.specs.Answer.{unit_of}
 use Rattle.dw_units.specs.UnitAt.{unit_at}
-use Rattle.dw_ranges.specs.Claims.{AreCounted, Claim, ClaimsState, OwnersState}
-use Rattle.dw_ranges.specs.Claims.{all_claims, claims_in, owner_in, owner_of}
+use Rattle.dw_ranges.specs.Claims.{AreCounted, Claim, OwnersState}
+use Rattle.dw_ranges.specs.Claims.{held_ranges, owner_in, owner_of}
 use Rattle.dw_ranges.specs.Held.{listed}
-use Rattle.dw_ranges.specs.Owned.{owned}
+use Rattle.dw_ranges.specs.Lists.{IsOneAtMost, ranges_of_list}
+use Rattle.dw_ranges.specs.declared.held.Listed.{Listed}
 use Rattle.dw_ranges.specs.declared.range_list.RangeList.{RangeList}
 use Rattle.dw_frames.specs.Placed.{first}
 
@@ -41,19 +42,18 @@ Owns sections units claims = (a : ℕ) → owner_in claims 0 a ≡ first (answer
 abbrev pub Refuses : Option Refusal → Sections → Type 0
 Refuses told sections = MatchOption told (Unit {0}) (λ refusal. ranges_refusal sections ≡ Some refusal)
 
--- The unit is held by its list.
-pub record Holds (list : Option RangeList) (unit : ℕ) (old new : ClaimsState) : Type 0 where
+-- what a unit's list is, where it names one
+abbrev pub IsNamed : Sections → DwarfUnit → Option RangeList → Type 0
+IsNamed sections unit list = MatchOption list (IsOneAtMost (ranges_in sections unit))
+    (λ list. ranges_in sections unit ≡ ranges_of_list sections.tables list)
+
+-- A list that is held is the one that is named, and can be read.
+pub record Holds (tables : Tables) (list : Option RangeList) (held : Listed) : Type 0 where
   pub named : RangeList
   pub is : list ≡ Some named
-  pub kept : new.kept ≡ old.kept
-  pub room : new.room ≡ old.room
-  pub claims : (tables : Tables)
-      → all_claims tables new ≡ all_claims tables old ++ claims_in 0 (owned (listed tables named) unit)
-
--- The other list is the same, but counts from 0, where the one has a base.
-abbrev pub IsFromZero : (list other : RangeList) → Type 0
-IsFromZero list other =
-    (base : ℕ) × (list.base ≡ Some base) × (other ≡ record { begin = list.begin; base = Some 0; addr = list.addr })
+  pub same : held_ranges tables held ≡ listed tables named
+  pub ranges : List Range
+  pub read : ranges_of_list tables named ≡ Ok ranges
 
 -- ---- how units are found
 

@@ -14,6 +14,7 @@ use crate::source::Source;
 use crate::span::Span;
 use crate::table_cache::KeptTables;
 use crate::unit_cache::{Trees, functions_at};
+use dw_ranges::ListIndexes;
 use lru::LruCache;
 use std::alloc::{AllocError, Global};
 use std::marker::Model;
@@ -30,6 +31,8 @@ pub struct Context<'b, 'a> {
     alloc: Global,
     /// The functions of the units that were used last.
     trees: Trees<'a>,
+    /// The indexes of range lists that are held by these functions.
+    indexes: ListIndexes<'a>,
     /// The line tables that were used last. Units may name one table, which is kept once.
     tables: KeptTables<'a>,
     refusals: Refusals,
@@ -94,11 +97,13 @@ impl<'b, 'a> Context<'b, 'a> {
         ensures refused { IfOk result (λ context. context.refused ≡ 0) }
     {
         let trees = LruCache::sparse(alloc, capacity)?;
+        let indexes = ListIndexes::new(alloc, source.image().units().tables());
         let tables = KeptTables::new(alloc, capacity)?;
         Ok(Context {
             source,
             alloc,
             trees,
+            indexes,
             tables,
             refusals: Refusals::new(),
         })
@@ -143,7 +148,7 @@ impl<'b, 'a> Context<'b, 'a> {
         let Some(unit) = self.source.image().unit_at(a) else {
             return Ok(Answer::NotCovered);
         };
-        match functions_at(&mut self.trees, self.alloc, unit, a)? {
+        match functions_at(&mut self.trees, &mut self.indexes, self.alloc, unit, a)? {
             Ok(functions) => self.tables.frames(self.alloc, unit, &functions, a),
             Err(code) => Ok(Answer::Fault {
                 unit: unit.offset(),

@@ -26,7 +26,7 @@ pub struct Image<'a> {
     /// What is read of its units keeps them too.
     units: Arc<Units<'a>>,
     /// The places of the units that answer addresses.
-    cover: Owners,
+    cover: Owners<'a>,
 }
 
 impl<'a> Model for Image<'a> {

@@ -24,6 +24,7 @@ mod unit_walk;
 pub use answer::{Answer, Frame, Location, Piece, UnitFault};
 pub use context::Context;
 pub use image::Image;
+pub use refusals::Refusals;
 pub use solver::law_of_shown;
 pub use unit_parts::{UnitLines, UnitTree, read_table, read_tree, table_offset};
 pub use unit_place::UnitPlace;

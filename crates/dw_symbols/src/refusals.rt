@@ -1,4 +1,4 @@
-//! How often a context was out of memory: a count that only contracts see.
+//! How often a solver was out of memory: a count that only contracts see.
 
 ghost use Rattle.std.specs.Prelude.{◌≡◌, ◌+◌, ℕ};
 ghost use Rattle.std.specs.Borrow.{ftrue};
@@ -8,7 +8,7 @@ use std::marker::Model;
 
 /// A count of refusals. It takes no memory, and its methods do nothing at run time.
 #[derive(Drop)]
-pub(crate) struct Refusals {
+pub struct Refusals {
     ghost count: { ℕ } by { coded_ℕ },
 }
 
@@ -24,14 +24,14 @@ unsafe impl Sync for Refusals {}
 
 impl Refusals {
     /// None yet.
-    pub(crate) fn new() -> Refusals
+    pub fn new() -> Refusals
         ensures { result.count ≡ 0 }
     {
         Refusals {}
     }
 
     /// One more.
-    pub(crate) fn then(&self) -> Refusals
+    pub fn then(&self) -> Refusals
         ensures { result.count ≡ self.now.count + 1 }
     {
         Refusals {}

@@ -9,8 +9,9 @@ ghost use Rattle.dw_symbols.specs.UnitParts.{AreFunctionsAt, HasTree, HasTreeFau
 
 use crate::answer::UnitFault;
 use crate::image_unit::ImageUnit;
-use crate::unit_parts::{UnitTree, read_tree};
+use crate::unit_parts::{UnitTree, read_tree_with};
 use dw_frames::Described;
+use dw_ranges::ListIndexes;
 use lru::LruCache;
 use std::alloc::{AllocError, Global};
 
@@ -50,12 +51,15 @@ fn keep<'a>(kept: &mut Trees<'a>, place: usize, tree: UnitTree<'a>) -> Result<()
 /// aren't kept.
 pub(crate) fn functions_at<'a>(
     kept: &mut Trees<'a>,
+    indexes: &mut ListIndexes<'a>,
     alloc: Global,
     unit: ImageUnit<'_, 'a>,
     a: u64,
 ) -> Result<UnitFunctions<'a>, AllocError>
     requires kind { is_skipped (unit_in unit).kind ≡ false }
     requires kept { AreTrees (sections_in unit) kept.old.entries }
+    requires tables { indexes.old ≡ (sections_in unit).tables }
+    ensures tables { indexes.new ≡ indexes.old }
     ensures kept { AreTrees (sections_in unit.entry) kept.new.entries }
     ensures functions { IfOk result (λ found. MatchResult found
         (λ functions. AreFunctionsAt (sections_in unit.entry) (unit_in unit.entry) a functions.items)
@@ -64,7 +68,7 @@ pub(crate) fn functions_at<'a>(
     if let Some(tree) = kept.get_mut(&unit.index) {
         return functions_in(tree, alloc, a);
     }
-    let mut tree = read_tree(alloc, unit.shared_units(), unit.index)?;
+    let mut tree = read_tree_with(alloc, unit.shared_units(), unit.index, indexes)?;
     let found = functions_in(&mut tree, alloc, a)?;
     keep(kept, unit.index, tree)?;
     Ok(found)

@@ -12,6 +12,7 @@ use dw_forms::Value;
 use dw_frames::{Tree, TreeFault};
 use dw_line::{LineFault, Lines};
 use dw_model::dwarf::{DW_AT_comp_dir, DW_AT_stmt_list};
+use dw_ranges::ListIndexes;
 use dw_units::{OpenUnit, Units};
 use std::alloc::{AllocError, Global};
 use std::sync::Arc;
@@ -33,7 +34,24 @@ pub fn read_tree<'a>(
     requires kind { is_skipped (unit_at shared.now.value index).kind ≡ false }
     ensures { IfOk result (HasTree shared.now.value (unit_at shared.now.value index)) }
 {
-    match Tree::read(alloc, shared, index) {
+    let mut indexes = ListIndexes::new(alloc, shared.tables());
+    read_tree_with(alloc, shared, index, &mut indexes)
+}
+
+/// The same, with indexes of range lists of the file that many functions name.
+pub(crate) fn read_tree_with<'a>(
+    alloc: Global,
+    shared: &Arc<Units<'a>>,
+    index: usize,
+    indexes: &mut ListIndexes<'a>,
+) -> Result<UnitTree<'a>, AllocError>
+    requires within { index < length (units shared.now.value.info) }
+    requires kind { is_skipped (unit_at shared.now.value index).kind ≡ false }
+    requires tables { indexes.old ≡ shared.now.value.tables }
+    ensures tables { indexes.new ≡ indexes.old }
+    ensures tree { IfOk result (HasTree shared.now.value (unit_at shared.now.value index)) }
+{
+    match Tree::read_with(alloc, shared, index, indexes) {
         Ok(tree) => Ok(Ok(tree)),
         Err(TreeFault::Entry) => Ok(Err(UnitFault::Entry)),
         Err(TreeFault::Depth) => Ok(Err(UnitFault::Depth)),

@@ -17,7 +17,7 @@ use std::marker::Model;
 #[derive(Drop)]
 pub(crate) struct UnitWalk<'b, 'a> {
     image: &'b Image<'a>,
-    cover: &'b Owners,
+    cover: &'b Owners<'a>,
     alloc: Global,
     /// What was found of the units that are held by their lists.
     window: Window,
@@ -39,7 +39,7 @@ impl<'b, 'a> UnitWalk<'b, 'a> {
     pub(crate) fn new(
         alloc: Global,
         image: &'b Image<'a>,
-        cover: &'b Owners,
+        cover: &'b Owners<'a>,
     ) -> Result<Self, AllocError>
         requires finds { FindsUnits (sections image.now) cover.now }
         requires within { FindsPlaces (sections image.now) cover.now }

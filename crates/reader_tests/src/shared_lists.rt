@@ -103,15 +103,17 @@ const OF_CALLERS: &[(u64, &[u64])] = &[
 /// list of a function that is inlined in another caller, or of the caller, is one's own too.
 static SHARING: [(&[u8], &[(u64, &[u64])]); 2] = [(LATER, OF_LATER), (CALLERS, OF_CALLERS)];
 
-/// Three functions of `LOOSE` read as many bytes of lists as there are, so that lists are noted
-/// from then on.
+/// How many functions of `LOOSE` are before others. Each reads seven bytes of a list and has five,
+/// so with the last two as many bytes of lists are read as the unit has, and lists are noted.
+static LOOSE_COUNTS: [usize; 4] = [0, 1, 35, 60];
+
 #[test]
 fn functions_of_one_list(rt: HostRuntime) -> Result<(), Fail> {
     for (entries, chains) in &SHARING {
-        for loose in 0..5 {
-            let entries = entries_behind(rt.alloc(), loose, entries)?;
+        for loose in &LOOSE_COUNTS {
+            let entries = entries_behind(rt.alloc(), *loose, entries)?;
             let file = file_of(rt.alloc(), &entries, LISTS)?;
-            expect_functions(&rt, rt.alloc(), &file, chains, loose * LOOSE.len())?;
+            expect_functions(&rt, rt.alloc(), &file, chains, *loose * LOOSE.len())?;
         }
     }
     Ok(())
@@ -138,8 +140,8 @@ static FAULTS: [(&[u8], Option<TreeFault>); 4] = [
 #[test]
 fn faults_behind_a_list_that_was_read(rt: HostRuntime) -> Result<(), Fail> {
     for (i, (entries, fault)) in FAULTS.iter().enumerate() {
-        for loose in 0..5 {
-            let entries = entries_behind(rt.alloc(), loose, entries)?;
+        for loose in &LOOSE_COUNTS {
+            let entries = entries_behind(rt.alloc(), *loose, entries)?;
             let file = file_of(rt.alloc(), &entries, LISTS)?;
             expect(&rt, i, &fault_of_first(rt.alloc(), &file)?, fault);
         }

@@ -1,12 +1,16 @@
 //! Ranges with their owners, as far as they matter in a window of addresses.
 
-ghost use Rattle.std.specs.Prelude.{◌≡◌, ◌≤◌, ◌<◌, ◌++◌, ◌∷◌, [], ℕ, IfOk, List, OnOk, map};
+ghost use Rattle.std.specs.Prelude.{◌≡◌, ◌≤◌, ◌<◌, ◌++◌, ◌∷◌, [], ℕ, true, false, IfOk, List, OnOk, map};
 ghost use Rattle.dw_model.specs.Ranges as model;
 ghost use Rattle.dw_model.specs.Steady.{last_address};
 ghost use Rattle.dw_index.specs.Range.{range_shown};
-ghost use Rattle.dw_ranges.specs.Window.{ArePieces, HasOwners};
+ghost use Rattle.dw_ranges.specs.declared.window.draft.Draft.{Draft};
+ghost use Rattle.dw_ranges.specs.ListIndex.{listed_from};
+ghost use Rattle.dw_ranges.specs.Owned.{owned};
+ghost use Rattle.dw_ranges.specs.Window.{ArePieces, HasOwners, PiecesTo};
 
 use super::lesser;
+use crate::list_index::ListIndex;
 use dw_index::{Index, Range};
 use std::alloc::{AllocError, Global};
 
@@ -75,13 +79,14 @@ fn push_pieces(
 }
 
 impl Draft {
-    /// No range was added for the window that begins at an address and has no end yet.
-    pub(crate) fn new(alloc: Global, from: u64, most: usize) -> Self
-        ensures { from < last_address → HasOwners [] from result }
+    /// No range was added for the window that begins at an address and ends at another, or where
+    /// there are too many pieces.
+    pub(crate) fn new(alloc: Global, from: u64, until: u64, most: usize) -> Self
+        ensures { from < until → HasOwners [] from result }
     {
         Draft {
             from,
-            until: u64::MAX,
+            until,
             pairs: Vec::new(alloc),
             most,
             alloc,
@@ -136,6 +141,54 @@ impl Draft {
     {
         for range in ranges {
             self.push(*range, owner)?;
+        }
+        Ok(())
+    }
+
+    /// Adds the piece of a list with an index that begins at an address, from a base, where the
+    /// list holds it, and returns where it ends.
+    fn add_piece(
+        &mut self,
+        index: &ListIndex<'_>,
+        base: Option<u64>,
+        owner: usize,
+        begin: u64,
+    ) -> Result<u64, AllocError>
+        requires { begin < last_address }
+        ensures above { IfOk result (λ end. begin < end) }
+        ensures pieces { IfOk result (λ end. (old : Draft)
+            → PiecesTo (listed_from index.now base) owner begin old self.old
+            → PiecesTo (listed_from index.now base) owner end old self.new) }
+    {
+        let end = index.steady(base, begin);
+        if !index.holds(base, begin) {
+            return Ok(end);
+        }
+        self.push(Range { begin, end }, owner)?;
+        Ok(end)
+    }
+
+    /// An address is before the end of the window.
+    fn reaches(&self, a: u64) -> bool
+        ensures address { result ≡ true → a < last_address }
+        ensures end { result ≡ false → self.now.until ≤ a }
+    {
+        a < self.until
+    }
+
+    /// Adds the ranges in the window of a list that has an index, from a base.
+    pub(crate) fn add_indexed(
+        &mut self,
+        index: &ListIndex<'_>,
+        base: Option<u64>,
+        owner: usize,
+    ) -> Result<(), AllocError>
+        ensures { OnOk result ((all : List (model.Range × ℕ)) (from : ℕ) → HasOwners all from self.old
+            → HasOwners (all ++ owned (listed_from index.now base) owner) from self.new) }
+    {
+        let mut begin = self.from;
+        while self.reaches(begin) {
+            begin = self.add_piece(index, base, owner, begin)?;
         }
         Ok(())
     }

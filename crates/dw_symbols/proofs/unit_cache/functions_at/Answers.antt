@@ -22,4 +22,4 @@ returns-in-Some-clause-functions c =
 pub returns-clause-functions : goal.returns-clause-functions
 returns-clause-functions c =
     c.in_ok-found.ensures.functions (sections_in c.args.unit) (unit_in c.args.unit)
-    (subst (λ (s : Sections). HasTree s (unit_at s c.args.unit.index) c.in_ok-tree.tree) c.shared_units.ensures c.in_ok-tree.ensures)
+    (subst (λ (s : Sections). HasTree s (unit_at s c.args.unit.index) c.in_ok-tree.tree) c.shared_units.ensures c.in_ok-tree.ensures.tree)

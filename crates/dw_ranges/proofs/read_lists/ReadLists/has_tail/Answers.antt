@@ -1,4 +1,4 @@
-use Rattle.std.proofs.Common.{◌≡◌, ◌<◌, ◌++◌, true, Some, length, ap, refl, ◌∙◌, arith}
+use Rattle.std.proofs.Common.{◌≡◌, ◌<◌, true, Some, length, ap, refl, ◌∙◌, arith}
 use Rattle.std.specs.Prelude.{slice_get}
 use Rattle.std.proofs.lemmas.Option.{slice_get_read}
 use Rattle.std.specs.BTreeMap.{values}
@@ -15,4 +15,4 @@ returns-then-is_same_base c same =
     let within : c.args.list.begin < length marks = omega (arith, size) in
     let marked : slice_get marks c.args.list.begin ≡ Some true = slice_get_read marks (length marks) c.args.list.begin c.index.result.now refl within c.index.ensures ∙ ap Some c.if-not-index.false in
     let there = marked-list marks old.base old.addr c.args.list marked (c.is_same_base.ensures c.if-is_same_base.true) (c.is_same_base-then-is_same_base.ensures same) in
-    rw (← c.self.view_is) (has-back (old.rising.items ++ values old.others) (marked_from 0 old.base old.addr marks) (c.args.list, 0) there)
+    rw (← c.self.view_is) (has-back (values old.read) (marked_from 0 old.base old.addr marks) (c.args.list, 0) there)

@@ -1,17 +1,10 @@
-use Rattle.dw_units.specs.OpenUnit.{sections_of, unit_of}
-use Rattle.dw_symbols.specs.ImageUnit.{sections_in}
 use Rattle.dw_symbols.proofs.TableLemmas.{named-found, named-used}
 use Rattle.dw_symbols.proofs.table_cache.KeptTables.push_pieces.Goals as goal
 
 pub push_pieces_by-requires-in-Some-get_mut-clause-named : goal.push_pieces_by-requires-in-Some-get_mut-clause-named
 push_pieces_by-requires-in-Some-get_mut-clause-named c =
-    let s = sections_of c.open-here.result in
-    let unit = unit_of c.open-here.result in
-    named-found s (sections_in c.args.unit) unit c.hold.new.self c.open-here.ensures.sections c.hold.ensures c.in-Some.offset c.in-Some-get_mut.lines.now c.in-Some.ensures c.in-Some-get_mut.ensures.value
+    named-found _ _ _ c.hold.new.self c.open-here.ensures.sections c.hold.ensures c.in-Some.offset _ c.in-Some.ensures c.in-Some-get_mut.ensures.value
 
 pub returns-in-Some-get_mut-clause-kept : goal.returns-in-Some-get_mut-clause-kept
 returns-in-Some-get_mut-clause-kept c =
-    let s = sections_of c.open-here.result in
-    let unit = unit_of c.open-here.result in
-    let read = c.push_pieces_by-in-Some-get_mut.new.lines in
-    named-used s (sections_in c.args.unit) unit c.hold.new.self c.open-here.ensures.sections c.hold.ensures c.in-Some.offset read c.in-Some.ensures c.push_pieces_by-in-Some-get_mut.ensures.named
+    named-used _ _ _ c.hold.new.self c.open-here.ensures.sections c.hold.ensures c.in-Some.offset _ c.in-Some.ensures c.push_pieces_by-in-Some-get_mut.ensures.named

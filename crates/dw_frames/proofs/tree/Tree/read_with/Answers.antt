@@ -14,7 +14,7 @@ use Rattle.dw_frames.specs.Tree.{IsTreeOf}
 use Rattle.dw_frames.specs.UnitIn.{UnitIn, unit_in}
 use Rattle.dw_frames.proofs.BuiltLemmas.{is-tree}
 use Rattle.dw_frames.proofs.ToldLemmas.{none-told}
-use Rattle.dw_frames.proofs.tree.Tree.read.Goals as goal
+use Rattle.dw_frames.proofs.tree.Tree.read_with.Goals as goal
 
 -- the unit that was opened is the one of its index in the file
 of-file : (here : OpenUnit) (sections : Sections) (index : ℕ) (chains : Chains) → sections_of here ≡ sections → here.index ≡ index → IsTreeOf (unit_in here) chains → IsTreeOf (record { index = index; sections = sections; unit = unit_at sections index }) chains
