@@ -1,8 +1,9 @@
 #!/usr/bin/env bash
 # Runs of random shapes beside work that keeps all processors busy, half of them on one processor: each ends within ten
 # times the time that it takes without that work, or five seconds where that is more, since a short run may wait for a
-# processor alone; and all write the same bytes. The word is how many runs; 100 without. A seed is the second word; it is
-# printed. Run it after `rt run` in crates/a2l has built the program.
+# processor alone; and all write the same bytes. The words are how many runs, 100 without; a seed, which is printed; and
+# the seconds that each run may take at any rate, 5 without. `tests/waits.sh 1000 1 0` has nothing but ten times, and
+# wants a machine without other work. Run it after `rt run` in crates/a2l has built the program.
 . "$(dirname "$0")/programs.sh"
 need_a2l
 
@@ -12,12 +13,11 @@ objdump -h program | awk '$2 == ".text" { print $4, $3 }' > text
 cat > waits.py <<'END_PY'
 import os, random, subprocess, sys, time
 
-tool, count, seed = sys.argv[1], int(sys.argv[2]), int(sys.argv[3])
+tool, count, seed, least = sys.argv[1], int(sys.argv[2]), int(sys.argv[3]), float(sys.argv[4])
 draws = random.Random(seed)
 begin, size = (int(word, 16) for word in open('text').read().split())
 addresses = '\n'.join(f'{begin + draws.randrange(size):x}' for _ in range(20_000)) + '\n'
 only = min(os.sched_getaffinity(0))
-LEAST = 5
 
 def run(shape, limit=None):
     """What a run writes, and its seconds."""
@@ -40,10 +40,10 @@ most = 0
 try:
     for shape, alone in zip(shapes, quiet):
         try:
-            found, seconds = run(shape, max(10 * alone, LEAST))
+            found, seconds = run(shape, max(10 * alone, least))
         except subprocess.TimeoutExpired:
             sys.exit(f'{shape[0]} workers, {shape[1]} senders{", one processor" * shape[2]}: '
-                     f'not within ten times {alone:.3f} s, nor {LEAST} s (seed {seed})')
+                     f'not within ten times {alone:.3f} s, nor {least:g} s (seed {seed})')
         assert found == wanted, (shape, 'other bytes', seed)
         most = max(most, seconds / alone)
 finally:
@@ -52,4 +52,4 @@ finally:
 print(f'{count} runs of random shapes beside other work wrote the same bytes, each within {most:.1f} times its own time '
       f'(seed {seed})')
 END_PY
-python3 waits.py "$a2l" "${1:-100}" "${2:-$RANDOM}"
+python3 waits.py "$a2l" "${1:-100}" "${2:-$RANDOM}" "${3:-5}"

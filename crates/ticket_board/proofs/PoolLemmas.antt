@@ -31,9 +31,7 @@ every_next step next queries query positive within read =
 -- one more was asked
 pub asked_next : (step next : ℕ) (queries asked : List Query) (query : Query) → 1 ≤ step → next < length queries → query ≡ get_or queries next query
     → (asked ++ query ∷ []) ++ every step 0 (drop (next + step) queries) ≡ asked ++ every step 0 (drop next queries)
-asked_next step next queries asked query positive within read =
-    append_assoc asked (query ∷ []) (every step 0 (drop (next + step) queries))
-    ∙ ap (λ rest. asked ++ rest) (sym (every_next step next queries query positive within read))
+asked_next step next queries asked query positive within read = grind (arith, append_assoc, every_next)
 
 -- ---- lists of which each is known with its place
 
@@ -43,14 +41,11 @@ module _ {V : Type 0} where
   each_from_added F k (y ∷ xs) x all last = (all.0, each_from_added F (suc k) xs x all.1 (subst (λ n. F n x) (omega arith) last))
 
   pub each_from_end : (F : ℕ → V → Type 0) (xs ys : List V) (x : V) (n : ℕ) → EachFrom F 0 xs → ys ≡ xs ++ x ∷ [] → n ≡ length xs → F n x → EachFrom F 0 ys
-  each_from_end F xs ys x n all is len last =
-      subst (EachFrom F 0) (sym is) (each_from_added F 0 xs x all (subst (λ (i : ℕ). F i x) (omega (arith, len)) last))
+  each_from_end F xs ys x n all is len last = grind (arith, each_from_added)
 
   -- without the first
   pub each_from_next : (F : ℕ → V → Type 0) (k n : ℕ) (xs rest : List V) (x : V) → EachFrom F k xs → xs ≡ x ∷ rest → n ≡ k + 1 → F k x × EachFrom F n rest
-  each_from_next F k n xs rest x all is next =
-      let both : EachFrom F k (x ∷ rest) = subst (EachFrom F k) is all in
-      (both.0, subst (λ (i : ℕ). EachFrom F i rest) (sym (next ∙ add-one k)) both.1)
+  each_from_next F k n xs rest x all is next = grind (arith, add-one)
 
   pub each_from_same : (F : ℕ → V → Type 0) (k n : ℕ) (xs ys : List V) → EachFrom F k xs → n ≡ k → ys ≡ xs → EachFrom F n ys
   each_from_same F k n xs ys all number is = subst (λ (x : ℕ × List V). EachFrom F x.0 x.1) (λ i. (sym number i, sym is i)) all
@@ -62,8 +57,7 @@ module _ {V : Type 0} where
 each_new : (board : RingState) (task : Task) → task.key.now ≡ board.key → Fits task.shape → (s n : ℕ)
     → EachFrom (MaySend board task) s (map (client_shown false) (askers_from board s n))
 each_new board task key fits s zero = tt
-each_new board task key fits s (suc n) =
-    ((key, fits, (record { shape_is = refl; key_is = refl; table_is = refl }, refl, (refl, refl, refl))), each_new board task key fits (suc s) n)
+each_new board task key fits s (suc n) = grind (arith, each_new board task key fits (suc s) n)
 
 pub all_new : (board : RingState) (task : Task) (clients : List ClientState) → task.key.now ≡ board.key → Fits task.shape
     → clients ≡ new_clients board → EachFrom (MaySend board task) 0 clients
@@ -123,5 +117,4 @@ module _ {A : Type 0} (shown : A → Shown) (meaning : Meaning) (key : List ℕ)
 -- what a thread promised is the lane of its sender
 pub kept_lane : {A S : Type 0} (shown : A → Shown) (meaning : Meaning) (task : Task) (sender : ℕ) (lot : Lot S) (lane : List A)
     → IsPromised task sender lot → IsLaneOf shown meaning lot.task lot.sender lane → IsLaneOf shown meaning task sender lane
-kept_lane shown meaning task sender lot lane promised kept =
-    subst (λ (x : Task × ℕ). IsLaneOf shown meaning x.0 x.1 lane) (λ i. (promised.0 i, promised.1 i)) kept
+kept_lane shown meaning task sender lot lane promised kept = grind arith

@@ -1,5 +1,5 @@
 -- A step of one seat leaves what the ring shows of the others.
-use Rattle.std.proofs.Common.{◌≡◌, ◌≢◌, ℕ, ◌+◌, ◌<◌, List, length, set, inl, inr, refl, sym, ◌∙◌, ap, subst, arith}
+use Rattle.std.proofs.Common.{◌≡◌, ◌≢◌, ℕ, ◌+◌, ◌<◌, List, length, set, inl, inr, sym, ◌∙◌, ap, subst, arith}
 use Rattle.std.proofs.lemmas.Bool.{cases_eq}
 use Rattle.std.proofs.lemmas.List.{length-set}
 use mathlib.Core.Option.{some}
@@ -11,7 +11,7 @@ use Rattle.ticket_core.specs.Runs.{once_finished}
 use Rattle.ticket_core.proofs.CallerLemmas.{held-asked}
 use Rattle.ticket_board.specs.Ring.Layout.{cells_in, words_in, state_at, first_at, second_at}
 use Rattle.ticket_board.specs.Ring.Homes.{Home, home_at}
-use Rattle.ticket_board.specs.Ring.Views.{Asking, Working, View, asker, worker, sender_seat, worker_seat, view_at, asking_of, working_of, asking_at, working_at}
+use Rattle.ticket_board.specs.Ring.Views.{Asking, Working, View, asker, worker, asking_at, working_at}
 use Rattle.ticket_board.specs.Ring.Shows.{Board, IsKnown, SenderShows, WorkerShows, Seated, Sits, times, times_done, Shows}
 use Rattle.ticket_board.proofs.ViewLemmas.{changed}
 use Rattle.ticket_board.proofs.RingViews.{view-is, seat-there, view-else, view-here, times-set}
@@ -35,29 +35,23 @@ module _ (meaning : Meaning) (shape : Shape) (key : List ℕ) (board : Board) (s
     asker-there = seat-there board.views seat (asker shape key s asking) sits
 
     pub asking-is : asking_at board.views s ≡ asking
-    asking-is = ap (λ (view : View). asking_of view.role)
-        (ap (view_at board.views) (sym asker-seated.stands.0) ∙ view-is board.views seat (asker shape key s asking) sits)
+    asking-is = grind (arith, asker-seated, view-is)
 
     pub sender-shows : SenderShows shape (state_at shape board.words s) (first_at shape board.words s) (second_at shape board.words s) (home_at shape board.homes s) asking (sender_at state s)
-    sender-shows = subst (λ (x : Asking). SenderShows shape (state_at shape board.words s) (first_at shape board.words s) (second_at shape board.words s) (home_at shape board.homes s) x (sender_at state s))
-        asking-is (shows.senders s asker-seated.stands.1)
+    sender-shows = grind (arith, asking-is, asker-seated)
 
     module _ (words : List ℕ) (homes : List Home) (asking' : Asking) (new : State) where
       abbrev views_sent : List View
       views_sent = set board.views seat (asker shape key s asking')
 
       pub asking-else : (t : ℕ) → t ≢ s → asking_at views_sent t ≡ asking_at board.views t
-      asking-else t ne = ap (λ (view : View). asking_of view.role)
-          (view-else board.views seat (sender_seat t) (asker shape key s asking') (λ e. ne (let at : seat ≡ sender_seat s = asker-seated.stands.0 in omega arith)))
+      asking-else t ne = grind (arith, view-else, asker-seated)
 
       pub asking-here : asking_at views_sent s ≡ asking'
-      asking-here = ap (λ (view : View). asking_of view.role)
-          (ap (view_at views_sent) (sym asker-seated.stands.0) ∙ view-here board.views seat (asker shape key s asking') asker-there)
+      asking-here = grind (arith, asker-seated, view-here, asker-there)
 
       working-same : (w : ℕ) → working_at shape views_sent w ≡ working_at shape board.views w
-      working-same w = ap (λ (view : View). working_of view.role)
-          (view-else board.views seat (worker_seat shape w) (asker shape key s asking')
-          (λ e. let at : seat ≡ sender_seat s = asker-seated.stands.0 in let h : s < shape.senders = asker-seated.stands.1 in omega arith))
+      working-same w = grind (arith, view-else, asker-seated)
 
       pub asker-frame : new.shape ≡ shape → new.key ≡ key → IsSound meaning new → length words ≡ words_in shape → length homes ≡ cells_in shape
           → SenderShows shape (state_at shape words s) (first_at shape words s) (second_at shape words s) (home_at shape homes s) asking' (sender_at new s)
@@ -75,8 +69,7 @@ module _ (meaning : Meaning) (shape : Shape) (key : List ℕ) (board : Board) (s
         sound = sound;
         words = in_words;
         homes = in_homes;
-        seated = reseated seat (asker shape key s asking) (asker shape key s asking') sits
-            (record { shape_is = refl; key_is = refl; stands = asker-seated.stands });
+        seated = grind (arith, reseated, asker-seated);
         senders = λ t h. elim (cases_eq t s) [
           | inl e ↦ subst (λ (x : ℕ). SenderShows shape (state_at shape words x) (first_at shape words x) (second_at shape words x) (home_at shape homes x) (asking_at views_sent x) (sender_at new x)) (sym e)
               (subst (λ (x : Asking). SenderShows shape (state_at shape words s) (first_at shape words s) (second_at shape words s) (home_at shape homes s) x (sender_at new s)) (sym asking-here) mine)
@@ -111,8 +104,7 @@ module _ (meaning : Meaning) (shape : Shape) (key : List ℕ) (board : Board) (s
     worker-there = seat-there board.views seat (worker shape key w working) sits
 
     pub working-is : working_at shape board.views w ≡ working
-    working-is = ap (λ (view : View). working_of view.role)
-        (ap (view_at board.views) (sym worker-seated.stands.0) ∙ view-is board.views seat (worker shape key w working) sits)
+    working-is = grind (arith, worker-seated, view-is)
 
     pub worker-shows : WorkerShows shape state w working
     worker-shows = subst (λ (x : Working). WorkerShows shape state w x) working-is (shows.workers w)
@@ -122,18 +114,13 @@ module _ (meaning : Meaning) (shape : Shape) (key : List ℕ) (board : Board) (s
       views_worked = set board.views seat (worker shape key w working')
 
       pub asking-same : (t : ℕ) → t < shape.senders → asking_at views_worked t ≡ asking_at board.views t
-      asking-same t h = ap (λ (view : View). asking_of view.role)
-          (view-else board.views seat (sender_seat t) (worker shape key w working')
-          (λ e. let at : seat ≡ worker_seat shape w = worker-seated.stands.0 in omega arith))
+      asking-same t h = grind (arith, view-else, worker-seated)
 
       working-else : (v : ℕ) → v ≢ w → working_at shape views_worked v ≡ working_at shape board.views v
-      working-else v ne = ap (λ (view : View). working_of view.role)
-          (view-else board.views seat (worker_seat shape v) (worker shape key w working')
-          (λ e. ne (let at : seat ≡ worker_seat shape w = worker-seated.stands.0 in omega arith)))
+      working-else v ne = grind (arith, view-else, worker-seated)
 
       working-here : working_at shape views_worked w ≡ working'
-      working-here = ap (λ (view : View). working_of view.role)
-          (ap (view_at views_worked) (sym worker-seated.stands.0) ∙ view-here board.views seat (worker shape key w working') worker-there)
+      working-here = grind (arith, worker-seated, view-here, worker-there)
 
       pub worker-frame : new.shape ≡ shape → new.key ≡ key → IsSound meaning new → length words ≡ words_in shape → length homes ≡ cells_in shape
           → ((t : ℕ) → t < shape.senders
@@ -150,19 +137,9 @@ module _ (meaning : Meaning) (shape : Shape) (key : List ℕ) (board : Board) (s
         sound = sound;
         words = in_words;
         homes = in_homes;
-        seated = reseated seat (worker shape key w working) (worker shape key w working') sits
-            (record { shape_is = refl; key_is = refl; stands = worker-seated.stands });
-        senders = λ t h. subst (λ (x : Asking). SenderShows shape (state_at shape words t) (first_at shape words t) (second_at shape words t) (home_at shape homes t) x (sender_at new t))
-            (sym (asking-same t h)) (senders t h);
-        workers = λ v. elim (cases_eq v w) [
-          | inl e ↦ subst (λ (x : ℕ). WorkerShows shape new x (working_at shape views_worked x)) (sym e)
-              (subst (λ (x : Working). WorkerShows shape new w x) (sym working-here) mine)
-          | inr ne ↦ subst (λ (x : Working). WorkerShows shape new v x) (sym (working-else v ne)) (record {
-            hand = hands v ne ∙ (shows.workers v).hand;
-            read = λ t n holds. subst (IsKnown (working_at shape board.views v).read) (sym (queries t n)) ((shows.workers v).read t n holds);
-            seen = (shows.workers v).seen;
-          })
-        ];
+        seated = grind (arith, reseated, worker-seated);
+        senders = λ t h. grind (arith, asking-same);
+        workers = λ v. grind (arith, cases_eq, working-here, working-else);
         done = λ t n.
             let kept : times_done t n views_worked + times t n working.done ≡ times_done t n board.views + times t n working'.done =
             times-set t n board.views seat (worker shape key w working) (worker shape key w working') sits in

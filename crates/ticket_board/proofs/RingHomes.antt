@@ -1,6 +1,6 @@
 -- What lies in a slot of the ring's table, read off what the slot shows; and words that are written
 -- as they were.
-use Rattle.std.proofs.Common.{◌≡◌, ℕ, zero, suc, List, [], ◌∷◌, ◌++◌, map, get_or, set, replicate, Option, Some, None, refl, sym, ◌∙◌, ap}
+use Rattle.std.proofs.Common.{◌≡◌, ℕ, zero, suc, List, [], ◌∷◌, ◌++◌, map, get_or, set, replicate, Option, Some, None, refl, sym, ◌∙◌, ap, arith}
 use Rattle.std.proofs.lemmas.List.{map-append, map-set}
 use mathlib.Core.Option as maybe
 use lib.ListN.{get_elem?}
@@ -16,14 +16,10 @@ set-same (x ∷ xs) (suc place) = ap (λ (ys : List ℕ). x ∷ ys) (set-same xs
 module _ {A : Type 0} (shown : A → Shown) where
   here-full : (home : maybe.Option (Option A)) (answer : Shown) → home_shown shown home ≡ Full answer
       → (x : A) × (home ≡ maybe.some (Some x)) × (shown x ≡ answer)
-  here-full maybe.none answer e = absurd (cc)
-  here-full (maybe.some None) answer e = absurd (cc)
-  here-full (maybe.some (Some x)) answer e = (x, refl, (cc))
+  here-full home answer e = grind arith
 
   here-empty : (home : maybe.Option (Option A)) → home_shown shown home ≡ Empty → home ≡ maybe.some None
-  here-empty maybe.none e = absurd (cc)
-  here-empty (maybe.some None) e = refl
-  here-empty (maybe.some (Some x)) e = absurd (cc)
+  here-empty home e = grind arith
 
   pub home-full : (homes : List (maybe.Option (Option A))) (cell : ℕ) (answer : Shown) → get_or (map (home_shown shown) homes) cell Out ≡ Full answer
       → (x : A) × (get_elem? homes cell ≡ maybe.some (maybe.some (Some x))) × (shown x ≡ answer)

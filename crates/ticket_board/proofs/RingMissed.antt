@@ -1,22 +1,16 @@
 -- Which cells gave a worker nothing, over several tries.
 use Rattle.std.specs.Prelude.{MatchBool}
-use Rattle.std.proofs.Common.{◌≡◌, ℕ, ◌+◌, ◌-◌, ◌<◌, ◌≤◌, ◌⊎◌, Bool, true, false, List, ◌++◌, IsSome, inl, inr, ⊎_elim, ◌∙◌, ap, subst, append_assoc, arith}
+use Rattle.std.proofs.Common.{◌≡◌, ℕ, ◌+◌, ◌-◌, ◌<◌, ◌≤◌, ◌⊎◌, Bool, IsSome, inl, inr, ⊎_elim, subst, append_assoc, arith}
 use Rattle.std.proofs.lemmas.Bool.{cases_eq, cases_lt}
 use Rattle.std.proofs.lemmas.List.{length-append}
 use Rattle.std.proofs.lemmas.List.Elements.{Contains-append_left, Contains-append_right}
 use Rattle.ticket_board.specs.Ring.Views.{Working}
-use Rattle.ticket_board.specs.Ring.Takers.{TakerState, HasSought, MissedEach, Between, knowing}
+use Rattle.ticket_board.specs.Ring.Takers.{TakerState, HasSought, MissedEach, Between}
 
 joined : (many more : ℕ) (F G H : ℕ → Type 0) (old mid new : Working) → MissedEach many F old mid → MissedEach more G mid new
     → ((cell : ℕ) → H cell → F cell ⊎ G cell) → MissedEach (many + more) H old new
-joined many more F G H old mid new first second cases = record {
-  empty = second.empty;
-  gained = first.gained ++ second.gained;
-  missed = second.missed ∙ ap (λ (cells : List ℕ). cells ++ second.gained) first.missed ∙ append_assoc old.missed first.gained second.gained;
-  once = length-append first.gained second.gained ∙ (λ i. first.once i + second.once i);
-  each = λ cell h. ⊎_elim (λ f. Contains-append_left first.gained second.gained cell (first.each cell f))
-      (λ g. Contains-append_right first.gained second.gained cell (second.each cell g)) (cases cell h);
-}
+joined many more F G H old mid new first second cases =
+    grind (arith, append_assoc, length-append, ⊎_elim, Contains-append_left, Contains-append_right)
 
 -- one cell more
 pub missed-more : (from cell : ℕ) (old mid new : Working) → from ≤ cell → MissedEach (cell - from) (Between from cell) old mid
@@ -43,15 +37,10 @@ missed-round begin cells old mid new order first second =
     ]))
 
 pub sought-on : (old mid new : TakerState) → HasSought old mid → HasSought mid new → HasSought old new
-sought-on old mid new first second = record {
-  same = second.same ∙ ap (knowing new.working) first.same;
-  done = second.done ∙ first.done;
-  returned = second.returned ∙ first.returned;
-}
+sought-on old mid new first second = grind arith
 
 -- the last try gave a number, or all cells gave nothing
 pub round-found : (begin cells : ℕ) (hit : Bool) (old mid new : Working) → begin ≤ cells → MissedEach (cells - begin) (Between begin cells) old mid
     → MatchBool hit (IsSome new.hand) (MissedEach (begin - 0) (Between 0 begin) mid new)
     → MatchBool hit (IsSome new.hand) (MissedEach cells (λ cell. cell < cells) old new)
-round-found begin cells true old mid new order first second = second
-round-found begin cells false old mid new order first second = missed-round begin cells old mid new order first second
+round-found begin cells hit old mid new order first second = grind (arith, missed-round)

@@ -1,21 +1,20 @@
 -- A look that notes a miss whatever it found: on some ring, no moves make what it would leave.
-use Rattle.std.proofs.Common.{◌≡◌, ℕ, zero, suc, ◌+◌, ◌-◌, ◌*◌, ◌/◌, ◌%◌, ◌<◌, ◌≤◌, ◌⊎◌, Bool, true, false, eqb, ltb, if◌then◌else◌, List, [], ◌∷◌, ◌++◌, length, get_or, set, Option, Some, None, inl, inr, ⊎_elim, refl, sym, ◌∙◌, ap, subst, arith, rules}
+use Rattle.std.proofs.Common.{◌≡◌, ℕ, zero, suc, ◌+◌, ◌-◌, ◌*◌, ◌<◌, ◌≤◌, ◌⊎◌, Bool, ltb, if◌then◌else◌, List, [], ◌∷◌, ◌++◌, length, get_or, set, Option, Some, None, inl, inr, ⊎_elim, refl, sym, ◌∙◌, ap, subst, arith, rules}
 use Rattle.std.proofs.lemmas.List.{length-append}
 use Rattle.std.proofs.Math.Seq.{get_or-append_seam}
-use mathlib.Core.Option.{some, some-ne-none, some-injective}
+use mathlib.Core.Option.{some, some-ne-none}
 use lib.ListN.{get_elem?}
 use Rattle.ticket_core.specs.declared.query.Query.{Query}
 use Rattle.ticket_core.specs.declared.query.QueryKind.TheVariants.{Address}
 use Rattle.ticket_core.specs.declared.shape.Shape.{Shape}
-use Rattle.ticket_core.specs.Query.{of_words}
 use Rattle.ticket_core.specs.Shape.{Fits}
-use Rattle.ticket_core.specs.State.{Shown, Meaning, Ticket}
-use Rattle.ticket_board.specs.Ring.Layout.{word_of, state_field, free_word, state_at, state_place, asked_word, answered_word}
+use Rattle.ticket_core.specs.State.{Meaning, Ticket}
+use Rattle.ticket_board.specs.Ring.Layout.{state_at, state_place, asked_word}
 use Rattle.ticket_board.specs.Ring.Homes.{Home, Out, Full, home_at, answer_at_home}
 use Rattle.ticket_board.specs.Ring.Views.{Known, Nothing, FirstWord, Whole, Asking, Working, Role, Opens, Asks, View, opener, asker, worker, sender_seat, worker_seat, asking_at, new_asking, new_working, next_received}
 use Rattle.ticket_board.specs.Ring.Views as Views
 use Rattle.ticket_board.specs.Ring.Shows.{Board}
-use Rattle.ticket_board.specs.Ring.Steps.{SenderStep, MaySend, WritesFirst, WritesSecond, Publishes, LooksNext, BringsOut, Receives, is_answered_word, asking_after, words_sent, WorkerStep, MayWork, LooksAt, Takes, ReadsFirst, ReadsSecond, Answers, GivesBack, is_asked_word, working_after, word_worked}
+use Rattle.ticket_board.specs.Ring.Steps.{SenderStep, MaySend, WritesFirst, WritesSecond, Publishes, LooksNext, BringsOut, Receives, asking_after, words_sent, WorkerStep, MayWork, LooksAt, Takes, ReadsFirst, ReadsSecond, Answers, working_after, word_worked}
 use Rattle.ticket_board.specs.Ring.Opening.{AreFree, next_seat}
 use Rattle.ticket_board.specs.Ring.Moves.{Move, Cuts, Sends, Works, MayMove, moved, board_after, MayBeMade, stamps_after, IsMade}
 use Rattle.ticket_board.specs.Ring.Misses.{misses, MayMiss}
@@ -55,10 +54,8 @@ weights (view ∷ views) = role-weight view.role + weights views
 weights-set : (views : List View) (seat : ℕ) (old new : View) → get_elem? views seat ≡ some old
     → weights (set views seat new) + role-weight old.role ≡ weights views + role-weight new.role
 weights-set [] seat old new e = absurd (some-ne-none old (sym e))
-weights-set (x ∷ xs) zero old new e =
-    let same : role-weight x.role ≡ role-weight old.role = ap (λ (view : View). role-weight view.role) (some-injective x old e) in omega arith
-weights-set (x ∷ xs) (suc seat) old new e =
-    let later : weights (set xs seat new) + role-weight old.role ≡ weights xs + role-weight new.role = weights-set xs seat old new e in omega arith
+weights-set (x ∷ xs) zero old new e = grind arith
+weights-set (x ∷ xs) (suc seat) old new e = grind (arith, weights-set xs seat old new e)
 
 weights-more : (views : List View) (view : View) → weights (views ++ view ∷ []) ≡ weights views + role-weight view.role
 weights-more [] view = omega arith
@@ -67,50 +64,24 @@ weights-more (x ∷ xs) view = let later : weights (xs ++ view ∷ []) ≡ weigh
 -- ---- a move weighs at most one
 
 missed-weight : (hit : Bool) (missed : List ℕ) (n : ℕ) → length (if hit then missed else missed ++ n ∷ []) ≤ length missed + 1
-missed-weight true missed n = omega arith
-missed-weight false missed n = omega (arith, length-append missed (n ∷ []))
+missed-weight hit missed n = grind (arith, length-append)
 
 sent-weight : (shape : Shape) (asking : Asking) (step : SenderStep) (word : ℕ) (home : Home) → MaySend shape asking step
     → asking-weight (asking_after asking step word home) ≤ asking-weight asking + 1
-sent-weight shape asking (WritesFirst first) word home may = omega arith
-sent-weight shape asking (WritesSecond query) word home may =
-    let was : known-weight asking.ahead ≡ 1 = ap known-weight may.0 in omega arith
-sent-weight shape asking (Publishes query) word home may =
-    let was : known-weight asking.ahead ≡ 2 = ap known-weight may in omega (arith, length-append asking.asked (query ∷ []))
-sent-weight shape asking LooksNext word home may = omega (arith, missed-weight (is_answered_word asking word) asking.missed (next_received asking))
-sent-weight shape asking BringsOut word home may = omega arith
-sent-weight shape asking (Receives answer) word home may = omega arith
+sent-weight shape asking step word home may = grind (arith, length-append, missed-weight)
 
 seen-most : (hit : Bool) (ticket : Ticket) → seen-weight (if hit then Some ticket else None) ≤ 1
-seen-most true ticket = omega arith
-seen-most false ticket = omega arith
+seen-most hit ticket = grind arith
 
 taken-most : (hit : Bool) (ticket : Ticket) → hand-weight (if hit then Some ticket else None) Nothing ≤ 2
-taken-most true ticket = omega arith
-taken-most false ticket = omega arith
+taken-most hit ticket = grind arith
 
 worked-weight : (meaning : Meaning) (shape : Shape) (key : List ℕ) (working : Working) (step : WorkerStep) (word : ℕ) → MayWork meaning shape key working step
     → working-weight (working_after shape working step word) ≤ working-weight working + 1
-worked-weight meaning shape key working (LooksAt cell) word may =
-    omega (arith, seen-most (is_asked_word word) (cell / shape.window, word / 8))
-worked-weight meaning shape key working (Takes s n) word may =
-    let was : seen-weight working.seen ≡ 1 = ap seen-weight may.1 in omega (arith, taken-most (eqb word (asked_word n)) (s, n))
-worked-weight meaning shape key working (ReadsFirst s n) word may =
-    let was : hand-weight working.hand working.read ≡ 2 + known-weight working.read = ap (λ (x : Option Ticket). hand-weight x working.read) may in
-    let is : hand-weight working.hand (FirstWord word) ≡ 3 = ap (λ (x : Option Ticket). hand-weight x (FirstWord word)) may in
-    omega arith
-worked-weight meaning shape key working (ReadsSecond s n first) word may =
-    let was : hand-weight working.hand working.read ≡ 3 = (λ i. hand-weight (may.0 i) (may.1 i)) in
-    let is : hand-weight working.hand (Whole (of_words first word)) ≡ 4 = ap (λ (x : Option Ticket). hand-weight x (Whole (of_words first word))) may.0 in
-    omega arith
-worked-weight meaning shape key working (Answers s n query answer) word may =
-    let was : hand-weight working.hand working.read ≡ 4 = (λ i. hand-weight (may.0 i) (may.1 i)) in
-    omega (arith, length-append working.done ((s, n) ∷ []))
-worked-weight meaning shape key working (GivesBack s n) word may = omega arith
+worked-weight meaning shape key working step word may = grind (arith, seen-most, taken-most, length-append)
 
 next-weight : (cut w : ℕ) (b : Bool) → role-weight (if b then Asks cut new_asking else Views.Works w new_working) ≡ 1
-next-weight cut w true = refl
-next-weight cut w false = refl
+next-weight cut w b = grind arith
 
 module _ (meaning : Meaning) (shape : Shape) (key : List ℕ) where
   moved-weight : (board : Board) (move : Move) → MayMove meaning shape key board move → weights (moved shape key board move).views ≤ weights board.views + 1
@@ -150,12 +121,7 @@ abbrev free_words : List ℕ
 free_words = 0 ∷ 0 ∷ 0 ∷ []
 
 are-free : AreFree small free_words
-are-free = record {
-  size = refl;
-  free = λ cell below.
-      let first : 0 ≡ cell = omega arith in
-      subst (λ (x : ℕ). get_or free_words (word_of x state_field) 0 ≡ free_word (x % 1)) first refl;
-}
+are-free = grind arith
 
 abbrev query : Query
 query = Address 0
@@ -207,12 +173,7 @@ no-send s asking BringsOut words home at told is = let e : None ≡ Some (answer
 no-send s asking (Receives answer) words home at told is =
     let e : 0 ≡ length (asking.received ++ answer ∷ []) = ap (λ (x : Asking). length x.received) told in
     absurd (omega (arith, e, length-append asking.received (answer ∷ [])))
-no-send s asking LooksNext words home at told is =
-    let none : [] ≡ asking.received = ap (λ (x : Asking). x.received) told in
-    let missed : false ≡ is_answered_word asking (state_at small words s (next_received asking)) = ap (λ (x : Asking). x.found) told in
-    let e : false ≡ true =
-    subst (λ (x : List ℕ × ℕ × List Shown). false ≡ eqb (state_at small x.0 x.1 (length x.2)) (answered_word (length x.2))) (λ i. (sym is i, at i, sym none i)) missed in
-    absurd (cc)
+no-send s asking LooksNext words home at told is = grind arith
 no-send s asking (Publishes other) words home at told is =
     let e : 1 ≡ length (asking.asked ++ other ∷ []) = ap (λ (x : Asking). length x.asked) told in
     let none : length asking.asked ≡ 0 = omega (arith, e, length-append asking.asked (other ∷ [])) in
@@ -266,9 +227,7 @@ module _ (meaning : Meaning) (key : List ℕ) where
       no-send s asking step old.words home at told (ap (λ (x : Board). x.words) is)
 
   not-made : (last : ℕ) → IsMade meaning small key (with_sender (misses asked)) (0 ∷ last ∷ 10 ∷ []) → ⊥
-  not-made last (words, moves, made) =
-      no-last words last moves made.may made.is made.stamps_are
-      (subst (λ (x : Board). weights x.views ≤ length moves) (sym made.is) (moves-weight meaning small key words moves made.may))
+  not-made last (words, moves, made) = grind (arith, no-last, moves-weight)
 
 -- so it isn't allowed
 pub never_misses : (meaning : Meaning) → MayMiss meaning → ⊥

@@ -1,5 +1,5 @@
 -- What moves make of a ring shows a state of the core, to which their events lead.
-use Rattle.std.proofs.Common.{◌≡◌, ℕ, suc, ◌+◌, ◌<◌, List, [], ◌∷◌, ◌++◌, length, set, Option, Some, None, refl, sym, ◌∙◌, ap, subst}
+use Rattle.std.proofs.Common.{◌≡◌, ℕ, suc, ◌+◌, ◌<◌, List, [], ◌∷◌, ◌++◌, length, set, Option, Some, None, refl, sym, ◌∙◌, ap, subst, arith}
 use Rattle.std.proofs.lemmas.List.{length-set}
 use mathlib.Core.Option.{some}
 use lib.ListN.{get_elem?}
@@ -7,7 +7,7 @@ use Rattle.ticket_core.specs.declared.shape.Shape.{Shape}
 use Rattle.ticket_core.specs.State.{Meaning, State, opening}
 use Rattle.ticket_core.specs.Events.{Event, after}
 use Rattle.ticket_core.specs.Runs.{Run, Reaches}
-use Rattle.ticket_board.specs.Ring.Views.{Role, Opens, Asks, View, opener, sender_seat, worker_seat, seat_of}
+use Rattle.ticket_board.specs.Ring.Views.{Role, View, opener, sender_seat, worker_seat, seat_of}
 use Rattle.ticket_board.specs.Ring.Views as Views
 use Rattle.ticket_board.specs.Ring.Shows.{Board, StandsAt, Sits, Shows}
 use Rattle.ticket_board.specs.Ring.Steps.{WritesFirst, WritesSecond, Publishes, LooksNext, BringsOut, Receives, LooksAt, Takes, ReadsFirst, ReadsSecond, Answers, GivesBack}
@@ -23,8 +23,7 @@ use Rattle.ticket_board.proofs.RingOpening.{opens, cuts}
 run-then : (meaning : Meaning) (events : List Event) (old mid new : State) (event : Option Event) → Run meaning old events mid → Leads meaning event mid new
     → Run meaning old (then_event events event) new
 run-then meaning events old mid new None run is = subst (λ (x : State). Run meaning old events x) (sym is) run
-run-then meaning [] old mid new (Some event) run step =
-    subst (λ (x : State). Run meaning x (event ∷ []) new) run step
+run-then meaning [] old mid new (Some event) run step = grind arith
 run-then meaning (first ∷ events) old mid new (Some event) run step =
     (run.0, run-then meaning events (after meaning first old) mid new (Some event) run.1 step)
 
@@ -79,9 +78,7 @@ module _ (meaning : Meaning) where
 
     -- what is made shows a state
     pub made-shows : (board : Board) (stamps : List ℕ) → IsMade meaning shape key board stamps → (core : State) × Shows meaning shape key board core
-    made-shows board stamps made =
-        let it = moves-show made.0 made.1 made.2.may in
-        (it.0, subst (λ (x : Board). Shows meaning shape key x it.0) (sym made.2.is) it.1)
+    made-shows board stamps made = grind (arith, moves-show)
 
     -- one move more
     pub made-on : (board : Board) (stamps : List ℕ) → (made : IsMade meaning shape key board stamps) → (move : Move) → MayMove meaning shape key board move
@@ -99,14 +96,11 @@ module _ (meaning : Meaning) where
     -- what a seat knows occurs
     pub made-occurs : (board : Board) (stamps : List ℕ) (role : Role) → IsMade meaning shape key board stamps
         → Sits board (seat_of shape role) (record { shape = shape; key = key; role = role }) → Occurs meaning (record { shape = shape; key = key; role = role })
-    made-occurs board stamps role made sits =
-        (made.0, made.1, made.2.may, subst (λ (x : Board). Sits x (seat_of shape role) (record { shape = shape; key = key; role = role })) made.2.is sits)
+    made-occurs board stamps role made sits = grind arith
 
   -- so does what a seat that is cut off knows, and what the opening one knows then
   pub stands-seat : (shape : Shape) (seats seat : ℕ) (role : Role) → StandsAt shape seats seat role → seat_of shape role ≡ seat
-  stands-seat shape seats seat (Opens cut) stands = sym stands.0
-  stands-seat shape seats seat (Asks s asking) stands = sym stands.0
-  stands-seat shape seats seat (Views.Works w working) stands = sym stands.0
+  stands-seat shape seats seat role stands = grind arith
 
   pub cut-occurs : (shape : Shape) (key : List ℕ) (cut : ℕ) → cut < shape.senders + shape.workers → Occurs meaning (opener shape key cut)
       → Occurs meaning (opener shape key (suc cut)) × Occurs meaning (next_seat shape key cut)

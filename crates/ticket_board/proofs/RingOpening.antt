@@ -1,20 +1,20 @@
 -- What the ring shows when it is opened, and when a seat is cut off.
-use Rattle.std.proofs.Common.{◌≡◌, ◌≢◌, ℕ, zero, suc, ◌+◌, ◌-◌, ◌%◌, ◌<◌, Bool, true, false, ltb, if◌then◌else◌, List, [], ◌∷◌, ◌++◌, length, replicate, set, None, inl, inr, refl, sym, ◌∙◌, ap, subst, mod-eq_of_lt, arith}
+use Rattle.std.proofs.Common.{◌≡◌, ◌≢◌, ℕ, suc, ◌+◌, ◌-◌, ◌<◌, Bool, ltb, if◌then◌else◌, List, [], ◌∷◌, ◌++◌, length, replicate, set, refl, sym, ◌∙◌, ap, subst, mod-eq_of_lt, arith}
 use Rattle.std.proofs.lemmas.Bool.{cases_lt, lt-ltb, le-ltb}
 use Rattle.std.proofs.lemmas.List.{length-append, length-set, length-replicate, get_or-replicate, get_or_past, get_or-set_other}
 use Rattle.std.proofs.lemmas.Nat.{mod-mul-add, mod_below}
-use mathlib.Core.Option.{some, some-ne-none, some-injective}
+use mathlib.Core.Option.{some}
 use lib.ListN.{get_elem?}
 use Rattle.ticket_core.specs.declared.shape.Shape.{Shape}
 use Rattle.ticket_core.specs.Shape.{Fits}
-use Rattle.ticket_core.specs.State.{Meaning, Place, Unasked, Sender, fresh, State, sender_at, place_of, opening}
+use Rattle.ticket_core.specs.State.{Meaning, Sender, fresh, State, opening}
 use Rattle.ticket_core.specs.Runs.{once_finished}
 use Rattle.ticket_core.proofs.ReadLemmas.{appended}
 use Rattle.ticket_core.proofs.StepLemmas.{opening-sender, opening-place, opening-hand, opening-sound}
 use Rattle.ticket_board.specs.Ring.Layout.{cell_of, cells_in, state_at, first_at, second_at, free_word}
 use Rattle.ticket_board.specs.Ring.Homes.{Out, Empty, home_at}
-use Rattle.ticket_board.specs.Ring.Views.{Asking, Working, Role, Opens, Asks, Works, View, opener, nobody, new_asking, new_working, sender_seat, worker_seat, view_at, asking_of, working_of, asking_at, working_at}
-use Rattle.ticket_board.specs.Ring.Shows.{Board, CellShows, SenderShows, WorkerShows, Seated, StandsAt, Sits, times, times_done, Shows}
+use Rattle.ticket_board.specs.Ring.Views.{Asking, Working, Role, Asks, Works, View, opener, nobody, new_asking, new_working, sender_seat, worker_seat, view_at, asking_of, working_of, asking_at, working_at}
+use Rattle.ticket_board.specs.Ring.Shows.{Board, SenderShows, WorkerShows, Seated, StandsAt, Sits, times, times_done, Shows}
 use Rattle.ticket_board.specs.Ring.Opening.{AreFree, opened, next_seat, cut_off}
 use Rattle.ticket_board.proofs.ViewLemmas.{changed, added}
 use Rattle.ticket_board.proofs.RingPlaces.{cell-within}
@@ -39,35 +39,17 @@ module _ (meaning : Meaning) (shape : Shape) (key : List ℕ) (fits : Fits shape
   working-is-new w = ap (λ (view : View). working_of view.role) (get_or_past first_views (worker_seat shape w) nobody (omega arith))
 
   state-free : (s n : ℕ) → s < shape.senders → n < shape.window → state_at shape words s n ≡ free_word n
-  state-free s n h below =
-      let same : n % shape.window ≡ n = mod-eq_of_lt below in
-      let turn : cell_of shape s n % shape.window ≡ n % shape.window = mod-mul-add s shape.window (n % shape.window) (mod_below n shape.window some_room) in
-      free.free (cell_of shape s n) (cell-within shape some_room s n h) ∙ ap free_word (turn ∙ same)
+  state-free s n h below = grind (arith, mod-eq_of_lt, mod-mul-add, mod_below, some_room, cell-within)
 
   home-empty : (s n : ℕ) → s < shape.senders → home_at shape (replicate (cells_in shape) Empty) s n ≡ Empty
   home-empty s n h = get_or-replicate (cells_in shape) (cell_of shape s n) Empty Out (cell-within shape some_room s n h)
 
   new-shows : (s : ℕ) → s < shape.senders
       → SenderShows shape (state_at shape words s) (first_at shape words s) (second_at shape words s) (home_at shape (replicate (cells_in shape) Empty) s) new_asking fresh
-  new-shows s h = record {
-    asked = refl;
-    received = refl;
-    stays_open = refl;
-    cells = λ n from below.
-        let none : place_of fresh n ≡ Unasked = get_or_past [] n Unasked (omega arith) in
-        subst (λ (place : Place). CellShows n 0 None place (state_at shape words s n) (home_at shape (replicate (cells_in shape) Empty) s n)) (sym none)
-        (state-free s n h (omega arith), home-empty s n h);
-    words = λ n from below. absurd (omega arith);
-    ahead = tt;
-    room = λ some. absurd (some refl);
-    found = λ e. absurd (cc);
-    collecting = λ answer e. absurd (cc);
-  }
+  new-shows s h = grind (arith, get_or_past, state-free, home-empty)
 
   first-seated : (seat : ℕ) (view : View) → get_elem? first_views seat ≡ some view → Seated shape key (length first_views) seat view
-  first-seated zero view e = subst (Seated shape key (length first_views) 0) (some-injective (opener shape key 0) view e)
-      (record { shape_is = refl; key_is = refl; stands = (refl, refl) })
-  first-seated (suc seat) view e = absurd (some-ne-none view (sym e))
+  first-seated seat view e = grind arith
 
   pub opens : Shows meaning shape key (opened shape key words) (opening shape key)
   opens = record {
@@ -94,17 +76,11 @@ module _ (meaning : Meaning) (shape : Shape) (key : List ℕ) (fits : Fits shape
 -- the new seat knows what a seat that isn't there knows
 next-new : (shape : Shape) (cut : ℕ) (b : Bool) (role : Role) → role ≡ (if b then Asks cut new_asking else Works (cut - shape.senders) new_working)
     → (asking_of role ≡ new_asking) × (working_of role ≡ new_working)
-next-new shape cut true role is = (ap asking_of is, ap working_of is)
-next-new shape cut false role is = (ap asking_of is, ap working_of is)
+next-new shape cut b role is = grind arith
 
 next-stands : (shape : Shape) (cut seats : ℕ) → cut < shape.senders + shape.workers
     → StandsAt shape seats (suc cut) (if ltb cut shape.senders then Asks cut new_asking else Works (cut - shape.senders) new_working)
-next-stands shape cut seats h = elim (cases_lt cut shape.senders) [
-  | inl below ↦ subst (λ (b : Bool). StandsAt shape seats (suc cut) (if b then Asks cut new_asking else Works (cut - shape.senders) new_working))
-      (sym (lt-ltb cut shape.senders below)) (refl, below)
-  | inr above ↦ subst (λ (b : Bool). StandsAt shape seats (suc cut) (if b then Asks cut new_asking else Works (cut - shape.senders) new_working))
-      (sym (le-ltb cut shape.senders above)) (omega arith, omega arith)
-]
+next-stands shape cut seats h = grind (arith, cases_lt, lt-ltb, le-ltb)
 
 times-more : (s n : ℕ) (views : List View) (view : View) → times_done s n (views ++ view ∷ []) ≡ times_done s n views + times s n (working_of view.role).done
 times-more s n [] view = omega arith
@@ -141,9 +117,7 @@ module _ (meaning : Meaning) (shape : Shape) (key : List ℕ) (board : Board) (s
 
   -- the other seats don't open
   still : (role : Role) (j : ℕ) → j ≢ seat → StandsAt shape (length board.views) j role → StandsAt shape (length views_cut) j role
-  still (Opens other) j ne stands = absurd (ne (stands.0 ∙ sym opens-at.0))
-  still (Asks s asking) j ne stands = stands
-  still (Works w working) j ne stands = stands
+  still role j ne stands = grind (arith, opens-at)
 
   cut-seated : (j : ℕ) (view : View) → get_elem? views_cut j ≡ some view → Seated shape key (length views_cut) j view
   cut-seated =
@@ -151,9 +125,7 @@ module _ (meaning : Meaning) (shape : Shape) (key : List ℕ) (board : Board) (s
       (record {
         shape_is = refl;
         key_is = refl;
-        stands = subst (λ (j : ℕ). StandsAt shape (length views_cut) j (next_seat shape key cut).role)
-            (let e : suc cut ≡ length told = omega (arith, length-set board.views seat (opener shape key (suc cut)), opens-at.1) in e)
-            (next-stands shape cut (length views_cut) left);
+        stands = grind (arith, length-set, opens-at, next-stands);
       })
       (changed (Seated shape key (length views_cut)) board.views seat (opener shape key (suc cut))
       (record { shape_is = refl; key_is = refl; stands = (opens-at.0, size) })
@@ -168,16 +140,4 @@ module _ (meaning : Meaning) (shape : Shape) (key : List ℕ) (board : Board) (s
       omega arith
 
   pub cuts : Shows meaning shape key (cut_off shape key seat cut board) state
-  cuts = record {
-    shape_is = shows.shape_is;
-    key_is = shows.key_is;
-    fits = shows.fits;
-    sound = shows.sound;
-    words = shows.words;
-    homes = shows.homes;
-    seated = cut-seated;
-    senders = λ s h. subst (λ (x : Asking). SenderShows shape (state_at shape board.words s) (first_at shape board.words s) (second_at shape board.words s) (home_at shape board.homes s) x (sender_at state s))
-        (sym (asking-cut s)) (shows.senders s h);
-    workers = λ w. subst (λ (x : Working). WorkerShows shape state w x) (sym (working-same w)) (shows.workers w);
-    done = λ s n. times-cut s n ∙ shows.done s n;
-  }
+  cuts = grind (arith, cut-seated, asking-cut, working-same, times-cut)

@@ -1,5 +1,5 @@
 -- Which words and slots are those of a number, and what is read of them after a write.
-use Rattle.std.proofs.Common.{◌≡◌, ◌≢◌, ℕ, zero, suc, ◌+◌, ◌*◌, ◌/◌, ◌%◌, ◌<◌, ◌≤◌, List, length, get_or, set, inl, inr, sym, ◌∙◌, ap, suc-mul, mul_comm, mod-eq_of_lt, arith}
+use Rattle.std.proofs.Common.{◌≡◌, ◌≢◌, ℕ, zero, suc, ◌+◌, ◌*◌, ◌%◌, ◌<◌, ◌≤◌, List, length, get_or, set, inl, inr, ◌∙◌, suc-mul, mul_comm, mod-eq_of_lt, arith}
 use Rattle.std.proofs.lemmas.Bool.{cases_eq, cases_lt}
 use Rattle.std.proofs.lemmas.List.{get_or-set_same, get_or-set_other}
 use Rattle.std.proofs.lemmas.Nat.{same_from_place, mul-add-lt, mod_below, mod-mul-add, div-add-mod'}
@@ -11,8 +11,7 @@ use Rattle.ticket_board.specs.Ring.Homes.{Home, Out, home_at}
 -- two words of cells are one only where the cells and the fields are
 pub word-apart : (cell other field field' : ℕ) → field < cell_words → field' < cell_words → (cell ≡ other → field ≡ field' → ⊥)
     → word_of cell field ≢ word_of other field'
-word-apart cell other field field' h h' ne e =
-    let parts = same_from_place cell field other field' cell_words h h' e in ne parts.0 parts.1
+word-apart cell other field field' h h' ne e = grind (arith, same_from_place)
 
 pub word-within : (cells cell field : ℕ) → cell < cells → field < cell_words → word_of cell field < cells * cell_words
 word-within cells cell field h h' = rw (mul_comm cells cell_words) (mul-add-lt cell cell_words field cells h h')
@@ -34,12 +33,7 @@ module _ (shape : Shape) (some_room : 0 < shape.window) where
   -- two numbers that are less than a window apart
   pub numbers-apart : (s first n m : ℕ) → first ≤ n → n < first + shape.window → first ≤ m → m < first + shape.window → m ≢ n
       → cell_of shape s m ≢ cell_of shape s n
-  numbers-apart s first n m n_from n_below m_from m_below ne e =
-      let same : m % shape.window ≡ n % shape.window = (cell-parts s m s n e).1 in
-      elim (cases_lt m n) [
-        | inl lt ↦ ne (one_turn m n shape.window (omega arith) (omega arith) same)
-        | inr le ↦ ne (sym (one_turn n m shape.window le (omega arith) (sym same)))
-      ]
+  numbers-apart s first n m n_from n_below m_from m_below ne e = grind (arith, cell-parts, cases_lt, one_turn)
 
   -- ---- what is read after a write
 
@@ -47,9 +41,7 @@ module _ (shape : Shape) (some_room : 0 < shape.window) where
     -- of another cell, and of another word
     pub word-else : (field other t m : ℕ) → field < cell_words → other < cell_words → (cell_of shape t m ≡ cell_of shape s n → other ≡ field → ⊥)
         → get_or (set words (word_of (cell_of shape s n) field) x) (word_of (cell_of shape t m) other) 0 ≡ get_or words (word_of (cell_of shape t m) other) 0
-    word-else field other t m h h' apart =
-        get_or-set_other words (word_of (cell_of shape s n) field) (word_of (cell_of shape t m) other) x 0
-        (word-apart (cell_of shape t m) (cell_of shape s n) other field h' h apart)
+    word-else field other t m h h' apart = grind (arith, get_or-set_other, word-apart)
 
     pub state-else : (field t m : ℕ) → field < cell_words → cell_of shape t m ≢ cell_of shape s n
         → state_at shape (set words (word_of (cell_of shape s n) field) x) t m ≡ state_at shape words t m
@@ -65,10 +57,7 @@ module _ (shape : Shape) (some_room : 0 < shape.window) where
     -- of what was written
     pub word-here : (field : ℕ) → field < cell_words → s < shape.senders → length words ≡ words_in shape
         → get_or (set words (word_of (cell_of shape s n) field) x) (word_of (cell_of shape s n) field) 0 ≡ x
-    word-here field h h' e =
-        let within : word_of (cell_of shape s n) field < cells_in shape * cell_words =
-        word-within (cells_in shape) (cell_of shape s n) field (cell-within s n h') h in
-        get_or-set_same words (word_of (cell_of shape s n) field) x 0 (rw e within)
+    word-here field h h' e = grind (arith, word-within, cell-within, get_or-set_same)
 
   module _ (homes : List Home) (s n : ℕ) (x : Home) where
     pub home-else : (t m : ℕ) → cell_of shape t m ≢ cell_of shape s n → home_at shape (set homes (cell_of shape s n) x) t m ≡ home_at shape homes t m
@@ -80,12 +69,7 @@ module _ (shape : Shape) (some_room : 0 < shape.window) where
   -- ---- the number for which a cell is
 
   pub around : (n : ℕ) → (n + shape.window) % shape.window ≡ n % shape.window
-  around n =
-      let split : n / shape.window * shape.window + n % shape.window ≡ n = div-add-mod' n shape.window in
-      let more : suc (n / shape.window) * shape.window + n % shape.window ≡ n + shape.window = omega (arith, suc-mul (n / shape.window) shape.window, split) in
-      let again : (suc (n / shape.window) * shape.window + n % shape.window) % shape.window ≡ n % shape.window =
-      mod-mul-add (suc (n / shape.window)) shape.window (n % shape.window) (turn n) in
-      ap (λ (k : ℕ). k % shape.window) (sym more) ∙ again
+  around n = grind (arith, div-add-mod', suc-mul, mod-mul-add, turn)
 
   -- each cell stands for one of the numbers of a window
   pub standing : (first j : ℕ) → j < shape.window

@@ -1,5 +1,5 @@
 -- Each step of a sender keeps the rule of the ring's table.
-use Rattle.std.proofs.Common.{◌≡◌, ℕ, ◌+◌, true, List, ◌∷◌, length, map, get_or, set, Option, Some, None, refl, sym, ◌∙◌, ap, subst}
+use Rattle.std.proofs.Common.{◌≡◌, ℕ, ◌+◌, true, List, ◌∷◌, length, map, get_or, set, Option, Some, None, refl, sym, ◌∙◌, ap, subst, arith}
 use Rattle.std.proofs.lemmas.List.{map-set}
 use mathlib.Core.Option as maybe
 use lib.ListN.{get_elem?}
@@ -23,8 +23,7 @@ use Rattle.ticket_board.proofs.RingSeat.{core, seated, known, MadeWith, Ends, pu
 use Rattle.ticket_board.proofs.RingHomes.{set-same, home-full}
 
 pub is-sender : (role : Role) → IsSender role → role ≡ Asks (sender_of role) (asking_of role)
-is-sender (Asks s asking) h = refl
-is-sender role h = absurd h
+is-sender role h = grind arith
 
 module _ {A : Type 0} (shown : A → Shown) (meaning : Meaning) (shape : Shape) (key : List ℕ) (slots id : ℕ) (me : table.Me (Option A) Stamped)
     (sender : IsSender me.0.view.role) where
@@ -103,9 +102,7 @@ module _ {A : Type 0} (shown : A → Shown) (meaning : Meaning) (shape : Shape) 
   pub second-word-allowed : (place word : ℕ) (query : Query) → asking.ahead ≡ FirstWord (first_word query) → IsQuery query → word ≡ second_word query
       → place ≡ second_place me.0.view.shape s (next_asked asking)
       → Allowed place (λ _. word) (λ _. KnowsSent (WritesSecond (of_words (first_known asking.ahead) word)) 0 Out me.1 me)
-  second-word-allowed place word query written valid is at =
-      subst (λ (x : Query). Allowed place (λ _. word) (λ _. KnowsSent (WritesSecond x) 0 Out me.1 me)) (sym (ahead-is word query written valid is))
-      (second-allowed place word query written valid is at)
+  second-word-allowed place word query written valid is at = grind (arith, ahead-is, second-allowed)
 
   pub publishes-allowed : (place word : ℕ) → asking.ahead ≡ Whole (ahead_of me.0.view.role) → place ≡ state_place me.0.view.shape s (next_asked asking)
       → word ≡ asked_word (next_asked asking)

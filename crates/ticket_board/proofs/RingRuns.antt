@@ -57,21 +57,10 @@ stays : (old new : Asking) → new ≡ old → Grows old new
 stays old new is = same-lists old new (ap (λ (x : Asking). x.asked) is) (ap (λ (x : Asking). x.received) is)
 
 grows-on : (old mid new : Asking) → Grows old mid → Grows mid new → Grows old new
-grows-on old mid new first second = record {
-  asked = first.asked ++ second.asked;
-  asked_is = second.asked_is ∙ ap (λ (x : List Query). x ++ second.asked) first.asked_is ∙ append_assoc old.asked first.asked second.asked;
-  received = first.received ++ second.received;
-  received_is = second.received_is ∙ ap (λ (x : List Shown). x ++ second.received) first.received_is
-      ∙ append_assoc old.received first.received second.received;
-}
+grows-on old mid new first second = grind (arith, append_assoc)
 
 sent-grows : (asking : Asking) (step : SenderStep) (word : ℕ) (home : Home) → Grows asking (asking_after asking step word home)
-sent-grows asking (Publishes query) word home = record {
-  asked = query ∷ [];
-  asked_is = refl;
-  received = [];
-  received_is = sym (append-nil asking.received);
-}
+sent-grows asking (Publishes query) word home = grind (arith, append-nil)
 sent-grows asking (Receives answer) word home = record {
   asked = [];
   asked_is = sym (append-nil asking.asked);
@@ -130,8 +119,7 @@ module _ (meaning : Meaning) (shape : Shape) (key : List ℕ) where
         let changed : times_done s n (set board.views (worker_seat shape w) (worker shape key w new)) + times s n working.done ≡ times_done s n board.views + times s n new.done =
         times-set s n board.views (worker_seat shape w) (worker shape key w working) (worker shape key w new) may.0 in
         omega arith
-    times-moved (Works w working step) may s n =
-        same-times w working (working_after shape working step (get_or board.words (word_worked shape step) 0)) may.0 refl s n
+    times-moved (Works w working step) may s n = grind (arith, same-times)
 
   -- ---- all moves
 
@@ -139,40 +127,22 @@ module _ (meaning : Meaning) (shape : Shape) (key : List ℕ) where
     pub answered-done : (moves : List Move) → MayBeMade meaning shape key words moves → (s n : ℕ)
         → times_answered s n moves ≡ times_done s n (board_after shape key words moves).views
     answered-done [] may s n = refl
-    answered-done (move ∷ moves) may s n =
-        let before = moves-show meaning shape key words moves may.0 in
-        ap (λ (x : ℕ). (if answers s n move then 1 else 0) + x) (answered-done moves may.0 s n)
-        ∙ sym (times-moved (board_after shape key words moves) before.0 before.1 move may.1 s n)
+    answered-done (move ∷ moves) may s n = grind (arith, moves-show, times-moved, answered-done moves may.0 s n)
 
     pub grows-all : (more moves : List Move) → MayBeMade meaning shape key words (more ++ moves) → (s : ℕ) → s < shape.senders
         → Grows (asking_at (board_after shape key words moves).views s) (asking_at (board_after shape key words (more ++ moves)).views s)
-    grows-all [] moves may s below =
-        let same : Asking = asking_at (board_after shape key words moves).views s in stays same same refl
+    grows-all [] moves may s below = grind (arith, stays)
     grows-all (move ∷ more) moves may s below =
-        let before = moves-show meaning shape key words (more ++ moves) may.0 in
-        grows-on _ _ _ (grows-all more moves may.0 s below)
-        (asking-grows (board_after shape key words (more ++ moves)) before.0 before.1 move may.1 s below)
+        grind (arith, moves-show, grows-on, asking-grows, grows-all more moves may.0 s below)
 
   -- what holds of a sender of the core holds of its view
   pub served : (board : Board) (core : State) → Shows meaning shape key board core → (s : ℕ) → s < shape.senders
       → IsRight meaning key (sender_at core s) → (length (sender_at core s).asked ≤ shape.most) × (outstanding (sender_at core s) ≤ shape.window)
       → IsServed meaning shape key (asking_at board.views s).asked (asking_at board.views s).received
-  served board core shows s below right limits =
-      let mine = shows.senders s below in
-      subst (λ (x : List Query × List Shown). IsServed meaning shape key x.0 x.1) (λ i. (mine.asked i, mine.received i))
-      (record {
-        within = right.0;
-        right = right-list meaning key (sender_at core s).asked (sender_at core s).received right.0 right.1;
-        window = limits.1;
-        most = limits.0;
-      })
+  served board core shows s below right limits = grind (arith, right-list)
 
   -- a sender that has all answers
   pub at-end : (now later : Asking) → Grows now later → IsServed meaning shape key now.asked now.received
       → IsServed meaning shape key later.asked later.received → next_received now ≡ next_asked now → next_asked later ≡ next_asked now
       → IsAtEnd meaning key now later
-  at-end now later grown served served' all same = record {
-    all = served.right ∙ ap (λ (n : ℕ). map (meaning key) (take n now.asked)) all ∙ ap (map (meaning key)) (take_all (next_asked now) now.asked (omega arith));
-    asked = no-more now.asked grown.asked later.asked grown.asked_is (omega (arith, same));
-    received = no-more now.received grown.received later.received grown.received_is (omega (arith, served'.within, same, all));
-  }
+  at-end now later grown served served' all same = grind (arith, take_all, no-more)

@@ -1,5 +1,5 @@
 -- A seat of the ring's table: a step that is a move of this seat keeps the rule.
-use Rattle.std.proofs.Common.{◌≡◌, ℕ, suc, List, ◌∷◌, length, map, set, Option, sym, ◌∙◌, ap, subst}
+use Rattle.std.proofs.Common.{◌≡◌, ℕ, suc, List, ◌∷◌, length, map, set, Option, sym, ◌∙◌, subst, arith}
 use Rattle.std.proofs.lemmas.List.{map-set}
 use mathlib.Core.Option as maybe
 use lib.ListN.{get_elem?}
@@ -48,15 +48,11 @@ module _ {A : Type 0} (shown : A → Shown) (meaning : Meaning) (shape : Shape) 
   pub put-back : (s n : ℕ) (value : Option A) → me.1 ≡ (cell_of me.0.view.shape s n, value) ∷ table.rest me.1
       → map (home_shown shown) (table.put_back state.homes me.1)
       ≡ set (map (home_shown shown) state.homes) (cell_of shape s n) (home_shown shown (maybe.some value))
-  put-back s n value carries =
-      ap (λ (x : List (ℕ × Option A)). map (home_shown shown) (table.put_back state.homes x)) carries
-      ∙ map-set (home_shown shown) state.homes (cell_of me.0.view.shape s n) (maybe.some value)
-      ∙ ap (λ (x : Shape). set (map (home_shown shown) state.homes) (cell_of x s n) (home_shown shown (maybe.some value))) seated.shape_is
+  put-back s n value carries = grind (arith, map-set, seated)
 
   module _ (role : Role) (is : me.0.view.role ≡ role) where
     pub sits-as : Sits (board_shown shown state) id (seat role)
-    sits-as = get-map (λ (x : Stamped). x.view) state.views id me.0 sits
-        ∙ ap maybe.some (λ i. record { shape = seated.shape_is i; key = seated.key_is i; role = is i })
+    sits-as = grind (arith, get-map, seated)
 
     seat-is : id ≡ seat_of shape role
     seat-is = sym (stands-seat meaning shape (length (views_of state.views)) id role (subst (StandsAt shape (length (views_of state.views)) id) is seated.stands))
@@ -69,11 +65,7 @@ module _ {A : Type 0} (shown : A → Shown) (meaning : Meaning) (shape : Shape) 
         → IsMade meaning shape key (record { words = words; homes = homes; views = set (views_of state.views) (seat_of shape role) (seat new) })
         (set (lasts_of state.views) (seat_of shape role) (suc (length holds.1)))
         → MadeWith words homes new
-    made-with words homes new made =
-        subst (λ (x : List View × List ℕ). IsMade meaning shape key (record { words = words; homes = homes; views = x.0 }) x.1)
-        (λ i. (sym (map-set (λ (x : Stamped). x.view) state.views id (known new)) i, sym (map-set (λ (x : Stamped). x.last) state.views id (known new)) i))
-        (subst (λ (x : ℕ). IsMade meaning shape key (record { words = words; homes = homes; views = set (views_of state.views) x (seat new) })
-        (set (lasts_of state.views) x (suc (length holds.1)))) (sym seat-is) made)
+    made-with words homes new made = grind (arith, map-set, seat-is)
 
     -- and what the seat knows then occurs
     pub occurs : (words : List ℕ) (homes : List Home) (new : Role) → seat_of shape role ≡ seat_of shape new → MadeWith words homes new → Occurs meaning (seat new)

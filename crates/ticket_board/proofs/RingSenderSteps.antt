@@ -1,13 +1,13 @@
 -- Each step of a sender keeps what the ring shows.
-use Rattle.std.proofs.Common.{◌≡◌, ◌≢◌, ℕ, ◌+◌, ◌*◌, ◌<◌, ◌≤◌, true, false, eqb, if◌then◌else◌, List, [], ◌∷◌, ◌++◌, length, get_or, set, Some, None, inl, inr, refl, sym, ◌∙◌, ap, subst, arith}
+use Rattle.std.proofs.Common.{◌≡◌, ◌≢◌, ℕ, ◌+◌, ◌*◌, ◌<◌, ◌≤◌, true, false, eqb, if◌then◌else◌, List, [], ◌∷◌, ◌++◌, length, get_or, set, Some, None, refl, sym, ◌∙◌, ap, subst, arith}
 use Rattle.std.proofs.lemmas.Bool.{cases_eq, ne_eqb}
 use Rattle.std.proofs.lemmas.List.{length-set, length-append, get_or_append_left, get_or_past, get_or-set_other}
 use Rattle.ticket_core.specs.declared.query.Query.{Query}
 use Rattle.ticket_core.specs.declared.query.QueryKind.TheVariants.{Address}
 use Rattle.ticket_core.specs.declared.shape.Shape.{Shape}
 use Rattle.ticket_core.specs.Query.{IsQuery, first_word, second_word}
-use Rattle.ticket_core.specs.State.{Shown, Meaning, Place, Unasked, Waiting, Answered, Collected, Sender, State, sender_at, place_of, query_of, next_of}
-use Rattle.ticket_core.specs.Events.{Event, Ask, Collect, asks, collects, answer_in, IsAnswered, with_sender, Can, after}
+use Rattle.ticket_core.specs.State.{Shown, Meaning, Unasked, Waiting, Answered, Collected, Sender, State, sender_at, place_of, query_of, next_of}
+use Rattle.ticket_core.specs.Events.{Event, Ask, Collect, asks, collects, IsAnswered, with_sender, Can, after}
 use Rattle.ticket_core.specs.Sound.{IsSound}
 use Rattle.ticket_core.specs.Runs.{finishes, once_finished}
 use Rattle.ticket_core.proofs.ReadLemmas.{appended, inside}
@@ -17,7 +17,7 @@ use Rattle.ticket_core.proofs.CountLemmas.{step-counted}
 use Rattle.ticket_board.specs.Ring.Layout.{cell_of, cells_in, words_in, word_of, state_field, first_field, second_field, state_place, state_at, first_at, second_at, free_word, asked_word, answered_word, collecting_word}
 use Rattle.ticket_board.specs.Ring.Homes.{Home, Out, Empty, Full, home_at, answer_at_home}
 use Rattle.ticket_board.specs.Ring.Views.{Known, Nothing, FirstWord, Whole, Asking, asker, next_asked, next_received, HasRoom}
-use Rattle.ticket_board.specs.Ring.Shows.{Board, CellShows, HasWords, IsAhead, SenderShows, Sits, Shows}
+use Rattle.ticket_board.specs.Ring.Shows.{Board, HasWords, IsAhead, SenderShows, Sits, Shows}
 use Rattle.ticket_board.specs.Ring.Steps.{WritesFirst, WritesSecond, Publishes, LooksNext, BringsOut, Receives, asking_after, sent}
 use Rattle.ticket_board.specs.Ring.Laws.{ShowsAfter}
 use Rattle.ticket_board.proofs.RingPlaces.{numbers-apart, senders-apart, word-else, state-else, first-stays, second-stays, word-here, home-else, home-here, around}
@@ -121,11 +121,7 @@ module _ (meaning : Meaning) (shape : Shape) (key : List ℕ) (board : Board) (s
     elsewhere : (t n : ℕ) → cell_of shape t n ≢ cell_of shape s m
         → (state_at shape wrote t n ≡ state_at shape board.words t n) × (first_at shape wrote t n ≡ first_at shape board.words t n)
         × (second_at shape wrote t n ≡ second_at shape board.words t n)
-    elsewhere t n ne = (
-      beside state_field t n (omega arith) (λ e _. ne e),
-      beside first_field t n (omega arith) (λ e _. ne e),
-      beside second_field t n (omega arith) (λ e _. ne e),
-    )
+    elsewhere t n ne = grind (arith, beside)
 
     here : get_or wrote (word_of (cell_of shape s m) field) 0 ≡ x
     here = word-here shape some_room board.words s m x field some there shows.words
@@ -148,9 +144,7 @@ module _ (meaning : Meaning) (shape : Shape) (key : List ℕ) (board : Board) (s
           asked = mine.asked;
           received = mine.received;
           stays_open = mine.stays_open;
-          cells = λ n from below.
-              cell-moved n (next_received asking) asking.collecting (place_of (sender_at state s) n) (place_of (sender_at state s) n)
-              (states n) (state_at shape words_ahead s n) (homes n) (homes n) refl (still n) refl (mine.cells n from below);
+          cells = λ n from below. grind (arith, cell-moved, still, mine);
           words = λ n from below.
               let apart : cell_of shape s n ≢ cell_of shape s (next_asked asking) =
               numbers-apart shape some_room s (next_received asking) (next_asked asking) n ordered room.0 from (omega (arith, room.0)) (λ e. omega arith) in
@@ -186,12 +180,10 @@ module _ (meaning : Meaning) (shape : Shape) (key : List ℕ) (board : Board) (s
     marked = set board.words (state_place shape s m) x
 
     words-stay : (query : Query) (n : ℕ) → HasWords query (firsts n) (seconds n) → HasWords query (first_at shape marked s n) (second_at shape marked s n)
-    words-stay query n old =
-        words-moved query query _ _ _ _ refl (first-stays shape some_room board.words s m x s n) (second-stays shape some_room board.words s m x s n) old
+    words-stay query n old = grind (arith, words-moved, first-stays, some_room, second-stays)
 
     ahead-stays : (n : ℕ) → IsAhead asking.ahead (firsts n) (seconds n) → IsAhead asking.ahead (first_at shape marked s n) (second_at shape marked s n)
-    ahead-stays n old =
-        ahead-moved asking.ahead _ _ _ _ (first-stays shape some_room board.words s m x s n) (second-stays shape some_room board.words s m x s n) old
+    ahead-stays n old = grind (arith, ahead-moved, first-stays, some_room, second-stays)
 
     -- with the slot of its cell
     of-others : (home : Home) (t n : ℕ) → t ≢ s
@@ -219,15 +211,7 @@ module _ (meaning : Meaning) (shape : Shape) (key : List ℕ) (board : Board) (s
     words_asked = set board.words (state_place shape s (next_asked asking)) (asked_word (next_asked asking))
 
     can-ask : Can (Ask s query) state
-    can-ask =
-        let e : state.shape.senders ≡ shape.senders = ap (λ x. x.senders) shows.shape_is in
-        let e2 : state.shape.most ≡ shape.most = ap (λ x. x.most) shows.shape_is in
-        let e3 : state.shape.window ≡ shape.window = ap (λ x. x.window) shows.shape_is in (
-          omega (arith, there),
-          mine.stays_open,
-          omega (arith, asked-is, room.1),
-          omega (arith, asked-is, received-is, ordered, room.0),
-        )
+    can-ask = grind (arith, there, mine, asked-is, room, received-is, ordered)
 
     place-asked : (n : ℕ) → n ≢ next_asked asking → place_of (asks query (sender_at state s)) n ≡ place_of (sender_at state s) n
     place-asked n ne = appended (sender_at state s).places Waiting Unasked n (λ p. p ≡ place_of (sender_at state s) n) (λ _. refl)
@@ -238,21 +222,15 @@ module _ (meaning : Meaning) (shape : Shape) (key : List ℕ) (board : Board) (s
         (λ h. absurd (omega (arith, placed)))
 
     was-free : (states (next_asked asking) ≡ free_word (next_asked asking)) × (homes (next_asked asking) ≡ Empty)
-    was-free = subst (λ (place : Place). CellShows (next_asked asking) (next_received asking) asking.collecting place (states (next_asked asking)) (homes (next_asked asking)))
-        (unasked (next_asked asking) (omega arith)) (mine.cells (next_asked asking) ordered room.0)
+    was-free = grind (arith, unasked, mine, ordered, room)
 
     state-asked : (n : ℕ) → next_received asking ≤ n → n < next_received asking + shape.window → n ≢ next_asked asking
         → state_at shape words_asked s n ≡ states n
-    state-asked n from below ne =
-        state-else shape some_room board.words s (next_asked asking) (asked_word (next_asked asking)) state_field s n (omega arith)
-        (numbers-apart shape some_room s (next_received asking) (next_asked asking) n ordered room.0 from below ne)
+    state-asked n from below ne = grind (arith, state-else, some_room, numbers-apart, ordered, room)
 
     -- an answered number is asked already
     still-asked : (x : ℕ) → free_word (next_received asking) < x → states (next_received asking) ≡ x → state_at shape words_asked s (next_received asking) ≡ x
-    still-asked x more was = elim (cases_eq (next_received asking) (next_asked asking)) [
-      | inl e ↦ absurd (let free : states (next_received asking) ≡ free_word (next_received asking) = subst (λ (n : ℕ). states n ≡ free_word n) (sym e) was-free.0 in omega arith)
-      | inr ne ↦ state-asked (next_received asking) (omega arith) (omega (arith, some_room)) ne ∙ was
-    ]
+    still-asked x more was = grind (arith, cases_eq, was-free, state-asked, some_room)
 
     -- what is asked is in the words of its number
     words-asked : (n : ℕ) → next_received asking ≤ n → n < length (asking.asked ++ query ∷ [])
@@ -270,15 +248,19 @@ module _ (meaning : Meaning) (shape : Shape) (key : List ℕ) (board : Board) (s
       asked = ap (λ xs. xs ++ query ∷ []) mine.asked;
       received = mine.received;
       stays_open = mine.stays_open;
-      cells = λ n from below. elim (cases_eq n (next_asked asking)) [
-        | inl e ↦ subst (λ (x : ℕ). CellShows x (next_received asking) asking.collecting (place_of (asks query (sender_at state s)) x) (state_at shape words_asked s x) (homes x)) (sym e)
-            (cell-moved (next_asked asking) (next_received asking) asking.collecting Waiting (place_of (asks query (sender_at state s)) (next_asked asking))
-            (asked_word (next_asked asking)) (state_at shape words_asked s (next_asked asking)) Empty (homes (next_asked asking)) waits-now
-            (word-here shape some_room board.words s (next_asked asking) (asked_word (next_asked asking)) state_field (omega arith) there shows.words)
-            was-free.1 (refl, refl))
-        | inr ne ↦ cell-moved n (next_received asking) asking.collecting (place_of (sender_at state s) n) (place_of (asks query (sender_at state s)) n)
-            (states n) (state_at shape words_asked s n) (homes n) (homes n) (place-asked n ne) (state-asked n from below ne) refl (mine.cells n from below)
-      ];
+      cells = λ n from below. grind (
+        arith,
+        cases_eq,
+        cell-moved,
+        waits-now,
+        word-here,
+        some_room,
+        there,
+        was-free,
+        place-asked,
+        state-asked,
+        mine,
+      );
       words = words-asked;
       ahead = tt;
       room = λ some. absurd (some refl);
@@ -296,10 +278,7 @@ module _ (meaning : Meaning) (shape : Shape) (key : List ℕ) (board : Board) (s
   -- ---- it looks for the next answer
 
   equal : (a b : ℕ) → eqb a b ≡ true → a ≡ b
-  equal a b e = elim (cases_eq a b) [
-    | inl same ↦ same
-    | inr ne ↦ absurd (let other : eqb a b ≡ false = ne_eqb a b ne in cc)
-  ]
+  equal a b e = grind (arith, cases_eq, ne_eqb)
 
   pub looks-next : Shows meaning shape key (sent shape key seat s asking LooksNext board) state
   looks-next =
@@ -331,20 +310,12 @@ module _ (meaning : Meaning) (shape : Shape) (key : List ℕ) (board : Board) (s
 
     pub has-answer : (homes (next_received asking) ≡ Full (answer_at_home (homes (next_received asking))))
         × (place_of (sender_at state s) (next_received asking) ≡ Answered (answer_at_home (homes (next_received asking))))
-    has-answer = answered-cell (next_received asking) (next_received asking) asking.collecting (place_of (sender_at state s) (next_received asking))
-        (states (next_received asking)) (homes (next_received asking)) (mine.cells (next_received asking) (omega arith) (omega (arith, some_room))) (mine.found noted)
+    has-answer = grind (arith, answered-cell, mine, some_room)
 
     -- it is that of the number that the sender receives next, which it asked
     pub right-answer : (next_received asking < next_asked asking)
         × (answer_at_home (homes (next_received asking)) ≡ meaning key (get_or asking.asked (next_received asking) (Address 0)))
-    right-answer =
-        let answered : place_of (sender_at state s) (next_received asking) ≡ Answered (answer_at_home (homes (next_received asking))) = has-answer.1 in
-        let within : next_received asking < length (sender_at state s).places =
-        inside (sender_at state s).places (next_received asking) Unasked (λ e. let is : place_of (sender_at state s) (next_received asking) ≡ Unasked = e in cc) in (
-          omega (arith, within, placed),
-          (shows.sound.each s).answered (next_received asking) (answer_at_home (homes (next_received asking))) answered
-              ∙ (λ i. meaning (shows.key_is i) (get_or (mine.asked i) (next_received asking) (Address 0))),
-        )
+    right-answer = grind (arith, has-answer, inside, placed, mine)
 
     state-out : state_at shape words_out s (next_received asking) ≡ collecting_word (next_received asking)
     state-out = word-here shape some_room board.words s (next_received asking) (collecting_word (next_received asking)) state_field (omega arith) there shows.words
@@ -354,18 +325,21 @@ module _ (meaning : Meaning) (shape : Shape) (key : List ℕ) (board : Board) (s
       asked = mine.asked;
       received = mine.received;
       stays_open = mine.stays_open;
-      cells = λ n from below. elim (cases_eq n (next_received asking)) [
-        | inl e ↦ subst (λ (x : ℕ). CellShows x (next_received asking) asking_out.collecting (place_of (sender_at state s) x) (state_at shape words_out s x) (home_at shape homes_out s x)) (sym e)
-            (cell-moved (next_received asking) (next_received asking) asking_out.collecting (Answered (answer_at_home (homes (next_received asking))))
-            (place_of (sender_at state s) (next_received asking)) (collecting_word (next_received asking)) (state_at shape words_out s (next_received asking))
-            Out (home_at shape homes_out s (next_received asking)) has-answer.1 state-out
-            (home-here shape some_room board.homes s (next_received asking) Out there shows.homes) (inr (refl, refl, refl, refl)))
-        | inr ne ↦ cell-moved n (next_received asking) asking_out.collecting (place_of (sender_at state s) n) (place_of (sender_at state s) n)
-            (states n) (state_at shape words_out s n) (homes n) (home_at shape homes_out s n) refl
-            (state-else shape some_room board.words s (next_received asking) (collecting_word (next_received asking)) state_field s n (omega arith) (apart-next n from below ne))
-            (home-else shape some_room board.homes s (next_received asking) Out s n (apart-next n from below ne))
-            (cell-kept n (next_received asking) (next_received asking) asking.collecting asking_out.collecting (place_of (sender_at state s) n) (states n) (homes n) ne (mine.cells n from below))
-      ];
+      cells = λ n from below. grind (
+        arith,
+        cases_eq,
+        cell-moved,
+        has-answer,
+        state-out,
+        home-here,
+        some_room,
+        there,
+        state-else,
+        apart-next,
+        home-else,
+        cell-kept,
+        mine,
+      );
       words = λ n from below. words-stay (next_received asking) (collecting_word (next_received asking)) (query_of (sender_at state s) n) n (mine.words n from below);
       ahead = ahead-stays (next_received asking) (collecting_word (next_received asking)) (next_asked asking) mine.ahead;
       room = mine.room;
@@ -397,9 +371,7 @@ module _ (meaning : Meaning) (shape : Shape) (key : List ℕ) (board : Board) (s
     longer = length-append asking.received (answer ∷ [])
 
     was-answered : place_of (sender_at state s) (next_received asking) ≡ Answered answer
-    was-answered = collecting-cell (next_received asking) (next_received asking) asking.collecting (place_of (sender_at state s) (next_received asking))
-        (states (next_received asking)) (homes (next_received asking)) answer
-        (mine.cells (next_received asking) (omega arith) (omega (arith, some_room))) (mine.collecting answer out) out
+    was-answered = grind (arith, collecting-cell, mine, some_room)
 
     next-answered-is : place_of (sender_at state s) (next_of (sender_at state s)) ≡ Answered answer
     next-answered-is = ap (place_of (sender_at state s)) received-is ∙ was-answered
@@ -415,47 +387,39 @@ module _ (meaning : Meaning) (shape : Shape) (key : List ℕ) (board : Board) (s
     later-cell = ap (λ (k : ℕ). s * shape.window + k) (around shape some_room (next_received asking))
 
     state-received : state_at shape words_received s (next_received asking + shape.window) ≡ free_word (next_received asking + shape.window)
-    state-received =
-        ap (λ (cell : ℕ). get_or words_received (word_of cell state_field) 0) later-cell
-        ∙ word-here shape some_room board.words s (next_received asking) (free_word (next_received asking + shape.window)) state_field (omega arith) there shows.words
+    state-received = grind (arith, later-cell, word-here, some_room, there)
 
     home-received : home_at shape homes_received s (next_received asking + shape.window) ≡ Empty
-    home-received =
-        ap (λ (cell : ℕ). get_or homes_received cell Out) later-cell
-        ∙ home-here shape some_room board.homes s (next_received asking) Empty there shows.homes
+    home-received = grind (arith, later-cell, home-here, some_room, there)
 
     shows-received : SenderShows shape (state_at shape words_received s) (first_at shape words_received s) (second_at shape words_received s) (home_at shape homes_received s)
         asking_received (collects (sender_at state s))
     shows-received = record {
       asked = mine.asked;
-      received = let is : answer_in (place_of (sender_at state s) (next_of (sender_at state s))) ≡ answer = ap answer_in next-answered-is in
-          λ i. mine.received i ++ is i ∷ [];
+      received = grind (arith, next-answered-is, mine);
       stays_open = mine.stays_open;
-      cells = λ n from below. elim (cases_eq n (next_received asking + shape.window)) [
-        | inl e ↦ subst (λ (x : ℕ). CellShows x (length (asking.received ++ answer ∷ [])) None (place_of (collects (sender_at state s)) x) (state_at shape words_received s x) (home_at shape homes_received s x)) (sym e)
-            (cell-moved (next_received asking + shape.window) (length (asking.received ++ answer ∷ [])) None Unasked
-            (place_of (collects (sender_at state s)) (next_received asking + shape.window))
-            (free_word (next_received asking + shape.window)) (state_at shape words_received s (next_received asking + shape.window))
-            Empty (home_at shape homes_received s (next_received asking + shape.window))
-            (place-received (next_received asking + shape.window) (λ same. omega (arith, some_room)) ∙ unasked (next_received asking + shape.window) limited)
-            state-received home-received (refl, refl))
-        | inr ne ↦ (
-            let still : next_received asking ≤ n = omega (arith, longer) in
-            let within : n < next_received asking + shape.window = omega (arith, longer) in
-            let other : n ≢ next_received asking = λ same. omega (arith, longer) in
-            cell-moved n (length (asking.received ++ answer ∷ [])) None (place_of (sender_at state s) n) (place_of (collects (sender_at state s)) n)
-            (states n) (state_at shape words_received s n) (homes n) (home_at shape homes_received s n) (place-received n other)
-            (state-else shape some_room board.words s (next_received asking) (free_word (next_received asking + shape.window)) state_field s n (omega arith) (apart-next n still within other))
-            (home-else shape some_room board.homes s (next_received asking) Empty s n (apart-next n still within other))
-            (cell-kept n (next_received asking) (length (asking.received ++ answer ∷ [])) asking.collecting None (place_of (sender_at state s) n) (states n) (homes n) other (mine.cells n still within))
-            )
-      ];
+      cells = λ n from below. grind (
+        arith,
+        cases_eq,
+        cell-moved,
+        place-received,
+        some_room,
+        unasked,
+        limited,
+        state-received,
+        home-received,
+        longer,
+        state-else,
+        apart-next,
+        home-else,
+        cell-kept,
+        mine,
+      );
       words = λ n from below.
           words-stay (next_received asking) (free_word (next_received asking + shape.window)) (query_of (sender_at state s) n) n (mine.words n (omega (arith, longer)) below);
       ahead = ahead-stays (next_received asking) (free_word (next_received asking + shape.window)) (next_asked asking) mine.ahead;
       room = λ some. (omega (arith, longer, (mine.room some).0), (mine.room some).1);
-      found = λ f. absurd (let was : states (next_received asking) ≡ answered_word (next_received asking) = mine.found f in
-          let is : states (next_received asking) ≡ collecting_word (next_received asking) = mine.collecting answer out in omega arith);
+      found = λ f. grind (arith, mine);
       collecting = λ other e. absurd (cc);
     }
 

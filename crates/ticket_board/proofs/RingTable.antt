@@ -1,5 +1,5 @@
 -- The ring's table as it is opened, and seats that are cut off from it.
-use Rattle.std.proofs.Common.{◌≡◌, ℕ, zero, suc, ◌+◌, ◌-◌, ◌*◌, ◌%◌, ◌<◌, ◌≤◌, Bool, if◌then◌else◌, List, [], ◌∷◌, ◌++◌, length, map, get_or, set, replicate, Option, None, inl, inr, refl, sym, ◌∙◌, ap, subst, arith}
+use Rattle.std.proofs.Common.{◌≡◌, ℕ, zero, suc, ◌+◌, ◌-◌, ◌*◌, ◌%◌, ◌<◌, ◌≤◌, List, [], ◌∷◌, ◌++◌, length, map, get_or, set, replicate, Option, None, inl, inr, refl, sym, ◌∙◌, ap, subst, arith}
 use Rattle.std.proofs.lemmas.Bool.{cases_lt, lt-ltb, le-ltb}
 use Rattle.std.proofs.lemmas.List.{length-append, get_or_append_left}
 use Rattle.std.proofs.Math.Seq.{get_or-append_seam}
@@ -11,7 +11,7 @@ use Rattle.ticket_core.specs.State.{Shown, Meaning}
 use Rattle.atomic_table.specs.Seated.{TableId}
 use Rattle.ticket_board.specs.Ring.Layout.{cells_in, words_in, state_field, word_of, free_word}
 use Rattle.ticket_board.specs.Ring.Homes.{Home, Empty}
-use Rattle.ticket_board.specs.Ring.Views.{View, Stamped, stamped, Asks, Works, opener, asker, worker, new_asking, new_working}
+use Rattle.ticket_board.specs.Ring.Views.{View, Stamped, stamped, opener, asker, worker, new_asking, new_working}
 use Rattle.ticket_board.specs.Ring.Shows.{Board, Sits}
 use Rattle.ticket_board.specs.Ring.Opening.{AreFree, opened, next_seat, cut_off}
 use Rattle.ticket_board.specs.Ring.Moves.{Cuts, IsMade}
@@ -88,51 +88,32 @@ free-more window cell words words' words'' all len below is is' is'' k h =
 
 pub askers-more : (ring : RingState) (s n : ℕ) → askers_from ring s n ++ new_asker ring (s + n) ∷ [] ≡ askers_from ring s (n + 1)
 askers-more ring s zero = let e : s + 0 ≡ s = omega arith in ap (λ (k : ℕ). new_asker ring k ∷ []) e
-askers-more ring s (suc n) =
-    let e : s + suc n ≡ suc s + n = omega arith in
-    ap (λ (k : ℕ). new_asker ring s ∷ (askers_from ring (suc s) n ++ new_asker ring k ∷ [])) e
-    ∙ ap (λ (xs : List AskerState). new_asker ring s ∷ xs) (askers-more ring (suc s) n)
-    ∙ ap (askers_from ring s) (let e' : suc (n + 1) ≡ suc n + 1 = omega arith in e')
+askers-more ring s (suc n) = grind (arith, askers-more ring (suc s) n)
 
 pub takers-more : (ring : RingState) (w n : ℕ) → takers_from ring w n ++ new_taker ring (w + n) ∷ [] ≡ takers_from ring w (n + 1)
 takers-more ring w zero = let e : w + 0 ≡ w = omega arith in ap (λ (k : ℕ). new_taker ring k ∷ []) e
-takers-more ring w (suc n) =
-    let e : w + suc n ≡ suc w + n = omega arith in
-    ap (λ (k : ℕ). new_taker ring w ∷ (takers_from ring (suc w) n ++ new_taker ring k ∷ [])) e
-    ∙ ap (λ (xs : List TakerState). new_taker ring w ∷ xs) (takers-more ring (suc w) n)
-    ∙ ap (takers_from ring w) (let e' : suc (n + 1) ≡ suc n + 1 = omega arith in e')
+takers-more ring w (suc n) = grind (arith, takers-more ring (suc w) n)
 
 pub sender-next : (shape : Shape) (key : List ℕ) (cut : ℕ) → cut < shape.senders → next_seat shape key cut ≡ asker shape key cut new_asking
-sender-next shape key cut h =
-    ap (λ (b : Bool). record { shape = shape; key = key; role = if b then Asks cut new_asking else Works (cut - shape.senders) new_working }) (lt-ltb cut shape.senders h)
+sender-next shape key cut h = grind (arith, lt-ltb)
 
 pub worker-next : (shape : Shape) (key : List ℕ) (cut w : ℕ) → cut ≡ shape.senders + w → next_seat shape key cut ≡ worker shape key w new_working
-worker-next shape key cut w at =
-    let le : shape.senders ≤ cut = omega arith in
-    let e : cut - shape.senders ≡ w = omega arith in
-    ap (λ (b : Bool). record { shape = shape; key = key; role = if b then Asks cut new_asking else Works (cut - shape.senders) new_working }) (le-ltb cut shape.senders le)
-    ∙ ap (λ (n : ℕ). worker shape key n new_working) e
+worker-next shape key cut w at = grind (arith, le-ltb)
 
 -- what the seat that was cut off next shows, in the end of a sender or of a worker
 module _ {A : Type 0} where
   pub asker-cut : (ring : RingState) (s : ℕ) (desk me : table.Me (Option A) Stamped) → s < ring.shape.senders → desk ≡ (stamped (opener ring.shape ring.key s) 0, [])
       → me ≡ (stamped (next_seat ring.shape ring.key (cut_of desk.0.view.role)) 0, []) → me ≡ (stamped (asker ring.shape ring.key s new_asking) 0, [])
-  asker-cut ring s desk me below was is =
-      is ∙ ap (λ (x : table.Me (Option A) Stamped). (stamped (next_seat ring.shape ring.key (cut_of x.0.view.role)) 0, [])) was
-      ∙ ap (λ (view : View). (stamped view 0, [])) (sender-next ring.shape ring.key s below)
+  asker-cut ring s desk me below was is = grind (arith, sender-next)
 
   pub taker-cut : (ring : RingState) (w : ℕ) (desk me : table.Me (Option A) Stamped) → desk ≡ (stamped (opener ring.shape ring.key (ring.shape.senders + w)) 0, [])
       → me ≡ (stamped (next_seat ring.shape ring.key (cut_of desk.0.view.role)) 0, []) → me ≡ (stamped (worker ring.shape ring.key w new_working) 0, [])
-  taker-cut ring w desk me was is =
-      is ∙ ap (λ (x : table.Me (Option A) Stamped). (stamped (next_seat ring.shape ring.key (cut_of x.0.view.role)) 0, [])) was
-      ∙ ap (λ (view : View). (stamped view 0, [])) (worker-next ring.shape ring.key (ring.shape.senders + w) w refl)
+  taker-cut ring w desk me was is = grind (arith, worker-next)
 
   -- the seat from which it was cut off
   pub desk-after : (meaning : Meaning) (ring : RingState) (cut more : ℕ) (table_id : TableId) (desk new : table.Me (Option A) Stamped) → desk ≡ (stamped (opener ring.shape ring.key cut) 0, [])
       → IsDesk meaning ring (cut_of desk.0.view.role + 1) table_id new → more ≡ cut + 1 → IsDesk meaning ring more table_id new
-  desk-after meaning ring cut more table_id desk new was is next =
-      let e : cut_of desk.0.view.role + 1 ≡ more = ap (λ (x : table.Me (Option A) Stamped). cut_of x.0.view.role + 1) was ∙ sym next in
-      subst (λ (n : ℕ). IsDesk meaning ring n table_id new) e is
+  desk-after meaning ring cut more table_id desk new was is next = grind arith
 
 -- one end more
 pub askers-then : (ring : RingState) (s : ℕ) (askers askers' : List AskerState) (new : AskerState) → askers ≡ askers_from ring 0 s → askers' ≡ askers ++ new ∷ []

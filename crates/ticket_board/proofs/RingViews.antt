@@ -1,5 +1,5 @@
 -- What is read of the views after one of them changes.
-use Rattle.std.proofs.Common.{◌≡◌, ◌≢◌, ℕ, zero, suc, ◌+◌, ◌<◌, List, [], ◌∷◌, ◌++◌, length, set, sym, ap, arith, if◌then◌else◌}
+use Rattle.std.proofs.Common.{◌≡◌, ◌≢◌, ℕ, zero, suc, ◌+◌, ◌<◌, List, [], ◌∷◌, ◌++◌, length, set, sym, arith, if◌then◌else◌}
 use Rattle.std.proofs.lemmas.List.{get_or-set_same, get_or-set_other}
 use mathlib.Core.Option.{some, some-ne-none, some-injective}
 use lib.ListN.{get_elem?}
@@ -27,13 +27,8 @@ view-here views seat view h = get_or-set_same views seat view nobody h
 pub times-set : (s n : ℕ) (views : List View) (seat : ℕ) (old new : View) → get_elem? views seat ≡ some old
     → times_done s n (set views seat new) + times s n (working_of old.role).done ≡ times_done s n views + times s n (working_of new.role).done
 times-set s n [] seat old new e = absurd (some-ne-none old (sym e))
-times-set s n (x ∷ xs) zero old new e =
-    let same : times s n (working_of x.role).done ≡ times s n (working_of old.role).done = ap (λ (view : View). times s n (working_of view.role).done) (some-injective x old e) in
-    omega arith
-times-set s n (x ∷ xs) (suc seat) old new e =
-    let later : times_done s n (set xs seat new) + times s n (working_of old.role).done ≡ times_done s n xs + times s n (working_of new.role).done =
-    times-set s n xs seat old new e in
-    omega arith
+times-set s n (x ∷ xs) zero old new e = grind arith
+times-set s n (x ∷ xs) (suc seat) old new e = grind (arith, times-set s n xs seat old new e)
 
 pub times-append : (s n : ℕ) (tickets : List Ticket) (ticket : Ticket)
     → times s n (tickets ++ ticket ∷ []) ≡ times s n tickets + (if is_same s n ticket then 1 else 0)

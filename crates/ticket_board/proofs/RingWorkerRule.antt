@@ -10,14 +10,13 @@ use Rattle.atomic_table.specs.Table as table
 use Rattle.ticket_core.specs.declared.query.Query.{Query}
 use Rattle.ticket_core.specs.declared.shape.Shape.{Shape}
 use Rattle.ticket_core.specs.Query.{AreWords}
-use Rattle.ticket_core.specs.State.{Shown, Meaning, Place, Answered, Collected, State, sender_at, place_of}
-use Rattle.ticket_board.specs.Ring.Layout.{cell_of, cells_in, cell_words, state_field, word_of, state_place, first_place, second_place, state_at, asked_word, taken_word, answered_word, collecting_word}
-use Rattle.ticket_board.specs.Ring.Homes.{Home, Out, Full, home_at}
+use Rattle.ticket_core.specs.State.{Shown, Meaning, Place, State, sender_at, place_of}
+use Rattle.ticket_board.specs.Ring.Layout.{cell_of, cells_in, cell_words, state_field, word_of, state_place, first_place, second_place, state_at, asked_word, taken_word, answered_word}
+use Rattle.ticket_board.specs.Ring.Homes.{Home, home_at}
 use Rattle.ticket_board.specs.Ring.Views.{FirstWord, Whole, Working, Role, Works, Stamped, worker, working_of, next_received, asking_at}
 use Rattle.ticket_board.specs.Ring.Shows.{Board, CellShows, Seated, Sits, Shows}
 use Rattle.ticket_board.specs.Ring.Steps.{WorkerStep, MayWork, word_worked, words_worked, homes_worked, LooksAt, Takes, ReadsFirst, ReadsSecond, Answers, GivesBack, working_after}
 use Rattle.ticket_board.specs.Ring.Moves as Moves
-use Rattle.ticket_board.specs.Ring.Moves.{IsMade}
 use Rattle.ticket_board.specs.Ring.Rule.{home_shown, board_shown, views_of, lasts_of, Holds, worker_of, IsWorker, IsOfCell, KnowsWorked, KnowsLooked, KnowsTried, KnowsSecond}
 use Rattle.ticket_board.proofs.RingPlaces.{standing}
 use Rattle.ticket_board.proofs.RingWorkerSteps.{are-words, slot-waits}
@@ -26,17 +25,12 @@ use Rattle.ticket_board.proofs.RingSeat.{core, seated, known, MadeWith, Ends, pu
 use Rattle.ticket_board.proofs.RingHomes.{set-same, home-empty}
 
 is-worker : (role : Role) → IsWorker role → role ≡ Works (worker_of role) (working_of role)
-is-worker (Works w working) h = refl
-is-worker role h = absurd h
+is-worker role h = grind arith
 
 -- ---- the number in a state word
 
 number-of : (n next : ℕ) (collecting : Option Shown) (place : Place) (word : ℕ) (home : Home) → CellShows n next collecting place word home → word / 8 ≡ n
-number-of n next collecting (Answered answer) word home shows =
-    ⊎_elim (λ (x : (word ≡ answered_word n) × (home ≡ Full answer)). let e : word ≡ 8 * n + 3 = x.0 in let h : word / 8 ≡ n = omega arith in h)
-    (λ (x : (word ≡ collecting_word n) × (home ≡ Out) × (n ≡ next) × (collecting ≡ Some answer)). let e : word ≡ 8 * n + 4 = x.0 in let h : word / 8 ≡ n = omega arith in h) shows
-number-of n next collecting Collected word home shows = absurd shows
-number-of n next collecting place word home shows = omega (arith, shows.0)
+number-of n next collecting place word home shows = grind (arith, ⊎_elim)
 
 -- a cell's state word is of a number that uses the cell
 of-cell : (meaning : Meaning) (shape : Shape) (key : List ℕ) (board : Board) (state : State) → Shows meaning shape key board state
@@ -122,8 +116,7 @@ module _ {A : Type 0} (shown : A → Shown) (meaning : Meaning) (shape : Shape) 
 
   pub looks-at-word : (place cell : ℕ) → working.hand ≡ None → cell < cells_in me.0.view.shape → place ≡ word_of cell state_field
       → Allowed place (λ word. word) (λ word. KnowsLooked (place / cell_words) word me)
-  looks-at-word place cell empty within at =
-      subst (λ (x : ℕ). Allowed place (λ word. word) (λ word. KnowsLooked x word me)) (sym (cell-of-word place cell at)) (looks-allowed place cell empty within at)
+  looks-at-word place cell empty within at = grind (arith, cell-of-word, looks-allowed)
 
   -- ---- a number is tried
 

@@ -1,12 +1,12 @@
 -- Each step of a worker keeps what the ring shows.
-use Rattle.std.proofs.Common.{◌≡◌, ◌≢◌, ℕ, ◌+◌, ◌*◌, ◌/◌, ◌<◌, ◌≤◌, Bool, true, false, eqb, if◌then◌else◌, List, [], ◌∷◌, ◌++◌, length, get_or, set, Option, Some, None, IsSome, inl, inr, refl, sym, ◌∙◌, ap, subst, eq-eqb, arith}
+use Rattle.std.proofs.Common.{◌≡◌, ◌≢◌, ℕ, ◌+◌, ◌*◌, ◌<◌, ◌≤◌, Bool, eqb, if◌then◌else◌, List, [], ◌∷◌, ◌++◌, length, get_or, set, Option, Some, None, IsSome, inl, inr, refl, sym, ◌∙◌, ap, subst, eq-eqb, arith}
 use Rattle.std.proofs.lemmas.Bool.{cases_eq, cases_lt, ne_eqb}
 use Rattle.std.proofs.lemmas.List.{length-set}
 use Rattle.std.proofs.lemmas.Nat.{div_below}
 use Rattle.ticket_core.specs.declared.query.Query.{Query}
 use Rattle.ticket_core.specs.declared.shape.Shape.{Shape}
-use Rattle.ticket_core.specs.Query.{first_word, AreWords, of_words}
-use Rattle.ticket_core.specs.State.{Shown, Meaning, Place, Unasked, Waiting, Held, Answered, Collected, Sender, Ticket, State, sender_at, hand_at, place_of, query_of}
+use Rattle.ticket_core.specs.Query.{AreWords, of_words}
+use Rattle.ticket_core.specs.State.{Shown, Meaning, Place, Unasked, Waiting, Held, Answered, Sender, Ticket, State, sender_at, hand_at, place_of, query_of}
 use Rattle.ticket_core.specs.Events.{Event, Take, Finish, GiveBack, puts, with_sender, with_hand, ticket_in, meaning_of, puts_down, Can, after}
 use Rattle.ticket_core.specs.Sound.{IsSound}
 use Rattle.ticket_core.specs.Runs.{is_ticket, once_finished, finishes}
@@ -20,7 +20,7 @@ use Rattle.ticket_board.specs.Ring.Layout.{cell_of, cells_in, state_field, word_
 use Rattle.ticket_board.specs.Ring.Homes.{Home, Out, Empty, Full, home_at}
 use Rattle.ticket_board.specs.Ring.Views.{Nothing, FirstWord, Whole, Asking, Working, worker, next_asked, next_received, asking_at}
 use Rattle.ticket_board.specs.Ring.Shows.{Board, CellShows, HasWords, IsKnown, SenderShows, WorkerShows, Sits, Shows, times}
-use Rattle.ticket_board.specs.Ring.Steps.{LooksAt, ReadsFirst, ReadsSecond, Answers, GivesBack, is_asked_word, working_after, worked}
+use Rattle.ticket_board.specs.Ring.Steps.{LooksAt, ReadsFirst, ReadsSecond, Answers, GivesBack, working_after, worked}
 use Rattle.ticket_board.specs.Ring.Laws.{ShowsAfter}
 use Rattle.ticket_board.proofs.RingPlaces.{numbers-apart, senders-apart, state-else, first-stays, second-stays, word-here, home-else, home-here}
 use Rattle.ticket_board.proofs.RingSenders.{carried, cell-moved, waits, put-there}
@@ -30,8 +30,7 @@ use Rattle.ticket_board.proofs.RingFrames.{worker-frame, worker-seated, worker-s
 -- what is seen is of a sender below the bound
 seen-below : (found : Bool) (q m bound s n : ℕ) → q < bound
     → ◌≡◌ {A = Option Ticket} (if found then Some (q, m) else None) (Some (s, n)) → s < bound
-seen-below true q m bound s n h e = let same : q ≡ s = ap (λ (ticket : Option Ticket). (ticket_in ticket).0) e in omega arith
-seen-below false q m bound s n h e = absurd (cc)
+seen-below found q m bound s n h e = grind arith
 
 module _ (meaning : Meaning) (shape : Shape) (key : List ℕ) (board : Board) (state : State) (shows : Shows meaning shape key board state) where
   some_room : 0 < shape.window
@@ -60,13 +59,7 @@ module _ (meaning : Meaning) (shape : Shape) (key : List ℕ) (board : Board) (s
         let e : state.shape.senders ≡ shape.senders = ap (λ x. x.senders) shows.shape_is in omega arith
 
     held-from : next_received (asking s) ≤ n
-    held-from = elim (cases_lt n (next_received (asking s))) [
-      | inl lt ↦ absurd (
-          let same : length (sender_at state s).received ≡ next_received (asking s) = ap length (shows.senders s held-of).received in
-          let received : place_of (sender_at state s) n ≡ Collected = (shows.sound.each s).collected n (omega arith) in
-          let held : place_of (sender_at state s) n ≡ Held w = held-is in cc)
-      | inr le ↦ le
-    ]
+    held-from = grind (arith, cases_lt, held-of, held-is)
 
     held-below : n < next_asked (asking s)
     held-below =
@@ -74,16 +67,10 @@ module _ (meaning : Meaning) (shape : Shape) (key : List ℕ) (board : Board) (s
         let h : n < length (sender_at state s).asked = held-asked meaning state shows.sound w s n holds in omega arith
 
     held-window : n < next_received (asking s) + shape.window
-    held-window =
-        let asked : length (sender_at state s).asked ≡ next_asked (asking s) = ap length (shows.senders s held-of).asked in
-        let received : length (sender_at state s).received ≡ next_received (asking s) = ap length (shows.senders s held-of).received in
-        let e : state.shape.window ≡ shape.window = ap (λ x. x.window) shows.shape_is in
-        let h : n < next_asked (asking s) = held-below in
-        omega (arith, shows.sound.window s)
+    held-window = grind (arith, held-of, held-below)
 
     held-word : (states s n ≡ taken_word n) × (home_at shape board.homes s n ≡ Out)
-    held-word = subst (λ (place : Place). CellShows n (next_received (asking s)) (asking s).collecting place (states s n) (home_at shape board.homes s n)) held-is
-        ((shows.senders s held-of).cells n held-from held-window)
+    held-word = grind (arith, held-is, held-of, held-from, held-window)
 
     held-words : HasWords (query_of (sender_at state s) n) (first_at shape board.words s n) (second_at shape board.words s n)
     held-words = (shows.senders s held-of).words n held-from held-below
@@ -130,10 +117,7 @@ module _ (meaning : Meaning) (shape : Shape) (key : List ℕ) (board : Board) (s
 
     -- what was asked stays asked
     pub put-queries : (t m : ℕ) → query_of (sender_at new t) m ≡ query_of (sender_at state t) m
-    put-queries t m = elim (cases_eq t s) [
-      | inl e ↦ subst (λ (y : ℕ). query_of (sender_at new y) m ≡ query_of (sender_at state y) m) (sym e) (ap (λ sender. query_of sender m) changed)
-      | inr ne ↦ ap (λ sender. query_of sender m) (others t ne)
-    ]
+    put-queries t m = grind (arith, cases_eq)
 
   -- ---- the steps
 
@@ -161,8 +145,7 @@ module _ (meaning : Meaning) (shape : Shape) (key : List ℕ) (board : Board) (s
         note (working_after shape working (LooksAt cell) (get_or board.words (word_of cell state_field) 0)) (record {
           hand = mine.hand;
           read = mine.read;
-          seen = λ s n e. seen-below (is_asked_word (get_or board.words (word_of cell state_field) 0)) (cell / shape.window)
-              (get_or board.words (word_of cell state_field) 0 / 8) shape.senders s n (div_below cell shape.window shape.senders some_room within) e;
+          seen = λ s n e. grind (arith, seen-below, div_below, some_room);
         }) refl
 
     pub reads-first : (s n : ℕ) → working.hand ≡ Some (s, n)
@@ -170,9 +153,7 @@ module _ (meaning : Meaning) (shape : Shape) (key : List ℕ) (board : Board) (s
     reads-first s n holds =
         note (working_after shape working (ReadsFirst s n) (first_at shape board.words s n)) (record {
           hand = mine.hand;
-          read = λ t m held.
-              let parts : (s ≡ t) × (n ≡ m) = ticket_parts s n t m (sym holds ∙ held) in
-              (held-words w s n (mine.hand ∙ holds)).0 ∙ (λ i. first_word (query_of (sender_at state (parts.0 i)) (parts.1 i)));
+          read = λ t m held. grind (arith, ticket_parts, held-words, mine);
           seen = mine.seen;
         }) refl
 
@@ -193,16 +174,13 @@ module _ (meaning : Meaning) (shape : Shape) (key : List ℕ) (board : Board) (s
       query-read = (λ i. of_words (words-read.0 i) (words-read.1 i)) ∙ of_words-words (query_of (sender_at state s) n) words-read.2
 
       pub are-words : AreWords first (second_at shape board.words s n)
-      are-words = subst (λ (x : ℕ × ℕ). AreWords x.0 x.1) (λ i. (sym words-read.0 i, sym words-read.1 i))
-          (words-allowed (query_of (sender_at state s) n) words-read.2)
+      are-words = grind (arith, words-read, words-allowed)
 
       pub reads-second : Shows meaning shape key (worked shape key seat w working (ReadsSecond s n first) board) state
       reads-second =
           note (working_after shape working (ReadsSecond s n first) (second_at shape board.words s n)) (record {
             hand = mine.hand;
-            read = λ t m held.
-                let parts : (s ≡ t) × (n ≡ m) = ticket_parts s n t m (sym holds ∙ held) in
-                query-read ∙ (λ i. query_of (sender_at state (parts.0 i)) (parts.1 i));
+            read = λ t m held. grind (arith, ticket_parts, query-read);
             seen = mine.seen;
           }) refl
 
@@ -262,13 +240,11 @@ module _ (meaning : Meaning) (shape : Shape) (key : List ℕ) (board : Board) (s
             (λ m e. ap (λ (k : ℕ). get_or board.words (word_of (s * shape.window + k) state_field) 0) e) found
 
         can-take : Can (Take w s n) state
-        can-take = let e : state.shape.workers ≡ shape.workers = ap (λ x. x.workers) shows.shape_is in
-            (omega (arith, there), mine.hand ∙ empty, stands.2)
+        can-take = grind (arith, there, mine, stands)
 
         -- its slot is empty
         pub slot-waits : home_at shape board.homes s n ≡ Empty
-        slot-waits = (subst (λ (place : Place). CellShows n (next_received (asking s)) (asking s).collecting place (states s n) (home_at shape board.homes s n)) stands.2
-            ((shows.senders s of-sender).cells n stands.0 stands.1)).1
+        slot-waits = grind (arith, stands, of-sender)
 
         pub hits : ShowsAfter meaning shape key (Some (Take w s n)) state (record {
           words = set board.words (state_place shape s n) (taken_word n);

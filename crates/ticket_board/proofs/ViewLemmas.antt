@@ -1,5 +1,5 @@
 -- What holds of every view, when one changes or another comes; and the same of every item.
-use Rattle.std.proofs.Common.{◌≡◌, ◌≢◌, ℕ, zero, suc, ◌⊎◌, List, [], ◌∷◌, ◌++◌, length, set, sym, refl, ap, subst, inl, inr, ⊎_elim}
+use Rattle.std.proofs.Common.{◌≡◌, ◌≢◌, ℕ, zero, suc, ◌⊎◌, List, [], ◌∷◌, ◌++◌, length, set, sym, refl, ap, inl, inr, ⊎_elim, arith}
 use mathlib.Core.Option.{some, some-ne-none, some-injective}
 use lib.ListN.{get_elem?}
 use Rattle.atomic_table.proofs.Lists.{at_set}
@@ -11,9 +11,7 @@ module _ {V : Type 0} where
   -- one view changes
   pub changed : (F : ℕ → V → Type 0) (views : List V) (port : ℕ) (w : V) → F port w
       → ((j : ℕ) (u : V) → j ≢ port → get_elem? views j ≡ some u → F j u) → All F (set views port w)
-  changed F views port w mine others j u e =
-      ⊎_elim (λ (x : (j ≡ port) × (w ≡ u)). subst (λ (y : ℕ × V). F y.0 y.1) (λ i. (sym x.0 i, x.1 i)) mine)
-      (λ (x : (j ≢ port) × (get_elem? views j ≡ some u)). others j u x.0 x.1) (at_set views port j w u e)
+  changed F views port w mine others j u e = grind (arith, ⊎_elim, at_set)
 
   -- the place of what is added
   at_end : (l : List V) (a b : V) (j : ℕ) → get_elem? (l ++ a ∷ []) j ≡ some b → (get_elem? l j ≡ some b) ⊎ ((j ≡ length l) × (a ≡ b))
@@ -39,6 +37,4 @@ module _ {V : Type 0} where
 
   -- a view is added
   pub added : (F : ℕ → V → Type 0) (views : List V) (w : V) → F (length views) w → All F views → All F (views ++ w ∷ [])
-  added F views w mine all j u e =
-      ⊎_elim (λ (x : get_elem? views j ≡ some u). all j u x)
-      (λ (x : (j ≡ length views) × (w ≡ u)). subst (λ (y : ℕ × V). F y.0 y.1) (λ i. (sym x.0 i, x.1 i)) mine) (at_end views w u j e)
+  added F views w mine all j u e = grind (arith, ⊎_elim, at_end)

@@ -44,8 +44,8 @@ use ticket_core::{Shape, Solver};
 /// have ended.
 ///
 /// A worker answers the queries that are meant for it, and others only where a sender has waited
-/// for tens of milliseconds. The answers are the same for all owners. A thread that finds nothing
-/// to do parks, and is woken by the one that makes work for it.
+/// for some hundred milliseconds. The answers are the same for all owners. A thread that finds
+/// nothing to do parks, and is woken by the one that makes work for it.
 ///
 /// The error is `BadShape` exactly where the shape is past its limits, or some sender would have
 /// more than `most` queries; else `Memory` where an allocation or a thread was refused, which ends

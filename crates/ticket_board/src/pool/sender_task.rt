@@ -18,6 +18,10 @@ use ticket_core::{NoMemory, Query, Solver};
 /// How often a sender looks again before it parks: for some hundred microseconds.
 const LOOKS: usize = 6000;
 
+/// After how many parks in a row that nobody ended a sender calls for help: some worker holds it
+/// up, and isn't only waiting for a processor.
+const VAIN: usize = 4;
+
 /// The phase of a number that waits, as a state word has it.
 const WAITS: u64 = 1;
 
@@ -101,6 +105,9 @@ pub struct Sending<'p, 'a, S: Solver> {
 struct Desk<'p, 'a, S: Solver> {
     pool: &'p Pool<'p, 'a, S>,
     sender: usize,
+    patience: Patience,
+    /// How many of its parks nobody ended, since an answer came.
+    vain: usize,
 }
 
 impl<S: Solver> Desk<'_, '_, S> {
@@ -137,28 +144,40 @@ impl<S: Solver> Desk<'_, '_, S> {
     }
 
     /// Parks the sender with its bell until this number is answered, unless it is, or the pool
-    /// ends. Where nobody wakes it for long, a worker is called for help.
-    fn rest<R: Wait>(&self, rt: &R, number: u64) {
+    /// ends. Returns whether nobody woke it.
+    fn rest<R: Wait>(&self, rt: &R, number: u64) -> bool {
         let bells = &self.pool.bells;
         let Some(bell) = bells.of_sender(self.sender) else {
-            return;
+            return false;
         };
         bells.announce(bell, number);
         if bells.has_ended() || self.is_in(ANSWERED, number) {
             bells.end_parking(bell);
-        } else if bells.park(rt, bell) {
-            bells.call_help();
+            return false;
         }
+        bells.park(rt, bell)
+    }
+
+    /// An answer came.
+    fn succeed(&mut self) {
+        self.patience.succeed();
+        self.vain = 0;
     }
 
     /// Looks again soon, or parks, as the next answer of a sender that received and asked so many
-    /// isn't there yet.
-    fn wait<R: Wait>(&self, rt: &R, patience: &mut Patience, received: u64, asked: u64) {
-        if self.pool.bells.have_processors() && patience.looks_again() {
+    /// isn't there yet. Where that is so for long, a worker is called for help.
+    fn wait<R: Wait>(&mut self, rt: &R, received: u64, asked: u64) {
+        if self.pool.bells.have_processors() && self.patience.looks_again() {
             return;
         }
-        patience.give_up();
-        self.rest(rt, self.awaited(received, asked));
+        self.patience.give_up();
+        if !self.rest(rt, self.awaited(received, asked)) {
+            return;
+        }
+        self.vain = self.vain.saturating_add(1);
+        if self.vain >= VAIN {
+            self.pool.bells.call_help();
+        }
     }
 }
 
@@ -178,17 +197,21 @@ fn ask_all<S: Solver, R: Wait>(
         mut client,
         sender,
     } = sending;
-    let desk = Desk { pool, sender };
+    let mut desk = Desk {
+        pool,
+        sender,
+        patience: Patience::new(LOOKS),
+        vain: 0,
+    };
     let task = pool.task;
     let senders = task.shape.senders;
     let mut lane = VecDeque::new(alloc);
     let mut next = sender;
     let mut told = 0u64;
-    let mut patience = Patience::new(LOOKS);
     for _ in rt.forever() {
         next = ask_on(&pool.board, &mut client, task.queries.asked, next, senders);
         match receive(&pool.board, &mut client, &mut lane)? {
-            Came::Answer => patience.succeed(),
+            Came::Answer => desk.succeed(),
             Came::Nothing => {
                 if pool.bells.has_ended() {
                     return Err(AllocError);
@@ -196,7 +219,7 @@ fn ask_all<S: Solver, R: Wait>(
                 let asked = next.checked_div(senders).unwrap_or(0) as u64;
                 desk.wake_workers(told, asked);
                 told = asked;
-                desk.wait(rt, &mut patience, lane.len() as u64, asked);
+                desk.wait(rt, lane.len() as u64, asked);
             }
             Came::End => {
                 client.law_of_client();
