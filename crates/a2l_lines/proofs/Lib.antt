@@ -6,4 +6,4 @@ pub mod TextLemmas
 pub mod SymbolizeLemmas
 pub mod OrderLemmas
 pub mod SharingLemmas
-pub mod PiecesLemmas
+pub mod ToldLemmas

@@ -14,6 +14,7 @@ use Rattle.std.proofs.lemmas.List.Sorted.{All-permutation, Contains-permutation}
 use Rattle.ticket_core.specs.declared.query.Query.{Query}
 use Rattle.ticket_core.specs.declared.query.QueryKind.TheVariants.{Address}
 use Rattle.ticket_core.specs.Query.{first_word, second_word}
+use Rattle.a2l_lines.specs.Order.{IsOrder, PicksSame, ArePicksIn, asked_in}
 use Rattle.a2l_lines.specs.Queries.{query_at, IsBefore, IsUpTo, AreRising}
 use Rattle.a2l_lines.specs.Sharing.{picked, Shares, Pair, pair_at, ArePairs, AreInOrder, last_of, is_last, added}
 
@@ -239,15 +240,47 @@ all-picked inputs pairs asked picks j None is are bad found = bad j is
 all-picked inputs pairs asked picks j (Some query) is are bad found = All-contains (λ (pair : Pair). IsPicked inputs asked picks pair.1) pairs (query, j) found (are.all j query is)
 
 -- all pairs are done
-pub sharing-ends : (inputs : List (Option Query)) (pairs : List Pair) (i : ℕ) (asked : List Query) (picks : List ℕ) → ArePairs inputs pairs → length pairs ≤ i → IsDone inputs pairs i asked picks → Shares inputs asked picks
+pub sharing-ends : (inputs : List (Option Query)) (pairs : List Pair) (i : ℕ) (asked : List Query) (picks : List ℕ) → ArePairs inputs pairs → length pairs ≤ i → IsDone inputs pairs i asked picks → Shares inputs asked picks × AreRising asked
 sharing-ends inputs pairs i asked picks are end done =
     let found : All (λ pair. IsPicked inputs asked picks pair.1) pairs = rw (take_all i pairs end) at done.found in
     let many : length (map (picked asked) picks) ≡ length inputs = length-map picks (picked asked) ∙ done.len in
-    record {
-      rising = done.rising;
+    let shares : Shares inputs asked picks = record {
       needed = done.needed;
       within = done.within;
       back =
           ext_get_or None (map (picked asked) picks) inputs many
           (λ j below. get_or-map (picked asked) picks j 0 None (omega (arith, below, length-map picks (picked asked))) ∙ all-picked inputs pairs asked picks j (get_or inputs j None) refl are done.bad found);
+    } in
+    (shares, done.rising)
+
+-- ---- in an order
+
+-- a sharing whose queries are in an order
+pub shares-in : (inputs : List (Option Query)) (asked : List Query) (picks became : List ℕ) (order : List ((ℕ × ℕ) × ℕ)) → IsOrder asked order → ArePicksIn asked order became
+    → Shares inputs asked picks → Shares inputs (asked_in asked order) (map (λ pick. get_or became pick 0) picks)
+shares-in inputs asked picks became order is are shares =
+    let place : (ℕ × ℕ) × ℕ → Query = λ pair. query_at asked pair.1 in
+    let moved : ℕ → ℕ = λ pick. get_or became pick 0 in
+    let same : (j : ℕ) → j < length picks → PicksSame (asked_in asked order) asked (get_or became (get_or picks j 0) 0) (get_or picks j 0) =
+    λ j below. are.1 (get_or picks j 0) (All-get_or (λ pick. pick ≤ length asked) picks j 0 below shares.within) in
+    let count : length (map moved picks) ≡ length picks = length-map picks moved in
+    record {
+      needed = λ i d below.
+          let at : i < length order = omega (arith, below, length-map order place) in
+          rw (get_or-map place order i ((0, 0), 0) d at)
+          (All-get_or (λ query. Contains inputs (Some query)) asked (get_or order i ((0, 0), 0)).1 (Address 0) (is.within i ((0, 0), 0) at) shares.needed);
+      within = λ i d below.
+          let at : i < length picks = omega (arith, below, count) in
+          rw (get_or-map moved picks i 0 d at) (same i at).0;
+      back =
+          ext_get_or None (map (picked (asked_in asked order)) (map moved picks)) (map (picked asked) picks)
+          (length-map (map moved picks) (picked (asked_in asked order)) ∙ count ∙ sym (length-map picks (picked asked)))
+          (λ j below.
+          let there : j < length (map moved picks) = omega (arith, below, length-map (map moved picks) (picked (asked_in asked order))) in
+          let at : j < length picks = omega (arith, there, count) in
+          get_or-map (picked (asked_in asked order)) (map moved picks) j 0 None there
+          ∙ ap (picked (asked_in asked order)) (get_or-map moved picks j 0 0 at)
+          ∙ (same j at).1
+          ∙ sym (get_or-map (picked asked) picks j 0 None at))
+          ∙ shares.back;
     }

@@ -19,8 +19,11 @@ use Rattle.a2l_lines.specs.Text.{is_bad, some_fault}
 use Rattle.a2l_lines.specs.Sharing.{picked, Shares}
 use Rattle.a2l_lines.specs.Queries.{query_at}
 use Rattle.a2l_lines.specs.Pieces.{lines_of, pieces_for, picked_text}
+use Rattle.a2l_lines.specs.Told.{AreTold}
+use Rattle.a2l_lines.specs.declared.told.Told.{Told}
 use Rattle.a2l_lines.specs.Symbolize.{Asks, SymbolizesBeginning}
 use Rattle.a2l_lines.proofs.TextLemmas.{or_true, flat_map-map, list_any-map}
+use Rattle.a2l_lines.proofs.ToldLemmas.{faults-told}
 use Rattle.a2l_lines.proofs.WriteLemmas.{Writes-start}
 
 is-known : (left : Option (List ℕ)) → IsInput left (unwrap_or left [])
@@ -131,45 +134,39 @@ input-asked found asked picks query shares has =
     (sym (get_or-map (picked asked) picks there.0 0 (Some query) within) ∙ there.2)
 
 forth : (file : List ℕ) (found : List (Option Query)) (asked : List Query) (picks : List ℕ) (bad : Bool) → list_any is_bad found ≡ bad → Shares found asked picks
-    → (bad || list_any model.is_fault (map (means file) asked)) ≡ true → list_any (fails file) found ≡ true
+    → (bad || list_any (λ query. model.is_fault (means file query)) asked) ≡ true → list_any (fails file) found ≡ true
 forth file found asked picks true e shares some =
     let one = any-passes is_bad found e in
     any-contains (fails file) found one.0 one.1 (bad-fails file one.0 one.2)
 forth file found asked picks false e shares some =
-    let one = any-passes (λ query. model.is_fault (means file query)) asked (sym (list_any-map model.is_fault (means file) asked) ∙ some) in
+    let one = any-passes (λ query. model.is_fault (means file query)) asked some in
     any-contains (fails file) found (Some one.0) (All-contains (λ query. Contains found (Some query)) asked one.0 shares.needed one.1) one.2
 
 back : (file : List ℕ) (found : List (Option Query)) (asked : List Query) (picks : List ℕ) (input : Option Query) → Contains found input → fails file input ≡ true → Shares found asked picks
-    → some_fault found (map (means file) asked) ≡ true
+    → (list_any is_bad found || list_any (λ query. model.is_fault (means file query)) asked) ≡ true
 back file found asked picks None has e shares = rw (any-contains is_bad found None has refl) refl
 back file found asked picks (Some query) has e shares =
     let some = any-contains (λ query. model.is_fault (means file query)) asked query (input-asked found asked picks query shares has) e in
-    rw (list_any-map model.is_fault (means file) asked, some) (or_true (list_any is_bad found))
+    rw some (or_true (list_any is_bad found))
 
 any-same : {X : Type 0} (p q : X → Bool) (xs : List X) → ((x : X) → p x ≡ q x) → list_any p xs ≡ list_any q xs
 any-same p q [] same = refl
 any-same p q (x ∷ xs) same = rw (same x, any-same p q xs same) refl
 
-pub is-status : (options : model.Options) (file : List ℕ) (words : List (List ℕ)) (left : Option (List ℕ)) (found : List (Option Query)) (asked : List Query) (picks : List ℕ) (answers : List model_answer.Answer)
-    → (all : Asks words left (map shown found)) → Shares found asked picks → answers ≡ map (means file) asked
-    → some_fault found answers ≡ model.has_faults file (model.inputs words all.bytes)
-is-status options file words left found asked picks answers all shares answered =
+pub is-status : (options : model.Options) (file : List ℕ) (words : List (List ℕ)) (left : Option (List ℕ)) (found : List (Option Query)) (asked : List Query) (picks : List ℕ) (told : List Told)
+    → (all : Asks words left (map shown found)) → Shares found asked picks → AreTold options (means file) asked told
+    → some_fault found told ≡ model.has_faults file (model.inputs words all.bytes)
+is-status options file words left found asked picks told all shares are =
     let texts = model.inputs words all.bytes in
-    ap (some_fault found) answered
-    ∙ same-tests (some_fault found (map (means file) asked)) (list_any (fails file) found)
+    let faulty : Query → Bool = λ query. model.is_fault (means file query) in
+    ap (λ (some : Bool). list_any is_bad found || some) (faults-told options (means file) asked told are)
+    ∙ same-tests (list_any is_bad found || list_any faulty asked) (list_any (fails file) found)
     (forth file found asked picks (list_any is_bad found) refl shares)
     (λ some. let one = any-passes (fails file) found some in back file found asked picks one.0 one.1 one.2 shares)
     ∙ any-same (fails file) (λ input. is_faulty file (shown input)) found (same-fails file)
     ∙ sym (list_any-map (is_faulty file) shown found)
     ∙ ap (list_any (is_faulty file)) all.asked
     ∙ list_any-map (is_faulty file) model.query_in texts
-
--- a pick is of one of the pieces
-pub picks-within : (options : model.Options) (means : Query → model_answer.Answer) (found : List (Option Query)) (asked : List Query) (picks : List ℕ) (pieces : List (List ℕ)) → Shares found asked picks
-    → pieces ≡ pieces_for options means asked → All (λ pick. pick < length pieces) picks
-picks-within options means found asked picks pieces shares made =
-    All-weaker (λ pick. pick ≤ length asked) (λ pick. pick < length pieces)
-    (λ pick within. omega (arith, within, ap length made, length-map asked (lines_of options means))) picks shares.within
 
 pub begins : (options : model.Options) (file : List ℕ) (words : List (List ℕ)) (left told : Option (List ℕ)) → SymbolizesBeginning options file words left told told
 begins options file words left told =

@@ -16,10 +16,8 @@ abbrev pub picked : List Query → ℕ → Option Query
 picked asked zero = None
 picked asked (suc k) = Some (query_at asked k)
 
--- The queries among some inputs, each once and in order, and the way back, which is a pick for each
--- input.
+-- The queries among some inputs, and the way back, which is a pick for each input.
 pub record Shares (inputs : List (Option Query)) (asked : List Query) (picks : List ℕ) : Type 0 where
-  pub rising : AreRising asked
   pub needed : All (λ query. Contains inputs (Some query)) asked
   pub within : All (λ pick. pick ≤ length asked) picks
   pub back : map (picked asked) picks ≡ inputs
@@ -27,6 +25,16 @@ pub record Shares (inputs : List (Option Query)) (asked : List Query) (picks : L
 -- the same of inputs and what is kept of their sharing
 abbrev pub IsSharing : List Input → Sharing → Type 0
 IsSharing inputs sharing = Shares (map input_shown inputs) sharing.asked.items sharing.picks.items
+
+-- each query is there once, in order
+abbrev pub SharesOnce : List Input → Sharing → Type 0
+SharesOnce inputs sharing = IsSharing inputs sharing × AreRising sharing.asked.items
+
+-- one sharing does for all inputs for which another does
+abbrev pub DoesFor : Sharing → Sharing → Type 0
+DoesFor old new =
+    (inputs : List (Option Query)) → Shares inputs old.asked.items old.picks.items
+    → Shares inputs new.asked.items new.picks.items
 
 -- ---- on the way there
 

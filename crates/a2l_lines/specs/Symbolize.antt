@@ -3,17 +3,22 @@ use Rattle.std.specs.Prelude.{◌≡◌, ℕ, Bool, List, map, Option, if◌then
 use denote.Ref.{Bor}
 use Rattle.std.specs.Io.KnownBytes.{append_known}
 use Rattle.dw_model.specs.Output as model
-use Rattle.dw_model.specs.Query.{Query}
+use Rattle.dw_model.specs.Query as asks
+use Rattle.dw_symbols.specs.Told.{means}
+use Rattle.ticket_core.specs.declared.query.Query.{Query}
 use Rattle.a2l_lines.specs.Ends.{WritesBeginning}
-use Rattle.a2l_lines.specs.Input.{IsInput, word_shown, asked_by}
+use Rattle.a2l_lines.specs.Input.{IsInput, word_shown, asked_by, input_shown}
+use Rattle.a2l_lines.specs.Sharing.{Shares}
+use Rattle.a2l_lines.specs.Told.{AreTold}
 use Rattle.a2l_lines.specs.Text.{options_shown}
 use Rattle.a2l_lines.specs.declared.input.Input.{Input}
 use Rattle.a2l_lines.specs.declared.options.Options.{Options}
+use Rattle.a2l_lines.specs.declared.report.Report.{Report}
 use Rattle.a2l_lines.specs.declared.symbolizer.Status.{Status}
 use Rattle.a2l_lines.specs.declared.symbolizer.Status.TheVariants.{Clean, Faults}
 
 -- what is asked for by words, or where there are none by the bytes that were still to come
-pub record Asks (words : List (List ℕ)) (left : Option (List ℕ)) (found : List (Option Query)) : Type 0 where
+pub record Asks (words : List (List ℕ)) (left : Option (List ℕ)) (found : List (Option asks.Query)) : Type 0 where
   pub bytes : List ℕ
   pub input : IsInput left bytes
   pub asked : found ≡ map model.query_in (model.inputs words bytes)
@@ -21,6 +26,12 @@ pub record Asks (words : List (List ℕ)) (left : Option (List ℕ)) (found : Li
 -- the same of words of the command line and what was read of them
 abbrev pub AreAsked : List (Bor (List ℕ)) → (left : Option (List ℕ)) → List Input → Type 0
 AreAsked words left inputs = Asks (map word_shown words) left (map asked_by inputs)
+
+-- what is told of the queries among inputs, and what each input picks of it
+pub record Reports (options : model.Options) (file : List ℕ) (inputs : List Input) (report : Report) : Type 0 where
+  pub asked : List Query
+  pub shares : Shares (map input_shown inputs) asked report.picks.items
+  pub told : AreTold options (means file) asked report.told.items
 
 -- how a run ends in which there were faults, or none
 abbrev pub status_for : Bool → Status

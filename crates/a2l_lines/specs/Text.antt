@@ -3,7 +3,6 @@ use Rattle.std.specs.Prelude.{ℕ, Bool, true, false, ◌||◌, if◌then◌else
 use Rattle.std.specs.Prelude.{Option, Some, None, option_map, unwrap_or}
 use denote.Ref.{Bor}
 use Rattle.std.specs.List.{list_any}
-use Rattle.dw_model.specs.Answer as model_answer
 use Rattle.dw_model.specs.Output as model
 use Rattle.dw_symbols.specs.declared.answer.Answer.{Answer}
 use Rattle.dw_symbols.specs.declared.answer.Frame.{Frame}
@@ -12,6 +11,7 @@ use Rattle.dw_symbols.specs.Answer.{answer_shown, frame_shown, location_shown}
 use Rattle.dw_symbols.specs.Told.{query_shown}
 use Rattle.ticket_core.specs.declared.query.Query.{Query}
 use Rattle.a2l_lines.specs.declared.options.Options.{Options}
+use Rattle.a2l_lines.specs.declared.told.Told.{Told}
 
 -- what the options say of the text
 abbrev pub options_shown : Options → model.Options
@@ -26,8 +26,8 @@ is_bad None = true
 is_bad (Some query) = false
 
 -- some input is a bad address, or some answer a fault
-abbrev pub some_fault : List (Option Query) → List model_answer.Answer → Bool
-some_fault inputs answers = list_any is_bad inputs || list_any model.is_fault answers
+abbrev pub some_fault : List (Option Query) → List Told → Bool
+some_fault inputs told = list_any is_bad inputs || list_any (λ told. told.is_fault) told
 
 -- what is after a path: `:LINE`, `:?` where the line isn't known, or `:0` where the path isn't
 -- either

@@ -3,11 +3,12 @@
 ghost use Rattle.std.specs.Prelude.{◌≡◌, ◌<◌, ◌≤◌, ◌++◌, true, false, [], length, OnOk, OnErr, vec_capacity};
 ghost use Rattle.std.specs.List.{All};
 ghost use Rattle.a2l_lines.specs.Ends.{WritesAll, WritesBeginning, Puts, PutsBeginning};
-ghost use Rattle.a2l_lines.specs.Pieces.{WritesPicked, PicksBeginning};
+ghost use Rattle.a2l_lines.specs.Pieces.{pieces_of, WritesPicked, PicksBeginning};
 
 use crate::output::write_all;
-use crate::pieces::Pieces;
+use crate::pieces::piece;
 use crate::streams::{Failed, Sink};
+use crate::told::Told;
 
 /// Writes what is in a block, and empties it. After a failure a beginning of it was written.
 fn flush<W: Sink>(writer: &mut W, block: &mut Vec<u8>) -> Result<(), Failed>
@@ -55,24 +56,26 @@ fn put<W: Sink>(writer: &mut W, block: &mut Vec<u8>, piece: &[u8]) -> Result<(),
     write_all(writer, piece)
 }
 
-/// Writes the pieces that inputs picked, in their order, through a block that is empty.
+/// Writes the lines that inputs picked, in their order, through a block that is empty.
 ///
 /// After a failure a beginning of them was written.
 pub fn write_picked<W: Sink>(
     writer: &mut W,
     block: &mut Vec<u8>,
-    pieces: &Pieces,
+    told: &[Told],
     picks: &[usize],
 ) -> Result<(), Failed>
     requires empty { block.old.items ≡ [] }
-    requires within { All (λ pick. pick < length pieces.now) picks.now }
-    ensures written { OnOk result (WritesPicked (W.told writer.old) (W.told writer.new) pieces.now picks.now) }
+    requires within { All (λ pick. pick ≤ length told.now) picks.now }
+    ensures written { OnOk result
+        (WritesPicked (W.told writer.old) (W.told writer.new) (pieces_of told.now) picks.now) }
     ensures failed { OnErr result (W.failures writer.old < W.failures writer.new) }
-    ensures beginning { OnErr result (PicksBeginning (W.told writer.old) (W.told writer.new) pieces.now picks.now) }
+    ensures beginning { OnErr result
+        (PicksBeginning (W.told writer.old) (W.told writer.new) (pieces_of told.now) picks.now) }
     ensures counted { W.failures writer.old ≤ W.failures writer.new }
 {
     for i in 0..picks.len() {
-        put(writer, block, pieces.piece(picks[i]))?;
+        put(writer, block, piece(told, picks[i]))?;
     }
     flush(writer, block)
 }

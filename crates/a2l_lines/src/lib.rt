@@ -3,6 +3,7 @@
 #![tactic(auto)]
 
 mod blocks;
+mod contexts;
 mod crew;
 mod fault;
 mod file;
@@ -15,12 +16,15 @@ mod output;
 mod pieces;
 mod plan;
 mod pool;
+mod report;
 mod resources;
 mod shares;
 mod streams;
 mod survey;
 mod symbolizer;
+mod teller;
 mod text;
+mod told;
 mod turns;
 mod waves;
 mod words;

@@ -1,13 +1,11 @@
-//! Queries in the order in which they are asked, and their answers in the order of the queries.
+//! Queries in the order in which they are asked.
 
 ghost use Rattle.std.specs.Prelude.{◌≡◌, ◌<◌, length, IfOk};
 ghost use Rattle.std.specs.List.{All};
-ghost use Rattle.a2l_lines.specs.Order.{IsOrder, AreInPlace, asked_in};
+ghost use Rattle.a2l_lines.specs.Order.{IsOrder, ArePicksIn, asked_in};
 
 use crate::turns::Turn;
-use dw_symbols::Answer;
 use std::alloc::{AllocError, Global};
-use std::mem;
 use ticket_core::Query;
 
 /// The queries in an order of their indexes.
@@ -26,34 +24,19 @@ pub fn in_order(
     Ok(asked)
 }
 
-/// `count` answers, to be replaced by those that are found.
-fn unanswered<'a>(alloc: Global, count: usize) -> Result<Vec<Answer<'a>>, AllocError>
-    ensures { IfOk result (λ answers. length answers.items ≡ count) }
-{
-    let mut answers = Vec::new(alloc);
-    for _ in 0..count {
-        answers.push(Answer::NotCovered)?;
-    }
-    Ok(answers)
-}
-
-/// The answers in the order of the queries, of those that were found in the order in which they
-/// were asked; whatever each query means.
-pub fn in_place<'a>(
+/// For each pick of queries the pick of the same one in an order of their indexes. 0 is none, and
+/// k + 1 picks the query at k.
+pub fn picks_in(
     alloc: Global,
     queries: &[Query],
     order: &[(Turn, usize)],
-    found: Vec<Answer<'a>>,
-) -> Result<Vec<Answer<'a>>, AllocError>
+) -> Result<Vec<usize>, AllocError>
     requires order { IsOrder queries.now order.now }
-    requires len { length found.items ≡ length order.now }
-    ensures { IfOk result (λ answers. AreInPlace queries.now order.now found.entry.items answers.items) }
+    ensures { IfOk result (λ picks. ArePicksIn queries.now order.now picks.items) }
 {
-    let mut found = found;
-    let mut answers = unanswered(alloc, queries.len())?;
+    let mut picks = vec![in alloc; 0usize; queries.len() + 1]?;
     for i in 0..order.len() {
-        let place = order[i].1;
-        answers[place] = mem::replace(&mut found[i], Answer::NotCovered);
+        picks[order[i].1 + 1] = i + 1;
     }
-    Ok(answers)
+    Ok(picks)
 }

@@ -1,42 +1,26 @@
 //! Answering queries by a pool of threads over one file.
 
-ghost use Rattle.std.specs.Prelude.{length, IfOk, IfErr, OnOk};
+ghost use Rattle.std.specs.Prelude.{◌≡◌, length, IfOk, IfErr, OnOk};
+ghost use Rattle.dw_symbols.specs.Told.{means};
 ghost use Rattle.ticket_board.specs.Pool.{PoolFits, RefusesPool};
 ghost use Rattle.a2l_lines.specs.Pool.{AreAnswersOf};
+ghost use Rattle.a2l_lines.specs.Text.{options_shown};
+ghost use Rattle.a2l_lines.specs.Told.{AreTold};
 
+use crate::contexts::Contexts;
 use crate::crew::Crew;
-use crate::order::{in_order, in_place};
+use crate::options::Options;
 use crate::plan::Plan;
 use crate::resources::Resources;
+use crate::teller::{Style, Teller, Tellers};
+use crate::told::Told;
 use dw_symbols::{Answer, Context, Image, law_of_shown};
 use std::alloc::{AllocError, Global};
-use std::num::NonZeroUsize;
+use std::marker::PhantomData;
 use std::sync::Wait;
 use std::thread::Threads;
-use ticket_board::{Gate, Maker, PoolFault, Queries, pool_fits};
-use ticket_core::{NoMemory, Query, Shape};
-
-/// How many of the units that it read each worker keeps.
-const KEPT_UNITS: usize = 16;
-
-/// Makes the contexts of workers, all over one image.
-#[derive(Drop)]
-struct Contexts<'b, 'a> {
-    image: &'b Image<'a>,
-}
-
-impl<'b, 'a> Maker<Context<'b, 'a>> for Contexts<'b, 'a> {
-    ghost key = { λ maker. maker.image.now };
-
-    fn key(&self) -> &[u8] {
-        self.image.bytes()
-    }
-
-    fn make(&self, alloc: Global) -> Result<Context<'b, 'a>, NoMemory> {
-        let capacity = NonZeroUsize::MIN.saturating_add(KEPT_UNITS - 1);
-        Context::new(alloc, self.image, capacity)
-    }
-}
+use ticket_board::{Gate, PoolFault, Queries, pool_fits};
+use ticket_core::{Query, Shape};
 
 /// The answers to queries that are meant for these workers, as `run_pool` gives them.
 fn run_planned<'a, R: Threads + Wait + Sync, G: Gate + Sync>(
@@ -89,34 +73,31 @@ pub fn run_pool<'a, R: Threads + Wait + Sync, G: Gate + Sync>(
     run_planned(rt, alloc, image, shape, queries, gate)
 }
 
-/// What each of some queries means, in their order. They are asked in the order of a plan, so that
-/// what one unit answers is asked at one time, and the workers share the units.
-pub fn answers_of<'a, R: Threads + Wait + Sync, G: Gate + Sync>(
+/// What is told of each of some queries that are meant for these workers, in their order.
+pub fn tell_all<'o, R: Threads + Wait + Sync, G: Gate + Sync, O: Style + Send + Sync>(
     on: &Resources<'_, R>,
-    image: &Image<'a>,
+    image: &Image<'_>,
     shape: Shape,
-    queries: &[Query],
+    queries: Queries<'_>,
+    options: &'o Options<'o>,
     gate: &G,
-) -> Result<Vec<Answer<'a>>, AllocError>
-    requires fits { PoolFits shape (length queries.now) }
-    ensures answers { IfOk result (λ answers. AreAnswersOf image.now queries.now answers.items) }
+) -> Result<Vec<Told>, AllocError>
+    requires fits { PoolFits shape (length queries.asked.now) }
+    requires style { options_shown options.now ≡ O.options }
+    ensures told { IfOk result (λ told.
+        AreTold (options_shown options.now) (means image.now) queries.entry.asked.now told.items) }
 {
-    let alloc = on.alloc;
-    let crew = Crew {
-        workers: shape.workers,
-        processors: on.processors,
+    let maker = Tellers::<O> {
+        contexts: Contexts { image },
+        options,
+        style: PhantomData,
     };
-    let plan = Plan::new(alloc, image, queries, crew)?;
-    let asked = in_order(alloc, queries, &plan.order)?;
-    let planned = Queries {
-        asked: &asked,
-        owners: &plan.owners,
-    };
-    let found = match run_planned(on.threads, alloc, image, shape, planned, gate) {
-        Ok(found) => found,
+    let told = ticket_board::run_pool::<Teller<'_, '_, '_, O>, R, _, G>(
+        on.threads, on.alloc, &maker, shape, queries, gate,
+    );
+    match told {
+        Ok(told) => Ok(told),
         Err(PoolFault::BadShape) => unreachable!(),
-        Err(PoolFault::Memory) => return Err(AllocError),
-    };
-    let answers = in_place(alloc, queries, &plan.order, found)?;
-    Ok(answers)
+        Err(PoolFault::Memory) => Err(AllocError),
+    }
 }

@@ -1,10 +1,14 @@
 //! Which queries are asked for some inputs, each once, and which answer each input gets.
 
-ghost use Rattle.std.specs.Prelude.{◌≡◌, ◌+◌, ◌<◌, ◌≤◌, ◌^◌, true, length, map, IfOk, OnOk};
+ghost use Rattle.std.specs.Prelude.{◌≡◌, ◌+◌, ◌<◌, ◌≤◌, ◌^◌, true, length, map, slice_index_or, IfOk, OnOk};
+ghost use Rattle.std.specs.List.{All};
 ghost use Rattle.a2l_lines.specs.Input.{input_shown};
-ghost use Rattle.a2l_lines.specs.Sharing.{IsSharing, ArePairs, AreInOrder, is_last, last_of, added};
+ghost use Rattle.a2l_lines.specs.Order.{IsOrder};
+ghost use Rattle.a2l_lines.specs.Sharing.{SharesOnce, DoesFor, ArePairs, AreInOrder, is_last, last_of, added};
 
 use crate::input::Input;
+use crate::order::{in_order, picks_in};
+use crate::turns::Turn;
 use std::alloc::{AllocError, Global};
 use ticket_core::Query;
 
@@ -70,7 +74,7 @@ fn add(asked: &mut Vec<Query>, query: Query) -> Result<(), AllocError>
 fn shared(alloc: Global, inputs: &[Input], pairs: &[(Query, usize)]) -> Result<Sharing, AllocError>
     requires pairs { ArePairs (map input_shown inputs.now) pairs.now }
     requires order { AreInOrder pairs.now }
-    ensures { IfOk result (IsSharing inputs.now) }
+    ensures { IfOk result (SharesOnce inputs.now) }
 {
     let mut asked = Vec::new(alloc);
     let mut picks = vec![in alloc; 0usize; inputs.len()]?;
@@ -85,7 +89,7 @@ fn shared(alloc: Global, inputs: &[Input], pairs: &[(Query, usize)]) -> Result<S
 /// What is asked for some inputs, and what each of them picks of it. There are no more queries than
 /// one sender may ask.
 pub fn sharing_of(alloc: Global, inputs: &[Input]) -> Result<Sharing, AllocError>
-    ensures shares { IfOk result (IsSharing inputs.now) }
+    ensures shares { IfOk result (SharesOnce inputs.now) }
     ensures most { IfOk result (λ sharing. length sharing.asked.items ≤ 2 ^ 60) }
 {
     let pairs = sorted_pairs(alloc, inputs)?;
@@ -94,4 +98,31 @@ pub fn sharing_of(alloc: Global, inputs: &[Input]) -> Result<Sharing, AllocError
         return Err(AllocError);
     }
     Ok(sharing)
+}
+
+/// What inputs pick, where each pick became another.
+fn repicked(alloc: Global, picks: &[usize], became: &[usize]) -> Result<Vec<usize>, AllocError>
+    requires within { All (λ pick. pick < length became.now) picks.now }
+    ensures { IfOk result (λ repicked. repicked.items ≡ map (λ pick. slice_index_or became.now pick 0) picks.now) }
+{
+    let mut repicked = Vec::with_capacity(alloc, picks.len())?;
+    for pick in picks {
+        repicked.push(became[*pick])?;
+    }
+    Ok(repicked)
+}
+
+impl Sharing {
+    /// The same with its queries in an order of their indexes.
+    pub fn in_order(self, alloc: Global, order: &[(Turn, usize)]) -> Result<Self, AllocError>
+        requires order { IsOrder self.asked.items order.now }
+        requires within { All (λ pick. pick ≤ length self.asked.items) self.picks.items }
+        ensures shares { IfOk result (DoesFor self) }
+        ensures count { IfOk result (λ sharing. length sharing.asked.items ≡ length self.asked.items) }
+    {
+        let became = picks_in(alloc, &self.asked, order)?;
+        let asked = in_order(alloc, &self.asked, order)?;
+        let picks = repicked(alloc, &self.picks, &became)?;
+        Ok(Sharing { asked, picks })
+    }
 }

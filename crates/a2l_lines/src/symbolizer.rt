@@ -2,11 +2,8 @@
 
 ghost use Rattle.std.specs.Prelude.{◌≡◌, ◌≢◌, ◌<◌, ◌≤◌, List, [], map, Err, OnErr, IfOk, IsErrOf};
 ghost use Rattle.std.specs.List.{list_any};
-ghost use Rattle.dw_model.specs.Output.{is_fault};
-ghost use Rattle.dw_symbols.specs.Answer.{answer_shown};
 ghost use Rattle.a2l_lines.specs.Input.{input_shown};
 ghost use Rattle.a2l_lines.specs.Text.{is_bad, some_fault};
-ghost use Rattle.a2l_lines.specs.Pool.{shape_of, workers_for};
 ghost use Rattle.a2l_lines.specs.Symbolize.{AreAsked, Answers, AnswersBeginning, status_for};
 
 use crate::blocks::write_picked;
@@ -14,23 +11,15 @@ use crate::fault::RunFault;
 use crate::input::{Input, inputs_of_lines, inputs_of_words};
 use crate::input_bytes::read_all;
 use crate::options::Options;
-use crate::pieces::pieces_of;
-use crate::pool::answers_of;
+use crate::report::report_of;
 use crate::resources::Resources;
-use crate::shares::sharing_of;
 use crate::streams::{Failed, Sink, Source};
-use dw_symbols::{Answer, Image};
+use crate::told::Told;
+use dw_symbols::Image;
 use std::alloc::Global;
 use std::sync::Wait;
 use std::thread::Threads;
 use ticket_board::Gate;
-use ticket_core::Shape;
-
-/// How many queries each sender has outstanding at most.
-const WINDOW: usize = 16;
-
-/// How many queries each sender asks at most.
-const MOST: u64 = 1 << 60;
 
 /// How many bytes are written at a time, or fewer, where the next piece doesn't fit.
 const BLOCK: usize = 65536;
@@ -78,38 +67,25 @@ fn some_bad(inputs: &[Input]) -> bool
 }
 
 /// Whether some answer is a fault.
-fn some_refused(answers: &[Answer<'_>]) -> bool
-    ensures { result ≡ list_any is_fault (map answer_shown answers.now) }
+fn some_refused(told: &[Told]) -> bool
+    ensures { result ≡ list_any (λ told. told.is_fault) told.now }
 {
-    for answer in answers {
-        if let Answer::Fault { .. } = answer {
+    for told in told {
+        if told.is_fault {
             return true;
         }
     }
     false
 }
 
-/// How a run over these inputs ends, where those that aren't bad addresses have these answers.
-fn outcome(inputs: &[Input], answers: &[Answer<'_>]) -> Status
-    ensures { result ≡ status_for (some_fault (map input_shown inputs.now) (map answer_shown answers.now)) }
+/// How a run over these inputs ends, where this is told of those that aren't bad addresses.
+fn outcome(inputs: &[Input], told: &[Told]) -> Status
+    ensures { result ≡ status_for (some_fault (map input_shown inputs.now) told.now) }
 {
-    if some_bad(inputs) || some_refused(answers) {
+    if some_bad(inputs) || some_refused(told) {
         return Status::Faults;
     }
     Status::Clean
-}
-
-/// The shape of the pool that some options ask for, with no more workers than there are queries,
-/// but with one at least.
-fn shape_of(options: &Options<'_>, queries: usize) -> Shape
-    ensures { result ≡ shape_of options.now.senders (workers_for options.now.workers queries) }
-{
-    Shape {
-        senders: usize::from(options.senders),
-        workers: usize::from(options.workers).min(queries).max(1),
-        window: WINDOW,
-        most: MOST,
-    }
 }
 
 /// Answers the addresses and spans that the words of the options name, or where there are none the
@@ -118,11 +94,11 @@ fn shape_of(options: &Options<'_>, queries: usize) -> Shape
 ///
 /// The errors: `Read`, after which nothing was written; `Write`; `Memory`. After each a beginning
 /// of the text was written. The reader is read only where there are no words.
-pub fn symbolize<'a, T: Threads + Wait + Sync, R: Source, W: Sink, G: Gate + Sync>(
+pub fn symbolize<T: Threads + Wait + Sync, R: Source, W: Sink, G: Gate + Sync>(
     on: &Resources<'_, T>,
     reader: &mut R,
     writer: &mut W,
-    image: &Image<'a>,
+    image: &Image<'_>,
     options: &Options<'_>,
     gate: &G,
 ) -> Result<Status, RunFault>
@@ -138,15 +114,11 @@ pub fn symbolize<'a, T: Threads + Wait + Sync, R: Source, W: Sink, G: Gate + Syn
     ensures memory { IsErrOf result RunFault.Memory → writer.new ≡ writer.old }
     ensures words { options.now.words.items ≢ [] → reader.new ≡ reader.old }
 {
-    let alloc = on.alloc;
-    let inputs = inputs_of(alloc, reader, &options.words)?;
-    let sharing = sharing_of(alloc, &inputs)?;
-    let shape = shape_of(options, sharing.asked.len());
-    let answers = answers_of(on, image, shape, &sharing.asked, gate)?;
-    let status = outcome(&inputs, &answers);
-    let pieces = pieces_of(alloc, options, &sharing.asked, answers)?;
-    let mut block = Vec::with_capacity(alloc, BLOCK)?;
-    match write_picked(writer, &mut block, &pieces, &sharing.picks) {
+    let inputs = inputs_of(on.alloc, reader, &options.words)?;
+    let report = report_of(on, image, options, &inputs, gate)?;
+    let status = outcome(&inputs, &report.told);
+    let mut block = Vec::with_capacity(on.alloc, BLOCK)?;
+    match write_picked(writer, &mut block, &report.told, &report.picks) {
         Ok(()) => Ok(status),
         Err(Failed) => Err(RunFault::Write),
     }
