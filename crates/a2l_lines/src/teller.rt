@@ -30,6 +30,8 @@ pub struct Teller<'b, 'a, 'o, O: Style> {
     context: Context<'b, 'a>,
     alloc: Global,
     options: &'o Options<'o>,
+    /// Where lines are made.
+    buffer: Vec<u8>,
     refusals: Refusals,
     style: PhantomData<O>,
     ghost by: { options_shown options.now ≡ O.options },
@@ -43,7 +45,7 @@ impl<O: Style> Teller<'_, '_, '_, O> {
         ensures refusals { self.new.refusals.count ≡ self.old.refusals.count }
     {
         let answer = self.context.solve(query)?;
-        Told::of(self.alloc, self.options, query, &answer)
+        Told::of(self.alloc, &mut self.buffer, self.options, query, &answer)
     }
 }
 
@@ -92,6 +94,7 @@ impl<'b, 'a, 'o, O: Style> Maker<Teller<'b, 'a, 'o, O>> for Tellers<'b, 'a, 'o, 
             context: self.contexts.make(alloc)?,
             alloc,
             options: self.options,
+            buffer: Vec::new(alloc),
             refusals: Refusals::new(),
             style: PhantomData,
         })

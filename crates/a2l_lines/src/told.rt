@@ -9,6 +9,7 @@ use crate::options::Options;
 use crate::text::push_query;
 use dw_symbols::Answer;
 use std::alloc::{AllocError, Global};
+use std::mem;
 use ticket_core::Query;
 
 /// The lines of a query, and whether its answer is a fault.
@@ -18,10 +19,26 @@ pub struct Told {
     pub is_fault: bool,
 }
 
+/// Up to how many bytes a text is copied. A longer one is handed over with its buffer.
+const SHORT: usize = 4096;
+
+/// Takes a text out of the buffer in which it was made. A copy takes no more memory than it has
+/// bytes, and the next text finds the buffer as large as it is.
+fn take(alloc: Global, buffer: &mut Vec<u8>) -> Result<Vec<u8>, AllocError>
+    ensures { IfOk result (λ text. text.items ≡ buffer.old.items) }
+{
+    if buffer.len() <= SHORT {
+        return buffer.to_vec(alloc);
+    }
+    Ok(mem::replace(buffer, Vec::new(alloc)))
+}
+
 impl Told {
-    /// What is told of a query, by its answer.
+    /// What is told of a query, by its answer. The lines are made in a buffer that the next ones
+    /// find.
     pub fn of(
         alloc: Global,
+        buffer: &mut Vec<u8>,
         options: &Options<'_>,
         query: Query,
         answer: &Answer<'_>,
@@ -29,8 +46,9 @@ impl Told {
         ensures { IfOk result (λ told. told_parts told
             ≡ telling (options_shown options.now) query (answer_shown answer.now)) }
     {
-        let mut lines = Vec::new(alloc);
-        push_query(alloc, &mut lines, options, query, answer)?;
+        buffer.clear();
+        push_query(alloc, buffer, options, query, answer)?;
+        let lines = take(alloc, buffer)?;
         let is_fault = match answer {
             Answer::Fault { .. } => true,
             _ => false,
