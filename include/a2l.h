@@ -1,8 +1,8 @@
 /* liba2l: which function, file and line of a program an address comes from, by its DWARF 5 debug information.
  *
  * A file is opened once, by its bytes. A question asks about one address or about many. What it reads of the units of
- * the file stays in the handle for the next questions, of as many units as the handle's capacity. Its answers stay in
- * the handle until the next question that succeeds.
+ * the file stays in the handle for the next questions, within bounds (a2l_open). Its answers stay in the handle until
+ * the next question that succeeds.
  *
  * Errors     Each call returns an a2l_status and changes nothing else where that isn't A2L_DONE, but for the structs
  *            that it says it fills. After A2L_MEMORY the same call may be made again. No call ends the process, prints,
@@ -86,9 +86,10 @@ typedef struct a2l_piece {
 } a2l_piece;
 
 /* Opens a file by its bytes. They stay where they are, unchanged, until the last handle over them is closed. The handle
- * keeps what was read of as many units as the capacity says, those that were asked for last, until it is closed; another
- * unit is read again. 1 is enough where addresses are asked for in their order, 1024 elsewhere. Fills *refusal where it
- * returns A2L_REFUSED. Else A2L_DONE, A2L_MEMORY, A2L_CAPACITY or A2L_OPEN. */
+ * keeps the functions of as many units as the capacity says, those that were asked for last, and line tables that are
+ * together no longer than .debug_line, until it is closed; another unit is read again. 1 is enough where addresses are
+ * asked for in their order, 1024 elsewhere. Fills *refusal where it returns A2L_REFUSED. Else A2L_DONE, A2L_MEMORY,
+ * A2L_CAPACITY or A2L_OPEN. */
 a2l_status a2l_open(const uint8_t *bytes, size_t length, size_t capacity, a2l *handle, a2l_refusal *refusal);
 
 /* Opens another handle over the same file, for another thread, which keeps units of its own. This reads nothing. Neither

@@ -609,9 +609,9 @@ def _capacity(capacity: int) -> int:
 def open(path: Union[str, bytes, os.PathLike[Any]], capacity: int = CAPACITY) -> Program:
     """Opens a program, a library or a file of debug information by its path.
 
-    The program keeps what was read of as many units as the capacity says, those that were asked for last, and reads the
-    others again. The addresses of one call are asked for in order, so that 1 is enough for calls about many, where the
-    units of a program lie one after the other.
+    The program keeps the functions of as many units as the capacity says, those that were asked for last, and line
+    tables that are together no longer than .debug_line, and reads the others again. The addresses of one call are asked
+    for in order, so that 1 is enough for calls about many, where the units of a program lie one after the other.
 
     Raises one of the classes of `Refused`, `OutOfMemory`, `LibraryMissing`, or OSError where the file can't be read.
     """

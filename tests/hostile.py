@@ -317,15 +317,26 @@ def span_over_tables_of_one_program(size):
     return tables_of_one_program(size)
 
 
-def units_that_take_turns(size):
-    """17 units whose ranges take turns, each with a line table of its own over one program; a span is asked."""
-    count = size // (17 * 16)
-    line, offsets = tables_before(17, lambda left: bytes(4), 0, program(size // 2))
+def taking_turns(size, line, offsets):
+    """A unit for each line table at these offsets; the ranges of the units take turns, 16 addresses each."""
+    stride = 16 * len(offsets)
+    count = size // stride
     first = declaration(1, COMPILE_UNIT, 0, [(RANGES, SEC_OFFSET), (LOW_PC, ADDR), (STMT_LIST, SEC_OFFSET)])
-    one = b''.join(b'\x04' + uleb(17 * 16 * i, 3) + uleb(17 * 16 * i + 16, 4) for i in range(count)) + b'\0'
+    one = b''.join(b'\x04' + uleb(stride * i, 3) + uleb(stride * i + 16, 4) for i in range(count)) + b'\0'
     entries = (bytes(4) + number(BEGIN + 16 * i, 8) + number(at, 4) for i, at in enumerate(offsets))
     units = b''.join(unit(b'\x01' + entry) for entry in entries)
     return file_of(units, first + b'\0', line, rnglists=one)
+
+
+def units_that_take_turns(size):
+    """17 units whose ranges take turns, each with a line table of its own over one program; a span is asked."""
+    return taking_turns(size, *tables_before(17, lambda left: bytes(4), 0, program(size // 2)))
+
+
+def units_with_tables_that_take_turns(size):
+    """64 units whose ranges take turns, each with a line table of its own beside the others; a span is asked."""
+    table = line_table(program(size // 128))
+    return taking_turns(size, table * 64, range(0, 64 * len(table), len(table)))
 
 
 def no_rows_between_holes(size):
@@ -352,6 +363,7 @@ KINDS = {
     'span_over_units_of_tails': SQUARE,
     'units_of_one_line_table': LINEAR, 'tables_of_one_list': LINEAR, 'tables_of_one_program_of_sequences': LINEAR,
     'tables_of_one_program': SQUARE, 'span_over_tables_of_one_program': SQUARE, 'units_that_take_turns': SQUARE,
+    'units_with_tables_that_take_turns': LINEAR,
     'no_rows_between_holes': LINEAR, 'span_over_no_rows_between_holes': LINEAR,
     'names_without_end': LINEAR, 'functions_of_empty_values': LINEAR,
     'functions_of_empty_values_after_a_number': LINEAR, 'units_of_empty_values': LINEAR,
@@ -376,7 +388,8 @@ def asked(kind, size):
         'span_over_units_with_bases': (begin + 5, begin + 45), 'span_over_all_units_with_bases': (0, begin),
         'span_over_units_of_tails': (0, 16 * (size // 35)),
         'span_over_tables_of_one_program': (BEGIN, BEGIN + 16 * (size // 128)),
-        'units_that_take_turns': (BEGIN, BEGIN + size), 'span_over_no_rows_between_holes': (BEGIN, BEGIN + size // 2),
+        'units_that_take_turns': (BEGIN, BEGIN + size), 'units_with_tables_that_take_turns': (BEGIN, BEGIN + size),
+        'span_over_no_rows_between_holes': (BEGIN, BEGIN + size // 2),
     }
     # how many bytes a unit of 16 addresses takes of the file, with what it names
     each = {

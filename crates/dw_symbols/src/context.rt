@@ -52,8 +52,8 @@ impl<'b, 'a> Model for Context<'b, 'a> {
 }
 
 impl<'b, 'a> Context<'b, 'a> {
-    /// A context that keeps the functions of so many units, and as many line tables. Nothing of
-    /// them is read yet.
+    /// A context that keeps the functions of so many units, and line tables that together are no
+    /// longer than .debug_line. Nothing of them is read yet.
     pub fn new(
         alloc: Global,
         image: &'b Image<'a>,
@@ -98,7 +98,7 @@ impl<'b, 'a> Context<'b, 'a> {
     {
         let trees = LruCache::sparse(alloc, capacity)?;
         let indexes = ListIndexes::new(alloc, source.image().units().tables());
-        let tables = KeptTables::new(alloc, capacity)?;
+        let tables = KeptTables::new(alloc)?;
         Ok(Context {
             source,
             alloc,

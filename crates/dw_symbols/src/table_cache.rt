@@ -1,6 +1,6 @@
 //! The line tables that were used last: together no longer than .debug_line.
 
-ghost use Rattle.std.specs.Prelude.{◌≡◌, ◌≤◌, ◌+◌, List, ℕ, false, IfOk, length, map};
+ghost use Rattle.std.specs.Prelude.{◌≡◌, ◌≤◌, ◌+◌, List, ℕ, IfOk, length, map};
 ghost use Rattle.dw_line.specs.TableAt.{table_size};
 ghost use Rattle.dw_frames.specs.Told.{described_shown};
 ghost use Rattle.dw_symbols.specs.Answer.{answer_shown, piece_shown};
@@ -17,7 +17,6 @@ use dw_frames::Described;
 use dw_line::table_size;
 use lru::LruCache;
 use std::alloc::{AllocError, Global};
-use std::num::NonZeroUsize;
 
 /// The line tables that are kept. Those of an honest file lie side by side, so all of them may be
 /// kept; of tables that have bytes in common, which would each keep its own copy of what the file
@@ -34,19 +33,12 @@ impl<'a> KeptTables<'a> {
     ghost use Rattle.dw_symbols.specs.Kept.{AreTables};
     ghost use Rattle.dw_symbols.specs.UnitParts.{IsTableAt};
 
-    /// No table is kept yet, and at most so many will be.
-    pub(crate) fn new(alloc: Global, capacity: NonZeroUsize) -> Result<Self, AllocError>
+    /// No table is kept yet.
+    pub(crate) fn new(alloc: Global) -> Result<Self, AllocError>
         ensures { (line : List ℕ) → IfOk result (AreTables line) }
     {
-        let tables = LruCache::sparse(alloc, capacity)?;
+        let tables = LruCache::unbounded(alloc)?;
         Ok(KeptTables { tables, size: 0 })
-    }
-
-    /// No table more may be kept, or those that are kept have more bytes than so many.
-    fn is_full(&self, most: usize) -> bool
-        ensures { result ≡ false → self.now.size ≤ most }
-    {
-        self.size > most || self.tables.len() >= self.tables.cap().get()
     }
 
     /// Lets the tables go that were used longest ago, until the one at an offset may be kept too.
@@ -56,7 +48,7 @@ impl<'a> KeptTables<'a> {
         ensures room { self.new.size + table_size line.now offset ≤ length line.now }
     {
         let most = line.len() - table_size(line, offset);
-        while self.is_full(most) {
+        while self.size > most {
             let Some((oldest, _table)) = self.tables.pop_lru() else {
                 self.size = 0;
                 return;

@@ -149,7 +149,7 @@ impl<'a> Context<'a> {
         Self::with_capacity(file, CAPACITY)
     }
 
-    /// The same, which keeps so many units; 0 counts as 1.
+    /// The same, which keeps the functions of so many units; 0 counts as 1.
     pub fn with_capacity(file: &'a [u8], capacity: usize) -> Result<Self, Error> {
         let mut context = closed();
         let mut why = ffi::Refusal {
