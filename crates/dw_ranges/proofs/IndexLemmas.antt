@@ -17,8 +17,8 @@ module _ (index : Inside) (now : IndexedList) (view : indexed_of index ≡ now) 
   pub unreadable : from ≡ None → ranges_by now first ≡ Err bad
   unreadable e = ap (λ (indexed : IndexedList). ranges_by indexed first) (sym view) ∙ found None e
 
-  pub none-listed : from ≡ None → listed_from now first ≡ []
-  none-listed e = ap (λ (read : Result (List Range) Bad). result_unwrap_or read []) (unreadable e)
+  pub none_listed : from ≡ None → listed_from now first ≡ []
+  none_listed e = ap (λ (read : Result (List Range) Bad). result_unwrap_or read []) (unreadable e)
 
   module _ (base : ℕ) (e : from ≡ Some base) (small : base < 2 ^ 64) where
     pub ranges : List Range
@@ -34,3 +34,6 @@ module _ (index : Inside) (now : IndexedList) (view : indexed_of index ≡ now) 
 
     pub held : (a : ℕ) → covers a (listed_from now first) ≡ (is_some (owner_at index.fixed a) || counts_at (owner_at index.counted) base a)
     held a = ap (λ (read : Result (List Range) Bad). covers a (result_unwrap_or read [])) readable ∙ makes.holds a
+
+-- what is told of the ranges from a base
+pub ruleset told_steps = (unreadable, ranges, readable, makes)

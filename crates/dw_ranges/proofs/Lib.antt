@@ -3,7 +3,6 @@ pub mod NamedLemmas
 pub mod OnlyAddr
 pub mod ReadLemmas
 pub mod OwnedLemmas
-pub mod HeldLemmas
 pub mod PlaceLemmas
 pub mod MarkLemmas
 pub mod NewLemmas

@@ -1,7 +1,7 @@
 -- A later owner whose ranges all have owners already owns no address.
-use Rattle.std.proofs.Common.{◌≡◌, ◌∙◌, ℕ, ◌<◌, ◌≤◌, min, Bool, true, false, cond, List, ◌++◌, Option, Some, None, refl, sym, ap, arith, append_assoc}
+use Rattle.std.proofs.Common.{◌≡◌, ◌∙◌, ℕ, ◌<◌, ◌≤◌, min, List, ◌++◌, Option, Some, None, refl, sym, ap, arith, append_assoc}
 use Rattle.std.proofs.lemmas.List.{map-append}
-use Rattle.dw_model.specs.Ranges.{Range, covers}
+use Rattle.dw_model.specs.Ranges.{Range}
 use Rattle.dw_index.specs.Owners.{least, least_owner}
 use Rattle.dw_index.proofs.LawLemmas.{of_list}
 use Rattle.dw_index.proofs.OwnerLemmas.{least_owner-append, least-none}
@@ -32,15 +32,7 @@ now-owned pairs ranges owner next up = λ a held.
 
 -- a later owner of ranges that all have owners changes no least owner
 pub passed-over : (pairs : List (Range × ℕ)) (ranges : List Range) (owner : ℕ) → AreOwned pairs owner ranges → (a : ℕ) → least_owner (pairs ++ owned ranges owner) a ≡ least_owner pairs a
-passed-over pairs ranges owner h a =
-    least_owner-append pairs (owned ranges owner) a ∙ ap (least (least_owner pairs a)) (of_list ranges owner a) ∙ by_test (λ held. h a held) (covers a ranges) refl
-  where
-    least-first : (k : ℕ) → k < owner → least (Some k) (Some owner) ≡ Some k
-    least-first k below = ap Some (omega (arith, below))
-
-    by_test : (covers a ranges ≡ true → (k : ℕ) × (least_owner pairs a ≡ Some k) × (k < owner)) → (test : Bool) → covers a ranges ≡ test → least (least_owner pairs a) (cond test (Some owner) None) ≡ least_owner pairs a
-    by_test has false e = least-none (least_owner pairs a)
-    by_test has true e = let old = has e in rw (old.1) (least-first old.0 old.2)
+passed-over pairs ranges owner h a = grind (arith, least_owner-append, of_list, least-none)
 
 -- ranges that earlier owners own may be left out behind others
 pub behind-owned : (pairs : List (Range × ℕ)) (front rest : List Range) (owner a : ℕ) → AreOwned pairs owner rest → least_owner (pairs ++ owned front owner) a ≡ least_owner (pairs ++ owned (front ++ rest) owner) a

@@ -1,5 +1,5 @@
 -- A list that goes on at a place is the one that begins there.
-use Rattle.std.proofs.Common.{◌≡◌, ◌∙◌, inl, inr, ℕ, cond, ◌+◌, ◌≤◌, Bool, List, [], ◌∷◌, ◌++◌, length, length-append, length-drop, drop, Option, Some, None, Result, Ok, Err, refl, sym, ap, subst, arith}
+use Rattle.std.proofs.Common.{rules, ◌≡◌, ℕ, cond, ◌≤◌, Bool, List, [], ◌∷◌, length, length-append, length-drop, drop, Option, Some, None, Result, Ok, refl, subst, arith}
 use Rattle.std.specs.Prelude.{ok_or, nat_eq, ◌==◌}
 use Rattle.std.specs.Map.{lookup}
 use Rattle.std.specs.List.{AllByRecursion}
@@ -12,24 +12,20 @@ use Rattle.dw_model.specs.Reading.{Place, Between, number_at}
 use Rattle.dw_model.specs.Leb.{uleb_at}
 use Rattle.dw_model.specs.Faults.{Bad, bad}
 use Rattle.dw_model.specs.Text.{Tables, Bases}
-use Rattle.dw_model.specs.Ranges.{RangeEntry, base_addressx, startx_endx, startx_length, offset_pair, base_address, start_end, start_length, Operand, leb, eight_bytes, one, two, operands, next_range_entry}
-use Rattle.dw_model.proofs.StepLemmas.{bind_ok, ok_or-ok, ok_is}
+use Rattle.dw_model.specs.Ranges.{RangeEntry, Operand, leb, eight_bytes, one, two, operands, next_range_entry}
+use Rattle.dw_model.proofs.StepLemmas.{bind_ok, ok_or-ok}
 use Rattle.dw_model.proofs.AdvanceLemmas.{ends_at, either, past_none}
 use Rattle.dw_model.proofs.InstructionLemmas.{or_fault-ok}
 use Rattle.dw_model.proofs.LebReading.{uleb-spans}
 use Rattle.dw_model.proofs.NumberLemmas.{number_at-spans}
 use Rattle.dw_ranges.specs.Step.{Outcome, place_at, step}
-use Rattle.dw_ranges.specs.NextOutcome.{done_by, next_outcome}
-use Rattle.dw_ranges.proofs.ListLemmas.{some_at}
+use Rattle.dw_ranges.specs.NextOutcome.{next_outcome}
+use Rattle.dw_ranges.proofs.ListLemmas.{behind-entry}
 
 -- what holds of each value of a table holds of the one that is found
 found_in : {X : Type 0} (P : X → Type 0) (test : ℕ → Bool) (table : List (ℕ × X)) (x : X) → AllByRecursion (λ row. P row.1) table → lookup test table ≡ Some x → P x
-found_in P test [] x all e = absurd cc
-found_in P test (row ∷ table) x all e =
-    elim (either (test row.0) (Some row.1) (lookup test table) (Some x) e) [
-      | inl here ↦ subst P (same_Some row.1 x here) all.0
-      | inr there ↦ found_in P test table x all.1 there
-    ]
+found_in P test [] x all e = grind arith
+found_in {X} P test (row ∷ table) x all e = grind (arith, either, same_Some, (found_in {X = X} P test table))
 
 -- the place is that of its offset in a section
 pub record IsIn (section : List ℕ) (p : Place) : Type 0 where
@@ -37,69 +33,32 @@ pub record IsIn (section : List ℕ) (p : Place) : Type 0 where
   pub left : p.left ≡ drop p.at section
 
 pub in-place : (section : List ℕ) (p : Place) → IsIn section p → place_at section p.at ≡ Ok p
-in-place section p is =
-    rw (le-leb p.at (length section) is.within, ← is.left) refl
+in-place section p is = grind (arith, le-leb)
 
 module _ (section : List ℕ) where
   in-on : (p q : Place) (piece : List ℕ) → Between p piece q → IsIn section p → IsIn section q
-  in-on p q piece b is =
-      let split : drop p.at section ≡ piece ++ q.left = sym is.left ∙ b.0 in
-      let size : length (drop p.at section) ≡ length piece + length q.left = ap (λ (left : List ℕ). length left) split ∙ length-append piece q.left in
-      let all = length-drop p.at section in
-      let at = b.1 in
-      let within = is.within in
-      record {
-        within = omega (arith, size, all, at, within);
-        left = sym (drop_at piece q.left (length piece) refl) ∙ ap (drop (length piece)) (sym split) ∙ drop-drop (length piece) p.at section ∙ ap (λ (n : ℕ). drop n section) (sym at);
-      }
+  in-on p q piece b is = grind (arith, (drop-drop (length piece) p.at section), (drop_at piece q.left (length piece) refl), (length-drop p.at section), (length-append piece q.left))
 
   abbrev Stays : {X : Type 0} → (Place → Result (X × Place) Bad) → Type 0
   Stays {X} read = (p : Place) (x : X × Place) → read p ≡ Ok x → IsIn section p → IsIn section x.1
 
   leb-in : Stays leb
-  leb-in p x e is =
-      let s = uleb-spans p x.1 x.0 (or_fault-ok bad (uleb_at p) x e) in
-      in-on p x.1 s.0 s.1 is
+  leb-in p x e is = in-on p x.1 _ (uleb-spans p x.1 x.0 (or_fault-ok bad (uleb_at p) x e)).1 is
 
   number-in : (n : ℕ) (p : Place) (x : ℕ × Place) → ok_or (number_at n p) bad ≡ Ok x → IsIn section p → IsIn section x.1
-  number-in n p x e is =
-      let s = number_at-spans n p x (ok_or-ok (number_at n p) bad x e) in
-      in-on p x.1 s.0 s.1 is
+  number-in n p x e is = in-on p x.1 _ (number_at-spans n p x (ok_or-ok (number_at n p) bad x e)).1 is
 
   eight-in : Stays eight_bytes
   eight-in p x e is = number-in 8 p x e is
 
   one-in : (first : Operand) (make : ℕ → RangeEntry) → Stays first → Stays (one first make)
-  one-in first make step p x e is =
-      let a = bind_ok (first p) (λ a. Ok (make a.0, a.1)) x e in
-      subst (IsIn section) (ends_at (make a.0.0) x.0 a.0.1 x.1 a.2) (step p a.0 a.1 is)
+  one-in first make step p x e is = grind (arith, bind_ok, ends_at)
 
   two-in : (first second : Operand) (make : ℕ → ℕ → RangeEntry) → Stays first → Stays second → Stays (two first second make)
-  two-in first second make step other p x e is =
-      let a = bind_ok (first p) (λ a. second a.1 >>= λ b. Ok (make a.0 b.0, b.1)) x e in
-      let b = bind_ok (second a.0.1) (λ b. Ok (make a.0.0 b.0, b.1)) x a.2 in
-      subst (IsIn section) (ends_at (make a.0.0 b.0.0) x.0 b.0.1 x.1 b.2) (other a.0.1 b.0 b.1 (step p a.0 a.1 is))
+  two-in first second make step other p x e is = grind (arith, bind_ok, ends_at, (λ (a : ℕ × Place). step p a), (λ (q : Place) (b : ℕ × Place). other q b))
 
   operands-in : AllByRecursion (λ row. Stays row.1) operands
-  operands-in = (
-    one-in leb base_addressx leb-in,
-    (
-      two-in leb leb startx_endx leb-in leb-in,
-      (
-        two-in leb leb startx_length leb-in leb-in,
-        (
-          two-in leb leb offset_pair leb-in leb-in,
-          (
-            one-in eight_bytes base_address eight-in,
-            (
-              two-in eight_bytes eight_bytes start_end eight-in eight-in,
-              (two-in eight_bytes leb start_length eight-in leb-in, tt),
-            ),
-          ),
-        ),
-      ),
-    ),
-  )
+  operands-in = search (rules, one-in, two-in, leb-in, eight-in)
 
   entry-in : (p t : Place) (item : RangeEntry) → next_range_entry p ≡ Ok (Some item, t) → IsIn section p → IsIn section t
   unfolding next_range_entry
@@ -117,16 +76,4 @@ module _ (section : List ℕ) where
 
   -- a list goes on in its section
   pub outcome-in : (tables : Tables) (bases : Bases) (base : Result ℕ Bad) (p q : Place) (o : Outcome) → next_outcome tables bases base p ≡ Ok (Some o, q) → IsIn section p → IsIn section q
-  outcome-in tables bases base p q o e is = by_read (next_range_entry p) refl e
-    where
-      by_step : (entry : RangeEntry) (r : Place) (done : Result Outcome Bad) → next_range_entry p ≡ Ok (Some entry, r) → (done >>= some_at r) ≡ Ok (Some o, q) → IsIn section q
-      by_step entry r (Ok x) read same =
-          subst (IsIn section) (ap (λ (found : Option Outcome × Place). found.1) (ok_is (Some x, r) (Some o, q) same)) (entry-in p r entry read is)
-      by_step entry r (Err f) read same = absurd cc
-
-      by_read : (read : Result (Option RangeEntry × Place) Bad) → next_range_entry p ≡ read → (read >>= done_by tables bases base) ≡ Ok (Some o, q) → IsIn section q
-      by_read (Err f) read same = absurd cc
-      by_read (Ok (None, r)) read same =
-          let none : None ≡ Some o = ap (λ (found : Option Outcome × Place). found.0) (ok_is (None, r) (Some o, q) same) in
-          absurd cc
-      by_read (Ok (Some entry, r)) read same = by_step entry r (step tables bases base entry) read same
+  outcome-in tables bases base p q o e is = behind-entry tables bases base q o (IsIn section) (next_range_entry p) e (λ entry r read. entry-in p r entry read is)

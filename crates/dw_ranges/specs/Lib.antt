@@ -6,7 +6,6 @@ pub mod OutcomeShown
 pub mod Named
 pub mod Lists
 pub mod Held
-pub mod HeldInside
 pub mod ListIndex
 pub mod Parts
 pub mod PartsInside

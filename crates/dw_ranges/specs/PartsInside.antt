@@ -98,10 +98,6 @@ AreParts tables list (Err fault) =
     MatchOption (range_fault fault) (Unit {0})
     (λ told. (first : Option ℕ) → ranges_of_list tables (with_base list first) ≡ Err told)
 
--- a list can't be read, whichever base it counts from
-abbrev pub CannotRead : Tables → RangeList → Type 0
-CannotRead tables list = (first : Option ℕ) → ranges_of_list tables (with_base list first) ≡ Err bad
-
 -- ---- in an index
 
 abbrev pub indexed_of : Inside → IndexedList
@@ -112,6 +108,11 @@ abbrev pub base_for : Readable → Option ℕ → Option ℕ
 base_for Always base = base_by false base
 base_for WithBase base = base_by true base
 base_for Never base = None
+
+-- The ranges of a list are those that were read, from each base from which it can be read.
+abbrev pub IsReadBy : Tables → RangeList → Readable → Parts → Type 0
+IsReadBy tables list readable parts =
+    (first : Option ℕ) → AreRead (base_for readable first) parts (ranges_of_list tables (with_base list first))
 
 -- The ranges of the list with a base are found, as they are from another; or it can't be read.
 abbrev pub IsFound : Inside → Option ℕ → (from : Option ℕ) → Type 0

@@ -1,11 +1,12 @@
 //! Whether a range list has an address: it is read anew, without memory.
 
 ghost use Rattle.std.specs.Prelude.{◌≡◌, ◌||◌, option_map, option_to_list};
+ghost use Rattle.dw_model.specs.Answers.{Gives};
 ghost use Rattle.dw_model.specs.Ranges as model;
 ghost use Rattle.dw_forms.specs.Tables.{tables_shown, bases_shown};
 ghost use Rattle.dw_index.specs.Range.{range_shown};
-ghost use Rattle.dw_ranges.specs.Held.{listed};
-ghost use Rattle.dw_ranges.specs.HeldInside.{TellsHeld};
+ghost use Rattle.dw_ranges.specs.Fault.{range_fault};
+ghost use Rattle.dw_ranges.specs.Held.{held_at, listed};
 ghost use Rattle.dw_ranges.specs.Lists.{ranges_of_list};
 ghost use Rattle.dw_ranges.specs.OutcomeShown.{base_shown};
 ghost use Rattle.dw_ranges.specs.Step.{ranges_from};
@@ -30,6 +31,7 @@ fn with_range(holds: bool, range: Option<Range>, a: u64) -> bool
 
 /// Whether those ranges that count of the list at the cursor hold an address, where the base before
 /// any entry is this one.
+#[tactic(auto, using(crate::proofs::ListLemmas::held_steps))]
 fn holds_from(
     tables: &Tables<'_>,
     bases: &Bases,
@@ -37,8 +39,8 @@ fn holds_from(
     cursor: &mut Cursor<'_>,
     a: u64,
 ) -> Result<bool, RangeFault>
-    ensures { TellsHeld a result
-        (ranges_from (tables_shown tables.now) (bases_shown bases.now) (base_shown first) cursor.old) }
+    ensures { Gives (λ x. x) range_fault result
+        (held_at a (ranges_from (tables_shown tables.now) (bases_shown bases.now) (base_shown first) cursor.old)) }
 {
     let mut holds = false;
     let mut base = first;
@@ -53,7 +55,7 @@ fn holds_from(
 
 /// Whether the ranges of a list hold an address, where they can be read.
 fn read_at(list: RangeList, tables: &Tables<'_>, a: u64) -> Result<bool, RangeFault>
-    ensures { TellsHeld a result (ranges_of_list (tables_shown tables.now) list) }
+    ensures { Gives (λ x. x) range_fault result (held_at a (ranges_of_list (tables_shown tables.now) list)) }
 {
     let bases = only_addr(list.addr);
     let mut place = place_at(tables.rnglists, list.begin)?;

@@ -68,6 +68,7 @@ impl<'a> Claims<'a> {
     }
 
     /// Keeps ranges of an owner.
+    #[tactic(auto, using(crate::proofs::ClaimLemmas::adds_first, crate::proofs::ClaimLemmas::adds_other))]
     #[inline(always)]
     fn keep(&mut self, group: usize, ranges: &[Range], owner: usize) -> Result<(), AllocError>
         ensures held { self.new.held ≡ self.old.held }
@@ -84,6 +85,7 @@ impl<'a> Claims<'a> {
     }
 
     /// Holds a list of an owner, which claims its ranges in a group.
+    #[tactic(auto, using(crate::proofs::ClaimLemmas::held_push, std::proofs::lemmas::List::append_assoc))]
     pub fn hold(&mut self, group: usize, list: Listed<'a>, owner: usize) -> Result<(), AllocError>
         ensures kept { self.new.kept ≡ self.old.kept }
         ensures room { self.new.room ≡ self.old.room }
@@ -97,6 +99,7 @@ impl<'a> Claims<'a> {
     /// An owner claims ranges in a group: those of a list, the first of them, or one range at most.
     /// The list is held where there are more than may still be kept. One range takes no more than a
     /// list that is held, so it is always kept.
+    #[tactic(auto, using(crate::proofs::ClaimLemmas::adds_all))]
     #[inline(always)]
     pub fn add(
         &mut self,

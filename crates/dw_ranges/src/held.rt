@@ -54,6 +54,7 @@ fn is_before(found: Option<usize>, owner: usize) -> bool
 
 /// The lesser of an owner that was found, where there is one, and that of a list, where the list
 /// holds an address. The list is read only where its owner comes first.
+#[tactic(auto, using(dw_index::proofs::LawLemmas::of_list, std::proofs::lemmas::Bool::Decides::nat_tests))]
 fn least_of(held: &HeldList<'_>, tables: &Tables<'_>, a: u64, found: Option<usize>) -> Option<usize>
     ensures { result ≡ least found
         (least_owner (owned (held_ranges (tables_shown tables.now) held.now.list) held.now.owner) a) }
@@ -69,6 +70,7 @@ fn least_of(held: &HeldList<'_>, tables: &Tables<'_>, a: u64, found: Option<usiz
 
 /// The lesser of an owner that was found and the least owner in a group whose list holds an
 /// address.
+#[tactic(auto, using(crate::proofs::ClaimLemmas::found_ends), unfolding(crate::specs::Claims::held_claims, dw_index::specs::Owners::least_owner))]
 pub(crate) fn least_held(
     held: &[HeldList<'_>],
     tables: &Tables<'_>,

@@ -72,6 +72,7 @@ fn least_of(link: &Link, a: u64, found: Option<usize>) -> Option<usize>
 
 impl Links {
     /// There is no range.
+    #[tactic(auto, unfolding(crate::specs::LinksInside::last_of))]
     pub(crate) fn new(alloc: Global) -> Self
         ensures { result ≡ [] }
     {

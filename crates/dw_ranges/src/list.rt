@@ -60,9 +60,7 @@ pub(crate) fn list_place<'a>(
             let offset = offset_at(tables.rnglists, base, index, bases.width).ok_or(
                 RangeFault::Bad,
             )?;
-            let Some(begin) = base.checked_add(offset) else {
-                return Err(RangeFault::Bad);
-            };
+            let begin = base.checked_add(offset).ok_or(RangeFault::Bad)?;
             place_at(tables.rnglists, begin)
         }
         _ => Err(RangeFault::Bad),
@@ -81,6 +79,7 @@ pub(crate) fn push_some(ranges: &mut Vec<Range>, range: Option<Range>) -> Result
 
 /// Reads those ranges that count of the list at the cursor into `ranges`, reusing its memory, where
 /// the base before any entry is this one.
+#[tactic(auto, using(crate::proofs::ListLemmas::entry_steps))]
 pub(crate) fn ranges_at(
     ranges: &mut Vec<Range>,
     tables: &Tables<'_>,
@@ -104,6 +103,7 @@ pub(crate) fn ranges_at(
 
 /// Reads the ranges of the list that a value names, those that count, into `ranges`, reusing its
 /// memory.
+#[tactic(auto, using(crate::proofs::ListLemmas::list_by_place))]
 pub(crate) fn list_ranges<'a>(
     ranges: &mut Vec<Range>,
     tables: &Tables<'a>,

@@ -1,13 +1,13 @@
 //! An index of a range list that many name: it is read once, whichever base they count from.
 
-ghost use Rattle.std.specs.Prelude.{◌≡◌, ◌<◌, ◌≤◌, ◌^◌, ℕ, true, Option, Some, Ok, IfOk, IfSome};
+ghost use Rattle.std.specs.Prelude.{◌≡◌, ◌<◌, ◌≤◌, ◌^◌, ℕ, true, Option, IfOk, IfSome};
 ghost use Rattle.dw_model.specs.Ranges.{covers};
 ghost use Rattle.dw_model.specs.Steady.{last_address};
 ghost use Rattle.dw_forms.specs.Tables.{tables_shown};
 ghost use Rattle.dw_index.specs.Segments.{owner_at};
 ghost use Rattle.dw_ranges.specs.ListIndex.{IsOfList, TellsSome, listed_from, ranges_by};
 ghost use Rattle.dw_ranges.specs.Parts.{base_by, counts_at};
-ghost use Rattle.dw_ranges.specs.PartsInside.{AreParts, CannotRead, base_for};
+ghost use Rattle.dw_ranges.specs.PartsInside.{IsReadBy, base_for};
 
 mod parts;
 
@@ -129,37 +129,21 @@ impl<'a> ListIndex<'a> {
         alloc: Global,
         list: RangeList,
         tables: &Tables<'a>,
+        readable: Readable,
         parts: Parts,
     ) -> Result<Self, AllocError>
-        requires { AreParts (tables_shown tables.now) list (Ok (Some parts)) }
+        requires { IsReadBy (tables_shown tables.now) list readable parts }
         ensures { IfOk result (IsOfList (tables_shown tables.now) list) }
     {
         Ok(ListIndex {
             tables: *tables,
             begin: list.begin,
             addr: list.addr,
-            readable: readable_of(parts.is_counted),
+            readable,
             last_base: parts.last_base,
             fixed: Index::build(alloc, &parts.fixed)?,
             counted: Index::build(alloc, &parts.counted)?,
             size: parts.size,
-        })
-    }
-
-    /// The index of a list that can't be read.
-    fn unreadable(alloc: Global, list: RangeList, tables: &Tables<'a>) -> Result<Self, AllocError>
-        requires { CannotRead (tables_shown tables.now) list }
-        ensures { IfOk result (IsOfList (tables_shown tables.now) list) }
-    {
-        Ok(ListIndex {
-            tables: *tables,
-            begin: list.begin,
-            addr: list.addr,
-            readable: Readable::Never,
-            last_base: None,
-            fixed: Index::build(alloc, &[])?,
-            counted: Index::build(alloc, &[])?,
-            size: 0,
         })
     }
 
@@ -173,9 +157,15 @@ impl<'a> ListIndex<'a> {
         ensures { IfOk result (λ found. IfSome found (IsOfList (tables_shown tables.now) list)) }
     {
         match Parts::read(alloc, list, tables, most) {
-            Ok(Some(parts)) => Ok(Some(ListIndex::of(alloc, list, tables, parts)?)),
+            Ok(Some(parts)) => {
+                let readable = readable_of(parts.is_counted);
+                Ok(Some(ListIndex::of(alloc, list, tables, readable, parts)?))
+            }
             Ok(None) => Ok(None),
-            Err(RangeFault::Bad) => Ok(Some(ListIndex::unreadable(alloc, list, tables)?)),
+            Err(RangeFault::Bad) => {
+                let none = Parts::new(alloc);
+                Ok(Some(ListIndex::of(alloc, list, tables, Readable::Never, none)?))
+            }
             Err(RangeFault::Memory) => Err(AllocError),
         }
     }
@@ -189,6 +179,7 @@ impl<'a> ListIndex<'a> {
 
     /// Whether the list has ranges that count from a base. The error is `Bad` by the conditions of
     /// `read_list`.
+    #[tactic(auto, using(crate::proofs::IndexLemmas::told_steps))]
     pub fn has_ranges(&self, base: Option<u64>) -> Result<bool, RangeFault>
         ensures { TellsSome result (ranges_by self.now base) }
     {
@@ -202,6 +193,7 @@ impl<'a> ListIndex<'a> {
     }
 
     /// Whether the list has a range from a base that holds an address; none where it can't be read.
+    #[tactic(auto, using(crate::proofs::IndexLemmas::none_listed, crate::proofs::IndexLemmas::held))]
     pub(crate) fn holds(&self, base: Option<u64>, a: u64) -> bool
         ensures { result ≡ covers a (listed_from self.now base) }
     {
@@ -212,6 +204,7 @@ impl<'a> ListIndex<'a> {
     }
 
     /// An address above one, up to which `holds` says the same.
+    #[tactic(auto, using(crate::proofs::IndexLemmas::none_listed, crate::proofs::IndexLemmas::held))]
     pub(crate) fn steady(&self, base: Option<u64>, a: u64) -> u64
         requires { a < last_address }
         ensures above { a < result }

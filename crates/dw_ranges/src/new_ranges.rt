@@ -19,6 +19,7 @@ use std::alloc::AllocError;
 
 /// Adds the place where a tail begins of a list that has this base: where the base before the tail
 /// is the same, and its first entry makes a range.
+#[tactic(auto, using(crate::proofs::ReadLemmas::has_parts))]
 fn push_begin(
     begins: &mut Vec<u64>,
     tail: RangeList,
@@ -39,6 +40,7 @@ fn push_begin(
 
 /// Reads the ranges of a list, which begins at the cursor, up to where it goes on as one that was
 /// read, and the places where lists begin that have ranges and end as this one.
+#[tactic(auto, using(crate::proofs::ListLemmas::entry_steps))]
 fn new_from(
     ranges: &mut Vec<Range>,
     begins: &mut Vec<u64>,

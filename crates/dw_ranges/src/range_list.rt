@@ -12,7 +12,6 @@ ghost use Rattle.dw_units.specs.NamedRanges.{IsNamed};
 ghost use Rattle.dw_ranges.specs.Fault.{range_fault};
 ghost use Rattle.dw_index.specs.Range.{range_shown};
 ghost use Rattle.dw_ranges.specs.Lists.{IsListOf, IsOneAtMost, only_addr, ranges_of_list};
-ghost use Rattle.dw_ranges.specs.OutcomeShown.{base_shown};
 ghost use Rattle.dw_ranges.specs.Step.{all_kept};
 
 use crate::fault::RangeFault;
@@ -37,6 +36,7 @@ pub struct RangeList {
 
 /// The list that a value names in a unit with these bases and this first entry; `None` where that
 /// isn't within .debug_rnglists.
+#[tactic(auto, using(crate::proofs::OnlyAddr::from_only, crate::proofs::ListLemmas::list_by_place))]
 fn list_by<'a>(
     value: &Value<'a>,
     bases: &Bases,

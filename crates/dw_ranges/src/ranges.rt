@@ -120,6 +120,7 @@ pub fn ranges_of<'a>(
 
 /// Reads the ranges of the entries of a unit that name them so into `ranges`, reusing its memory.
 /// After an error any ranges may be in it.
+#[tactic(auto, using(crate::proofs::NamedLemmas::by_named))]
 pub fn read_ranges<'a>(
     ranges: &mut Vec<Range>,
     named: &NamedRanges<'a>,

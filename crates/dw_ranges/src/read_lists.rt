@@ -78,6 +78,7 @@ pub(crate) fn is_same_base(one: Option<u64>, other: Option<u64>) -> bool
 
 impl ReadLists {
     /// None was read yet.
+    #[tactic(auto, unfolding(crate::specs::ReadListsInside::marked_from))]
     pub fn new(alloc: Global) -> Self
         ensures { result ≡ [] }
     {
@@ -91,6 +92,7 @@ impl ReadLists {
     }
 
     /// Whether the list begins at a place that is marked.
+    #[tactic(auto, using(crate::proofs::MarkLemmas::tail_steps))]
     #[inline(always)]
     pub(crate) fn has_tail(&self, list: RangeList) -> bool
         ensures { result ≡ true → Has self.now (list, 0) }
@@ -105,6 +107,7 @@ impl ReadLists {
     }
 
     /// Whether the list was read for the owner.
+    #[tactic(auto, using(crate::proofs::ReadLemmas::has_looked, crate::proofs::ReadLemmas::has_front))]
     pub fn has(&self, list: RangeList, owner: usize) -> bool
         ensures noted { result ≡ true → Has self.now (list, owner) }
     {
@@ -118,6 +121,7 @@ impl ReadLists {
     }
 
     /// Notes that the list was read for the owner.
+    #[tactic(auto, using(crate::proofs::ReadLemmas::note_steps))]
     pub fn note(&mut self, list: RangeList, owner: usize) -> Result<(), AllocError>
         ensures { OnOk result ((read : _) → Has self.new read → Has ((list, owner) ∷ self.old) read) }
     {
@@ -126,6 +130,7 @@ impl ReadLists {
     }
 
     /// Makes room for marks, where there is none.
+    #[tactic(auto, using(crate::proofs::MarkLemmas::fresh))]
     fn begin_tails(&mut self, list: RangeList, size: usize) -> Result<(), AllocError>
         ensures { OnOk result ((read : _) → Has self.new read → Has self.old read) }
     {

@@ -101,6 +101,7 @@ impl Window {
     }
 
     /// The window that begins at an address, after one that had so many addresses.
+    #[tactic(auto, unfolding(crate::specs::Claims::held_claims))]
     fn read(
         alloc: Global,
         held: &[HeldList<'_>],

@@ -60,7 +60,7 @@ fn own_offsets(base: Option<u64>, entry: RangeEntry) -> Option<(u64, u64)>
 
 impl Parts {
     /// No entry was read yet.
-    fn new(alloc: Global) -> Self
+    pub(super) fn new(alloc: Global) -> Self
         ensures { IsFresh result }
     {
         Parts {

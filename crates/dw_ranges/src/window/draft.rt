@@ -29,6 +29,7 @@ pub(crate) struct Draft {
 
 /// Adds the piece of an index that begins at an address, where it has an owner, and returns where
 /// it ends: before the end of the window, or there.
+#[tactic(auto, using(crate::proofs::WindowLemmas::piece_added))]
 fn push_piece(
     index: &Index,
     at: u64,
@@ -55,6 +56,7 @@ fn push_piece(
 
 /// Adds the first pieces of an index, from an address on, and returns where they end: before the
 /// end of the window, or there. There is one at least, and at most one more than `most`.
+#[tactic(auto, using(crate::proofs::WindowLemmas::no_pieces))]
 fn push_pieces(
     index: &Index,
     from: u64,
@@ -119,6 +121,7 @@ impl Draft {
     }
 
     /// Adds a range, where it has addresses of the window.
+    #[tactic(auto, using(crate::proofs::WindowLemmas::push_steps), unfolding(dw_index::specs::Owners::least_owner))]
     fn push(&mut self, range: Range, owner: usize) -> Result<(), AllocError>
         ensures { OnOk result ((all : List (model.Range × ℕ)) (from : ℕ) → HasOwners all from self.old
             → HasOwners (all ++ (range_shown range, owner) ∷ []) from self.new) }
@@ -147,6 +150,7 @@ impl Draft {
 
     /// Adds the piece of a list with an index that begins at an address, from a base, where the
     /// list holds it, and returns where it ends.
+    #[tactic(auto, using(crate::proofs::WindowLemmas::piece_passed))]
     fn add_piece(
         &mut self,
         index: &ListIndex<'_>,

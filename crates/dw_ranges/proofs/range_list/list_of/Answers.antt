@@ -1,4 +1,4 @@
-use Rattle.std.proofs.Common.{rules}
+use Rattle.std.proofs.Common.{arith, rules}
 use Rattle.std.specs.Prelude.{option_map}
 use Rattle.dw_forms.specs.Tables.{tables_shown, bases_shown}
 use Rattle.dw_units.specs.Entry.{entry_shown}
@@ -6,10 +6,7 @@ use Rattle.dw_ranges.proofs.OnlyAddr.{told-of, few-of}
 use Rattle.dw_ranges.proofs.range_list.list_of.Goals as goal
 
 pub returns-in_default : goal.returns-in_default
-returns-in_default c = record {
-  same_ranges =
-      few-of (tables_shown c.args.tables.now) (bases_shown c.args.unit.now.bases) (option_map entry_shown c.args.unit.now.root) c.args.named.now c.in_default.not-List;
-}
+returns-in_default c = grind (arith, few-of)
 
 pub returns : goal.returns
 returns c = record {

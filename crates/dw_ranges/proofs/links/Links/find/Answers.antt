@@ -1,5 +1,4 @@
-use Rattle.std.proofs.Common.{◌∙◌, ◌∷◌, [], length, refl, ap, subst, arith}
-use Rattle.std.proofs.lemmas.Option.{slice_get_read}
+use Rattle.std.proofs.Common.{◌∙◌, ◌∷◌, [], refl, ap, subst, arith}
 use Rattle.dw_index.specs.Owners.{least, owner_in, least_owner}
 use Rattle.dw_index.specs.Range.{pair_shown}
 use Rattle.dw_ranges.proofs.GroupLemmas.{Back, back-starts, back-ends}
@@ -12,24 +11,21 @@ loop-next-init c = ([], back-starts c.args.group c.args.self.now c.last-next.res
 
 pub index-requires : goal.index-requires
 index-requires c =
-    let within = link-within c.self.inside.links.items c.args.self.now c.self.view_is c.self.invariant.0 c.args.group c.in-Some.place c.loop-next.next c.loop-next.invariant.0 c.loop-next.invariant.1 c.in-Some.is in
-    let size = c.self.inside.links.ok.0 in omega (arith, within, size)
+    omega (arith, link-within c.self.inside.links.items c.args.self.now c.self.view_is c.self.invariant.0 c.args.group c.in-Some.place c.loop-next.next c.loop-next.invariant.0 c.loop-next.invariant.1 c.in-Some.is, c.self.inside.links.ok.0)
 
 pub loop-next-smaller : goal.loop-next-smaller
 loop-next-smaller c =
-    let links = c.self.inside.links.items in
-    let within = link-within links c.args.self.now c.self.view_is c.self.invariant.0 c.args.group c.in-Some.place c.loop-next.next c.loop-next.invariant.0 c.loop-next.invariant.1 c.in-Some.is in
-    link-less links c.args.self.now c.self.view_is c.self.invariant.0 c.args.group c.in-Some.place c.loop-next.next c.loop-next.invariant.0 c.loop-next.invariant.1 c.in-Some.is c.index.result.now (slice_get_read links (length links) c.in-Some.place c.index.result.now refl within c.index.ensures)
+    link-less c.self.inside.links.items c.args.self.now c.self.view_is c.self.invariant.0 c.args.group c.in-Some.place c.loop-next.next c.loop-next.invariant.0 c.loop-next.invariant.1 c.in-Some.is c.index.result.now c.index.ensures
 
 pub loop-next-preserved : goal.loop-next-preserved
 unfolding least_owner
 loop-next-preserved c =
-    let links = c.self.inside.links.items in
     let link = c.index.result.now in
-    let pair = pair_shown (link.range, link.owner) in
-    let within = link-within links c.args.self.now c.self.view_is c.self.invariant.0 c.args.group c.in-Some.place c.loop-next.next c.loop-next.invariant.0 c.loop-next.invariant.1 c.in-Some.is in
-    let on = link-on links c.args.self.now c.self.view_is c.self.invariant.0 c.args.group c.in-Some.place c.loop-next.next c.loop-next.invariant.0 c.loop-next.invariant.1 c.in-Some.is link (slice_get_read links (length links) c.in-Some.place link refl within c.index.ensures) in
-    (pair ∷ c.loop-next.invariant.0, on, c.least_of-found.ensures ∙ ap (least (owner_in c.args.a pair)) c.loop-next.invariant.2)
+    let pair = pair_shown (link.range, link.owner) in (
+      pair ∷ c.loop-next.invariant.0,
+      link-on c.self.inside.links.items c.args.self.now c.self.view_is c.self.invariant.0 c.args.group c.in-Some.place c.loop-next.next c.loop-next.invariant.0 c.loop-next.invariant.1 c.in-Some.is link c.index.ensures,
+      c.least_of-found.ensures ∙ ap (least (owner_in c.args.a pair)) c.loop-next.invariant.2,
+    )
 
 pub returns : goal.returns
 returns c =
