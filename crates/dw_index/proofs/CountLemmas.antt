@@ -1,5 +1,5 @@
 -- Halving: how many probes are left.
-use Rattle.std.proofs.Common.{◌≡◌, ℕ, zero, suc, ◌+◌, ◌/◌, ◌^◌, ◌<◌, ◌≤◌, arith, pow-suc}
+use Rattle.std.proofs.Common.{◌≡◌, ℕ, ◌+◌, ◌-◌, ◌/◌, ◌^◌, ◌<◌, ◌≤◌, arith, pow-suc}
 
 -- As many probes as are left of a bound suffice for so many segments.
 pub record Suffices (size steps bound : ℕ) : Type 0 where
@@ -11,12 +11,11 @@ pub starts : (part size steps digits : ℕ) → part ≤ size → size < 2 ^ dig
 starts part size steps digits less h = grind arith
 
 pub halves : (size half steps more bound : ℕ) → 0 < size → half ≤ size / 2 → more ≡ steps + 1 → Suffices size steps bound → Suffices half more bound
-halves size half steps more bound some less one is = by is.rest is.small is.left
-  where
-    by : (rest : ℕ) → size < 2 ^ rest → steps + rest ≤ bound → Suffices half more bound
-    by zero small left = absurd (omega (arith, small, some))
-    by (suc rest) small left =
-        record { rest = rest; small = omega (arith, small, less, pow-suc 2 rest); left = omega (arith, left, one) }
+halves size half steps more bound some less one is = record {
+  rest = is.rest - 1;
+  small = grind (arith, pow-suc 2 (is.rest - 1));
+  left = grind arith;
+}
 
 pub in_bound : (size steps bound : ℕ) → Suffices size steps bound → steps ≤ bound
 in_bound size steps bound is = omega (arith, is.left)

@@ -1,8 +1,7 @@
 -- The least owner is the least of those whose ranges hold the address.
-use Rattle.std.proofs.Common.{◌≡◌, inl, inr, ◌≤◌, ℕ, suc, ◌+◌, Bool, true, false, cond, min, List, [], ◌∷◌, map, Option, Some, None, refl, sym, subst, ◌∙◌, arith}
+use Rattle.std.proofs.Common.{◌≡◌, ◌⊎◌, inl, inr, ◌≤◌, ℕ, suc, ◌+◌, Bool, true, false, cond, List, [], ◌∷◌, get_or, map, Option, Some, None, refl, sym, ◌∙◌, arith}
 use Rattle.std.specs.List.{All, Any, position, position_from}
-use Rattle.std.proofs.lemmas.Bool.{cases_lt, true≢false}
-use Rattle.std.proofs.lemmas.Option.{same_Some}
+use Rattle.std.proofs.lemmas.Bool.{true≢false}
 use Rattle.std.proofs.lemmas.List.Elements.{All-cons, All-tail}
 use Rattle.std.proofs.lemmas.Iterator.Adapters.{position_from-zero}
 use Rattle.dw_model.specs.Ranges.{Range, holds, covers}
@@ -11,14 +10,6 @@ use Rattle.dw_index.proofs.OwnerLemmas.{least_owner-append}
 
 abbrev Pair : Type 0
 Pair = Range × ℕ
-
--- ---- some element
-
-any_here : (P : Pair → Type 0) (x : Pair) (xs : List Pair) → P x → Any P (x ∷ xs)
-any_here P x xs h = (0, x, omega arith, refl, h)
-
-any_there : (P : Pair → Type 0) (x : Pair) (xs : List Pair) → Any P xs → Any P (x ∷ xs)
-any_there P x xs h = (suc h.0, h.1, omega (arith, h.2), h.3, h.4)
 
 -- ---- no owner
 
@@ -34,8 +25,7 @@ pub from_none : (pairs : List Pair) (a : ℕ) → All (Free a) pairs → least_o
 unfolding least_owner
 from_none [] a all = refl
 from_none (pair ∷ pairs) a all =
-    let here : holds a pair.0 ≡ false = all 0 pair (omega arith) in
-    rw (here, from_none pairs a (All-tail (Free a) pair pairs all)) refl
+    grind (arith, all 0 pair, from_none pairs a (All-tail (Free a) pair pairs all))
 
 -- ---- the least owner
 
@@ -45,39 +35,29 @@ Owns a owner pair = (holds a pair.0 ≡ true) × (pair.1 ≡ owner)
 abbrev NotLess : ℕ → ℕ → Pair → Type 0
 NotLess a owner pair = holds a pair.0 ≡ true → owner ≤ pair.1
 
-weaker : (a low high : ℕ) (pairs : List Pair) → low ≤ high → All (NotLess a high) pairs → All (NotLess a low) pairs
-weaker a low high pairs h all k d b t = omega (arith, all k d b t)
+-- it is that of the first range, or the least of the others
+first_or_later : (test : Bool) (first owner : ℕ) (later : Option ℕ) → least (cond test (Some first) None) later ≡ Some owner → ((test ≡ true) × (first ≡ owner)) ⊎ (later ≡ Some owner)
+first_or_later test first owner later e = grind arith
 
-behind_free : (pair : Pair) (pairs : List Pair) (a owner : ℕ) → holds a pair.0 ≡ false → IsLeastOwner pairs a owner → IsLeastOwner (pair ∷ pairs) a owner
-behind_free pair pairs a owner e later = record {
-  owns = any_there (Owns a owner) pair pairs later.owns;
-  none_less = All-cons (NotLess a owner) pair pairs (λ t. absurd (true≢false (sym t ∙ e))) later.none_less;
-}
+owns : (pairs : List Pair) (a owner : ℕ) → least_owner pairs a ≡ Some owner → Any (Owns a owner) pairs
+unfolding least_owner
+owns [] a owner e = absurd cc
+owns (pair ∷ pairs) a owner e = elim (first_or_later (holds a pair.0) pair.1 owner (least_owner pairs a) e) [
+  | inl here ↦ (0, pair, omega arith, refl, here)
+  | inr later ↦ (let h = owns pairs a owner later in (suc h.0, h.1, omega (arith, h.2), h.3, h.4))
+]
 
-alone : (pair : Pair) (pairs : List Pair) (a owner : ℕ) → holds a pair.0 ≡ true → pair.1 ≡ owner → All (Free a) pairs → IsLeastOwner (pair ∷ pairs) a owner
-alone pair pairs a owner e is all = grind arith
-
-lesser : (pair : Pair) (pairs : List Pair) (a other owner : ℕ) → holds a pair.0 ≡ true → min pair.1 other ≡ owner → IsLeastOwner pairs a other → IsLeastOwner (pair ∷ pairs) a owner
-lesser pair pairs a other owner e is later = record {
-  owns = elim (cases_lt other pair.1) [
-    | inl h ↦ any_there (Owns a owner) pair pairs (let same : other ≡ owner = omega arith in subst (λ n. Any (Owns a n) pairs) same later.owns)
-    | inr h ↦ any_here (Owns a owner) pair pairs (e, omega arith)
-  ];
-  none_less = All-cons (NotLess a owner) pair pairs (λ t. omega arith) (weaker a owner other pairs (omega arith) later.none_less);
-}
-
-by_later : (pair : Pair) (pairs : List Pair) (a owner : ℕ) (test : Bool) (later : Option ℕ) → holds a pair.0 ≡ test → least_owner pairs a ≡ later → ((other : ℕ) → least_owner pairs a ≡ Some other → IsLeastOwner pairs a other) → least (cond test (Some pair.1) None) later ≡ Some owner → IsLeastOwner (pair ∷ pairs) a owner
-by_later pair pairs a owner false later e f rest is =
-    behind_free pair pairs a owner e (rest owner (f ∙ is))
-by_later pair pairs a owner true None e f rest is =
-    alone pair pairs a owner e (same_Some pair.1 owner is) (none_holds pairs a f)
-by_later pair pairs a owner true (Some other) e f rest is =
-    lesser pair pairs a other owner e (same_Some (min pair.1 other) owner is) (rest other f)
+none_less : (pairs : List Pair) (a owner : ℕ) → least_owner pairs a ≡ Some owner → All (NotLess a owner) pairs
+unfolding least_owner
+none_less [] a owner e = absurd cc
+none_less (pair ∷ pairs) a owner e = All-cons (NotLess a owner) pair pairs (grind arith) (λ k d b t.
+    let some : (other : ℕ) → least_owner pairs a ≡ Some other → other ≤ (get_or pairs k d).1 = λ other f. none_less pairs a other f k d b t in
+    let none : least_owner pairs a ≡ None → ⊥ = λ f. true≢false (sym t ∙ none_holds pairs a f k d b) in
+    grind (arith, some, none))
 
 pub is_least : (pairs : List Pair) (a owner : ℕ) → least_owner pairs a ≡ Some owner → IsLeastOwner pairs a owner
-unfolding least_owner
-is_least [] a owner e = absurd cc
-is_least (pair ∷ pairs) a owner e = grind (arith, by_later, is_least pairs a)
+is_least pairs a owner e =
+    record { owns = owns pairs a owner e; none_less = none_less pairs a owner e }
 
 from_found : (pairs : List Pair) (a owner : ℕ) (found : Option ℕ) → least_owner pairs a ≡ found → IsLeastOwner pairs a owner → found ≡ Some owner
 from_found pairs a owner found e is = grind (arith, none_holds, is_least)
@@ -102,7 +82,7 @@ first_of_two test place later h = grind arith
 
 -- the least of an owner and of those after it is the first
 pub least-first : {X : Type 0} (test : X → Bool) (here : Bool) (place : ℕ) (xs : List X) → least (cond here (Some place) None) (position_from test (place + 1) xs) ≡ cond here (Some place) (position_from test (place + 1) xs)
-least-first test here place xs = first_of_two here place (position_from test (place + 1) xs) (λ n e. omega (arith, above test (place + 1) xs n e))
+least-first test here place xs = grind (arith, first_of_two, above)
 
 from_place : (lists : List (List Range)) (place a : ℕ) → least_owner (numbered place lists) a ≡ position_from (covers a) place lists
 unfolding least_owner

@@ -71,7 +71,7 @@ module _ (whole : ℕ → Option ℕ) (left right : Option ℕ) (first second me
       rw (x, y) at (m.behind a h)
 
   behind_at : (a : ℕ) → at ≤ a → least (owner_from (past_owner at left first) (past_rest at first) a) (owner_from (past_owner at right second) (past_rest at second) a) ≡ whole a
-  behind_at a h = rw (past_behind at left first a h, past_behind at right second a h) (m.behind a (omega (arith, low)))
+  behind_at a h = grind (arith, past_behind, low)
 
   left_on : AreSegments (at + 1) (past_owner at left first) (past_rest at first)
   left_on = past_rises m.bound at left first m.left_rises n.0
@@ -97,7 +97,7 @@ module _ (whole : ℕ → Option ℕ) (left right : Option ℕ) (first second me
       (λ a h. owner-push merged segment None a ∙ rw (lt-leb segment.begin a (omega arith)) refl)
       (λ a h. owner-push merged segment None a ∙ rw (le-leb segment.begin a (omega arith)) owned)
       (push 0 None merged segment m.segments (below_more m.bound segment.begin merged (omega (arith, low)) m.below) (omega arith) (λ e. other (sym owned ∙ e ∙ m.settled segment.begin (omega (arith, low)))))
-      (below_push at (at + 1) merged segment (omega arith) (below_more m.bound (at + 1) merged (omega (arith, low)) m.below))
+      (grind (arith, low, below_push, below_more))
       (omega (arith, length-append merged (segment ∷ [])))
 
 pub same_owner : (x y : Option ℕ) → true ≡ option_eq nat_eq x y → x ≡ y

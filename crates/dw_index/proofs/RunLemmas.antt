@@ -1,5 +1,5 @@
 -- Segments of ranges that are in order of address, one range after the other.
-use Rattle.std.proofs.Common.{◌≡◌, ◌≢◌, inl, inr, ◌≤◌, ◌<◌, ℕ, ◌+◌, List, [], ◌∷◌, ◌++◌, Option, Some, None, sym, ◌∙◌, arith, length-append}
+use Rattle.std.proofs.Common.{◌≡◌, ◌≢◌, ◌≤◌, ◌<◌, ℕ, List, [], ◌∷◌, ◌++◌, Option, Some, None, arith, length-append}
 use Rattle.std.proofs.lemmas.Bool.{cases_lt, le-leb, lt-leb}
 use Rattle.dw_model.specs.Ranges as model
 use Rattle.dw_index.specs.declared.segment.Segment.{Segment}
@@ -19,16 +19,8 @@ abbrev gap : ℕ → Segment
 gap end = record { begin = end; owner = None }
 
 pub closes : (pairs : List (model.Range × ℕ)) (found : List Segment) (end owner : ℕ) → IsRun pairs found end (Some owner) → IsClosed pairs (found ++ gap end ∷ []) end
-closes pairs found end owner r = record {
-  owners = λ a. owner-push found (gap end) None a ∙ elim (cases_lt a end) [
-    | inl h ↦ rw (lt-leb end a h) (r.before a h)
-    | inr h ↦ rw (le-leb end a h) (sym (r.behind a h))
-  ];
-  behind = r.behind;
-  segments = push 0 None found (gap end) r.segments r.below (omega arith) (λ e. (let same : None ≡ Some owner = e ∙ r.last end (omega arith) in absurd cc));
-  below = below_push end (end + 1) found (gap end) (omega arith) (below_more end (end + 1) found (omega arith) r.below);
-  size = omega (arith, r.size, length-append found (gap end ∷ []));
-}
+closes pairs found end owner r =
+    grind (arith, owner-push, cases_lt, lt-leb, le-leb, push, below_push, below_more, length-append, r.last end)
 
 -- ---- one more range
 

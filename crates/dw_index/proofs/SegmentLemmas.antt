@@ -6,24 +6,19 @@ use Rattle.dw_index.specs.Segments.{passed, owner_from, AreSegments, begin_at, B
 
 pub begin_at-get : (segments : List Segment) (k : ℕ) (d : Segment) → k < length segments → begin_at segments k ≡ (get_or segments k d).begin
 begin_at-get [] k d h = absurd (omega arith)
-begin_at-get (segment ∷ segments) zero d h = refl
-begin_at-get (segment ∷ segments) (suc k) d h = begin_at-get segments k d (omega arith)
+begin_at-get (segment ∷ segments) k d h = grind (arith, begin_at-get segments)
 
 -- ---- borders rise
 
 pub above : (bound : ℕ) (before : Option ℕ) (segments : List Segment) (k : ℕ) → AreSegments bound before segments → k < length segments → bound ≤ begin_at segments k
 above bound before [] k s h = absurd (omega arith)
-above bound before (segment ∷ segments) zero s h = s.0
-above bound before (segment ∷ segments) (suc k) s h =
-    omega (arith, s.0, above (segment.begin + 1) segment.owner segments k s.2 (omega arith))
+above bound before (segment ∷ segments) k s h =
+    grind (arith, above (segment.begin + 1) segment.owner segments)
 
 pub rises : (bound : ℕ) (before : Option ℕ) (segments : List Segment) (i k : ℕ) → AreSegments bound before segments → i ≤ k → k < length segments → begin_at segments i ≤ begin_at segments k
 rises bound before [] i k s order h = absurd (omega arith)
-rises bound before (segment ∷ segments) zero zero s order h = omega arith
-rises bound before (segment ∷ segments) zero (suc k) s order h = grind (arith, above)
-rises bound before (segment ∷ segments) (suc i) zero s order h = absurd (omega arith)
-rises bound before (segment ∷ segments) (suc i) (suc k) s order h =
-    rises (segment.begin + 1) segment.owner segments i k s.2 (omega arith) (omega arith)
+rises bound before (segment ∷ segments) i k s order h =
+    grind (arith, above, rises (segment.begin + 1) segment.owner segments)
 
 -- ---- the owner after and before a border
 
@@ -37,7 +32,7 @@ before_border segment segments before a h = rw (lt-leb segment.begin a h) refl
 pub below_all : (bound : ℕ) (last : Option ℕ) (segments : List Segment) (before : Option ℕ) (a : ℕ) → AreSegments bound last segments → a < bound → owner_from before segments a ≡ before
 below_all bound last [] before a s h = refl
 below_all bound last (segment ∷ segments) before a s h =
-    before_border segment segments before a (omega (arith, s.0)) ∙ below_all (segment.begin + 1) segment.owner segments before a s.2 (omega (arith, s.0))
+    grind (arith, before_border, below_all (segment.begin + 1) segment.owner segments)
 
 -- ---- the segment that a search finds
 
@@ -49,10 +44,9 @@ none_passed (segment ∷ segments) before a h =
 pub last_passed : (segments : List Segment) (before : Option ℕ) (a n : ℕ) (d : Segment) → n < length segments → ((k : ℕ) → k < n + 1 → begin_at segments k ≤ a) → ((k : ℕ) → n + 1 ≤ k → k < length segments → a < begin_at segments k) → owner_from before segments a ≡ (get_or segments n d).owner
 last_passed [] before a n d h below behind = absurd (omega arith)
 last_passed (segment ∷ segments) before a zero d h below behind =
-    behind_border segment segments before a (below 0 (omega arith)) ∙ none_passed segments segment.owner a (λ k b. behind (suc k) (omega arith) (omega arith))
+    grind (arith, below 0, behind_border, none_passed segments segment.owner a (λ k b. behind (suc k) (omega arith) (omega arith)))
 last_passed (segment ∷ segments) before a (suc n) d h below behind =
-    behind_border segment segments before a (below 0 (omega arith))
-    ∙ last_passed segments segment.owner a n d (omega arith) (λ k b. below (suc k) (omega arith)) (λ k b e. behind (suc k) (omega arith) (omega arith))
+    grind (arith, below 0, behind_border, last_passed segments segment.owner a n d (omega arith) (λ k b. below (suc k) (omega arith)) (λ k b e. behind (suc k) (omega arith) (omega arith)))
 
 -- ---- a segment more
 

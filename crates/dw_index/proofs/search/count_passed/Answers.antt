@@ -5,13 +5,7 @@ use Rattle.dw_index.proofs.SegmentLemmas.{begin_at-get, no_segment, passed_to, b
 use Rattle.dw_index.proofs.search.count_passed.Goals as goal
 
 pub loop-low-init : goal.loop-low-init
-loop-low-init g c = record {
-  order = omega arith;
-  within = omega arith;
-  passed = λ k h. absurd (omega (arith, h));
-  behind = λ k h b. absurd (omega (arith, h, b));
-  counted = λ digits h. starts (length c.args.segments.now - 0) (length c.args.segments.now) c.args.steps.now digits (omega arith) h;
-}
+loop-low-init g c = grind (arith, starts)
 
 pub loop-low-preserved-then-begins_by : goal.loop-low-preserved-then-begins_by
 loop-low-preserved-then-begins_by g c =
@@ -19,13 +13,7 @@ loop-low-preserved-then-begins_by g c =
     let within : middle < length c.args.segments.now = omega arith in
     let begin = begin_at-get c.args.segments.now middle no_segment within in
     let below = leb-true (get_or c.args.segments.now middle no_segment).begin c.args.a (sym c.begins_by.ensures.begins ∙ c.if-begins_by.true) in
-    record {
-      order = omega arith;
-      within = c.loop-low.invariant.within;
-      passed = passed_to c.args.segments.now c.requires c.args.a middle within (omega (arith, begin, below));
-      behind = c.loop-low.invariant.behind;
-      counted = λ digits h. halves (c.loop-low.high - c.loop-low.low) (c.loop-low.high - (middle + 1)) c.loop-low.steps c.begins_by.new.steps (c.args.steps.now + digits) (omega arith) (omega arith) c.begins_by.ensures.counted (c.loop-low.invariant.counted digits h);
-    }
+    grind (arith, begin, below, passed_to c.args.segments.now c.requires c.args.a middle within, halves (c.loop-low.high - c.loop-low.low) (c.loop-low.high - (middle + 1)) c.loop-low.steps c.begins_by.new.steps)
 
 pub loop-low-preserved : goal.loop-low-preserved
 loop-low-preserved g c =
@@ -33,14 +21,7 @@ loop-low-preserved g c =
     let within : middle < length c.args.segments.now = omega arith in
     let begin = begin_at-get c.args.segments.now middle no_segment within in
     let above = leb-false (get_or c.args.segments.now middle no_segment).begin c.args.a (sym c.begins_by.ensures.begins ∙ c.if-begins_by.false) in
-    record {
-      order = omega arith;
-      within = omega arith;
-      passed = c.loop-low.invariant.passed;
-      behind = behind_from c.args.segments.now c.requires c.args.a middle within (omega (arith, begin, above));
-      counted = λ digits h. halves (c.loop-low.high - c.loop-low.low) (middle - c.loop-low.low) c.loop-low.steps c.begins_by.new.steps (c.args.steps.now + digits) (omega arith) (omega arith) c.begins_by.ensures.counted (c.loop-low.invariant.counted digits h);
-    }
+    grind (arith, begin, above, behind_from c.args.segments.now c.requires c.args.a middle within, halves (c.loop-low.high - c.loop-low.low) (middle - c.loop-low.low) c.loop-low.steps c.begins_by.new.steps)
 
 pub returns-clause-counted : goal.returns-clause-counted
-returns-clause-counted g c digits h =
-    in_bound (c.loop-low.high - c.loop-low.low) c.loop-low.steps (c.args.steps.now + digits) (c.loop-low.invariant.counted digits h)
+returns-clause-counted g c digits h = grind (arith, in_bound, c.loop-low.invariant.counted digits h)
