@@ -1,5 +1,5 @@
 -- A tree that was built of what was kept of a unit's functions is the unit's.
-use Rattle.std.proofs.Common.{◌≡◌, ◌⊎◌, inl, inr, ℕ, zero, suc, ◌+◌, ◌<◌, ◌≤◌, Bool, true, false, cond, List, [], ◌∷◌, ◌++◌, length, map, reverse, Option, Some, None, Ok, refl, sym, ap, ◌∙◌, arith}
+use Rattle.std.proofs.Common.{◌≡◌, ◌⊎◌, inl, inr, ℕ, zero, suc, ◌+◌, ◌<◌, ◌≤◌, Bool, true, false, List, [], ◌∷◌, length, map, reverse, Option, Some, None, Ok, refl, sym, ap, ◌∙◌, arith}
 use Rattle.std.specs.Prelude.{slice_get, filter, find, not, ◌==◌, ◌&&◌}
 use Rattle.std.proofs.lemmas.List.{length-append, length-map}
 use Rattle.std.proofs.lemmas.List.Elements.{filter-append}
@@ -31,13 +31,7 @@ Among node (other ∷ before) = (other ≡ node) ⊎ Among node before
 placed-among : (kept : Entry → Bool) (before : List Node) (k : ℕ) (p : Placed) → slice_get (placed kept before) k ≡ Some p → Among p.0 before × (kept p.0.entry ≡ true)
 unfolding placed
 placed-among kept [] k p e = absurd cc
-placed-among kept (node ∷ before) k p e = by_kept (λ e. placed-among kept before k p e) (kept node.entry) refl e
-  where
-    here : Placed
-    here = (node, enclosing (node ∷ []) before)
-
-    by_kept : (slice_get (placed kept before) k ≡ Some p → Among p.0 before × (kept p.0.entry ≡ true)) → (b : Bool) → kept node.entry ≡ b → slice_get (cond b (placed kept before ++ here ∷ []) (placed kept before)) k ≡ Some p → Among p.0 (node ∷ before) × (kept p.0.entry ≡ true)
-    by_kept others b is e = grind (arith, get-pushed, here)
+placed-among kept (node ∷ before) k p e = grind (arith, get-pushed, placed-among kept before k p)
 
 -- the test of a node by its offset
 abbrev at_offset : ℕ → Node → Bool

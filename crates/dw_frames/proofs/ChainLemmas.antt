@@ -29,6 +29,15 @@ IsIdle kept holds = (entry : Entry) → kept entry ≡ false → ((is_subprogram
 pub at_some : (o : Option Node) (offset : ℕ) → is_at o offset ≡ true → (e : Node) × (o ≡ Some e) × (e.entry.offset ≡ offset)
 at_some o offset h = grind (arith, eqb-true)
 
+-- a function that lies in another one is after it
+pub lies-after : (holds : Entry → Bool) (all : List Placed) (k j : ℕ) (p : Placed) → Rises (map offset_of all) → ((k : ℕ) (p : Placed) (e : Node) → slice_get all k ≡ Some p → p.1 ≡ Some e → e.entry.offset < offset_of p) → slice_get all k ≡ Some p → first (lies_in holds (offset_of p)) all ≡ Some j → (q : Placed) × (slice_get all j ≡ Some q) × (k < j)
+lies-after holds all k j p rises around h step =
+    let q = first-is (lies_in holds (offset_of p)) all j step in
+    let test = and_parts (is_inlined q.0.0.entry && holds q.0.0.entry) (is_at q.0.1 (offset_of p)) q.2 in
+    let e = at_some q.0.1 (offset_of p) test.1 in
+    let less : offset_of p < offset_of q.0 = let inside = around j q.0 e.0 q.1 e.1 in let at = e.2 in omega (arith, inside, at) in
+    (q.0, q.1, rises-order (map offset_of all) k j (offset_of p) (offset_of q.0) rises (get-mapped offset_of all k p h) (get-mapped offset_of all j q.0 q.1) less)
+
 module _ (kept holds : Entry → Bool) (idle : IsIdle kept holds) where
   -- which number the first function has that holds the address, and the first in each other one
   pub record Found (before : List Node) (outer : Option ℕ) (inner : ℕ → Option ℕ) : Type 0 where
@@ -61,12 +70,13 @@ module _ (kept holds : Entry → Bool) (idle : IsIdle kept holds) where
     -- a step inwards goes forward
     pub goes-forward : (k j : ℕ) (p : Placed) → slice_get (placed kept before) k ≡ Some p → inner k ≡ Some j → (q : Placed) × (slice_get (placed kept before) j ≡ Some q) × (k < j)
     goes-forward k j p h step =
-        let q = first-is (lies_in holds (offset_of p)) (placed kept before) j (sym (found.inwards k p h) ∙ step) in
-        let test = and_parts (is_inlined q.0.0.entry && holds q.0.0.entry) (is_at q.0.1 (offset_of p)) q.2 in
-        let e = at_some q.0.1 (offset_of p) test.1 in
-        let inside = found.around j q.0 e.0 q.1 e.1 in
-        let at = e.2 in
-        (q.0, q.1, rises-order (map offset_of (placed kept before)) k j (offset_of p) (offset_of q.0) found.rises (get-mapped offset_of (placed kept before) k p h) (get-mapped offset_of (placed kept before) j q.0 q.1) (omega (arith, inside, at)))
+        lies-after holds (placed kept before) k j p found.rises found.around h (sym (found.inwards k p h) ∙ step)
+
+    -- nothing lies in the last one
+    none-after : (k : ℕ) (p : Placed) → slice_get (placed kept before) k ≡ Some p → length (placed kept before) ≤ k + 1 → inner k ≡ None
+    none-after k p h last =
+        let past : (j : ℕ) → inner k ≡ Some j → ⊥ = λ j e. let x = goes-forward k j p h e in let w = slice_get_within (placed kept before) j x.0 x.1 in let f = x.2 in absurd (omega (arith, w, f, last)) in
+        grind (arith, past)
 
     -- the functions from a number on inwards
     unfoldable pub climb : ℕ → Option ℕ → List Node
@@ -108,22 +118,8 @@ module _ (kept holds : Entry → Bool) (idle : IsIdle kept holds) where
 
     -- with as many steps as there are functions after a number, all of them are found
     climbs : (most steps k : ℕ) (p : Placed) → slice_get (placed kept before) k ≡ Some p → length (placed kept before) ≤ k + 1 + most → length (placed kept before) ≤ k + 1 + steps → Climbs most steps p.0 (inner k)
-    climbs zero steps k p h enough more = by_next (inner k) refl
-      where
-        by_next : (next : Option ℕ) → inner k ≡ next → Climbs zero steps p.0 (inner k)
-        by_next None e = ended zero steps k p h e
-        by_next (Some j) e =
-            let x = goes-forward k j p h e in
-            let w = slice_get_within (placed kept before) j x.0 x.1 in
-            let f = x.2 in absurd (omega (arith, w, f, enough))
-    climbs (suc most) zero k p h enough more = by_next (inner k) refl
-      where
-        by_next : (next : Option ℕ) → inner k ≡ next → Climbs (suc most) zero p.0 (inner k)
-        by_next None e = ended (suc most) zero k p h e
-        by_next (Some j) e =
-            let x = goes-forward k j p h e in
-            let w = slice_get_within (placed kept before) j x.0 x.1 in
-            let f = x.2 in absurd (omega (arith, w, f, more))
+    climbs zero steps k p h enough more = ended zero steps k p h (none-after k p h (omega (arith, enough)))
+    climbs (suc most) zero k p h enough more = ended (suc most) zero k p h (none-after k p h (omega (arith, more)))
     climbs (suc most) (suc steps) k p h enough more =
         by_next (λ j q g f. climbs most steps j q g (omega (arith, enough, f)) (omega (arith, more, f))) (inner k) refl
       where

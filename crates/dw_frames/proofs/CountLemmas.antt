@@ -1,5 +1,5 @@
 -- How many functions of a unit have ranges.
-use Rattle.std.proofs.Common.{◌≡◌, ℕ, ◌-◌, ◌≤◌, Bool, cond, List, [], ◌∷◌, length, take, Option, Result, Ok, ap, arith, length-drop, length-take}
+use Rattle.std.proofs.Common.{◌≡◌, ℕ, ◌-◌, ◌≤◌, Bool, cond, List, [], ◌∷◌, length, take, Option, Result, Ok, arith, length-drop, length-take}
 use Rattle.std.specs.Prelude.{filter, filter_map}
 use Rattle.std.proofs.lemmas.List.Sums.{count_by-le-length, length-filter}
 use Rattle.dw_model.specs.Abbrev.{Declaration, abbreviations}
@@ -32,10 +32,7 @@ module _ (ranges : Entry → Result (List Range) Bad) (size : ℕ) (declarations
       let read = bind_ok (items (λ (s : Reading). s.place.left) (next_node ranges size declarations) from) (λ found. Ok (filter_map (λ node. node) found.0)) nodes e in
       let advances = nodes_advance ranges size declarations in
       let are = ((read_by (next_node ranges size declarations) (λ (s : Reading). s.place.left) advances).read from read.0.1 read.0.0).0 read.1 in
-      let all = items-few (λ (s : Reading). s.place.left) (next_node ranges size declarations) advances read.0.0 from read.0.1 are in
-      let some = filter_map-few (λ (node : Option Node). node) read.0.0 in
-      let same = ap (λ (nodes : List Node). length nodes) (ok_is (filter_map (λ (node : Option Node). node) read.0.0) nodes read.2) in
-      omega (arith, all, some, same)
+      grind (arith, items-few (λ (s : Reading). s.place.left) (next_node ranges size declarations) advances read.0.0 from read.0.1 are, filter_map-few (λ (node : Option Node). node) read.0.0, read.2, ok_is)
 
   children-few : (children : Bool) (q : Place) (nodes : List Node) → cond children (nodes_below ranges size declarations q) (Ok []) ≡ Ok nodes → length nodes ≤ length q.left
   children-few children q nodes e = grind (arith, below-few, ok_is)
@@ -51,6 +48,4 @@ unfolding tree
 unit-few s unit test nodes e =
     let read = bind_ok (or_fault entry_fault (abbreviations s.abbrevs unit.debug_abbrev_offset)) (λ declarations. nodes_from (entry_ranges_in s unit) unit.offset_size declarations (place_in s unit unit.first_entry)) nodes e in
     let all = nodes-few (entry_ranges_in s unit) unit.offset_size read.0 (place_in s unit unit.first_entry) nodes read.2 in
-    let rest = length-drop unit.first_entry (take unit.end s.info) in
-    let cut = length-take unit.end s.info in
-    omega (arith, length-filter test nodes, count_by-le-length test nodes, all, rest, cut)
+    omega (arith, length-filter test nodes, count_by-le-length test nodes, all, length-drop unit.first_entry (take unit.end s.info), length-take unit.end s.info)

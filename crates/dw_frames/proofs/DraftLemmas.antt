@@ -1,5 +1,5 @@
 -- The functions of a unit, while its entries are read.
-use Rattle.std.proofs.Common.{◌≡◌, ◌<◌, ◌+◌, inl, inr, ℕ, true, false, List, [], ◌∷◌, ◌++◌, length, Option, Some, None, sym, ap, subst, refl, ◌∙◌, arith}
+use Rattle.std.proofs.Common.{◌≡◌, ◌<◌, ◌+◌, inl, inr, ℕ, true, false, List, [], ◌∷◌, ◌++◌, length, Option, Some, None, sym, ap, refl, ◌∙◌, arith}
 use Rattle.std.specs.Prelude.{IsSome}
 use Rattle.std.specs.Option.{option_to_list}
 use Rattle.std.proofs.lemmas.List.{append-nil}
@@ -7,10 +7,9 @@ use Rattle.dw_model.specs.Entry.{Entry}
 use Rattle.dw_model.specs.Ranges.{Range}
 use Rattle.dw_model.specs.Tree.{is_subprogram}
 use Rattle.dw_ranges.specs.declared.range_list.RangeList.{RangeList}
-use Rattle.dw_ranges.specs.Claims.{Adds, AddsListed, ClaimsState, all_claims, claims_in, owner_in}
+use Rattle.dw_ranges.specs.Claims.{Adds, AddsListed, ClaimsState, all_claims}
 use Rattle.dw_ranges.specs.Held.{listed}
-use Rattle.dw_ranges.specs.Owned.{owned}
-use Rattle.dw_frames.specs.Drafts.{Drafts, begun, group_of, with_function, with_list, without_last}
+use Rattle.dw_frames.specs.Drafts.{Drafts, group_of, with_function, with_list, without_last}
 use Rattle.dw_frames.specs.Known.{Same, WasAdded}
 use Rattle.dw_frames.specs.UnitIn.{UnitIn}
 
@@ -30,21 +29,12 @@ module _ (of : UnitIn) (functions more lists : List ℕ) (before after : ClaimsS
     (is : record { of = of; functions = functions; claims = all_claims of.sections.tables before; lists = lists } ≡ old) (pushed : more ≡ functions ++ entry.offset ∷ []) (size : number ≡ length functions) (at : group ≡ group_of (is_subprogram entry) old)
     (begins : new ≡ with_list entry.children (number + 2) (record { of = of; functions = more; claims = all_claims of.sections.tables after; lists = lists })) where
   added-by : (ranges : List Range) → Adds group ranges number (all_claims of.sections.tables before) (all_claims of.sections.tables after) → Same (with_function entry ranges old) new
-  added-by ranges adds =
-      subst (λ (old : Drafts). group ≡ group_of (is_subprogram entry) old → Same (with_function entry ranges old) new) is
-      (λ at. rw begins (record {
-        of = refl;
-        functions = pushed;
-        lists = ap (λ (n : ℕ). begun entry.children (n + 2) lists) size;
-        owners = λ k a.
-            adds k a ∙ ap (λ (n : ℕ). owner_in (all_claims of.sections.tables before ++ claims_in group (owned ranges n)) k a) size
-            ∙ ap (λ (g : ℕ). owner_in (all_claims of.sections.tables before ++ claims_in g (owned ranges (length functions))) k a) at;
-      })) at
+  added-by ranges adds = grind arith
 
   pub was-added : (ranges : List Range) (list : Option RangeList) → AddsListed of.sections.tables group ranges number list before after → WasAdded entry ranges list old new
   was-added ranges list (inl adds) = inl (added-by ranges adds)
   was-added ranges list (inr adds) = inr (
     adds.0,
     adds.1,
-    subst (λ (ranges : List Range). Same (with_function entry ranges old) new) (ap (λ (old : Drafts). listed old.of.sections.tables adds.0) is) (added-by (listed of.sections.tables adds.0) adds.2),
+    rw (← is) (rw (← is) at (added-by (listed of.sections.tables adds.0) adds.2)),
   )

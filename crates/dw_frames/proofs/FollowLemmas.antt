@@ -1,9 +1,9 @@
 -- What was kept of functions follows the nodes that were read.
-use Rattle.std.proofs.Common.{◌≡◌, ◌⊎◌, inl, inr, ℕ, zero, suc, ◌+◌, ◌-◌, ◌<◌, ◌≤◌, Bool, true, false, cond, List, [], ◌∷◌, ◌++◌, length, map, Option, Some, None, refl, sym, ap, subst, ◌∙◌, arith, length-append}
-use Rattle.std.specs.Prelude.{get_or, slice_get, not, ◌&&◌}
+use Rattle.std.proofs.Common.{◌≡◌, ◌⊎◌, inl, inr, ℕ, suc, ◌+◌, ◌-◌, ◌<◌, ◌≤◌, Bool, true, false, cond, List, [], ◌∷◌, ◌++◌, length, map, Option, Some, None, refl, sym, ap, subst, ◌∙◌, arith, length-append}
+use Rattle.std.specs.Prelude.{get_or, slice_get, not}
 use Rattle.std.proofs.lemmas.List.{map_push, length-map}
 use Rattle.std.proofs.Math.Bool.{and-true}
-use Rattle.std.proofs.lemmas.Bool.{and_parts, and_left, and_right, eq-eqb, ne_eqb, eqb-true, lt-ltb, le-ltb}
+use Rattle.std.proofs.lemmas.Bool.{and_left, and_right, eq-eqb, ne_eqb, eqb-true, lt-ltb, le-ltb}
 use Rattle.std.proofs.lemmas.Option.{get_or_from_slice_get, same_Some, slice_get_within}
 use Rattle.dw_model.specs.declared.dwarf.TheConstants.{DW_TAG_subprogram}
 use Rattle.dw_model.specs.Entry.{Entry}
@@ -20,10 +20,10 @@ use Rattle.dw_frames.specs.Rising.{Rises}
 use Rattle.dw_frames.specs.Drafts.{Drafts, begun, innermost, inside, nowhere, outermost, with_list, with_function, without_last, without_list, known_ranges, is_idle, is_kept, behind_function}
 use Rattle.dw_frames.specs.Placed.{Placed, placed, offset_of, near, first, is_outermost, lies_in, Names, Follows}
 use Rattle.dw_frames.proofs.NearLemmas.{enclosing-one, falls-on, near-below}
-use Rattle.dw_frames.proofs.ChainLemmas.{at_some}
+use Rattle.dw_frames.proofs.ChainLemmas.{lies-after}
 use Rattle.dw_frames.proofs.PlacedLemmas.{or-none}
-use Rattle.dw_frames.proofs.RisingLemmas.{rises-once, rises-order, rises-push}
-use Rattle.dw_frames.proofs.FirstLemmas.{first-push, first-is, first-within, owner-push}
+use Rattle.dw_frames.proofs.RisingLemmas.{rises-once, rises-push}
+use Rattle.dw_frames.proofs.FirstLemmas.{first-push, first-within, owner-push}
 
 next-two : (n : ℕ) → suc (suc n) ≡ inside n
 next-two n = omega arith
@@ -45,8 +45,7 @@ module _ (s : Sections) (unit : DwarfUnit) where
   get-of-front : {X : Type 0} (xs : List X) (i : ℕ) (x : X) → slice_get (without_last xs) i ≡ Some x → slice_get xs i ≡ Some x
   get-of-front [] i x e = e
   get-of-front (y ∷ []) i x e = absurd cc
-  get-of-front (y ∷ z ∷ xs) zero x e = e
-  get-of-front (y ∷ z ∷ xs) (suc i) x e = get-of-front (z ∷ xs) i x e
+  get-of-front (y ∷ z ∷ xs) i x e = grind (arith, get-of-front (z ∷ xs))
 
   pub follows-null : (before : List Node) (drafts : Drafts) (bound next : ℕ) → bound ≤ next → Follows s unit before drafts bound → Follows s unit before (without_list drafts) next
   follows-null before drafts bound next h f = grind (arith, falls-on, get-of-front)
@@ -65,7 +64,7 @@ module _ (s : Sections) (unit : DwarfUnit) where
   innermost-names before drafts bound f = by_lists drafts.lists (λ i group e. f.lists i group e)
     where
       by_lists : (lists : List ℕ) → ((i group : ℕ) → slice_get lists i ≡ Some group → Names (kept before) group (near (i + 1) before)) → Names (kept before) (get_or lists (length lists - 1) nowhere) (near (length lists) before)
-      by_lists [] h = λ node is. let none : None ≡ Some node = sym (near-zero before) ∙ is in absurd cc
+      by_lists [] h = grind (arith, near-zero before)
       by_lists (list ∷ rest) h =
           let last = get-there (list ∷ rest) (length rest) (omega arith) in
           top-names before (list ∷ rest) (length rest) last.0 (omega arith) last.1 (h (length rest) last.0 last.1)
@@ -115,10 +114,7 @@ module _ (s : Sections) (unit : DwarfUnit) where
       → Follows s unit (record { depth = length drafts.lists; entry = entry } ∷ before) (with_list entry.children nowhere drafts) next
   follows-idle before drafts bound next entry function idle low high f =
       let here : Node = record { depth = length drafts.lists; entry = entry } in
-      let out : is_kept s unit entry ≡ false = rw idle (and_right (is_function entry) false refl) in
-      follows-unkept before drafts bound next entry nowhere out low high (λ node is k p e same.
-      let one : here.entry.offset ≡ node.entry.offset = ap (λ (n : Node). n.entry.offset) (same_Some here node (sym (near-here here before function) ∙ is)) in
-      let b = f.below k p e in absurd (omega (arith, one, b, low, same))) f
+      follows-unkept before drafts bound next entry nowhere (rw idle (and_right (is_function entry) false refl)) low high (λ node is k p e same. grind (arith, same_Some here node, near-here here before function, f.below k p)) f
 
   -- ---- a function that is kept
 
@@ -134,19 +130,8 @@ module _ (s : Sections) (unit : DwarfUnit) where
 
   -- nothing lies in the last function
   none-in-last : (a : ℕ) (all : List Placed) (k : ℕ) (p : Placed) → Rises (map offset_of all) → ((k : ℕ) (p : Placed) (e : Node) → slice_get all k ≡ Some p → p.1 ≡ Some e → e.entry.offset < offset_of p) → slice_get all k ≡ Some p → length all ≡ k + 1 → first (lies_in (holds_address s unit a) (offset_of p)) all ≡ None
-  none-in-last a all k p rises around h size = by_found (first (lies_in (holds_address s unit a) (offset_of p)) all) refl
-    where
-      by_found : (found : Option ℕ) → first (lies_in (holds_address s unit a) (offset_of p)) all ≡ found → found ≡ None
-      by_found None e = refl
-      by_found (Some j) e =
-          let q = first-is (lies_in (holds_address s unit a) (offset_of p)) all j e in
-          let within = first-within (lies_in (holds_address s unit a) (offset_of p)) all j e in
-          let test = and_parts (is_inlined q.0.0.entry && holds_address s unit a q.0.0.entry) (is_at q.0.1 (offset_of p)) q.2 in
-          let e = at_some q.0.1 (offset_of p) test.1 in
-          let inside = around j q.0 e.0 q.1 e.1 in
-          let at = e.2 in
-          let less = rises-order (map offset_of all) k j (offset_of p) (offset_of q.0) rises (get-mapped offset_of all k p h) (get-mapped offset_of all j q.0 q.1) (omega (arith, inside, at)) in
-          absurd (omega (arith, less, within, size))
+  none-in-last a all k p rises around h size =
+      grind (arith, lies-after (holds_address s unit a) all k, slice_get_within all)
 
   subprogram-only : (entry : Entry) → is_subprogram entry ≡ true → is_inlined entry ≡ false
   subprogram-only entry e = rw (eqb-true entry.tag DW_TAG_subprogram e) refl
@@ -230,18 +215,12 @@ module _ (s : Sections) (unit : DwarfUnit) where
           functions = rw same (ap (λ (offsets : List ℕ). offsets ++ entry.offset ∷ []) f.functions ∙ sym offsets-push);
           falls = (high, falls-on bound entry.offset before low f.falls);
           rises = rw same rising;
-          below = λ k p g. elim (get-pushed (kept before) here k p (rw same at g)) [
-            | inl before ↦ (let b = f.below k p before in omega (arith, b, low, high))
-            | inr last ↦ (let is : entry.offset ≡ offset_of p = ap offset_of last.1 in omega (arith, is, high))
-          ];
+          below = λ k p g. grind (arith, get-pushed (kept before) here k p (rw same at g), f.below k p);
           around = λ k p e g. around-here low k p e (rw same at g);
           outermost = λ a. rw same (by_subprogram (is_subprogram entry) refl a);
           inlined = λ k a p g. elim (get-pushed (kept before) here k p (rw same at g)) [
             | inl before ↦ rw same (inlined-before (is_subprogram entry) refl k a p before)
-            | inr last ↦ (
-                let none = none-owned (is_subprogram entry) k a (omega (arith, last.0)) in
-                let alone = none-in-last a (kept before ++ here ∷ []) (length (kept before)) here rising (around-here low) (get-last (kept before) here) (let l = length-append (kept before) (here ∷ []) in omega (arith, l)) in
-                none ∙ rw same (sym (subst (λ (p : Placed). first (lies_in (holds_address s unit a) (offset_of p)) (kept before ++ here ∷ []) ≡ None) last.1 alone)))
+            | inr last ↦ rw (same, ← last.1) (none-owned (is_subprogram entry) k a (omega (arith, last.0)) ∙ sym (none-in-last a (kept before ++ here ∷ []) (length (kept before)) here rising (around-here low) (get-last (kept before) here) (let l = length-append (kept before) (here ∷ []) in omega (arith, l))))
           ];
           unowned = λ k a past. none-owned (is_subprogram entry) k a (let l = length-append (kept before) (here ∷ []) in let more = rw same at past in omega (arith, l, more));
           lists = λ i list g. elim (get-children entry.children drafts.lists (inside number) i list g) [
@@ -255,9 +234,5 @@ module _ (s : Sections) (unit : DwarfUnit) where
 
   pub follows-function : (before : List Node) (drafts : Drafts) (bound next : ℕ) (entry : Entry) → is_function entry ≡ true → bound ≤ entry.offset → entry.offset < next → Follows s unit before drafts bound
       → Follows s unit (record { depth = length drafts.lists; entry = entry } ∷ before) (behind_function s unit entry drafts) next
-  follows-function before drafts bound next entry function low high f = by_idle (is_idle s unit entry) refl
-    where
-      by_idle : (b : Bool) → is_idle s unit entry ≡ b → Follows s unit (record { depth = length drafts.lists; entry = entry } ∷ before)
-          (cond b (with_list entry.children nowhere drafts) (with_function entry (known_ranges s unit entry) drafts)) next
-      by_idle true e = follows-idle before drafts bound next entry function e low high f
-      by_idle false e = follows-kept before drafts bound next entry function e f low high (rw (function, e) refl)
+  follows-function before drafts bound next entry function low high f =
+      grind (arith, follows-idle before drafts bound next entry, follows-kept before drafts bound next entry)

@@ -1,8 +1,8 @@
 -- The chain of a tree, number by number.
-use Rattle.std.proofs.Common.{◌≡◌, ℕ, ◌+◌, ◌-◌, ◌≤◌, ◌<◌, List, [], ◌∷◌, ◌++◌, length, get_or, Option, Some, None, refl, sym, ap, ◌∙◌, arith}
+use Rattle.std.proofs.Common.{◌≡◌, ℕ, ◌+◌, ◌-◌, ◌<◌, List, [], ◌∷◌, ◌++◌, length, get_or, Option, Some, None, refl, arith}
 use Rattle.std.specs.Prelude.{slice_get}
-use Rattle.std.proofs.lemmas.List.{append-nil, append_assoc}
-use Rattle.std.proofs.lemmas.Option.{slice_get_read, slice_get_past}
+use Rattle.std.proofs.lemmas.List.{append_assoc}
+use Rattle.std.proofs.lemmas.Option.{slice_get_read}
 use Rattle.dw_model.specs.Text.{Tables}
 use Rattle.dw_ranges.specs.Claims.{owner_of}
 use Rattle.dw_frames.specs.declared.function.EntryId.{EntryId}
@@ -30,9 +30,6 @@ inwards-on tables chains a n i k offset h e = grind arith
 abbrev pub Found : Tables → Chains → ℕ → List EntryId → ℕ → Option ℕ → List EntryId → Type 0
 Found tables chains a ids most number all = ids ++ inwards tables chains a most number ≡ all
 
-pub found-all : (tables : Tables) (chains : Chains) (a most : ℕ) (number : Option ℕ) (ids all : List EntryId) → inwards tables chains a most number ≡ [] → Found tables chains a ids most number all → ids ≡ all
-found-all tables chains a most number ids all e h = sym (append-nil ids) ∙ ap (λ (rest : List EntryId). ids ++ rest) (sym e) ∙ h
-
 pub found-more : (tables : Tables) (chains : Chains) (a n i k : ℕ) (offset : ℕ) (ids all : List EntryId) → i < n → slice_get chains.functions.items k ≡ Some offset → Found tables chains a ids (n - i) (Some k) all → Found tables chains a (ids ++ id_of chains offset ∷ []) (n - (i + 1)) (owner_of tables chains.owners (inside k) a) all
 found-more tables chains a n i k offset ids all h e f = grind (arith, append_assoc, inwards-on)
 
@@ -40,6 +37,3 @@ found-more tables chains a n i k offset ids all h e f = grind (arith, append_ass
 
 pub kept-there : (chains : Chains) (read : List ℕ) (k offset : ℕ) → read ≡ chains.functions.items → k < length read → offset ≡ get_or read k offset → slice_get chains.functions.items k ≡ Some offset
 kept-there chains read k offset same within is = grind (arith, slice_get_read)
-
-pub kept-nowhere : (chains : Chains) (read : List ℕ) (k : ℕ) → read ≡ chains.functions.items → length read ≤ k → slice_get chains.functions.items k ≡ None
-kept-nowhere chains read k same past = grind (arith, slice_get_past)

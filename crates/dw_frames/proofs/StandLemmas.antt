@@ -1,6 +1,6 @@
 -- Each node of a unit's tree is the entry that is at its offset.
 use Rattle.std.proofs.Common.{◌≡◌, ◌∙◌, ℕ, zero, suc, ◌≤◌, Bool, true, false, cond, List, [], ◌∷◌, length, map, length-drop, length-take, take, drop, Option, Some, None, Result, Ok, Err, refl, sym, ap, subst, arith}
-use Rattle.std.specs.Prelude.{All, IsSome, find, filter_map, option_map, option_and_then, ◌&&◌, ◌==◌}
+use Rattle.std.specs.Prelude.{All, IsSome, find, filter_map, option_map, ◌&&◌, ◌==◌}
 use Rattle.std.specs.List.{AllByRecursion}
 use Rattle.std.specs.Option.{option_map_or}
 use Rattle.std.proofs.lemmas.Bool.{and_parts, eqb-true}
@@ -32,7 +32,7 @@ use Rattle.dw_frames.proofs.MoveLemmas.{entry-moves, onto-left}
 module _ (s : Sections) (unit : DwarfUnit) where
   -- the entry of a node is at its offset
   abbrev pub Stands : Node → Type 0
-  Stands node = (q : Place) × (root.entry s unit node.entry.offset ≡ Ok (Some node.entry, q))
+  Stands node = found_in (root.entry s unit node.entry.offset) ≡ Some node.entry
 
   -- a place among the unit's entries
   record Among (p : Place) : Type 0 where
@@ -49,7 +49,7 @@ module _ (s : Sections) (unit : DwarfUnit) where
         let less = entry-onward unit.offset_size declarations p (Some entry, q) e in
         let left : length p.left ≡ length (drop p.at (take unit.end s.info)) = ap (λ (p : Place). length p.left) a.here in
         let at : entry.offset ≡ p.at = moves.offset entry refl in
-        (q, ap (root.entry s unit) at ∙ inside s unit p.at declarations a.from (omega (arith, less, left, length-drop p.at (take unit.end s.info), length-take unit.end s.info)) declared ∙ ap (entry_at unit.offset_size declarations) (sym a.here) ∙ e)
+        ap found_in (ap (root.entry s unit) at ∙ inside s unit p.at declarations a.from (omega (arith, less, left, length-drop p.at (take unit.end s.info), length-take unit.end s.info)) declared ∙ ap (entry_at unit.offset_size declarations) (sym a.here) ∙ e)
 
     abbrev ranges : Entry → Result (List Range) Bad
     ranges = entry_ranges_in s unit
@@ -78,7 +78,7 @@ module _ (s : Sections) (unit : DwarfUnit) where
 
     -- those below the first one
     stand-children : (children : Bool) (q : Place) (others : List Node) → Among q → cond children (nodes_below ranges unit.offset_size declarations q) (Ok []) ≡ Ok others → AllByRecursion Stands others
-    stand-children false q others a e = subst (AllByRecursion Stands) (ok_is [] others e) tt
+    stand-children false q others a e = grind (arith, ok_is)
     stand-children true q others a e =
         let start : Reading = record { place = q; depth = 1 } in
         let read = bind_ok (items (λ t. t.place.left) next start) (λ found. Ok (filter_map (λ node. node) found.0)) others e in
@@ -89,11 +89,8 @@ module _ (s : Sections) (unit : DwarfUnit) where
         → option_map_or (λ first. checked ranges 0 first >>= λ _. cond first.children (nodes_below ranges unit.offset_size declarations q) (Ok []) >>= λ others. Ok (record { depth = 0; entry = first } ∷ others)) found (Err entry_fault) ≡ Ok nodes → AllByRecursion Stands nodes
     stand-first p q None nodes a read e = absurd cc
     stand-first p q (Some first) nodes a read e =
-        let below : Result (List Node) TreeFault = cond first.children (nodes_below ranges unit.offset_size declarations q) (Ok []) in
-        let checks = bind_ok (checked ranges 0 first) (λ _. below >>= λ others. Ok (record { depth = 0; entry = first } ∷ others)) nodes e in
-        let others = bind_ok below (λ others. Ok (record { depth = 0; entry = first } ∷ others)) nodes checks.2 in
         let moves = entry-moves unit.offset_size declarations p (Some first, q) read in
-        subst (AllByRecursion Stands) (ok_is (record { depth = 0; entry = first } ∷ others.0) nodes others.2) (stands-at p q first 0 a read, stand-children first.children q others.0 (among-on p q a moves.onto) others.1)
+        grind (arith, bind_ok, ok_is, stands-at p q first 0 a read, stand-children first.children q, among-on p q a moves.onto)
 
     stand-from : (nodes : List Node) → nodes_from ranges unit.offset_size declarations (place_in s unit unit.first_entry) ≡ Ok nodes → AllByRecursion Stands nodes
     unfolding nodes_from
@@ -116,19 +113,8 @@ heads x y xs ys e = (cc, cc)
 
 -- the function of an id among the nodes is at its offset
 pub function-stands : (of : UnitIn) (id : EntryId) (node : Node) → tree of.sections of.unit ≡ Ok (nodes_of of.sections of.unit) → function_at of id ≡ Some node → function_of of id ≡ Some node.entry
-function-stands of id node read e = by_unit (id.unit == of.index) e
-  where
-    test : Node → Bool
-    test node = is_function node.entry && node.entry.offset == id.offset
-
-    by_unit : (b : Bool) → cond b (find test (nodes_of of.sections of.unit)) None ≡ Some node → cond b (option_and_then (λ entry. cond (is_function entry) (Some entry) None) (found_in (root.entry of.sections of.unit id.offset))) None ≡ Some node.entry
-    by_unit false e = absurd cc
-    by_unit true e =
-        let has = found-has (Stands of.sections of.unit) test (nodes_of of.sections of.unit) node (all-stand of.sections of.unit (nodes_of of.sections of.unit) read) e in
-        let parts = and_parts (is_function node.entry) (node.entry.offset == id.offset) has.1 in
-        let at = eqb-true node.entry.offset id.offset parts.1 in
-        let there : root.entry of.sections of.unit id.offset ≡ Ok (Some node.entry, has.0.0) = ap (root.entry of.sections of.unit) (sym at) ∙ has.0.1 in
-        rw (there, parts.0) refl
+function-stands of id node read e =
+    grind (arith, found-has (Stands of.sections of.unit) (λ node. is_function node.entry && node.entry.offset == id.offset) (nodes_of of.sections of.unit) node (all-stand of.sections of.unit (nodes_of of.sections of.unit) read), and_parts, eqb-true)
 
 -- what is told of it
 pub told-there : (of : UnitIn) (id : EntryId) (node : Node) → function_of of id ≡ Some node.entry → told_at of id ≡ told_of of.sections of.unit node.entry

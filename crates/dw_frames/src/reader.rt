@@ -8,16 +8,16 @@ ghost use Rattle.dw_model.specs.Tree.{most_depth, entry_ranges_in, is_subprogram
 ghost use Rattle.dw_model.specs.Answers.{Gives};
 ghost use Rattle.dw_index.specs.Range.{range_shown};
 ghost use Rattle.dw_ranges.specs.ListIndex.{IsOfList};
-ghost use Rattle.dw_ranges.specs.Lists.{IsOneAtMost, ranges_of_list};
+ghost use Rattle.dw_ranges.specs.Lists.{IsOneAtMost};
 ghost use Rattle.dw_ranges.specs.ReadLists.{Has};
-ghost use Rattle.dw_ranges.specs.Tails.{EndsAs, ReadsNew, tail_at};
+ghost use Rattle.dw_ranges.specs.Tails.{tail_at};
 ghost use Rattle.dw_model.specs.Entry.{Entry as ModelEntry};
 ghost use Rattle.dw_units.specs.Entries.{IsNext};
 ghost use Rattle.dw_units.specs.NamedRanges.{IsNamed};
 ghost use Rattle.dw_units.specs.OpenUnit.{sections_of};
 ghost use Rattle.dw_frames.specs.Fault.{tree_fault};
 ghost use Rattle.dw_frames.specs.Drafts as model;
-ghost use Rattle.dw_frames.specs.Known.{Knows};
+ghost use Rattle.dw_frames.specs.Known.{IsListed, Knows, ReadsList};
 ghost use Rattle.dw_frames.specs.UnitIn.{unit_in};
 ghost use Rattle.dw_frames.specs.Reader.{AddsFunction, Keeps};
 
@@ -186,12 +186,7 @@ impl<'b, 'a> Reader<'b, 'a> {
     /// Reads the ranges of a list: for a subprogram, once lists are noted, up to where the list
     /// goes on as one that was read for an earlier one, which owns the addresses from there on.
     fn read(&mut self, list: RangeList, group: usize) -> Result<Option<RangeList>, RangeFault>
-        ensures of { self.new.of ≡ self.old.of }
-        ensures owned { self.new.owned ≡ self.old.owned }
-        ensures ranges { ReadsNew self.old.of.sections.tables self.old.owned list result self.new.ranges }
-        ensures group { (tail : RangeList) → result ≡ Ok (Some tail) → group ≡ 0 }
-        ensures begins { OnOk result ((begin : ℕ) → Has self.new.begins begin
-            → (group ≡ 0) × EndsAs self.old.of.sections.tables list (tail_at list begin)) }
+        ensures { ReadsList list group self.old result self.new }
     {
         let unit = self.unit;
         let tables = unit.units().tables();
@@ -212,12 +207,7 @@ impl<'b, 'a> Reader<'b, 'a> {
 
     /// The same; a list that can't be read gets an index, so that it isn't read again.
     fn read_noted(&mut self, list: RangeList, group: usize) -> Result<Option<RangeList>, RangeFault>
-        ensures of { self.new.of ≡ self.old.of }
-        ensures owned { self.new.owned ≡ self.old.owned }
-        ensures ranges { ReadsNew self.old.of.sections.tables self.old.owned list result self.new.ranges }
-        ensures group { (tail : RangeList) → result ≡ Ok (Some tail) → group ≡ 0 }
-        ensures begins { OnOk result ((begin : ℕ) → Has self.new.begins begin
-            → (group ≡ 0) × EndsAs self.old.of.sections.tables list (tail_at list begin)) }
+        ensures { ReadsList list group self.old result self.new }
     {
         match self.read(list, group) {
             Err(RangeFault::Bad) => {
@@ -236,15 +226,12 @@ impl<'b, 'a> Reader<'b, 'a> {
         list: RangeList,
         index: Arc<ListIndex<'a>>,
     ) -> Result<(), TreeFault>
-        requires { IsOfList self.now.of.sections.tables list index.value }
+        requires index { IsOfList self.now.of.sections.tables list index.value }
+        requires knows { Knows self.now drafts.now }
+        requires listed { IsListed self.now.of entry.now list }
         ensures same { self.new.of ≡ self.old.of }
-        ensures function { Knows self.old drafts.old
-            → entry_ranges_in self.old.of.sections self.old.of.unit entry.now
-            ≡ ranges_of_list self.old.of.sections.tables list
-            → AddsFunction self.old.of.sections self.old.of.unit entry.now result drafts.old drafts.new }
-        ensures known { Knows self.old drafts.old
-            → entry_ranges_in self.old.of.sections self.old.of.unit entry.now
-            ≡ ranges_of_list self.old.of.sections.tables list → OnOk result (Knows self.new drafts.new) }
+        ensures function { AddsFunction self.old.of entry.now result drafts.old drafts.new }
+        ensures known { OnOk result (Knows self.new drafts.new) }
     {
         if !index.has_ranges(list.base)? {
             leave_out(drafts, entry)?;
@@ -264,14 +251,11 @@ impl<'b, 'a> Reader<'b, 'a> {
         entry: &EntryView<'_, 'a>,
         list: RangeList,
     ) -> Result<(), TreeFault>
+        requires knows { Knows self.now drafts.now }
+        requires listed { IsListed self.now.of entry.now list }
         ensures same { self.new.of ≡ self.old.of }
-        ensures function { Knows self.old drafts.old
-            → entry_ranges_in self.old.of.sections self.old.of.unit entry.now
-            ≡ ranges_of_list self.old.of.sections.tables list
-            → AddsFunction self.old.of.sections self.old.of.unit entry.now result drafts.old drafts.new }
-        ensures known { Knows self.old drafts.old
-            → entry_ranges_in self.old.of.sections self.old.of.unit entry.now
-            ≡ ranges_of_list self.old.of.sections.tables list → OnOk result (Knows self.new drafts.new) }
+        ensures function { AddsFunction self.old.of entry.now result drafts.old drafts.new }
+        ensures known { OnOk result (Knows self.new drafts.new) }
     {
         let group = drafts.group_of(entry);
         if self.is_owned(list, group) {
@@ -302,10 +286,10 @@ impl<'b, 'a> Reader<'b, 'a> {
     ) -> Result<(), TreeFault>
         requires named { IsNamed named.now entry.now }
         requires one { IsOneAtMost (entry_ranges_in self.now.of.sections self.now.of.unit entry.now) }
+        requires knows { Knows self.now drafts.now }
         ensures same { self.new.of ≡ self.old.of }
-        ensures function { Knows self.old drafts.old
-            → AddsFunction self.old.of.sections self.old.of.unit entry.now result drafts.old drafts.new }
-        ensures known { Knows self.old drafts.old → OnOk result (Knows self.new drafts.new) }
+        ensures function { AddsFunction self.old.of entry.now result drafts.old drafts.new }
+        ensures known { OnOk result (Knows self.new drafts.new) }
     {
         let unit = self.unit;
         read_ranges(&mut self.ranges, named, unit.unit(), unit.units().tables())?;
@@ -326,10 +310,10 @@ impl<'b, 'a> Reader<'b, 'a> {
         drafts: &mut Drafts<'b, 'a>,
         entry: &EntryView<'_, 'a>,
     ) -> Result<(), TreeFault>
+        requires { Knows self.now drafts.now }
         ensures same { self.new.of ≡ self.old.of }
-        ensures function { Knows self.old drafts.old
-            → AddsFunction self.old.of.sections self.old.of.unit entry.now result drafts.old drafts.new }
-        ensures known { Knows self.old drafts.old → OnOk result (Knows self.new drafts.new) }
+        ensures function { AddsFunction self.old.of entry.now result drafts.old drafts.new }
+        ensures known { OnOk result (Knows self.new drafts.new) }
     {
         let unit = self.unit;
         let named = entry.named_ranges();
@@ -350,11 +334,11 @@ impl<'b, 'a> Reader<'b, 'a> {
         entries: &Entries<'_, 'a>,
         drafts: &mut Drafts<'b, 'a>,
     ) -> Result<(), TreeFault>
+        requires { Knows self.now drafts.now }
         ensures same { self.new.of ≡ self.old.of }
-        ensures entry { Knows self.old drafts.old → (ranged : Bool) (found : Option ModelEntry)
-            → IsNext ranged next found entries.now.last
-            → Keeps self.old.of.sections self.old.of.unit found result drafts.old drafts.new }
-        ensures known { Knows self.old drafts.old → OnOk result (Knows self.new drafts.new) }
+        ensures entry { (ranged : Bool) (found : Option ModelEntry) → IsNext ranged next found entries.now.last
+            → Keeps self.old.of found result drafts.old drafts.new }
+        ensures known { OnOk result (Knows self.new drafts.new) }
     {
         let depth = drafts.depth();
         match next {

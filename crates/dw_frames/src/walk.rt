@@ -24,13 +24,13 @@ fn read_below<'b, 'a>(
     entries: &mut Entries<'b, 'a>,
     drafts: &mut Drafts<'b, 'a>,
 ) -> Result<(), TreeFault>
+    requires { Knows reader.now drafts.now }
     ensures declarations { OnOk result (entries.new.declarations ≡ entries.old.declarations) }
     ensures reader { reader.new.of ≡ reader.old.of }
-    ensures of { Knows reader.old drafts.old → OnOk result (drafts.new.of ≡ reader.old.of) }
-    ensures follows { Knows reader.old drafts.old → (before : List Node)
-        → Follows reader.old.of.sections reader.old.of.unit before drafts.old entries.old.place.at
-        → FollowsOn reader.old.of.sections reader.old.of.unit before
-        (nodes_on reader.old.of.sections reader.old.of.unit entries.old (length drafts.old.lists)) result drafts.new }
+    ensures of { OnOk result (drafts.new.of ≡ reader.old.of) }
+    ensures follows { (before : List Node)
+        → Follows reader.old.of.sections reader.old.of.unit before drafts.old entries.old.place.at → FollowsOn
+        reader.old.of before (nodes_on reader.old.of entries.old (length drafts.old.lists)) result drafts.new }
 {
     while drafts.depth() > 0 && !entries.is_done() {
         let next = entries.next_function()?;
@@ -45,12 +45,13 @@ fn read_from_first<'b, 'a>(
     entries: &mut Entries<'b, 'a>,
     drafts: &mut Drafts<'b, 'a>,
 ) -> Result<(), TreeFault>
+    requires knows { Knows reader.now drafts.now }
+    requires none { drafts.now ≡ no_drafts reader.now.of }
+    requires walk { WalksFrom reader.now.of.sections reader.now.of.unit (Some entries.now) }
     ensures declarations { OnOk result (entries.new.declarations ≡ entries.old.declarations) }
     ensures reader { reader.new.of ≡ reader.old.of }
-    ensures of { Knows reader.old drafts.old → OnOk result (drafts.new.of ≡ reader.old.of) }
-    ensures follows { Knows reader.old drafts.old → drafts.old ≡ no_drafts reader.old.of
-        → WalksFrom reader.old.of.sections reader.old.of.unit (Some entries.old)
-        → FollowsAll reader.old.of.sections reader.old.of.unit (read_into result drafts.new) }
+    ensures of { OnOk result (drafts.new.of ≡ reader.old.of) }
+    ensures follows { FollowsAll reader.old.of (read_into result drafts.new) }
 {
     let first = entries.next_function()?;
     if let Next::Null = first {
@@ -72,7 +73,7 @@ pub(crate) fn read_all<'b, 'a>(
     ensures tables { indexes.new ≡ indexes.old }
     ensures declarations { OnOk result (entries.new.declarations ≡ entries.old.declarations) }
     ensures of { IfOk result (λ drafts. drafts.of ≡ unit_in unit.entry) }
-    ensures follows { FollowsAll (sections_of unit.entry) (unit_of unit.entry) result }
+    ensures follows { FollowsAll (unit_in unit.entry) result }
 {
     let none = ListIndexes::new(alloc, unit.units().tables());
     let mut reader = Reader::new(alloc, unit, mem::replace(indexes, none));

@@ -1,4 +1,4 @@
-use Rattle.std.proofs.Common.{◌∙◌, ◌-◌, ◌<◌, ℕ, Some, None, ap, sym, arith}
+use Rattle.std.proofs.Common.{◌∙◌, ◌-◌, Some, None, ap, sym, arith}
 use Rattle.dw_model.specs.Section.{Sections}
 use Rattle.dw_model.specs.Name.{name_within}
 use Rattle.dw_units.specs.OpenUnit.{sections_of}
@@ -12,19 +12,14 @@ returns-in-Some t c =
 
 pub returns-then-more-eq0 : goal.returns-then-more-eq0
 returns-then-more-eq0 t c =
-    let here = unit_entry c.args.here.now in
-    sym (ap (λ (n : ℕ). name_within (sections_of c.args.here.now.unit) n here) c.if-more-eq0.true ∙ own-alone (sections_of c.args.here.now.unit) here (sym c.in_default.ensures))
+    grind (arith, own-alone)
 
 pub returns-in_err-there : goal.returns-in_err-there
 returns-in_err-there t c =
-    let here = unit_entry c.args.here.now in
-    let some : 0 < c.args.more = omega (arith, c.if-more-eq0.false) in
-    rw (c.from_residual.ensures) (sym (goes-on (sections_of c.args.here.now.unit) c.args.more here None some (sym c.in_default.ensures) (sym c.in_err-there.ensures.entry)))
+    rw (c.from_residual.ensures) (sym (goes-on (sections_of c.args.here.now.unit) c.args.more (unit_entry c.args.here.now) None (omega (arith, c.if-more-eq0.false)) (sym c.in_default.ensures) (sym c.in_err-there.ensures.entry)))
 
 pub returns : goal.returns
 returns t c =
-    let here = unit_entry c.args.here.now in
     let there = unit_entry c.in_ok-there.there in
-    let some : 0 < c.args.more = omega (arith, c.if-more-eq0.false) in
     c.name_within.ensures ∙ ap (λ (s : Sections). name_within s (c.args.more - 1) there) c.in_ok-there.ensures.sections
-    ∙ sym (goes-on (sections_of c.args.here.now.unit) c.args.more here (Some there) some (sym c.in_default.ensures) (sym c.in_ok-there.ensures.entry))
+    ∙ sym (goes-on (sections_of c.args.here.now.unit) c.args.more (unit_entry c.args.here.now) (Some there) (omega (arith, c.if-more-eq0.false)) (sym c.in_default.ensures) (sym c.in_ok-there.ensures.entry))

@@ -1,27 +1,19 @@
-use Rattle.std.proofs.Common.{◌≡◌, ◌∙◌, map, reverse, ap, subst}
-use Rattle.std.specs.Prelude.{All, IsSome}
+use Rattle.std.proofs.Common.{◌≡◌, ◌∙◌, reverse, ap}
 use Rattle.dw_model.specs.Section.{Sections}
-use Rattle.dw_model.specs.Tree.{Node}
 use Rattle.dw_forms.specs.Tables.{tables_shown}
-use Rattle.dw_frames.specs.Told.{told_of}
-use Rattle.dw_frames.specs.Tree.{chain_at, chain_in, function_at, told_at}
+use Rattle.dw_frames.specs.Tree.{chain_at, chain_in}
 use Rattle.dw_frames.specs.TreeInside.{unit_of_tree}
-use Rattle.dw_frames.specs.UnitIn.{UnitIn}
 use Rattle.dw_frames.proofs.StandLemmas.{all-told, all-named}
 use Rattle.dw_frames.proofs.tree.Tree.chain.Goals as goal
 
 pub returns-clause-told : goal.returns-clause-told
 returns-clause-told c =
     let of = unit_of_tree c.self.inside in
-    let ids = reverse (chain_at of.sections.tables c.self.inside.chains c.args.a) in
     let tables : tables_shown c.tables.result.now ≡ of.sections.tables = c.tables.ensures ∙ ap (λ (sections : Sections). sections.tables) c.deref.ensures in
-    rw (c.reverse.ensures.items, c.in_ok-ids.ensures, tables)
-    (subst (λ (of : UnitIn). map (told_at of) ids ≡ map (λ (node : Node). told_of of.sections of.unit node.entry) (chain_in of c.args.a)) c.self.view_is (all-told of ids (chain_in of c.args.a) c.self.invariant.chains.read (c.self.invariant.chains.chains c.args.a)))
+    rw (c.reverse.ensures.items, c.in_ok-ids.ensures, tables, ← c.self.view_is) (all-told of (reverse (chain_at of.sections.tables c.self.inside.chains c.args.a)) (chain_in of c.args.a) c.self.invariant.chains.read (c.self.invariant.chains.chains c.args.a))
 
 pub returns-clause-named : goal.returns-clause-named
 returns-clause-named c =
     let of = unit_of_tree c.self.inside in
-    let ids = reverse (chain_at of.sections.tables c.self.inside.chains c.args.a) in
     let tables : tables_shown c.tables.result.now ≡ of.sections.tables = c.tables.ensures ∙ ap (λ (sections : Sections). sections.tables) c.deref.ensures in
-    rw (c.reverse.ensures.items, c.in_ok-ids.ensures, tables)
-    (subst (λ (of : UnitIn). All (λ id. IsSome (function_at of id)) ids) c.self.view_is (all-named of ids (chain_in of c.args.a) (c.self.invariant.chains.chains c.args.a)))
+    rw (c.reverse.ensures.items, c.in_ok-ids.ensures, tables, ← c.self.view_is) (all-named of (reverse (chain_at of.sections.tables c.self.inside.chains c.args.a)) (chain_in of c.args.a) (c.self.invariant.chains.chains c.args.a))
