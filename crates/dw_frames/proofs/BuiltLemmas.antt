@@ -77,11 +77,8 @@ module _ (of : UnitIn) (after : List Node) (drafts : Drafts) (bound : ℕ) (foun
 
   id-of-number : (k offset : ℕ) (p : Placed) → slice_get found.functions.items k ≡ Some offset → slice_get (placed keep after) k ≡ Some p → function_at of (id_of found offset) ≡ Some p.0
   id-of-number k offset p f e =
-      let at : offset ≡ offset_of p = same_Some offset (offset_of p) (sym f ∙ ap (λ (offsets : List ℕ). slice_get offsets k) offsets-are ∙ get-mapped offset_of (placed keep after) k p e) in
       let among = placed-among keep after k p e in
-      let function = (and_parts (is_function p.0.entry) (not (is_idle of.sections of.unit p.0.entry)) among.1).0 in
-      let there = (node-at-offset bound after p.0 follows.falls among.0 function).1 in
-      rw (eq-eqb found.unit of.index unit, at, nodes-are) there
+      grind (arith, same_Some, offsets-are, get-mapped offset_of (placed keep after) k p e, among.0, among.1, and_parts, node-at-offset bound after p.0 follows.falls among.0, eq-eqb, nodes-are)
 
   -- ---- the chain
 

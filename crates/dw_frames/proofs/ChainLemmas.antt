@@ -1,6 +1,6 @@
 -- The chain of functions at an address, by their numbers.
 use Rattle.std.proofs.Common.{◌≡◌, ℕ, zero, suc, ◌+◌, ◌-◌, ◌<◌, ◌≤◌, Bool, true, false, List, [], ◌∷◌, length, map, reverse, Option, Some, None, Ok, refl, sym, ap, ◌∙◌, arith, length-append}
-use Rattle.std.specs.Prelude.{option_map, option_and_then, slice_get, find, ◌&&◌}
+use Rattle.std.specs.Prelude.{MatchResult, option_map, option_and_then, slice_get, find, ◌&&◌}
 use Rattle.std.specs.Option.{option_map_or}
 use Rattle.std.proofs.lemmas.List.{length-reverse}
 use Rattle.std.proofs.lemmas.Bool.{and_parts, and_left, eqb-true}
@@ -85,51 +85,40 @@ module _ (kept holds : Entry → Bool) (idle : IsIdle kept holds) where
     climb (suc most) (Some k) = option_map_or (λ (p : Placed). p.0 ∷ climb most (inner k)) (slice_get (placed kept before) k) []
 
     abbrev Climbs : ℕ → ℕ → Node → Option ℕ → Type 0
-    Climbs most steps node next = (last : Node) × (items_up_to (next_inwards holds (reverse before)) most node ≡ Ok (climb steps next, last))
-
-    -- one step of the chain, where no function lies further inwards
-    stays : (most : ℕ) (p : Placed) → inlined_in holds (reverse before) p.0 ≡ None → (last : Node) × (items_up_to (next_inwards holds (reverse before)) most p.0 ≡ Ok ([], last))
-    unfolding items_up_to next_inwards
-    stays zero p none = (p.0, refl)
-    stays (suc most) p none = (p.0, rw none refl)
+    Climbs most steps node next =
+        MatchResult (items_up_to (next_inwards holds (reverse before)) most node) (λ found. found.0 ≡ climb steps next) (λ e. ⊥)
 
     stopped : (steps : ℕ) → climb steps None ≡ []
     unfolding climb
     stopped steps = grind arith
 
-    goes : (most : ℕ) (p q : Placed) (rest : List Node) → inlined_in holds (reverse before) p.0 ≡ Some q.0 → (last : Node) × (items_up_to (next_inwards holds (reverse before)) most q.0 ≡ Ok (rest, last)) → (last : Node) × (items_up_to (next_inwards holds (reverse before)) (suc most) p.0 ≡ Ok (q.0 ∷ rest, last))
-    unfolding items_up_to next_inwards
-    goes most p q rest some later = (later.0, rw (some, later.1) refl)
+    -- no function lies further inwards
+    stays : (most steps : ℕ) (node : Node) → inlined_in holds (reverse before) node ≡ None → Climbs most steps node None
+    unfolding items_up_to next_inwards climb
+    stays zero steps node none = grind (arith, stopped steps)
+    stays (suc most) steps node none = grind (arith, stopped steps)
 
-    step-climb : (steps k : ℕ) (q : Placed) → slice_get (placed kept before) k ≡ Some q → climb (suc steps) (Some k) ≡ q.0 ∷ climb steps (inner k)
-    unfolding climb
-    step-climb steps k q h = rw h refl
-
-    none-inwards : (k : ℕ) (p : Placed) → slice_get (placed kept before) k ≡ Some p → inner k ≡ None → inlined_in holds (reverse before) p.0 ≡ None
-    none-inwards k p h e = inlined-is k p h ∙ ap node_of e
-
-    some-inwards : (k j : ℕ) (p q : Placed) → slice_get (placed kept before) k ≡ Some p → inner k ≡ Some j → slice_get (placed kept before) j ≡ Some q → inlined_in holds (reverse before) p.0 ≡ Some q.0
-    some-inwards k j p q h e f = inlined-is k p h ∙ ap node_of e ∙ ap (option_map (λ (p : Placed). p.0)) f
-
-    ended : (most steps k : ℕ) (p : Placed) → slice_get (placed kept before) k ≡ Some p → inner k ≡ None → Climbs most steps p.0 (inner k)
-    ended most steps k p h none =
-        let x = stays most p (none-inwards k p h none) in
-        (x.0, x.1 ∙ ap (λ (rest : List Node). Ok (rest, x.0)) (sym (ap (climb steps) none ∙ stopped steps)))
+    -- one does
+    goes : (most steps j : ℕ) (node : Node) (q : Placed) → inlined_in holds (reverse before) node ≡ Some q.0 → slice_get (placed kept before) j ≡ Some q → Climbs most steps q.0 (inner j) → Climbs (suc most) (suc steps) node (Some j)
+    unfolding items_up_to next_inwards climb
+    goes most steps j node q some there later = grind arith
 
     -- with as many steps as there are functions after a number, all of them are found
     climbs : (most steps k : ℕ) (p : Placed) → slice_get (placed kept before) k ≡ Some p → length (placed kept before) ≤ k + 1 + most → length (placed kept before) ≤ k + 1 + steps → Climbs most steps p.0 (inner k)
-    climbs zero steps k p h enough more = ended zero steps k p h (none-after k p h (omega (arith, enough)))
-    climbs (suc most) zero k p h enough more = ended (suc most) zero k p h (none-after k p h (omega (arith, more)))
+    climbs zero steps k p h enough more =
+        let none = none-after k p h (omega (arith, enough)) in
+        rw none (stays zero steps p.0 (inlined-is k p h ∙ ap node_of none))
+    climbs (suc most) zero k p h enough more =
+        let none = none-after k p h (omega (arith, more)) in
+        rw none (stays (suc most) zero p.0 (inlined-is k p h ∙ ap node_of none))
     climbs (suc most) (suc steps) k p h enough more =
         by_next (λ j q g f. climbs most steps j q g (omega (arith, enough, f)) (omega (arith, more, f))) (inner k) refl
       where
-        by_next : ((j : ℕ) (q : Placed) → slice_get (placed kept before) j ≡ Some q → k < j → Climbs most steps q.0 (inner j)) → (next : Option ℕ) → inner k ≡ next → Climbs (suc most) (suc steps) p.0 (inner k)
-        by_next later None e = ended (suc most) (suc steps) k p h e
+        by_next : ((j : ℕ) (q : Placed) → slice_get (placed kept before) j ≡ Some q → k < j → Climbs most steps q.0 (inner j)) → (next : Option ℕ) → inner k ≡ next → Climbs (suc most) (suc steps) p.0 next
+        by_next later None e = stays (suc most) (suc steps) p.0 (inlined-is k p h ∙ ap node_of e)
         by_next later (Some j) e =
             let x = goes-forward k j p h e in
-            let l = later j x.0 x.1 x.2 in
-            let y = goes most p x.0 (climb steps (inner j)) (some-inwards k j p x.0 h e x.1) l in
-            (y.0, y.1 ∙ ap (λ (rest : List Node). Ok (rest, y.0)) (sym (ap (climb (suc steps)) e ∙ step-climb steps j x.0 x.1)))
+            goes most steps j p.0 x.0 (inlined-is k p h ∙ ap node_of e ∙ ap (option_map (λ (p : Placed). p.0)) x.1) x.1 (later j x.0 x.1 x.2)
 
     outermost-there : (k : ℕ) → outer ≡ Some k → (p : Placed) × (slice_get (placed kept before) k ≡ Some p)
     outermost-there k e = grind (arith, first-is)
@@ -139,14 +128,12 @@ module _ (kept holds : Entry → Bool) (idle : IsIdle kept holds) where
     unfolding chain_in climb
     chain-climbs = by_outer outer refl
       where
-        by_outer : (o : Option ℕ) → outer ≡ o → chain_in holds (reverse before) ≡ reverse (climb (length (placed kept before)) outer)
-        by_outer None e =
-            rw (outermost-is ∙ ap node_of e) (sym (ap (λ (o : Option ℕ). reverse (climb (length (placed kept before)) o)) e ∙ ap (λ (ns : List Node). reverse ns) (stopped (length (placed kept before)))))
+        by_outer : (o : Option ℕ) → outer ≡ o → chain_in holds (reverse before) ≡ reverse (climb (length (placed kept before)) o)
+        by_outer None e = rw (outermost-is ∙ ap node_of e, stopped (length (placed kept before))) refl
         by_outer (Some k) e =
             let there = outermost-there k e in
             let w = slice_get_within (placed kept before) k there.0 there.1 in
             let fewer = placed-fewer kept before in
             let c = climbs (length (reverse before)) (length (placed kept before) - 1) k there.0 there.1 (omega (arith, fewer, length-reverse before)) (omega arith) in
             let size : length (placed kept before) ≡ suc (length (placed kept before) - 1) = omega (arith, w) in
-            let same : climb (length (placed kept before)) outer ≡ there.0.0 ∷ climb (length (placed kept before) - 1) (inner k) = ap (climb (length (placed kept before))) e ∙ ap (λ (n : ℕ). climb n (Some k)) size ∙ step-climb (length (placed kept before) - 1) k there.0 there.1 in
-            rw (outermost-is ∙ ap node_of e ∙ ap (option_map (λ (p : Placed). p.0)) there.1, c.1) (sym (ap (λ (ns : List Node). reverse ns) same))
+            rw (outermost-is ∙ ap node_of e ∙ ap (option_map (λ (p : Placed). p.0)) there.1, size, there.1) (grind (arith, c))

@@ -222,12 +222,11 @@ module _ (s : Sections) (unit : DwarfUnit) where
             | inl before ↦ rw same (inlined-before (is_subprogram entry) refl k a p before)
             | inr last ↦ rw (same, ← last.1) (none-owned (is_subprogram entry) k a (omega (arith, last.0)) ∙ sym (none-in-last a (kept before ++ here ∷ []) (length (kept before)) here rising (around-here low) (get-last (kept before) here) (let l = length-append (kept before) (here ∷ []) in omega (arith, l))))
           ];
-          unowned = λ k a past. none-owned (is_subprogram entry) k a (let l = length-append (kept before) (here ∷ []) in let more = rw same at past in omega (arith, l, more));
+          unowned = λ k a past. none-owned (is_subprogram entry) k a (grind (arith, same, length-append));
           lists = λ i list g. elim (get-children entry.children drafts.lists (inside number) i list g) [
-            | inl old_list ↦ (
+            | inl old_list ↦
                 let within = slice_get_within drafts.lists i list old_list in
-                rw (same, near-past (i + 1) node before (omega (arith, within)))
-                (names-kept (kept before) here list (near (i + 1) before) (λ found is. let b = near-below (i + 1) bound before found f.falls is in omega (arith, b, low)) (f.lists i list old_list)))
+                rw (same, near-past (i + 1) node before (omega (arith, within))) (names-kept (kept before) here list (near (i + 1) before) (λ found is. grind (arith, near-below (i + 1) bound before found f.falls is)) (f.lists i list old_list))
             | inr new_list ↦ rw (same, new_list.0, near-here node before function, ← new_list.1) (subst (λ (group : ℕ). Names (kept before ++ here ∷ []) group (Some node)) (next-two number) (here, last-number, refl))
           ];
         }

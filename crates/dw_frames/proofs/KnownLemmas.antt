@@ -63,13 +63,7 @@ left-out entry front rest drafts h = record {
   of = refl;
   functions = refl;
   lists = refl;
-  owners = λ k a. elim (same_or_apart (group_of (is_subprogram entry) drafts) k) [
-    | inl same ↦
-        rw (group-here k (group_of (is_subprogram entry) drafts) drafts.claims (owned front (length drafts.functions)) same, group-here k (group_of (is_subprogram entry) drafts) drafts.claims (owned (front ++ rest) (length drafts.functions)) same)
-        (behind-owned (in_group k drafts.claims) front rest (length drafts.functions) a (subst (λ (k : ℕ). AreOwned (in_group k drafts.claims) (length drafts.functions) rest) same h))
-    | inr apart ↦
-        rw (group-elsewhere k (group_of (is_subprogram entry) drafts) drafts.claims (owned front (length drafts.functions)) apart, group-elsewhere k (group_of (is_subprogram entry) drafts) drafts.claims (owned (front ++ rest) (length drafts.functions)) apart) refl
-  ];
+  owners = λ k a. grind (arith, same_or_apart, group-here, group-elsewhere, behind-owned (in_group (group_of (is_subprogram entry) drafts) drafts.claims) front rest (length drafts.functions) a h);
 }
 
 -- ---- what is known where more is kept

@@ -21,7 +21,7 @@ use Rattle.dw_forms.proofs.OntoLemmas.{Onto, on}
 -- the bytes behind others of a section are of it too
 pub onto-left : (section : List ℕ) (p q : Place) → Onto p q → p.left ≡ drop p.at section → q.left ≡ drop q.at section
 onto-left section p q h here =
-    sym (drop-append_seam h.0 q.left) ∙ ap (λ (xs : List ℕ). drop (length h.0) xs) (sym h.1.0 ∙ here) ∙ drop-drop (length h.0) p.at section ∙ ap (λ (n : ℕ). drop n section) (sym h.1.1)
+    grind (arith, drop-append_seam h.0 q.left, h.1.0, h.1.1, drop-drop (length h.0) p.at section)
 
 until : (p s t : Place) → s ≡ t → Onto p s → Onto p t
 until p s t e h = subst (Onto p) e h

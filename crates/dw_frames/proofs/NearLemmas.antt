@@ -15,7 +15,7 @@ pub enclosing-near : (between before : List Node) (d : ℕ) → ((k : ℕ) → l
 unfolding enclosing near
 enclosing-near between [] d h = refl
 enclosing-near between (node ∷ before) d h =
-    rw (h node.depth) (ap (cond (is_function node.entry && nat_lt node.depth d) (Some node)) (enclosing-near (node ∷ between) before (min d node.depth) (λ k. ap (λ t. nat_lt k node.depth && t) (h k) ∙ lt-min k d node.depth)))
+    grind (arith, h node.depth, enclosing-near (node ∷ between) before (min d node.depth) (λ k. ap (λ t. nat_lt k node.depth && t) (h k) ∙ lt-min k d node.depth))
 
 pub enclosing-one : (node : Node) (before : List Node) → enclosing (node ∷ []) before ≡ near node.depth before
 enclosing-one node before = enclosing-near (node ∷ []) before node.depth (λ k. and-true (nat_lt k node.depth))

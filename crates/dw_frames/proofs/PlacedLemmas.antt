@@ -18,7 +18,7 @@ pub find_node-push : (test : List Node → Node → Bool) (before nodes : List N
 unfolding find_node
 find_node-push test before [] node = refl
 find_node-push test before (first ∷ nodes) node =
-    rw (find_node-push test (first ∷ before) nodes node, reverse-cons first nodes, append_assoc (reverse nodes) (first ∷ []) before) (or-some (test before first) (find_node test (first ∷ before) nodes) (cond (test (reverse nodes ++ first ∷ before) node) (Some node) None) first)
+    grind (arith, find_node-push test (first ∷ before) nodes node, reverse-cons, append_assoc)
 
 map-or : {X Y : Type 0} (f : X → Y) (found later : Option X) → option_map f (option_or found later) ≡ option_or (option_map f found) (option_map f later)
 map-or f found later = grind arith

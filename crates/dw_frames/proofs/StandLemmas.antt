@@ -1,5 +1,5 @@
 -- Each node of a unit's tree is the entry that is at its offset.
-use Rattle.std.proofs.Common.{◌≡◌, ◌∙◌, ℕ, zero, suc, ◌≤◌, Bool, true, false, cond, List, [], ◌∷◌, length, map, length-drop, length-take, take, drop, Option, Some, None, Result, Ok, Err, refl, sym, ap, subst, arith}
+use Rattle.std.proofs.Common.{◌≡◌, ◌∙◌, ◌-◌, ℕ, zero, suc, ◌≤◌, Bool, true, false, cond, List, [], ◌∷◌, length, map, length-drop, length-take, take, drop, Option, Some, None, Result, Ok, Err, refl, sym, ap, subst, arith}
 use Rattle.std.specs.Prelude.{All, IsSome, find, filter_map, option_map, ◌&&◌, ◌==◌}
 use Rattle.std.specs.List.{AllByRecursion}
 use Rattle.std.specs.Option.{option_map_or}
@@ -45,10 +45,9 @@ module _ (s : Sections) (unit : DwarfUnit) where
   module _ (declarations : List Declaration) (declared : abbreviations s.abbrevs unit.debug_abbrev_offset ≡ Ok declarations) where
     stands-at : (p q : Place) (entry : Entry) (depth : ℕ) → Among p → entry_at unit.offset_size declarations p ≡ Ok (Some entry, q) → Stands (record { depth = depth; entry = entry })
     stands-at p q entry depth a e =
-        let moves = entry-moves unit.offset_size declarations p (Some entry, q) e in
         let less = entry-onward unit.offset_size declarations p (Some entry, q) e in
         let left : length p.left ≡ length (drop p.at (take unit.end s.info)) = ap (λ (p : Place). length p.left) a.here in
-        let at : entry.offset ≡ p.at = moves.offset entry refl in
+        let at : entry.offset ≡ p.at = let moves = entry-moves unit.offset_size declarations p (Some entry, q) e in moves.offset entry refl in
         ap found_in (ap (root.entry s unit) at ∙ inside s unit p.at declarations a.from (omega (arith, less, left, length-drop p.at (take unit.end s.info), length-take unit.end s.info)) declared ∙ ap (entry_at unit.offset_size declarations) (sym a.here) ∙ e)
 
     abbrev ranges : Entry → Result (List Range) Bad
@@ -133,5 +132,5 @@ all-told of (id ∷ ids) (node ∷ nodes) read e =
 pub all-named : (of : UnitIn) (ids : List EntryId) (nodes : List Node) → map (function_at of) ids ≡ map Some nodes → All (λ id. IsSome (function_at of id)) ids
 all-named of [] nodes e k d within = absurd (omega (arith, within))
 all-named of (id ∷ ids) [] e k d within = absurd cc
-all-named of (id ∷ ids) (node ∷ nodes) e zero d within = grind (arith, heads)
-all-named of (id ∷ ids) (node ∷ nodes) e (suc k) d within = grind (arith, heads, all-named of ids nodes)
+all-named of (id ∷ ids) (node ∷ nodes) e k d within =
+    grind (arith, heads, all-named of ids nodes (heads (function_at of id) (Some node) (map (function_at of) ids) (map Some nodes) e).1 (k - 1) d)
