@@ -40,5 +40,9 @@ least-below : (found : Option ℕ) (n : ℕ) (b : Bool) → ((k : ℕ) → found
 least-below found n b h = grind arith
 
 -- a last owner owns only what no other does
-pub owner-push : (pairs : List (Range × ℕ)) (ranges : List Range) (n a : ℕ) → ((k : ℕ) → least_owner pairs a ≡ Some k → k < n) → least_owner (pairs ++ map (λ range. (range, n)) ranges) a ≡ option_or (least_owner pairs a) (cond (covers a ranges) (Some n) None)
+owner-push : (pairs : List (Range × ℕ)) (ranges : List Range) (n a : ℕ) → ((k : ℕ) → least_owner pairs a ≡ Some k → k < n) → least_owner (pairs ++ map (λ range. (range, n)) ranges) a ≡ option_or (least_owner pairs a) (cond (covers a ranges) (Some n) None)
 owner-push pairs ranges n a below = grind (arith, least_owner-append, of_list, least-below)
+
+-- with one more element, whose test holds just in the ranges of a last owner
+pub owner-more : {X : Type 0} (test : X → Bool) (all : List X) (x : X) (pairs : List (Range × ℕ)) (ranges : List Range) (n a : ℕ) → n ≡ length all → least_owner pairs a ≡ first test all → test x ≡ covers a ranges → least_owner (pairs ++ map (λ range. (range, n)) ranges) a ≡ first test (all ++ x ∷ [])
+owner-more test all x pairs ranges n a size same is = grind (arith, owner-push, first-within, first-push)

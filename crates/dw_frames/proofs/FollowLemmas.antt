@@ -23,7 +23,7 @@ use Rattle.dw_frames.proofs.NearLemmas.{enclosing-one, falls-on, near-below}
 use Rattle.dw_frames.proofs.ChainLemmas.{lies-after}
 use Rattle.dw_frames.proofs.PlacedLemmas.{or-none}
 use Rattle.dw_frames.proofs.RisingLemmas.{rises-once, rises-push}
-use Rattle.dw_frames.proofs.FirstLemmas.{first-push, first-within, owner-push}
+use Rattle.dw_frames.proofs.FirstLemmas.{first-push, owner-more}
 
 next-two : (n : ℕ) → suc (suc n) ≡ inside n
 next-two n = omega arith
@@ -123,10 +123,6 @@ module _ (s : Sections) (unit : DwarfUnit) where
 
   push-false : (test : Placed → Bool) (all : List Placed) (x : Placed) → test x ≡ false → first test (all ++ x ∷ []) ≡ first test all
   push-false test all x e = first-push test all x ∙ rw e (or-none (first test all))
-
-  -- owners of a further function, where the test holds just in its ranges
-  owner-more : (test : Placed → Bool) (all : List Placed) (x : Placed) (pairs : List (Range × ℕ)) (ranges : List Range) (n a : ℕ) → n ≡ length all → least_owner pairs a ≡ first test all → test x ≡ covers a ranges → least_owner (pairs ++ owned ranges n) a ≡ first test (all ++ x ∷ [])
-  owner-more test all x pairs ranges n a size same is = grind (arith, owner-push, first-within, first-push)
 
   -- nothing lies in the last function
   none-in-last : (a : ℕ) (all : List Placed) (k : ℕ) (p : Placed) → Rises (map offset_of all) → ((k : ℕ) (p : Placed) (e : Node) → slice_get all k ≡ Some p → p.1 ≡ Some e → e.entry.offset < offset_of p) → slice_get all k ≡ Some p → length all ≡ k + 1 → first (lies_in (holds_address s unit a) (offset_of p)) all ≡ None

@@ -41,8 +41,7 @@ frames-on : (s : Sections) (unit : DwarfUnit) (lines : Option Lines) (here : Loc
 unfolding frames_from
 frames-on s unit lines here [] = refl
 frames-on s unit lines here (node ∷ nodes) =
-    let function = told_of s unit node.entry in
-    ap (λ (rest : List Frame). record { name = function.name; location = here } ∷ rest) (frames-on s unit lines (called_at lines function.call) nodes)
+    grind (arith, frames-on s unit lines (called_at lines (told_of s unit node.entry).call) nodes)
 
 frames-told : (s : Sections) (unit : DwarfUnit) (lines : Option Lines) (here : Location) (nodes : List Node) → frames_told lines here (told s unit nodes) ≡ frames (named s unit) lines here nodes
 unfolding frames
@@ -69,9 +68,7 @@ module _ (here seen file : List ℕ) (unit : DwarfUnit) (a : ℕ) (found : here 
   pub answer-told : (functions : List Described) → AreFunctionsAt (sections here) unit a functions → answer_told (sections here) unit (map described_shown functions) a ≡ model.answer file a
   unfolding answer_in
   answer-told functions are =
-      let at = subst (λ (file : List ℕ). AreFunctionsAt (sections file) unit a functions) found are in
-      rw (found, sym same, sym is) (ap (as_answer unit.offset)
-      (ap (λ (told : List Told). unit_told (sections seen) unit told a) at.told ∙ by_tree (sections seen) unit a (nodes_of (sections seen) unit) at.read))
+      grind (arith, by_tree (sections seen) unit a (nodes_of (sections seen) unit))
 
   pub answer-fault : (code : UnitFault) (offset : ℕ) → offset ≡ unit.offset → HasTreeFault (sections here) unit code → fault offset (code_shown code) ≡ model.answer file a
   unfolding answer_in

@@ -14,12 +14,7 @@ SoFar lines functions k front here first = front ++ frames_on lines here (drop k
 pub goes_on : (lines : Option Lines) (functions : List Told) (k : ℕ) (told : Told) (front : List Frame) (here first next : Location) → slice_get functions k ≡ Some told → next ≡ called_at lines told.call
     → SoFar lines functions k front here first → SoFar lines functions (k + 1) (front ++ record { name = told.name; location = here } ∷ []) next first
 goes_on lines functions k told front here first next there is so_far =
-    let frame : Frame = record { name = told.name; location = here } in
-    let others = frames_on lines next (drop (k + 1) functions) in
-    let read = drop_more functions k told (slice_get_within functions k told there) in
-    let rest : drop k functions ≡ told ∷ drop (k + 1) functions = read ∙ ap (λ (one : Told). one ∷ drop (k + 1) functions) (get_or_from_slice_get functions k told told there) in
-    let whole : frames_on lines here (drop k functions) ≡ frame ∷ others = rw rest (ap (λ (at : Location). frame ∷ frames_on lines at (drop (k + 1) functions)) (sym is)) in
-    append_assoc front (frame ∷ []) others ∙ ap (λ (all : List Frame). front ++ all) (sym whole) ∙ so_far
+    grind (arith, drop_more functions k told, slice_get_within functions k told there, get_or_from_slice_get functions k told told there, append_assoc)
 
 pub ends : (lines : Option Lines) (functions : List Told) (k : ℕ) (front : List Frame) (here first : Location) → 0 < length functions → length functions ≤ k → SoFar lines functions k front here first → front ≡ frames_told lines first functions
 ends lines functions k front here first some past so_far = grind (arith, drop_all, append-nil)

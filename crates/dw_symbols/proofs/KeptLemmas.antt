@@ -13,8 +13,7 @@ use Rattle.dw_symbols.specs.Kept.{AreOf, size_together}
 -- each entry after a value was set was there, or is the one that was set
 set_cases : {K V : Type 0} (test : K → Bool) (f : K × V) (es : List (K × V)) (w : V) (e : K × V) → (Contains (set_value test es w) e → Contains es e ⊎ ((e.1 ≡ w) × (test e.0 ≡ true))) → (here : Bool) → test f.0 ≡ here → Contains (cond here ((f.0, w) ∷ es) (f ∷ set_value test es w)) e
     → Contains (f ∷ es) e ⊎ ((e.1 ≡ w) × (test e.0 ≡ true))
-set_cases {K} {V} test f es w e others true t h = grind (arith, Contains-cons, Contains-tail)
-set_cases test f es w e others false t h = grind (arith, Contains-cons, Contains-head, Contains-tail)
+set_cases test f es w e others here t h = grind (arith, Contains-cons, Contains-head, Contains-tail)
 
 Contains-set_value : {K V : Type 0} (test : K → Bool) (es : List (K × V)) (w : V) (e : K × V) → Contains (set_value test es w) e → Contains es e ⊎ ((e.1 ≡ w) × (test e.0 ≡ true))
 Contains-set_value test [] w e h = inl h
@@ -26,22 +25,11 @@ module _ {V : Type 0} (Is : ℕ → V → Type 0) where
 
   pub after-set : (es : List (ℕ × V)) (k : ℕ) (v : V) → AreOf Is es → Is k v → AreOf Is (set_value (nat_eq k) (promoted (nat_eq k) es) v)
   after-set es k v all own i w h =
-      elim (Contains-set_value (nat_eq k) (promoted (nat_eq k) es) v (i, w) h) [
-        | inl there ↦ after-get es k all i w there
-        | inr set ↦ subst (λ i. Is i w) (eqb-true k i set.1) (subst (Is k) (sym set.0) own)
-      ]
+      grind (arith, Contains-set_value (nat_eq k) (promoted (nat_eq k) es) v (i, w) h, after-get es k all i w, eqb-true)
 
   pub after-put : (old new : LruCache ℕ V) (k : ℕ) (v : V) → new ≡ lru_cache (put_entries nat_eq old k v) old.cap → AreOf Is old.entries → Is k v → AreOf Is new.entries
   after-put old new k v same all own i w h =
-      elim (Contains-put_entries nat_eq old k v (i, w) (subst (λ (cache : LruCache ℕ V). Contains cache.entries (i, w)) same h)) [
-        | inl there ↦ all i w there
-        | inr put ↦
-            let here : Is k w = subst (Is k) (sym put.0) own in
-            elim (put.1) [
-              | inl key ↦ subst (λ i. Is i w) (sym key) here
-              | inr other ↦ subst (λ i. Is i w) (eqb-true k i other.2) here
-            ]
-      ]
+      grind (arith, Contains-put_entries nat_eq old k v (i, w), eqb-true, all i w)
 
   pub after-take : (es : List (ℕ × V)) (n : ℕ) → AreOf Is es → AreOf Is (take n es)
   after-take es n all i v h = all i v (Contains-take n es (i, v) h)
@@ -79,8 +67,7 @@ module _ {V : Type 0} (line : List ℕ) where
   -- those before an entry, and it
   pub size-before : (n : ℕ) (es : List (ℕ × V)) (e : ℕ × V) → slice_get es n ≡ Some e → size_together line (take n es) + table_size line e.0 ≤ size_together line es
   size-before n [] e h = absurd cc
-  size-before zero (f ∷ es) e h = grind (arith, same_Some)
-  size-before (suc n) (f ∷ es) e h = omega (arith, size-before n es e h)
+  size-before n (f ∷ es) e h = grind (arith, same_Some, λ (n : ℕ). size-before n es)
 
   -- what is left where the last one is taken out
   pub oldest-gone : (es : List (ℕ × V)) (new : LruCache ℕ V) (cap size left : ℕ) (e : ℕ × V) → Some e ≡ slice_get es (length es - 1) → new ≡ lru_cache (take (length es - 1) es) cap → size_together line es ≤ size → left ≡ size - table_size line e.0 → size_together line new.entries ≤ left

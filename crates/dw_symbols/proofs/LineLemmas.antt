@@ -33,51 +33,18 @@ seen_of table = table >>= λ table. Ok (Some (lines_shown table))
 abbrev directory_by : Sections → DwarfUnit → Entry → Option (List ℕ)
 directory_by s unit first = option_and_then (text s.tables (bases s unit)) (attribute DW_AT_comp_dir first)
 
--- by its header and its program
-abbrev shown_by : Option (List ℕ) → LineHeader → List Instruction → Lines
-shown_by directory header program = record { header = header; rows = matrix header program; comp_dir = directory }
-
-abbrev placed_by : List ℕ → ℕ → Option (List ℕ) → LineHeader → List Instruction → Table
-placed_by section offset directory header program =
-    record { section = section; offset = offset; header = header; rows = matrix header program; comp_dir = directory }
-
-by_program : (section : List ℕ) (offset : ℕ) (directory : Option (List ℕ)) (header : LineHeader) (program : Result (List Instruction) ModelBad)
-    → seen (program >>= λ program. Ok (shown_by directory header program)) ≡ seen_of (program >>= λ program. Ok (placed_by section offset directory header program))
-by_program section offset directory header program = grind arith
-
-by_header : (section : List ℕ) (offset : ℕ) (directory : Option (List ℕ)) (header : Result LineHeader ModelBad)
-    → seen (header >>= λ header. instructions header >>= λ program. Ok (shown_by directory header program)) ≡ seen_of (header >>= λ header. instructions header >>= λ program. Ok (placed_by section offset directory header program))
-by_header section offset directory header = grind (arith, by_program)
-
 table-at : (s : Sections) (unit : DwarfUnit) (first : Entry) (offset : ℕ)
     → seen (lines_at s unit first offset) ≡ seen_of (lines_of s.tables (bases s unit) s.line (directory_by s unit first) offset)
 unfolding lines_at lines_of
-table-at s unit first offset = by_header s.line offset (directory_by s unit first) (line_header s.tables (bases s unit) s.line offset)
-
--- by the first entry of a unit, if it has one
-abbrev named_in : Option Entry → Option ℕ
-named_in root = option_and_then (λ first. option_and_then as_section_offset (attribute DW_AT_stmt_list first)) root
-
-abbrev directory_in : Sections → DwarfUnit → Option Entry → Option (List ℕ)
-directory_in s unit root = option_and_then (directory_by s unit) root
-
-abbrev lines_in : Sections → DwarfUnit → Option Entry → Result (Option Lines) ModelBad
-lines_in s unit root =
-    option_map_or (λ first. option_map_or (λ offset. seen (lines_at s unit first offset)) (option_and_then as_section_offset (attribute DW_AT_stmt_list first)) (Ok None)) root (Ok None)
-
-named-in : (s : Sections) (unit : DwarfUnit) (root : Option Entry) (offset : ℕ) → named_in root ≡ Some offset → lines_in s unit root ≡ seen_of (lines_of s.tables (bases s unit) s.line (directory_in s unit root) offset)
-named-in s unit root offset e = grind (arith, table-at)
-
-unnamed-in : (s : Sections) (unit : DwarfUnit) (root : Option Entry) → named_in root ≡ None → lines_in s unit root ≡ Ok None
-unnamed-in s unit root e = grind arith
+table-at s unit first offset = grind arith
 
 lines-named : (s : Sections) (unit : DwarfUnit) (offset : ℕ) → named_table s unit ≡ Some offset → lines s unit ≡ seen_of (lines_of s.tables (bases s unit) s.line (directory_of s unit) offset)
 unfolding lines
-lines-named s unit offset e = named-in s unit (root s unit) offset e
+lines-named s unit offset e = grind (arith, table-at s unit)
 
 lines-unnamed : (s : Sections) (unit : DwarfUnit) → named_table s unit ≡ None → lines s unit ≡ Ok None
 unfolding lines
-lines-unnamed s unit e = unnamed-in s unit (root s unit) e
+lines-unnamed s unit e = grind arith
 
 -- a table that can't be read
 pub bad-table : (line : List ℕ) (offset : ℕ) (e : LineFault) → e ≡ Bad → TellsEach line offset e → IsTableAt line offset (Err Line)

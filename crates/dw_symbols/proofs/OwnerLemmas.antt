@@ -33,7 +33,7 @@ use Rattle.dw_ranges.proofs.ClaimLemmas.{adds-same}
 use Rattle.dw_ranges.proofs.GroupLemmas.{group-here}
 use Rattle.dw_ranges.proofs.OwnedLemmas.{still-owned, now-owned, passed-over}
 use Rattle.dw_frames.specs.Placed.{first}
-use Rattle.dw_frames.proofs.FirstLemmas.{first-find, first-push, first-within, owner-push}
+use Rattle.dw_frames.proofs.FirstLemmas.{first-find, first-within, owner-more}
 use Rattle.dw_symbols.specs.Owners.{Holds, IsNamed, Owns, answers_at, checked_ranges, first_unit, ranges_in}
 
 -- ---- units, one after the other
@@ -42,8 +42,8 @@ pub opened-at : (s : Sections) (i : ℕ) (here : OpenUnit) → i < length (model
 opened-at s i here within is = slice_get-get_or (model.units s.info) i absent within ∙ ap Some (sym is)
 
 take-one : {X : Type 0} (xs : List X) (i : ℕ) (x : X) → slice_get xs i ≡ Some x → take (i + 1) xs ≡ take i xs ++ x ∷ []
-take-one {X = X} xs i x e =
-    take_more xs i x (slice_get_within xs i x e) ∙ ap (λ (one : X). take i xs ++ one ∷ []) (get_or_from_slice_get xs i x x e)
+take-one xs i x e =
+    rw (take_more xs i x (slice_get_within xs i x e), get_or_from_slice_get xs i x x e) refl
 
 -- ---- units whose ranges are bad
 
@@ -51,12 +51,10 @@ abbrev is_bad : Sections → DwarfUnit → Bool
 is_bad s unit = answers unit.kind && is_err (unit_ranges s unit)
 
 bad-by : (answering : Bool) (read : Result (List Range) Bad) → (answering && is_err read) ≡ is_err (cond answering read (Ok []))
-bad-by true read = refl
-bad-by false read = refl
+bad-by answering read = grind arith
 
 told-by : (read : Result (List Range) Bad) (refusal fault : Refusal) → or_fault refusal read ≡ Err fault → (is_err read ≡ true) × (refusal ≡ fault)
-told-by (Ok ranges) refusal fault e = absurd cc
-told-by (Err b) refusal fault e = (refl, cc)
+told-by read refusal fault e = grind arith
 
 -- the first units can be read
 abbrev AreGood : Sections → ℕ → Type 0
@@ -70,22 +68,16 @@ module _ (s : Sections) (i : ℕ) (unit : DwarfUnit) (at : slice_get (model.unit
   bad-is = bad-by (answers unit.kind) (unit_ranges s unit)
 
   good-on : (ranges : List Range) → ranges_in s unit ≡ Ok ranges → AreGood s (i + 1)
-  good-on ranges e = up-to ∙ rw (bad-is ∙ ap (λ (read : Result (List Range) Bad). is_err read) e) refl
+  good-on ranges e = grind (arith, up-to, bad-is)
 
   pub refused-at : (told : Option Refusal) → MatchOption told (Unit {0}) (λ refusal. checked_ranges s unit ≡ Err refusal) → MatchOption told (Unit {0}) (λ refusal. ranges_refusal s ≡ Some refusal)
-  refused-at None fault = tt
-  refused-at (Some refusal) fault =
-      let bad = told-by (ranges_in s unit) (root_ranges unit.offset) refusal fault in
-      let here : find (is_bad s) (take (i + 1) (model.units s.info)) ≡ Some unit = up-to ∙ rw (bad-is ∙ bad.0) refl in
-      let found : find (is_bad s) (model.units s.info) ≡ Some unit =
-      ap (find (is_bad s)) (sym (take-append-drop (i + 1) (model.units s.info))) ∙ find-append (is_bad s) (take (i + 1) (model.units s.info)) (drop (i + 1) (model.units s.info)) ∙ rw here refl in
-      ap (option_map (λ (unit : DwarfUnit). root_ranges unit.offset)) found ∙ ap Some bad.1
+  refused-at told fault =
+      grind (arith, told-by, up-to, bad-is, take-append-drop (i + 1) (model.units s.info), find-append (is_bad s) (take (i + 1) (model.units s.info)) (drop (i + 1) (model.units s.info)))
 
 -- ---- the first unit that answers an address
 
 answers-by : (a : ℕ) (answering : Bool) (read : Result (List Range) Bad) (ranges : List Range) → cond answering read (Ok []) ≡ Ok ranges → (answering && covers a (result_unwrap_or read [])) ≡ covers a ranges
-answers-by a true read ranges e = ap (λ (read : Result (List Range) Bad). covers a (result_unwrap_or read [])) e
-answers-by a false read ranges e = let none : [] ≡ ranges = cc in ap (covers a) none
+answers-by a answering read ranges e = grind arith
 
 module _ (s : Sections) (i : ℕ) (unit : DwarfUnit) (at : slice_get (model.units s.info) i ≡ Some unit) (claims : List Claim) (owns : Owns s (take i (model.units s.info)) claims) (ranges : List Range) (read : ranges_in s unit ≡ Ok ranges) where
   size : length (take i (model.units s.info)) ≡ i
@@ -94,12 +86,8 @@ module _ (s : Sections) (i : ℕ) (unit : DwarfUnit) (at : slice_get (model.unit
   -- its ranges beside those of the units before it
   owns-more : (a : ℕ) → least_owner (in_group 0 claims ++ owned ranges i) a ≡ first (answers_at s a) (take (i + 1) (model.units s.info))
   owns-more a =
-      let before = first (answers_at s a) (take i (model.units s.info)) in
-      owner-push (in_group 0 claims) ranges i a (λ k e. let w = first-within (answers_at s a) (take i (model.units s.info)) k (sym (owns a) ∙ e) in omega (arith, w, size))
-      ∙ ap (λ (found : Option ℕ). option_or found (cond (covers a ranges) (Some i) None)) (owns a)
-      ∙ ap (λ (here : Bool). option_or before (cond here (Some i) None)) (sym (answers-by a (answers unit.kind) (unit_ranges s unit) ranges read))
-      ∙ ap (λ (n : ℕ). option_or before (cond (answers_at s a unit) (Some n) None)) (sym size)
-      ∙ sym (ap (first (answers_at s a)) (take-one (model.units s.info) i unit at) ∙ first-push (answers_at s a) (take i (model.units s.info)) unit)
+      owner-more (answers_at s a) (take i (model.units s.info)) unit (in_group 0 claims) ranges i a (sym size) (owns a) (answers-by a (answers unit.kind) (unit_ranges s unit) ranges read)
+      ∙ ap (first (answers_at s a)) (sym (take-one (model.units s.info) i unit at))
 
 -- ---- what was gathered
 
@@ -125,14 +113,20 @@ none-gathered s most room claims read is same none = record {
 
 -- of a unit that names no list there is one range at most
 pub one-range : (s : Sections) (unit : DwarfUnit) (list : Option RangeList) (ranges : List CodeRange) → IsNamed s unit list → checked_ranges s unit ≡ Ok (map range_shown ranges) → list ≡ None → length ranges ≤ 1
-one-range s unit None ranges few e none =
-    omega (arith, few (map range_shown ranges) (or_fault-ok (root_ranges unit.offset) (ranges_in s unit) (map range_shown ranges) e), length-map ranges range_shown)
-one-range s unit (Some list) ranges few e none = absurd cc
+one-range s unit list ranges few e none =
+    grind (arith, or_fault-ok, length-map ranges range_shown)
 
-module _ (s : Sections) (most : ℕ) (old : ClaimsState) (read : List (RangeList × ℕ)) (i : ℕ) (unit : DwarfUnit) (at : slice_get (model.units s.info) i ≡ Some unit) (was : Gathered s most old read i) (list : Option RangeList) (named : IsNamed s unit list) where
+module _ (s : Sections) (most : ℕ) (old : ClaimsState) (read : List (RangeList × ℕ)) (i : ℕ) (here : OpenUnit) (file : opened.sections_of here ≡ s) (is_unit : opened.unit_of here ≡ unit_at s i) (within : i < length (model.units s.info))
+    (was : Gathered s most old read i) (list : Option RangeList) (named : IsNamed (opened.sections_of here) (opened.unit_of here) list) where
+  abbrev unit : DwarfUnit
+  unit = opened.unit_of here
+
+  at : slice_get (model.units s.info) i ≡ Some unit
+  at = opened-at s i here within is_unit
+
   -- the ranges of its list
   of-list : (one : RangeList) → list ≡ Some one → ranges_in s unit ≡ ranges_of_list s.tables one
-  of-list one is = subst (λ list. MatchOption list (IsOneAtMost (ranges_in s unit)) (λ list. ranges_in s unit ≡ ranges_of_list s.tables list)) is named
+  of-list one is = rw is at (subst (λ (s : Sections). IsNamed s unit list) file named)
 
   -- its list was read for an earlier unit
   pub read-again : MatchOption list ⊥ (λ list. Has read (list, 0)) → Gathered s most old read (i + 1)
@@ -151,23 +145,20 @@ module _ (s : Sections) (most : ℕ) (old : ClaimsState) (read : List (RangeList
           }
 
   -- its ranges are claimed
-  module _ (ranges : List Range) (is : ranges_in s unit ≡ Ok ranges) (new : ClaimsState) (after : List (RangeList × ℕ)) (noted : (known : RangeList × ℕ) → Has after known → Has (map (λ list. (list, 0)) (option_to_list list) ++ read) known) where
-    listed-is : (one : RangeList) → list ≡ Some one → listed s.tables one ≡ ranges
-    listed-is one e = ap (λ (read : Result (List Range) Bad). result_unwrap_or read []) (sym (of-list one e) ∙ is)
-
-    claimed-on : Adds 0 ranges i (all_claims s.tables old) (all_claims s.tables new) → length new.kept + new.room ≤ length old.kept + old.room + 1 → Gathered s most new after (i + 1)
-    claimed-on adds few = record {
+  module _ (new : ClaimsState) (after : List (RangeList × ℕ)) (noted : (known : RangeList × ℕ) → Has after known → Has (map (λ list. (list, 0)) (option_to_list list) ++ read) known) where
+    claimed-on : (ranges : List Range) → ranges_in s unit ≡ Ok ranges → Adds 0 ranges i (all_claims s.tables old) (all_claims s.tables new) → length new.kept + new.room ≤ length old.kept + old.room + 1 → Gathered s most new after (i + 1)
+    claimed-on ranges is adds few = record {
       units_are = good-on s i unit at was.units_are ranges is;
-      owns = λ a. here a ∙ owns-more s i unit at (all_claims s.tables old) was.owns ranges is a;
+      owns = λ a. now a ∙ owns-more s i unit at (all_claims s.tables old) was.owns ranges is a;
       lists = λ known h. by_list known list of-list (noted known h);
       few = let before = was.few in omega (arith, few, before);
     }
       where
-        here : (a : ℕ) → owner_in (all_claims s.tables new) 0 a ≡ least_owner (in_group 0 (all_claims s.tables old) ++ owned ranges i) a
-        here a = adds 0 a ∙ ap (λ (pairs : List (Range × ℕ)). least_owner pairs a) (group-here 0 0 (all_claims s.tables old) (owned ranges i) refl)
+        now : (a : ℕ) → owner_in (all_claims s.tables new) 0 a ≡ least_owner (in_group 0 (all_claims s.tables old) ++ owned ranges i) a
+        now a = adds 0 a ∙ ap (λ (pairs : List (Range × ℕ)). least_owner pairs a) (group-here 0 0 (all_claims s.tables old) (owned ranges i) refl)
 
         seen : (all : List Range) → AreOwned (in_group 0 (all_claims s.tables old) ++ owned ranges i) (i + 1) all → AreOwned (in_group 0 (all_claims s.tables new)) (i + 1) all
-        seen all h = λ a held. let o = h a held in (o.0, here a ∙ o.1, o.2)
+        seen all h = λ a held. let o = h a held in (o.0, now a ∙ o.1, o.2)
 
         still : (known : RangeList × ℕ) → Has read known → IsRead s (all_claims s.tables new) (i + 1) known.0
         still known has =
@@ -177,41 +168,41 @@ module _ (s : Sections) (most : ℕ) (old : ClaimsState) (read : List (RangeList
         by_list : (known : RangeList × ℕ) (list : Option RangeList) → ((one : RangeList) → list ≡ Some one → ranges_in s unit ≡ ranges_of_list s.tables one) → Has (map (λ list. (list, 0)) (option_to_list list) ++ read) known → IsRead s (all_claims s.tables new) (i + 1) known.0
         by_list known None of has = still known has
         by_list known (Some one) of (inl same) =
-            subst (IsRead s (all_claims s.tables new) (i + 1)) (ap (λ (known : RangeList × ℕ). known.0) same)
-            (ranges, sym (of one refl) ∙ is, seen ranges (now-owned (in_group 0 (all_claims s.tables old)) ranges i (i + 1) (omega arith)))
+            rw (← same) (ranges, sym (of one refl) ∙ is, seen ranges (now-owned (in_group 0 (all_claims s.tables old)) ranges i (i + 1) (omega arith)))
         by_list known (Some one) of (inr has) = still known has
 
-    pub read-on : AddsListed s.tables 0 ranges i list old new → length new.kept + new.room ≤ length old.kept + old.room + 1 → Gathered s most new after (i + 1)
-    read-on (inl adds) few = claimed-on adds few
-    read-on (inr adds) few = claimed-on (subst (λ (ranges : List Range). Adds 0 ranges i (all_claims s.tables old) (all_claims s.tables new)) (listed-is adds.0 adds.1) adds.2) few
+    pub read-on : (ranges : List Range) → checked_ranges (opened.sections_of here) unit ≡ Ok ranges → AddsListed s.tables 0 ranges i list old new → length new.kept + new.room ≤ length old.kept + old.room + 1 → Gathered s most new after (i + 1)
+    read-on ranges checked adds few =
+        claimed-on ranges is (elim adds [
+          | inl read ↦ read
+          | inr held ↦
+              let ranges_are : listed s.tables held.0 ≡ ranges = rw (← of-list held.0 held.1, is) refl in
+              subst (λ (ranges : List Range). Adds 0 ranges i (all_claims s.tables old) (all_claims s.tables new)) ranges_are held.2
+        ]) few
+      where
+        is : ranges_in s unit ≡ Ok ranges
+        is = or_fault-ok (root_ranges unit.offset) (ranges_in s unit) ranges (subst (λ (s : Sections). checked_ranges s unit ≡ Ok ranges) file checked)
 
-    pub held-on : (held : Listed) → held_ranges s.tables held ≡ ranges → new.kept ≡ old.kept → new.room ≡ old.room → all_claims s.tables new ≡ all_claims s.tables old ++ claims_in 0 (owned (held_ranges s.tables held) i) → Gathered s most new after (i + 1)
-    held-on held same kept room claims =
-        claimed-on (adds-same 0 ranges i (all_claims s.tables old) (all_claims s.tables new) (claims ∙ ap (λ (ranges : List Range). all_claims s.tables old ++ claims_in 0 (owned ranges i)) same))
+    -- its list is held by an index
+    pub held-on : (held : Listed) → Holds s.tables list held → new.kept ≡ old.kept → new.room ≡ old.room → all_claims s.tables new ≡ all_claims s.tables old ++ claims_in 0 (owned (held_ranges s.tables held) i) → Gathered s most new after (i + 1)
+    held-on held holds kept room claims =
+        let same : held_ranges s.tables held ≡ holds.ranges = holds.same ∙ ap (λ (read : Result (List Range) Bad). result_unwrap_or read []) holds.read in
+        claimed-on holds.ranges (of-list holds.named holds.is ∙ holds.read) (adds-same 0 holds.ranges i (all_claims s.tables old) (all_claims s.tables new) (claims ∙ ap (λ (ranges : List Range). all_claims s.tables old ++ claims_in 0 (owned ranges i)) same))
         (let size : length new.kept ≡ length old.kept = ap (λ (kept : List Claim). length kept) kept in omega (arith, size, room))
-
-  -- its list is held by an index
-  pub held-ranges : (held : Listed) → (holds : Holds s.tables list held) → (ranges_in s unit ≡ Ok holds.ranges) × (held_ranges s.tables held ≡ holds.ranges)
-  held-ranges held holds = (
-    of-list holds.named holds.is ∙ holds.read,
-    holds.same ∙ ap (λ (read : Result (List Range) Bad). result_unwrap_or read []) holds.read,
-  )
 
 -- ---- all units
 
 pub all-gathered : (s : Sections) (i : ℕ) (claims : List Claim) → length (model.units s.info) ≤ i → Owns s (take i (model.units s.info)) claims → Owns s (model.units s.info) claims
-all-gathered s i claims past owns = subst (λ (units : List DwarfUnit). Owns s units claims) (take_all i (model.units s.info) past) owns
+all-gathered s i claims past owns = grind (arith, take_all)
 
 pub none-refused : (s : Sections) (i : ℕ) → length (model.units s.info) ≤ i → AreGood s i → ranges_refusal s ≡ None
 none-refused s i past good = ap (option_map (λ (unit : DwarfUnit). root_ranges unit.offset)) (ap (find (is_bad s)) (sym (take_all i (model.units s.info) past)) ∙ good)
 
 unit-found : (s : Sections) (found : Option ℕ) (unit : Option DwarfUnit) → IfSome found (λ i. i < length (model.units s.info)) → option_and_then (slice_get (model.units s.info)) found ≡ unit → option_map (unit_at s) found ≡ unit
-unit-found s None unit within is = is
-unit-found s (Some i) unit within is = sym (slice_get-get_or (model.units s.info) i absent within) ∙ is
+unit-found s found unit within is = grind (arith, slice_get-get_or)
 
 within-by : {X : Type 0} (test : X → Bool) (xs : List X) (found : Option ℕ) → first test xs ≡ found → IfSome found (λ i. i < length xs)
-within-by test xs None e = tt
-within-by test xs (Some k) e = first-within test xs k e
+within-by test xs found e = grind (arith, first-within)
 
 -- the unit that is found is the one that answers
 pub owner-unit : (s seen : Sections) (owners : OwnersState) (claims : List Claim) (a : ℕ) → s ≡ seen → Owns s (model.units s.info) claims → first_unit s.tables owners a ≡ owner_in claims 0 a
@@ -221,5 +212,4 @@ owner-unit s seen owners claims a same owns is =
     let found = first (answers_at s a) (model.units s.info) in
     let within = within-by (answers_at s a) (model.units s.info) found refl in
     let unit = unit-found s found (unit_of s a) within (sym (first-find (answers_at s a) (model.units s.info))) in
-    let here : (option_map (unit_at s) (first_unit s.tables owners a) ≡ unit_of s a) × IfSome (first_unit s.tables owners a) (λ i. i < length (model.units s.info)) = rw (is ∙ owns a) (unit, within) in
-    subst (λ (s : Sections). (option_map (unit_at s) (first_unit s.tables owners a) ≡ unit_of s a) × IfSome (first_unit s.tables owners a) (λ i. i < length (model.units s.info))) same here
+    rw (← same, is, owns a) (unit, within)

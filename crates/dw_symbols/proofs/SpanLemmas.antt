@@ -31,24 +31,20 @@ pub grows : (old : List Piece) (n : ℕ) (last : Piece) (next : model.Piece) →
     → map piece_shown (slice_set old n (record { begin = last.begin; end = next.end; location = last.location })) ≡ with_piece (map piece_shown old) next
 unfolding with_piece
 grows [] n last next size is e = absurd (omega (arith, size))
-grows (x ∷ []) zero last next size is e = rw (← is, e) refl
-grows (x ∷ []) (suc n) last next size is e = absurd (omega (arith, size))
-grows (x ∷ y ∷ xs) zero last next size is e = absurd (omega (arith, size))
-grows (x ∷ y ∷ xs) (suc n) last next size is e = ap (λ (rest : List model.Piece). piece_shown x ∷ rest) (grows (y ∷ xs) n last next (omega (arith, size)) is e)
+grows (x ∷ []) n last next size is e = grind arith
+grows (x ∷ y ∷ xs) n last next size is e = grind (arith, grows (y ∷ xs))
 
 -- another one follows the last piece, which stays
 pub follows : (old : List Piece) (n : ℕ) (last other : Piece) (next : model.Piece) → length old ≡ n + 1 → last ≡ get_or old n last → joins (piece_shown last) next ≡ false → piece_shown other ≡ next
     → map piece_shown (slice_set old n last ++ other ∷ []) ≡ with_piece (map piece_shown old) next
 unfolding with_piece
 follows [] n last other next size is e same = absurd (omega (arith, size))
-follows (x ∷ []) zero last other next size is e same = rw (← is, e) (ap (λ (next : model.Piece). piece_shown last ∷ next ∷ []) same)
-follows (x ∷ []) (suc n) last other next size is e same = absurd (omega (arith, size))
-follows (x ∷ y ∷ xs) zero last other next size is e same = absurd (omega (arith, size))
-follows (x ∷ y ∷ xs) (suc n) last other next size is e same = ap (λ (rest : List model.Piece). piece_shown x ∷ rest) (follows (y ∷ xs) n last other next (omega (arith, size)) is e same)
+follows (x ∷ []) n last other next size is e same = grind arith
+follows (x ∷ y ∷ xs) n last other next size is e same = grind (arith, follows (y ∷ xs))
 
 pub first-one : (old : List Piece) (other : Piece) (next : model.Piece) → length old ≡ 0 → piece_shown other ≡ next → map piece_shown (old ++ other ∷ []) ≡ with_piece (map piece_shown old) next
 unfolding with_piece
-first-one [] other next size same = ap (λ (next : model.Piece). next ∷ []) same
+first-one [] other next size same = grind arith
 first-one (x ∷ xs) other next size same = absurd (omega (arith, size))
 
 -- ---- the rows of a span
@@ -65,8 +61,7 @@ pub adds_one : (table : Lines) (stretch : Stretch) (row : Row) (old : List model
     → AddsStretch table stretch old (with_piece old next)
 adds_one table stretch row old next is same law = λ rises location low order are have.
     let piece : model.Piece = record { begin = stretch.begin; end = stretch.end; location = row_place table row } in
-    subst (λ (next : model.Piece). ArePieces location low stretch.end (with_piece old next)) (sym same)
-    (law location low old piece are order rises (λ a above below. have a above below ∙ ap (λ row. Ok (option_map (row_place table) row)) is))
+    rw same (law location low old piece are order rises (λ a above below. have a above below ∙ ap (λ row. Ok (option_map (row_place table) row)) is))
 
 -- a row's piece, of which the path was found apart
 pub placed : (table : Lines) (row : Row) (begin end : ℕ) (path : Option (List ℕ)) (location : model.Location) → path ≡ file_path table row.file → location ≡ model.location_at None (Some row.line) (Some row.column)
@@ -83,14 +78,12 @@ pub stretch_added : (table : Lines) (low high at : ℕ) (stretch : Stretch) (old
     → AddedTo table low high stretch.end old new
 stretch_added table low high at stretch old now new order is added adds = λ location from before are have.
     let rises : stretch.begin < stretch.end = omega (arith, is.begins, is.rises) in
-    let here : ArePieces location from stretch.begin now = subst (λ (n : ℕ). ArePieces location from n now) (sym is.begins) (added location from before are have) in
-    adds rises location from (omega (arith, before, order, is.begins)) here
+    adds rises location from (omega (arith, before, order, is.begins)) (rw (is.begins) (added location from before are have))
     (λ a above below. have a (omega (arith, order, above, is.begins)) (omega (arith, below, is.within)) ∙ ap (λ row. Ok (option_map (row_place table) row)) (is.row a (omega (arith, above, is.begins)) below))
 
 pub all_added : (table : Lines) (low high at : ℕ) (old now : List model.Piece) → at ≤ high → high ≤ at → AddedTo table low high at old now → AddsRows table low high old now
 all_added table low high at old now within ended added = λ location from before are have.
-    let same : at ≡ high = omega (arith, within, ended) in
-    subst (λ (n : ℕ). ArePieces location from n now) same (added location from before are have)
+    let same : at ≡ high = omega (arith, within, ended) in rw (← same) (added location from before are have)
 
 -- ---- the addresses of a unit
 
@@ -159,11 +152,5 @@ pub first_fault : (s : Sections) (low high at : ℕ) (found : List model.Piece) 
     → ((location : ℕ → Result (Option model.Location) UnitFault) (low count : ℕ) (found : UnitFault) → (pieces_from location low count ≡ Err found) ↔ IsFirstFault location low (low + count) found)
     → model.fault fault.0 fault.1 ≡ pieces_in s low high
 first_fault s low high at found fault from before are is law =
-    let first : IsFirstFault (place s) low (low + (high - low)) fault = record {
-      address = at;
-      from = from;
-      before = omega (arith, from, before);
-      is = is;
-      first = λ a above below. rw (are.each a above below) refl;
-    } in
+    let first : IsFirstFault (place s) low (low + (high - low)) fault = record { address = at; from = from; before = omega (arith, from, before); is = is; first = λ a above below. rw (are.each a above below) refl } in
     ap as_answer (sym ((law (place s) low (high - low) fault).1 first))

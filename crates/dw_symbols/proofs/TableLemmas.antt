@@ -21,26 +21,17 @@ tables_of tables size = record { tables = tables; size = size }
 
 module _ (line : List ℕ) (old : KeptTables) (are : AreTables line old) where
   pub oldest-let-go : (new : LruCache ℕ Read) (size left : ℕ) (oldest : ℕ × Read) → Some oldest ≡ slice_get old.tables.entries (length old.tables.entries - 1) → new ≡ lru_cache (take (length old.tables.entries - 1) old.tables.entries) old.tables.cap → size ≡ table_size line oldest.0 → left ≡ old.size - size → AreTables line (tables_of new left)
-  oldest-let-go new size left oldest there same is rest = record {
-    each = after-same (IsTableAt line) new (length old.tables.entries - 1) old.tables.entries old.tables.cap same are.each;
-    counted = oldest-gone line old.tables.entries new old.tables.cap old.size left oldest there same are.counted (omega (arith, is, rest));
-    within = omega (arith, rest, are.within);
-  }
+  oldest-let-go new size left oldest there same is rest =
+      grind (arith, after-same (IsTableAt line) new (length old.tables.entries - 1) old.tables.entries old.tables.cap same are.each, oldest-gone line old.tables.entries new old.tables.cap old.size left oldest there same are.counted)
 
   pub table-put : (new : LruCache ℕ Read) (offset : ℕ) (read : Read) (size : ℕ) → new ≡ lru_cache (put_entries nat_eq old.tables offset read) old.tables.cap → IsTableAt line offset read → size ≡ old.size + table_size line offset → size ≤ length line → AreTables line (tables_of new size)
-  table-put new offset read size same own is room = record {
-    each = after-put (IsTableAt line) old.tables new offset read same are.each own;
-    counted = omega (arith, ap (λ (cache : LruCache ℕ Read). size_together line cache.entries) same, size-put line old.tables offset read, are.counted, is);
-    within = room;
-  }
+  table-put new offset read size same own is room =
+      grind (arith, after-put (IsTableAt line) old.tables new offset read same are.each own, size-put line old.tables offset read)
 
   -- a table that was used, and may have been turned
   pub table-used : (offset : ℕ) (named : Option ℕ) (read : Read) → Some offset ≡ named → IsTableOf line named read → AreTables line (tables_of (lru_cache (set_value (nat_eq offset) (promoted (nat_eq offset) old.tables.entries) read) old.tables.cap) old.size)
-  table-used offset named read names own = record {
-    each = after-set (IsTableAt line) old.tables.entries offset read are.each (subst (λ (named : Option ℕ). IsTableOf line named read) (sym names) own);
-    counted = omega (arith, size-after-set line old.tables.entries offset read, are.counted);
-    within = are.within;
-  }
+  table-used offset named read names own =
+      grind (arith, after-set (IsTableAt line) old.tables.entries offset read are.each, size-after-set line old.tables.entries offset read)
 
   pub table-found : (offset : ℕ) (named : Option ℕ) (read : Read) → Some offset ≡ named → Some read ≡ lookup (nat_eq offset) old.tables.entries → IsTableOf line named read
   table-found offset named read names found = subst (λ (named : Option ℕ). IsTableOf line named read) names (looked-up (IsTableAt line) old.tables.entries offset read are.each found)

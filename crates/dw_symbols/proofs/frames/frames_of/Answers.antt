@@ -18,7 +18,7 @@ none = record { name = None; call = record { file = None; line = None; column = 
 pub returns-then-functions-eq0 : goal.returns-then-functions-eq0
 returns-then-functions-eq0 c =
     let size = length-map c.args.functions.now described_shown in
-    ap (λ frames. map frame_shown frames) c.in_ok-frames.ensures.items ∙ no-frames (option_map lines_shown c.args.lines.now) (map described_shown c.args.functions.now) (location_shown c.args.location) (omega (arith, size, c.if-functions-eq0.true))
+    rw (c.in_ok-frames.ensures.items) (no-frames (option_map lines_shown c.args.lines.now) (map described_shown c.args.functions.now) (location_shown c.args.location) (omega (arith, size, c.if-functions-eq0.true)))
 
 pub loop-function-preserved : goal.loop-function-preserved
 loop-function-preserved c =
@@ -26,11 +26,9 @@ loop-function-preserved c =
     let k = c.loop-function.function-index in
     let function = get_or functions k none in
     let frame : Frame = record { name = function.name; location = c.replace.result } in
-    let pushed : map frame_shown c.push.new.self.items ≡ map frame_shown c.loop-function.frames.items ++ frame_shown frame ∷ [] = ap (λ frames. map frame_shown frames) c.in_ok-push.ensures.items ∙ map_push frame_shown c.loop-function.frames.items frame in
-    let here : location_shown c.replace.result ≡ location_shown c.loop-function.location = ap location_shown c.replace.ensures.value in
     let next : location_shown c.replace.new.dest ≡ called_at (option_map lines_shown c.args.lines.now) function.call = ap location_shown c.replace.ensures.after ∙ c.in_ok-next.ensures in
     let there : slice_get (map described_shown functions) k ≡ Some (described_shown function) = slice_get-map described_shown functions k ∙ rw (slice_get-get_or functions k none c.loop-function-test.true) refl in
-    rw (pushed, here) (goes_on (option_map lines_shown c.args.lines.now) (map described_shown functions) k (described_shown function) (map frame_shown c.loop-function.frames.items) (location_shown c.loop-function.location) (location_shown c.args.location) (location_shown c.replace.new.dest) there next c.loop-function.invariant)
+    rw (c.in_ok-push.ensures.items, map_push frame_shown c.loop-function.frames.items frame, c.replace.ensures.value) (goes_on (option_map lines_shown c.args.lines.now) (map described_shown functions) k (described_shown function) (map frame_shown c.loop-function.frames.items) (location_shown c.loop-function.location) (location_shown c.args.location) (location_shown c.replace.new.dest) there next c.loop-function.invariant)
 
 pub returns : goal.returns
 returns c =

@@ -24,9 +24,6 @@ returns c =
       | in-Some+else-joins w ↦
           let n = vec_len c.args.pieces.now - 1 in
           let size : length old ≡ n + 1 = omega (arith, w.in-Some.ensures.item.3.0) in
-          ap (map piece_shown) (c.in_ok-push.ensures.items ∙ ap (λ items. items ++ other ∷ []) (ap (λ pieces. pieces.items) w.pieces-is))
-          ∙ follows old n w.in-Some.last.now other next size w.in-Some.ensures.item.1 (sym w.joins.ensures ∙ w.if-joins.false) is
-      | in_default w ↦
-          ap (map piece_shown) (c.in_ok-push.ensures.items ∙ ap (λ items. items ++ other ∷ []) (ap (λ pieces. pieces.items) w.pieces-is))
-          ∙ first-one old other next (omega (arith, w.in_default.ensures.item.3)) is
+          rw (c.in_ok-push.ensures.items, w.pieces-is) (follows old n w.in-Some.last.now other next size w.in-Some.ensures.item.1 (sym w.joins.ensures ∙ w.if-joins.false) is)
+      | in_default w ↦ rw (c.in_ok-push.ensures.items, w.pieces-is) (first-one old other next (omega (arith, w.in_default.ensures.item.3)) is)
     ]

@@ -18,8 +18,7 @@ loop-stretch-preserved c =
     let old = map piece_shown c.args.pieces.now.items in
     let moved = c.in-Some.ensures.moved in
     let at : c.next.new.self.at ≡ stretch.end = ap (λ (walk : Walked). walk.at) moved in
-    let of_table = subst (λ (table : Table). IsStretch table.rows walk.at walk.high stretch) c.loop-stretch.invariant.table c.in-Some.ensures.stretch in
-    let is = subst (λ (high : ℕ). IsStretch table.rows walk.at high stretch) c.loop-stretch.invariant.high of_table in
+    let is : IsStretch table.rows walk.at c.args.high stretch = rw (c.loop-stretch.invariant.table, c.loop-stretch.invariant.high) at c.in-Some.ensures.stretch in
     let added = stretch_added (lines_shown table) c.args.low c.args.high walk.at stretch old (map piece_shown c.loop-stretch.pieces.items) (map piece_shown c.push_stretch.new.pieces.items) c.loop-stretch.invariant.above is c.loop-stretch.invariant.added c.in_ok-push_stretch.ensures.pieces in
     record {
       table = ap (λ (walk : Walked). walk.table) moved ∙ c.loop-stretch.invariant.table;
@@ -27,5 +26,5 @@ loop-stretch-preserved c =
       above = omega (arith, c.loop-stretch.invariant.above, is.rises, at);
       within = omega (arith, is.within, at);
       paths = c.in_ok-push_stretch.ensures.paths;
-      added = subst (λ (n : ℕ). AddedTo (lines_shown table) c.args.low c.args.high n old (map piece_shown c.push_stretch.new.pieces.items)) (sym at) added;
+      added = rw at added;
     }

@@ -18,4 +18,4 @@ returns-clause-pieces c =
     let old = map piece_shown c.args.pieces.now.items in
     let path = ap (λ paths. path_in paths c.in_ok-place.place) c.deref.ensures.value ∙ c.in_ok-place.ensures.path in
     let place = placed table row stretch.begin stretch.end _ _ path c.location_at.ensures in
-    subst (AddsStretch table stretch old) (sym c.in_ok-push_piece.ensures) (adds_one table stretch row old _ c.in-Some.is place c.law_of_more_pieces.ensures.one)
+    rw (c.in_ok-push_piece.ensures) (adds_one table stretch row old _ c.in-Some.is place c.law_of_more_pieces.ensures.one)

@@ -15,11 +15,8 @@ returns-in-Some-clause-kept c =
 
 pub returns-in-Some-clause-functions : goal.returns-in-Some-clause-functions
 returns-in-Some-clause-functions c =
-    let s = sections_in c.args.unit in
-    c.functions_in.ensures.functions s (unit_in c.args.unit)
-    (looked-up (IsTreeAt s) c.args.kept.now.entries c.args.unit.index c.in-Some.tree.now c.requires.kept c.in-Some.ensures.value)
+    c.functions_in.ensures.functions _ _ (looked-up (IsTreeAt (sections_in c.args.unit)) c.args.kept.now.entries c.args.unit.index c.in-Some.tree.now c.requires.kept c.in-Some.ensures.value)
 
 pub returns-clause-functions : goal.returns-clause-functions
 returns-clause-functions c =
-    c.in_ok-found.ensures.functions (sections_in c.args.unit) (unit_in c.args.unit)
-    (subst (λ (s : Sections). HasTree s (unit_at s c.args.unit.index) c.in_ok-tree.tree) c.shared_units.ensures c.in_ok-tree.ensures.tree)
+    c.in_ok-found.ensures.functions (sections_in c.args.unit) (unit_in c.args.unit) (rw (c.shared_units.ensures) at c.in_ok-tree.ensures.tree)

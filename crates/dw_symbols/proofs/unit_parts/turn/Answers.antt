@@ -6,15 +6,12 @@ use Rattle.dw_symbols.proofs.unit_parts.turn.Goals as goal
 
 pub returns-in-Ok-clause-lines : goal.returns-in-Ok-clause-lines
 returns-in-Ok-clause-lines c =
-    let named = subst (IsNamed (sections_of c.args.unit) (unit_of c.args.unit)) c.in-Ok.is c.requires.named in
-    table-turned _ _ c.in-Ok.table c.turn_table.new.table named c.turn_table.ensures
+    table-turned _ _ c.in-Ok.table c.turn_table.new.table (rw (c.in-Ok.is) at c.requires.named) c.turn_table.ensures
 
 pub returns-in-Ok-clause-named : goal.returns-in-Ok-clause-named
 returns-in-Ok-clause-named c =
-    let named = subst (IsNamed (sections_of c.args.unit) (unit_of c.args.unit)) c.in-Ok.is c.requires.named in
-    named-turned _ _ c.in-Ok.table c.turn_table.new.table named c.turn_table.ensures
+    named-turned _ _ c.in-Ok.table c.turn_table.new.table (rw (c.in-Ok.is) at c.requires.named) c.turn_table.ensures
 
 pub returns-in-Err-clause-lines : goal.returns-in-Err-clause-lines
 returns-in-Err-clause-lines c =
-    let named = subst (IsNamed (sections_of c.args.unit) (unit_of c.args.unit)) c.in-Err.is c.requires.named in
-    subst (HasLines _ _) (sym c.in-Err.is) (fault-turned _ _ c.in-Err.field-0 named)
+    rw (c.in-Err.is) (fault-turned _ _ c.in-Err.field-0 (rw (c.in-Err.is) at c.requires.named))

@@ -10,6 +10,6 @@ invariant_of-result c =
     let s = sections (file_in c.args.source) in
     record {
       indexes = c.new-indexes.ensures ∙ c.tables.ensures ∙ ap (λ (s : Sections). s.tables) c.units.ensures ∙ ap (λ (file : List ℕ). (sections file).tables) c.image.ensures;
-      trees = subst (λ cache. AreTrees s cache.entries) (sym c.in_ok-trees.ensures) (λ k v h. absurd (Contains-nil (k, v) h));
+      trees = rw (c.in_ok-trees.ensures) (λ k v h. absurd (Contains-nil (k, v) h));
       tables = c.in_ok-tables.ensures s.line;
     }

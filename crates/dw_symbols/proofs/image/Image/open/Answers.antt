@@ -1,4 +1,4 @@
-use Rattle.std.proofs.Common.{◌≡◌, ◌≤◌, ◌∙◌, ℕ, None, sym, ap, subst}
+use Rattle.std.proofs.Common.{◌≡◌, ◌≤◌, ◌∙◌, ℕ, None, sym, ap, subst, arith}
 use Rattle.std.proofs.lemmas.Result.{err_from_is_err_and}
 use Rattle.dw_model.specs.Section.{Sections, sections}
 use Rattle.dw_model.specs.Root.{unit_refusal}
@@ -29,7 +29,7 @@ invariant_of-result c =
       line = c.section.ensures ∙ ap (λ file. (sections file).line) c.in_ok-elf.ensures.file;
       finds = λ a. (owner a).0;
       within = λ a. (owner a).1;
-      few = subst (λ (s : Sections). cover.ranges ≤ most_ranges s) same (subst (λ (n : ℕ). n ≤ most_ranges s) (sym c.in_ok-cover.ensures.ranges) c.in_ok-claims.ensures.few);
+      few = grind (arith, same);
     }
 
 pub returns-clause-accepted : goal.returns-clause-accepted

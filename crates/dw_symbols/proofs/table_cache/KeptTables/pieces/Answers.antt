@@ -9,20 +9,14 @@ use Rattle.dw_symbols.proofs.table_cache.KeptTables.pieces.Goals as goal
 
 pub returns-in-Err-clause-answer : goal.returns-in-Err-clause-answer
 returns-in-Err-clause-answer c =
-    let s = sections c.args.image.now in
-    let at = c.loop-at.at in
-    let found = map piece_shown c.loop-at.pieces.items in
-    let adds = subst (λ (file : List ℕ). AddsFirst (sections file) (record { low = at; high = c.args.span.high }) c.in_ok-end.field-0 found (map piece_shown c.push_first.new.pieces.items)) c.loop-at.invariant.file c.in_ok-end.ensures.pieces in
-    let fails = subst (λ (end : Result ℕ (ℕ × UnitFault)). AddsFirst s (record { low = at; high = c.args.span.high }) end found (map piece_shown c.push_first.new.pieces.items)) c.in-Err.is adds in
-    first_fault s c.args.span.low c.args.span.high at found (fault_shown (c.in-Err.unit, c.in-Err.code)) c.loop-at.invariant.from c.loop-at-test.true c.loop-at.invariant.are fails c.law_of_pieces.ensures.fault
+    first_fault (sections c.args.image.now) c.args.span.low c.args.span.high c.loop-at.at (map piece_shown c.loop-at.pieces.items) (fault_shown (c.in-Err.unit, c.in-Err.code)) c.loop-at.invariant.from c.loop-at-test.true c.loop-at.invariant.are (rw (c.loop-at.invariant.file, c.in-Err.is) at c.in_ok-end.ensures.pieces) c.law_of_pieces.ensures.fault
 
 pub returns-then-low-high-clause-answer : goal.returns-then-low-high-clause-answer
 returns-then-low-high-clause-answer c =
     let low = c.args.span.low in
     let s = sections c.args.image.now in
     let none : ArePieces (place s) low low [] = record { order = omega arith; each = λ a up below. absurd (omega (arith, up, below)) } in
-    let found = subst (λ items. ArePieces (place s) low low (map piece_shown items)) (sym c.new-pieces.ensures.items) none in
-    all_pieces s low c.args.span.high low (map piece_shown c.new-pieces.result.items) (omega arith) (omega arith) c.if-low-high.true found c.law_of_pieces.ensures.pieces
+    all_pieces s low c.args.span.high low (map piece_shown c.new-pieces.result.items) (omega arith) (omega arith) c.if-low-high.true (rw (c.new-pieces.ensures.items) none) c.law_of_pieces.ensures.pieces
 
 pub returns-clause-answer : goal.returns-clause-answer
 returns-clause-answer c =
