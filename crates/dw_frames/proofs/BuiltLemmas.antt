@@ -1,6 +1,6 @@
 -- A tree that was built of what was kept of a unit's functions is the unit's.
 use Rattle.std.proofs.Common.{◌≡◌, ◌⊎◌, inl, inr, ℕ, zero, suc, ◌+◌, ◌<◌, ◌≤◌, Bool, true, false, List, [], ◌∷◌, length, map, reverse, Option, Some, None, Ok, refl, sym, ap, ◌∙◌, arith}
-use Rattle.std.specs.Prelude.{slice_get, filter, find, not, ◌==◌, ◌&&◌}
+use Rattle.std.specs.Prelude.{slice_get, filter, find, ◌==◌, ◌&&◌}
 use Rattle.std.proofs.lemmas.List.{length-append, length-map}
 use Rattle.std.proofs.lemmas.List.Elements.{filter-append}
 use Rattle.std.proofs.lemmas.List.Folds.{find-append}
@@ -13,7 +13,7 @@ use Rattle.dw_model.specs.Tree as model
 use Rattle.dw_model.specs.Unit as cut
 use Rattle.dw_ranges.specs.Claims.{owner_in, owner_of}
 use Rattle.dw_frames.specs.declared.chains.Chains.{Chains}
-use Rattle.dw_frames.specs.Drafts.{Drafts, inside, outermost, is_idle, is_kept}
+use Rattle.dw_frames.specs.Drafts.{Drafts, inside, outermost, is_kept}
 use Rattle.dw_frames.specs.Kept.{most_listed}
 use Rattle.dw_frames.specs.Placed.{Placed, placed, offset_of, Falls, Follows}
 use Rattle.dw_frames.specs.Tree.{id_of, inwards, chain_at, function_at, most_ranges, nodes_of, IsTreeOf}

@@ -9,7 +9,7 @@ use Rattle.dw_model.specs.declared.dwarf.TheConstants.{DW_TAG_subprogram}
 use Rattle.dw_model.specs.Entry.{Entry}
 use Rattle.dw_model.specs.Section.{Sections}
 use Rattle.dw_model.specs.Unit.{DwarfUnit}
-use Rattle.dw_model.specs.Ranges.{Range, covers}
+use Rattle.dw_model.specs.Ranges.{Range}
 use Rattle.dw_model.specs.Tree.{Node, is_function, is_subprogram, is_inlined, enclosing, is_at, holds_address}
 use Rattle.dw_index.specs.Owners.{least_owner}
 use Rattle.dw_ranges.specs.Claims.{Claim, claims_in, in_group, owner_in}

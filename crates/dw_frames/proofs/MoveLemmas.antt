@@ -1,5 +1,5 @@
 -- Entries are one after the other: the place after one is further on.
-use Rattle.std.proofs.Common.{◌≡◌, Bool, inl, inr, ℕ, ◌<◌, List, [], ◌∷◌, length, drop, Option, Some, None, Result, Ok, sym, ap, subst, ◌∙◌, arith, cond}
+use Rattle.std.proofs.Common.{◌≡◌, Bool, inl, inr, ℕ, ◌<◌, List, [], ◌∷◌, length, drop, Option, Some, None, Result, Ok, ap, subst, ◌∙◌, arith, cond}
 use Rattle.std.specs.Prelude.{ok_or, ◌==◌}
 use Rattle.std.proofs.Math.Seq.{drop-append_seam}
 use Rattle.std.proofs.lemmas.List.{drop-drop}

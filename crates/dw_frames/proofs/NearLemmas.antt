@@ -1,11 +1,11 @@
 -- The nearest function in which a node lies, by depths alone.
-use Rattle.std.proofs.Common.{◌≡◌, ℕ, ◌<◌, ◌≤◌, min, cond, List, [], ◌∷◌, Some, refl, ap, ◌∙◌, arith}
+use Rattle.std.proofs.Common.{◌≡◌, ℕ, ◌<◌, ◌≤◌, min, List, [], ◌∷◌, Some, refl, ap, ◌∙◌, arith}
 use Rattle.std.specs.Prelude.{◌&&◌, nat_lt}
 use Rattle.std.specs.List.{list_all}
 use Rattle.std.proofs.Math.Bool.{and-true}
 use Rattle.std.proofs.lemmas.Bool.Decides.{nat_tests}
 use Rattle.std.proofs.lemmas.Option.{same_Some}
-use Rattle.dw_model.specs.Tree.{Node, is_function, enclosing}
+use Rattle.dw_model.specs.Tree.{Node, enclosing}
 use Rattle.dw_frames.specs.Placed.{near, Falls}
 
 lt-min : (k d e : ℕ) → (nat_lt k e && nat_lt k d) ≡ nat_lt k (min d e)

@@ -1,5 +1,5 @@
 -- What is kept stays at its key.
-use Rattle.std.proofs.Common.{◌≡◌, ◌⊎◌, inl, inr, ℕ, zero, suc, ◌+◌, ◌-◌, ◌≤◌, Bool, true, false, cond, List, [], ◌∷◌, Contains, take, length, Some, refl, sym, ◌∙◌, subst, arith}
+use Rattle.std.proofs.Common.{◌≡◌, ◌⊎◌, inl, ℕ, zero, suc, ◌+◌, ◌-◌, ◌≤◌, Bool, true, cond, List, [], ◌∷◌, Contains, take, length, Some, refl, sym, ◌∙◌, subst, arith}
 use Rattle.std.specs.Prelude.{nat_eq, slice_get}
 use Rattle.std.specs.Map.{lookup, lookup_entry, remove_entry, set_value}
 use Rattle.std.proofs.lemmas.Bool.{eqb-true}

@@ -1,18 +1,14 @@
 -- The line table that a unit names, as the unit sees it.
 use Rattle.std.proofs.Common.{◌≡◌, ℕ, List, Option, Some, None, Result, Ok, Err, refl, subst, arith}
 use Rattle.std.specs.Prelude.{option_and_then}
-use Rattle.std.specs.Option.{option_map_or}
-use Rattle.dw_model.specs.declared.dwarf.TheConstants.{DW_AT_stmt_list, DW_AT_comp_dir}
+use Rattle.dw_model.specs.declared.dwarf.TheConstants.{DW_AT_comp_dir}
 use Rattle.dw_model.specs.Results.{◌>>=◌}
 use Rattle.dw_model.specs.Faults.{Bad as ModelBad}
 use Rattle.dw_model.specs.Text.{text}
-use Rattle.dw_model.specs.LineHeader.{LineHeader, line_header}
-use Rattle.dw_model.specs.Instruction.{Instruction, instructions}
-use Rattle.dw_model.specs.Matrix.{matrix}
 use Rattle.dw_model.specs.Section.{Sections}
 use Rattle.dw_model.specs.Unit.{DwarfUnit}
-use Rattle.dw_model.specs.Entry.{Entry, attribute, as_section_offset}
-use Rattle.dw_model.specs.Root.{root, bases}
+use Rattle.dw_model.specs.Entry.{Entry, attribute}
+use Rattle.dw_model.specs.Root.{bases}
 use Rattle.dw_model.specs.Answer.{Lines, lines, lines_at}
 use Rattle.dw_line.specs.declared.fault.LineFault.{LineFault}
 use Rattle.dw_line.specs.declared.fault.LineFault.TheVariants.{Bad}

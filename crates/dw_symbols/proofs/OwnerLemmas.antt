@@ -1,7 +1,6 @@
 -- What units claim: the first unit that answers an address owns it.
-use Rattle.std.proofs.Common.{◌≡◌, ◌∙◌, inl, inr, ℕ, ◌+◌, ◌<◌, ◌≤◌, Bool, true, false, cond, List, [], ◌∷◌, ◌++◌, length, map, take, drop, Option, Some, None, Result, Ok, Err, refl, sym, ap, subst, arith}
+use Rattle.std.proofs.Common.{◌≡◌, ◌∙◌, inl, inr, ℕ, ◌+◌, ◌<◌, ◌≤◌, Bool, true, cond, List, [], ◌∷◌, ◌++◌, length, map, take, drop, Option, Some, None, Result, Ok, Err, refl, sym, ap, subst, arith}
 use Rattle.std.specs.Prelude.{IfSome, MatchOption, find, option_map, option_and_then, option_to_list, slice_get, is_err, ◌&&◌}
-use Rattle.std.specs.Option.{option_or}
 use Rattle.std.specs.Result.{result_unwrap_or}
 use Rattle.std.proofs.lemmas.List.{length-map, length-take, take-append-drop, take_all, take_more}
 use Rattle.std.proofs.lemmas.List.Folds.{find-append}
@@ -26,7 +25,7 @@ use Rattle.dw_ranges.specs.declared.held.Listed.{Listed}
 use Rattle.dw_ranges.specs.declared.range_list.RangeList.{RangeList}
 use Rattle.dw_ranges.specs.Claims.{Adds, AddsListed, Claim, ClaimsState, OwnersState, all_claims, claims_in, held_claims, held_ranges, in_group, owner_in}
 use Rattle.dw_ranges.specs.Held.{listed}
-use Rattle.dw_ranges.specs.Lists.{IsOneAtMost, ranges_of_list}
+use Rattle.dw_ranges.specs.Lists.{ranges_of_list}
 use Rattle.dw_ranges.specs.Owned.{AreOwned, owned}
 use Rattle.dw_ranges.specs.ReadLists.{Has}
 use Rattle.dw_ranges.proofs.ClaimLemmas.{adds-same}

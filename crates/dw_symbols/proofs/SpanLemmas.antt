@@ -1,5 +1,5 @@
 -- The pieces of a span by line tables.
-use Rattle.std.proofs.Common.{◌≡◌, ◌≤◌, ◌<◌, ℕ, zero, suc, List, [], ◌∷◌, ◌++◌, get_or, map, Option, Some, None, true, false, Result, Ok, Err, length, ◌-◌, ◌+◌, refl, sym, subst, ap, ◌∙◌, arith}
+use Rattle.std.proofs.Common.{◌≡◌, ◌≤◌, ◌<◌, ℕ, List, [], ◌∷◌, ◌++◌, get_or, map, Option, Some, None, true, false, Result, Ok, Err, length, ◌-◌, ◌+◌, refl, sym, subst, ap, ◌∙◌, arith}
 use Rattle.std.specs.Prelude.{slice_set, ◌↔◌, option_map}
 use Rattle.dw_model.specs.Answer as model
 use Rattle.dw_model.specs.Answer.{Lines, Code, line_fault, unit_of, lines, row_at, row_location}

@@ -1,5 +1,5 @@
 -- The line tables that are kept, after one more, one fewer or one that was turned.
-use Rattle.std.proofs.Common.{◌≡◌, ◌≤◌, ℕ, ◌+◌, ◌-◌, List, length, take, Option, Some, Result, sym, ap, subst, arith}
+use Rattle.std.proofs.Common.{◌≡◌, ◌≤◌, ℕ, ◌+◌, ◌-◌, List, length, take, Option, Some, Result, sym, subst, arith}
 use Rattle.std.specs.Prelude.{nat_eq, slice_get}
 use Rattle.std.specs.Map.{lookup, set_value}
 use Rattle.lru.specs.LruCache.{LruCache, lru_cache, promoted, put_entries}
@@ -9,7 +9,7 @@ use Rattle.dw_line.specs.Lines.{Table}
 use Rattle.dw_line.specs.TableAt.{table_size}
 use Rattle.dw_symbols.specs.declared.answer.UnitFault.{UnitFault}
 use Rattle.dw_symbols.specs.declared.table_cache.KeptTables.{KeptTables}
-use Rattle.dw_symbols.specs.Kept.{AreTables, size_together}
+use Rattle.dw_symbols.specs.Kept.{AreTables}
 use Rattle.dw_symbols.specs.UnitParts.{IsNamed, IsTableAt, IsTableOf, named_table}
 use Rattle.dw_symbols.proofs.KeptLemmas.{after-same, after-put, after-set, looked-up, oldest-gone, size-put, size-after-set}
 

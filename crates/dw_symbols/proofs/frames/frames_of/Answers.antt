@@ -1,4 +1,4 @@
-use Rattle.std.proofs.Common.{◌≡◌, ◌∙◌, ◌∷◌, ◌++◌, [], get_or, map, Some, None, arith, refl, ap}
+use Rattle.std.proofs.Common.{◌≡◌, ◌∙◌, get_or, map, Some, None, arith, refl, ap}
 use Rattle.std.specs.Prelude.{slice_get, option_map}
 use Rattle.dw_line.specs.Lines.{lines_shown}
 use Rattle.std.proofs.lemmas.List.{map_push, length-map}

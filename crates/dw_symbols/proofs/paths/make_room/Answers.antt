@@ -1,6 +1,4 @@
-use Rattle.std.proofs.Common.{List, Option, sym, subst, arith}
-use Rattle.dw_symbols.specs.declared.paths.KnownPath.{KnownPath}
-use Rattle.dw_symbols.specs.Paths.{ArePathsOf}
+use Rattle.std.proofs.Common.{arith}
 use Rattle.dw_symbols.proofs.PathLemmas.{one-place}
 use Rattle.dw_symbols.proofs.paths.make_room.Goals as goal
 

@@ -1,4 +1,4 @@
-use Rattle.std.proofs.Common.{◌≡◌, ◌∙◌, ◌-◌, ◌+◌, ◌++◌, ◌∷◌, [], ℕ, List, Option, length, map, sym, ap, arith}
+use Rattle.std.proofs.Common.{◌≡◌, ◌∙◌, ◌-◌, ◌+◌, ℕ, List, Option, length, sym, ap, arith}
 use Rattle.std.specs.Vec.{vec_len}
 use Rattle.dw_symbols.specs.declared.answer.Piece.{Piece}
 use Rattle.dw_symbols.specs.Answer.{piece_shown}

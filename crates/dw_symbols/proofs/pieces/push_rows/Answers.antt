@@ -1,8 +1,8 @@
-use Rattle.std.proofs.Common.{◌≡◌, ◌≤◌, ◌∙◌, ℕ, map, refl, subst, sym, ap, arith}
-use Rattle.dw_line.specs.Lines.{Table, lines_shown}
+use Rattle.std.proofs.Common.{◌≡◌, ◌≤◌, ◌∙◌, map, refl, ap, arith}
+use Rattle.dw_line.specs.Lines.{lines_shown}
 use Rattle.dw_line.specs.Walked.{Walked, IsStretch}
 use Rattle.dw_symbols.specs.Answer.{piece_shown}
-use Rattle.dw_symbols.proofs.SpanLemmas.{AddedTo, stretch_added, all_added}
+use Rattle.dw_symbols.proofs.SpanLemmas.{stretch_added, all_added}
 use Rattle.dw_symbols.proofs.pieces.push_rows.Goals as goal
 
 pub returns-in_default : goal.returns-in_default

@@ -1,8 +1,7 @@
-use Rattle.std.proofs.Common.{◌∙◌, map, sym, subst, ap}
+use Rattle.std.proofs.Common.{◌∙◌, map, ap}
 use Rattle.dw_line.specs.Lines.{lines_shown}
 use Rattle.dw_symbols.specs.Answer.{piece_shown}
 use Rattle.dw_symbols.specs.Paths.{path_in}
-use Rattle.dw_symbols.specs.Pieces.{AddsStretch}
 use Rattle.dw_symbols.proofs.SpanLemmas.{adds_none, adds_one, placed}
 use Rattle.dw_symbols.proofs.pieces.push_stretch.Goals as goal
 

@@ -1,8 +1,5 @@
-use Rattle.std.proofs.Common.{◌∙◌, map, Option, Result, Ok, subst, ap}
-use Rattle.dw_line.specs.Lines.{Table}
-use Rattle.dw_symbols.specs.declared.answer.UnitFault.{UnitFault}
+use Rattle.std.proofs.Common.{map}
 use Rattle.dw_symbols.specs.Answer.{piece_shown}
-use Rattle.dw_symbols.specs.UnitParts.{HasLines}
 use Rattle.dw_symbols.proofs.SpanLemmas.{unit_adds, unit_adds_none}
 use Rattle.dw_symbols.proofs.unit_answers.push_lines.Goals as goal
 

@@ -1,9 +1,5 @@
-use Rattle.std.proofs.Common.{subst}
-use Rattle.dw_model.specs.Section.{Sections}
-use Rattle.dw_units.specs.UnitAt.{unit_at}
 use Rattle.dw_symbols.specs.ImageUnit.{sections_in, unit_in}
 use Rattle.dw_symbols.specs.Kept.{IsTreeAt}
-use Rattle.dw_symbols.specs.UnitParts.{HasTree}
 use Rattle.dw_symbols.proofs.KeptLemmas.{after-set, looked-up}
 use Rattle.dw_symbols.proofs.unit_cache.functions_at.Goals as goal
 

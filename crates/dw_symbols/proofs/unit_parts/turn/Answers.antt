@@ -1,6 +1,3 @@
-use Rattle.std.proofs.Common.{sym, subst}
-use Rattle.dw_units.specs.OpenUnit.{sections_of, unit_of}
-use Rattle.dw_symbols.specs.UnitParts.{IsNamed, HasLines}
 use Rattle.dw_symbols.proofs.LineLemmas.{fault-turned, table-turned, named-turned}
 use Rattle.dw_symbols.proofs.unit_parts.turn.Goals as goal
 

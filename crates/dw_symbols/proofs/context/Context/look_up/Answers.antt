@@ -1,13 +1,5 @@
-use Rattle.std.proofs.Common.{◌≡◌, ◌∙◌, List, map, ap, subst, arith}
-use Rattle.std.specs.Prelude.{IfOk, MatchResult}
-use Rattle.dw_model.specs.Answer as model
-use Rattle.dw_model.specs.Section.{sections}
-use Rattle.dw_frames.specs.declared.function.Described.{Described}
-use Rattle.dw_frames.specs.Told.{described_shown}
-use Rattle.dw_symbols.specs.Frames.{answer_told}
-use Rattle.dw_symbols.specs.UnitParts.{AreFunctionsAt, HasTreeFault}
+use Rattle.std.proofs.Common.{◌∙◌, ap, arith}
 use Rattle.dw_symbols.specs.ContextState.{ContextState}
-use Rattle.dw_symbols.specs.Answer.{answer_shown}
 use Rattle.dw_symbols.specs.ImageUnit.{unit_in}
 use Rattle.dw_symbols.proofs.AnswerLemmas.{answer-none, answer-told, answer-fault, answers-kind}
 use Rattle.dw_symbols.proofs.context.Context.look_up.Goals as goal

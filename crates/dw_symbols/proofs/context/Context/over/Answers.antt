@@ -1,7 +1,6 @@
-use Rattle.std.proofs.Common.{◌∙◌, ℕ, List, ap, sym, subst}
+use Rattle.std.proofs.Common.{◌∙◌, ℕ, List, ap}
 use Rattle.lru.proofs.Splits.{Contains-nil}
 use Rattle.dw_model.specs.Section.{Sections, sections}
-use Rattle.dw_symbols.specs.Kept.{AreTrees}
 use Rattle.dw_symbols.specs.Source.{file_in}
 use Rattle.dw_symbols.proofs.context.Context.over.Goals as goal
 

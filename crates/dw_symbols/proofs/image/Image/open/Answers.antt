@@ -1,10 +1,9 @@
-use Rattle.std.proofs.Common.{◌≡◌, ◌≤◌, ◌∙◌, ℕ, None, sym, ap, subst, arith}
+use Rattle.std.proofs.Common.{◌≡◌, ◌∙◌, ℕ, None, ap, arith}
 use Rattle.std.proofs.lemmas.Result.{err_from_is_err_and}
-use Rattle.dw_model.specs.Section.{Sections, sections}
+use Rattle.dw_model.specs.Section.{sections}
 use Rattle.dw_model.specs.Root.{unit_refusal}
 use Rattle.dw_elf.specs.OpenFault.{refusal_of}
 use Rattle.dw_ranges.specs.Claims.{all_claims}
-use Rattle.dw_symbols.specs.Owners.{most_ranges}
 use Rattle.dw_symbols.proofs.OwnerLemmas.{owner-unit}
 use Rattle.dw_symbols.proofs.ImageLemmas.{by-ranges, told-by-ranges}
 use Rattle.dw_symbols.proofs.image.Image.open.Goals as goal

@@ -1,6 +1,4 @@
 use Rattle.std.proofs.Common.{arith}
-use Rattle.dw_model.specs.Section.{Sections}
-use Rattle.dw_forms.specs.Tables.{tables_shown}
 use Rattle.dw_symbols.proofs.ImageLemmas.{found-unit}
 use Rattle.dw_symbols.proofs.image.Image.unit_at.Goals as goal
 

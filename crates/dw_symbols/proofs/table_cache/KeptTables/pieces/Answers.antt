@@ -1,9 +1,8 @@
-use Rattle.std.proofs.Common.{ℕ, List, [], map, Result, sym, subst, arith}
+use Rattle.std.proofs.Common.{[], map, arith}
 use Rattle.dw_model.specs.Section.{sections}
 use Rattle.dw_model.specs.Pieces.{ArePieces, place}
-use Rattle.dw_symbols.specs.declared.answer.UnitFault.{UnitFault}
 use Rattle.dw_symbols.specs.Answer.{piece_shown}
-use Rattle.dw_symbols.specs.Span.{AddsFirst, fault_shown}
+use Rattle.dw_symbols.specs.Span.{fault_shown}
 use Rattle.dw_symbols.proofs.SpanLemmas.{all_pieces, first_fault}
 use Rattle.dw_symbols.proofs.table_cache.KeptTables.pieces.Goals as goal
 

@@ -1,10 +1,7 @@
-use Rattle.std.proofs.Common.{◌≡◌, ℕ, List, map, Option, subst}
-use Rattle.std.specs.Prelude.{IfSome, option_map}
+use Rattle.std.proofs.Common.{ℕ, List, map, subst}
 use Rattle.dw_model.specs.Section.{sections}
-use Rattle.dw_symbols.specs.declared.answer.UnitFault.{UnitFault}
-use Rattle.dw_symbols.specs.declared.image_unit.ImageUnit.{ImageUnit}
 use Rattle.dw_symbols.specs.Answer.{piece_shown}
-use Rattle.dw_symbols.specs.ImageUnit.{IsUnitOf, unit_in}
+use Rattle.dw_symbols.specs.ImageUnit.{unit_in}
 use Rattle.dw_symbols.specs.Span.{AddsUnit}
 use Rattle.dw_symbols.proofs.SpanLemmas.{first_none, first_adds, first_fails}
 use Rattle.dw_symbols.proofs.table_cache.KeptTables.push_first.Goals as goal
