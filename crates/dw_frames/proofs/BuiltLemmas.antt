@@ -1,11 +1,11 @@
 -- A tree that was built of what was kept of a unit's functions is the unit's.
 use Rattle.std.proofs.Common.{◌≡◌, ◌⊎◌, inl, inr, ℕ, zero, suc, ◌+◌, ◌<◌, ◌≤◌, Bool, true, false, List, [], ◌∷◌, length, map, reverse, Option, Some, None, Ok, refl, sym, ap, ◌∙◌, arith}
-use Rattle.std.specs.Prelude.{slice_get, filter, find, ◌==◌, ◌&&◌}
+use Rattle.std.specs.Prelude.{option_map, slice_get, filter, find, ◌==◌, ◌&&◌}
 use Rattle.std.proofs.lemmas.List.{length-append, length-map}
 use Rattle.std.proofs.lemmas.List.Elements.{filter-append}
 use Rattle.std.proofs.lemmas.List.Folds.{find-append}
 use Rattle.std.proofs.lemmas.Bool.{and_parts, and_left, and_right, or_parts, eq-eqb, ne_eqb, eqb-true, cases_lt}
-use Rattle.std.proofs.lemmas.Option.{same_Some, slice_get_past}
+use Rattle.std.proofs.lemmas.Option.{same_Some, slice_get-map}
 use Rattle.dw_model.specs.Entry.{Entry}
 use Rattle.dw_model.specs.Ranges.{Range, covers}
 use Rattle.dw_model.specs.Tree.{Node, is_function, is_subprogram, is_inlined, enclosing, chain, chain_in, holds_address}
@@ -96,20 +96,14 @@ module _ (of : UnitIn) (after : List Node) (drafts : Drafts) (bound : ℕ) (foun
     steps : Found keep holds idle after (owner_of of.sections.tables found.owners outermost a) inner
     steps = grind arith
 
-    both : (k : ℕ) → ((slice_get found.functions.items k ≡ None) × (slice_get (placed keep after) k ≡ None)) ⊎ ((offset : ℕ) × (p : Placed) × (slice_get found.functions.items k ≡ Some offset) × (slice_get (placed keep after) k ≡ Some p))
-    both k = elim (cases_lt k (length (placed keep after))) [
-      | inl within ↦ (
-          let offset = get-there found.functions.items k (omega (arith, within, size)) in
-          let p = get-there (placed keep after) k within in
-          inr (offset.0, p.0, offset.1, p.1))
-      | inr past ↦ inl (slice_get_past found.functions.items k (omega (arith, past, size)), slice_get_past (placed keep after) k past)
-    ]
+    there : (k : ℕ) → slice_get found.functions.items k ≡ option_map offset_of (slice_get (placed keep after) k)
+    there k = rw offsets-are (slice_get-map offset_of (placed keep after) k)
 
     climbs-same : (most : ℕ) (number : Option ℕ) → map (function_at of) (inwards of.sections.tables found a most number) ≡ map Some (climb keep holds idle after (owner_of of.sections.tables found.owners outermost a) inner steps most number)
     unfolding inwards climb
     climbs-same zero number = refl
     climbs-same (suc most) None = refl
-    climbs-same (suc most) (Some k) = grind (arith, both, id-of-number, climbs-same most (inner k))
+    climbs-same (suc most) (Some k) = grind (arith, there k, id-of-number, climbs-same most (inner k))
 
     chain-same : map (function_at of) (reverse (chain_at of.sections.tables found a)) ≡ map Some (chain of.sections of.unit (nodes_of of.sections of.unit) a)
     chain-same =

@@ -100,14 +100,11 @@ module _ (s : Sections) (unit : DwarfUnit) where
   follows-unkept before drafts bound next entry new e low high names f =
       grind (arith, placed-other, falls-on, get-children, slice_get_within, near-past)
 
-  not-function : (entry : Entry) → is_function entry ≡ false → is_kept s unit entry ≡ false
-  not-function entry e = and_left (is_function entry) (not (is_idle s unit entry)) e
-
   pub follows-other : (before : List Node) (drafts : Drafts) (bound next : ℕ) (entry : Entry) → is_function entry ≡ false → bound ≤ entry.offset → entry.offset < next → Follows s unit before drafts bound
       → Follows s unit (record { depth = length drafts.lists; entry = entry } ∷ before) (with_list entry.children (innermost drafts) drafts) next
   follows-other before drafts bound next entry e low high f =
       let node : Node = record { depth = length drafts.lists; entry = entry } in
-      follows-unkept before drafts bound next entry (innermost drafts) (not-function entry e) low high (rw (near-other node before e) (innermost-names before drafts bound f)) f
+      follows-unkept before drafts bound next entry (innermost drafts) (and_left (is_function entry) (not (is_idle s unit entry)) e) low high (rw (near-other node before e) (innermost-names before drafts bound f)) f
 
   -- a function without ranges
   pub follows-idle : (before : List Node) (drafts : Drafts) (bound next : ℕ) (entry : Entry) → is_function entry ≡ true → is_idle s unit entry ≡ true → bound ≤ entry.offset → entry.offset < next → Follows s unit before drafts bound
@@ -128,12 +125,6 @@ module _ (s : Sections) (unit : DwarfUnit) where
   none-in-last : (a : ℕ) (all : List Placed) (k : ℕ) (p : Placed) → Rises (map offset_of all) → ((k : ℕ) (p : Placed) (e : Node) → slice_get all k ≡ Some p → p.1 ≡ Some e → e.entry.offset < offset_of p) → slice_get all k ≡ Some p → length all ≡ k + 1 → first (lies_in (holds_address s unit a) (offset_of p)) all ≡ None
   none-in-last a all k p rises around h size =
       grind (arith, lies-after (holds_address s unit a) all k, slice_get_within all)
-
-  subprogram-only : (entry : Entry) → is_subprogram entry ≡ true → is_inlined entry ≡ false
-  subprogram-only entry e = rw (eqb-true entry.tag DW_TAG_subprogram e) refl
-
-  inlined-only : (entry : Entry) → is_function entry ≡ true → is_subprogram entry ≡ false → is_inlined entry ≡ true
-  inlined-only entry e f = rw f at e
 
   module _ (before : List Node) (drafts : Drafts) (bound next : ℕ) (entry : Entry) (function : is_function entry ≡ true) (active : is_idle s unit entry ≡ false) (f : Follows s unit before drafts bound) where
     abbrev node : Node
@@ -187,16 +178,13 @@ module _ (s : Sections) (unit : DwarfUnit) where
 
     inlined-before : (b : Bool) → is_subprogram entry ≡ b → (k a : ℕ) (p : Placed) → slice_get (kept before) k ≡ Some p → owner_in (after (cond b outermost (innermost drafts))) (inside k) a ≡ first (lies_in (holds_address s unit a) (offset_of p)) (kept before ++ here ∷ [])
     inlined-before b e k a p g =
-        grind (arith, after-elsewhere, unchanged, and_left, subprogram-only, by_group, inlined-only, lies)
+        grind (arith, after-elsewhere, unchanged, and_left, eqb-true, by_group, lies)
 
     none-owned : (b : Bool) (k a : ℕ) → length (kept before) ≤ k → owner_in (after (cond b outermost (innermost drafts))) (inside k) a ≡ None
     none-owned b k a past = grind (arith, after-elsewhere, lies, slice_get_within)
 
-    offsets-push : map offset_of (kept before ++ here ∷ []) ≡ map offset_of (kept before) ++ entry.offset ∷ []
-    offsets-push = map_push offset_of (kept before) here
-
     rises-here : bound ≤ entry.offset → Rises (map offset_of (kept before ++ here ∷ []))
-    rises-here h = grind (arith, offsets-push, rises-push, get-unmapped)
+    rises-here h = grind (arith, map_push offset_of (kept before) here, rises-push, get-unmapped)
 
     around-here : bound ≤ entry.offset → (k : ℕ) (p : Placed) (e : Node) → slice_get (kept before ++ here ∷ []) k ≡ Some p → p.1 ≡ Some e → e.entry.offset < offset_of p
     around-here low k p e g is = grind (arith, get-pushed, near-below, enclosing-one)
@@ -208,7 +196,7 @@ module _ (s : Sections) (unit : DwarfUnit) where
         let rising = rises-here low in
         let last-number : slice_get (kept before ++ here ∷ []) number ≡ Some here = ap (slice_get (kept before ++ here ∷ [])) (sizes before drafts bound f) ∙ get-last (kept before) here in
         record {
-          functions = rw same (ap (λ (offsets : List ℕ). offsets ++ entry.offset ∷ []) f.functions ∙ sym offsets-push);
+          functions = rw same (ap (λ (offsets : List ℕ). offsets ++ entry.offset ∷ []) f.functions ∙ sym (map_push offset_of (kept before) here));
           falls = (high, falls-on bound entry.offset before low f.falls);
           rises = rw same rising;
           below = λ k p g. grind (arith, get-pushed (kept before) here k p (rw same at g), f.below k p);

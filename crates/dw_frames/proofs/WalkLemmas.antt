@@ -61,15 +61,7 @@ module _ (of : UnitIn) where
   follows-entry after drafts size declarations p x e f =
       let moves = entry-moves size declarations p x e in
       let on = moves.further in
-      by_found x.0 moves.offset (omega (arith, on)) on
-    where
-      by_kind : (entry : Entry) (b : Bool) → is_function entry ≡ b → entry.offset ≡ p.at → p.at < x.1.at → Follows of.sections of.unit (record { depth = length drafts.lists; entry = entry } ∷ after) (cond b (behind_function of.sections of.unit entry drafts) (with_list entry.children (innermost drafts) drafts)) x.1.at
-      by_kind entry true is at on = follows-function of.sections of.unit after drafts p.at x.1.at entry is (omega (arith, at)) (omega (arith, at, on)) f
-      by_kind entry false is at on = follows-other of.sections of.unit after drafts p.at x.1.at entry is (omega (arith, at)) (omega (arith, at, on)) f
-
-      by_found : (found : Option Entry) → ((entry : Entry) → found ≡ Some entry → entry.offset ≡ p.at) → p.at ≤ x.1.at → p.at < x.1.at → Follows of.sections of.unit (after_entry (length drafts.lists) found after) (behind of.sections of.unit found drafts) x.1.at
-      by_found None at low on = follows-null of.sections of.unit after drafts p.at x.1.at low f
-      by_found (Some entry) at low on = by_kind entry (is_function entry) refl (at entry refl) on
+      grind (arith, on, moves.offset, follows-null of.sections of.unit after drafts p.at x.1.at, follows-other of.sections of.unit after drafts p.at x.1.at, follows-function of.sections of.unit after drafts p.at x.1.at)
 
   -- ---- the loop
 

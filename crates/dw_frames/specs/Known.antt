@@ -32,7 +32,8 @@ abbrev pub IsListed : UnitIn → Entry → RangeList → Type 0
 IsListed of entry list = entry_ranges_in of.sections of.unit entry ≡ ranges_of_list of.sections.tables list
 
 -- A list was read for a function in a group, up to where it goes on as one that is owned.
-pub record ReadsList (list : RangeList) (group : ℕ) (old : Reading) (result : Result (Option RangeList) RangeFault) (new : Reading) : Type 0 where
+pub record ReadsList (list : RangeList) (group : ℕ) (old : Reading) (result : Result (Option RangeList) RangeFault)
+    (new : Reading) : Type 0 where
   pub of : new.of ≡ old.of
   pub owned : new.owned ≡ old.owned
   pub ranges : ReadsNew old.of.sections.tables old.owned list result new.ranges
