@@ -146,12 +146,6 @@ module _ (s : Sections) (unit : DwarfUnit) where
     abbrev after : ℕ → List Claim
     after group = drafts.claims ++ claims_in group pairs
 
-    after-here : (group k a : ℕ) → group ≡ k → owner_in (after group) k a ≡ least_owner (in_group k drafts.claims ++ pairs) a
-    after-here group k a same = ap (λ (found : List (Range × ℕ)). least_owner found a) (group-here k group drafts.claims pairs same)
-
-    after-elsewhere : (group k a : ℕ) → (group ≡ k → ⊥) → owner_in (after group) k a ≡ owner_in drafts.claims k a
-    after-elsewhere group k a apart = ap (λ (found : List (Range × ℕ)). least_owner found a) (group-elsewhere k group drafts.claims pairs apart)
-
     -- in which function it lies
     lies : Names (kept before) (innermost drafts) here.1
     lies = subst (Names (kept before) (innermost drafts)) (sym (enclosing-one node before)) (innermost-names before drafts bound f)
@@ -161,7 +155,7 @@ module _ (s : Sections) (unit : DwarfUnit) where
 
     by_subprogram : (b : Bool) → is_subprogram entry ≡ b → (a : ℕ) → owner_in (after (cond b outermost (innermost drafts))) outermost a ≡ first (is_outermost (holds_address s unit a)) (kept before ++ here ∷ [])
     by_subprogram b e a =
-        grind (arith, after-here, owner-more, sizes, after-elsewhere, not-outermost, lies, push-false, and_left)
+        grind (arith, group-here, owner-more, sizes, group-elsewhere, not-outermost, lies, push-false, and_left)
 
     unchanged : (k a : ℕ) (p : Placed) → slice_get (kept before) k ≡ Some p → lies_in (holds_address s unit a) (offset_of p) here ≡ false → owner_in drafts.claims (inside k) a ≡ first (lies_in (holds_address s unit a) (offset_of p)) (kept before ++ here ∷ [])
     unchanged k a p e out = grind (arith, push-false)
@@ -174,14 +168,14 @@ module _ (s : Sections) (unit : DwarfUnit) where
     -- what is inlined in each function of before
     by_group : is_inlined entry ≡ true → (group : ℕ) → Names (kept before) group here.1 → (k a : ℕ) (p : Placed) → slice_get (kept before) k ≡ Some p → owner_in (after group) (inside k) a ≡ first (lies_in (holds_address s unit a) (offset_of p)) (kept before ++ here ∷ [])
     by_group inlined group h k a p e =
-        grind (arith, after-elsewhere, unchanged, and_right, none-at, same_or_apart, same_Some, eq-eqb, and-true, next-two, after-here, owner-more, sizes, one-number, ne_eqb)
+        grind (arith, group-elsewhere, unchanged, and_right, none-at, same_or_apart, same_Some, eq-eqb, and-true, next-two, group-here, owner-more, sizes, one-number, ne_eqb)
 
     inlined-before : (b : Bool) → is_subprogram entry ≡ b → (k a : ℕ) (p : Placed) → slice_get (kept before) k ≡ Some p → owner_in (after (cond b outermost (innermost drafts))) (inside k) a ≡ first (lies_in (holds_address s unit a) (offset_of p)) (kept before ++ here ∷ [])
     inlined-before b e k a p g =
-        grind (arith, after-elsewhere, unchanged, and_left, eqb-true, by_group, lies)
+        grind (arith, group-elsewhere, unchanged, and_left, eqb-true, by_group, lies)
 
     none-owned : (b : Bool) (k a : ℕ) → length (kept before) ≤ k → owner_in (after (cond b outermost (innermost drafts))) (inside k) a ≡ None
-    none-owned b k a past = grind (arith, after-elsewhere, lies, slice_get_within)
+    none-owned b k a past = grind (arith, group-elsewhere, lies, slice_get_within)
 
     rises-here : bound ≤ entry.offset → Rises (map offset_of (kept before ++ here ∷ []))
     rises-here h = grind (arith, map_push offset_of (kept before) here, rises-push, get-unmapped)

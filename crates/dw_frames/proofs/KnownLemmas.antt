@@ -97,9 +97,6 @@ pub knows-lists : (reading other : Reading) (drafts new : Drafts) (lists : List 
 knows-lists reading other drafts new lists of owned e h =
     knows-same reading other new of owned (subst (Knows reading) (sym e) (record { of = h.of; owned = h.owned }))
 
-less : (functions : List ℕ) (offset : ℕ) → length functions < length (functions ++ offset ∷ [])
-less functions offset = let l = length-append functions (offset ∷ []) in omega (arith, l)
-
 -- ---- a function that is kept
 
 pub knows-function : (reading : Reading) (drafts new : Drafts) (entry : Entry) (ranges : List Range) → Same (with_function entry ranges drafts) new → Knows reading drafts → Knows reading new
@@ -108,8 +105,7 @@ knows-function reading drafts new entry ranges same h = record {
   owned = λ known has.
       let old = h.owned known has in
       let more = claims_in (group_of (is_subprogram entry) drafts) (owned ranges (length drafts.functions)) in
-      let up = less drafts.functions entry.offset in
-      owned-same (with_function entry ranges drafts) new known.0 known.1 same (old.0, rw (group-append known.1 drafts.claims more) (still-owned (in_group known.1 drafts.claims) (in_group known.1 more) (length drafts.functions) (length (drafts.functions ++ entry.offset ∷ [])) old.0.0 (omega (arith, up)) old.1));
+      owned-same (with_function entry ranges drafts) new known.0 known.1 same (old.0, rw (group-append known.1 drafts.claims more) (still-owned (in_group known.1 drafts.claims) (in_group known.1 more) (length drafts.functions) (length (drafts.functions ++ entry.offset ∷ [])) old.0.0 (omega (arith, length-append drafts.functions (entry.offset ∷ []))) old.1));
 }
 
 -- of one that names no list
@@ -134,7 +130,7 @@ module _ (drafts new : Drafts) (entry : Entry) (list : RangeList) where
 
   pub owns-list : IsKept → (k : ℕ) → k ≡ place → IsOwned new list k
   owns-list kept k at =
-      owned-same (with_function entry kept.ranges drafts) new list k kept.same ((kept.ranges, kept.read, kept.some), rw (group-here k place drafts.claims (owned kept.ranges (length drafts.functions)) (sym at)) (now-owned (in_group k drafts.claims) kept.ranges (length drafts.functions) (length (drafts.functions ++ entry.offset ∷ [])) (less drafts.functions entry.offset)))
+      owned-same (with_function entry kept.ranges drafts) new list k kept.same ((kept.ranges, kept.read, kept.some), rw (group-here k place drafts.claims (owned kept.ranges (length drafts.functions)) (sym at)) (now-owned (in_group k drafts.claims) kept.ranges (length drafts.functions) (length (drafts.functions ++ entry.offset ∷ [])) (omega (arith, length-append drafts.functions (entry.offset ∷ [])))))
 
   pub adds-function : IsKept → (reading : Reading) → Knows reading drafts → IsListed reading.of entry list → AddsFunction reading.of entry (Ok tt) drafts new
   adds-function kept reading knows is =

@@ -1,5 +1,5 @@
 -- One entry of a unit after the other.
-use Rattle.std.proofs.Common.{◌≡◌, ℕ, true, false, Option, Some, None, Ok, Err, refl, sym, ap}
+use Rattle.std.proofs.Common.{◌≡◌, ℕ, true, false, Option, Some, None, Ok, Err, refl, sym, ap, arith}
 use Rattle.std.specs.Prelude.{MatchOption, is_err, nat_lt}
 use Rattle.dw_model.specs.Faults.{depth_fault, ranges_fault}
 use Rattle.dw_model.specs.Faults as faults
@@ -17,9 +17,7 @@ use Rattle.dw_frames.specs.UnitIn.{UnitIn}
 
 pub ranges-told : (of : UnitIn) (depth : ℕ) (found : Option Entry) (entry : Entry) (told : Option faults.TreeFault) → found ≡ Some entry → is_function entry ≡ true → refuse_if (nat_lt most_depth depth) depth_fault ≡ Ok tt
     → MatchOption told (Unit {0}) (λ told. (told ≡ ranges_fault) × (is_err (entry_ranges_in of.sections of.unit entry) ≡ true)) → MatchOption told (Unit {0}) (λ told. can_be_used of depth found ≡ Err told)
-ranges-told of depth found entry None some function shallow h = tt
-ranges-told of depth found entry (Some told) some function shallow h =
-    rw (some, shallow, function, h.1) (ap Err (sym h.0))
+ranges-told of depth found entry told some function shallow h = grind arith
 
 -- a function that names no ranges can be used, and what lies in it lies in no function that is kept
 pub unranged-used : (of : UnitIn) (depth : ℕ) (entry : Entry) → is_function entry ≡ true → names_ranges entry ≡ false → refuse_if (nat_lt most_depth depth) depth_fault ≡ Ok tt → can_be_used of depth (Some entry) ≡ Ok tt
