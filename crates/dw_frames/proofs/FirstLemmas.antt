@@ -10,13 +10,10 @@ use Rattle.dw_index.proofs.LawLemmas.{of_list}
 use Rattle.dw_frames.specs.Placed.{first}
 
 module _ {X : Type 0} (test : X → Bool) where
-  later : (n : ℕ) (found : Option ℕ) (b : Bool) → option_map suc (option_or found (cond b (Some n) None)) ≡ option_or (option_map suc found) (cond b (Some (suc n)) None)
-  later n found b = grind arith
-
   pub first-push : (xs : List X) (y : X) → first test (xs ++ y ∷ []) ≡ option_or (first test xs) (cond (test y) (Some (length xs)) None)
   unfolding first
   first-push [] y = grind arith
-  first-push (x ∷ xs) y = grind (arith, later, first-push xs y)
+  first-push (x ∷ xs) y = grind (arith, first-push xs y)
 
   pub first-find : (xs : List X) → find test xs ≡ option_and_then (slice_get xs) (first test xs)
   unfolding first
@@ -36,12 +33,9 @@ first-within test xs k e = let x = first-is test xs k e in slice_get_within xs k
 
 -- ---- owners of ranges
 
-least-below : (found : Option ℕ) (n : ℕ) (b : Bool) → ((k : ℕ) → found ≡ Some k → k < n) → least found (cond b (Some n) None) ≡ option_or found (cond b (Some n) None)
-least-below found n b h = grind arith
-
 -- a last owner owns only what no other does
 owner-push : (pairs : List (Range × ℕ)) (ranges : List Range) (n a : ℕ) → ((k : ℕ) → least_owner pairs a ≡ Some k → k < n) → least_owner (pairs ++ map (λ range. (range, n)) ranges) a ≡ option_or (least_owner pairs a) (cond (covers a ranges) (Some n) None)
-owner-push pairs ranges n a below = grind (arith, least_owner-append, of_list, least-below)
+owner-push pairs ranges n a below = grind (arith, least_owner-append, of_list)
 
 -- with one more element, whose test holds just in the ranges of a last owner
 pub owner-more : {X : Type 0} (test : X → Bool) (all : List X) (x : X) (pairs : List (Range × ℕ)) (ranges : List Range) (n a : ℕ) → n ≡ length all → least_owner pairs a ≡ first test all → test x ≡ covers a ranges → least_owner (pairs ++ map (λ range. (range, n)) ranges) a ≡ first test (all ++ x ∷ [])

@@ -150,12 +150,9 @@ module _ (s : Sections) (unit : DwarfUnit) where
     lies : Names (kept before) (innermost drafts) here.1
     lies = subst (Names (kept before) (innermost drafts)) (sym (enclosing-one node before)) (innermost-names before drafts bound f)
 
-    not-outermost : (group : ℕ) → Names (kept before) group here.1 → group ≡ outermost → ⊥
-    not-outermost group h e = grind arith
-
     by_subprogram : (b : Bool) → is_subprogram entry ≡ b → (a : ℕ) → owner_in (after (cond b outermost (innermost drafts))) outermost a ≡ first (is_outermost (holds_address s unit a)) (kept before ++ here ∷ [])
     by_subprogram b e a =
-        grind (arith, group-here, owner-more, sizes, group-elsewhere, not-outermost, lies, push-false, and_left)
+        grind (arith, group-here, owner-more, sizes, group-elsewhere, lies, push-false, and_left)
 
     unchanged : (k a : ℕ) (p : Placed) → slice_get (kept before) k ≡ Some p → lies_in (holds_address s unit a) (offset_of p) here ≡ false → owner_in drafts.claims (inside k) a ≡ first (lies_in (holds_address s unit a) (offset_of p)) (kept before ++ here ∷ [])
     unchanged k a p e out = grind (arith, push-false)

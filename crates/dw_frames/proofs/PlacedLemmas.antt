@@ -11,23 +11,14 @@ use Rattle.dw_frames.specs.Placed.{Placed, placed}
 
 -- ---- the first node of all
 
-or-some : {X : Type 0} (b : Bool) (found later : Option X) (x : X) → cond b (Some x) (option_or found later) ≡ option_or (cond b (Some x) found) later
-or-some b found later x = grind arith
-
 pub find_node-push : (test : List Node → Node → Bool) (before nodes : List Node) (node : Node) → find_node test before (nodes ++ node ∷ []) ≡ option_or (find_node test before nodes) (cond (test (reverse nodes ++ before) node) (Some node) None)
 unfolding find_node
 find_node-push test before [] node = refl
 find_node-push test before (first ∷ nodes) node =
     grind (arith, find_node-push test (first ∷ before) nodes node, reverse-cons, append_assoc)
 
-map-or : {X Y : Type 0} (f : X → Y) (found later : Option X) → option_map f (option_or found later) ≡ option_or (option_map f found) (option_map f later)
-map-or f found later = grind arith
-
 pub or-none : {X : Type 0} (found : Option X) → option_or found None ≡ found
 or-none found = grind arith
-
-map-cond : {X Y : Type 0} (f : X → Y) (b : Bool) (x : X) → option_map f (cond b (Some x) None) ≡ cond b (Some (f x)) None
-map-cond f b x = grind arith
 
 -- a test that only nodes pass which are kept finds one of these
 module _ (kept : Entry → Bool) (test : List Node → Node → Bool) (placed_test : Placed → Bool)
@@ -36,7 +27,7 @@ module _ (kept : Entry → Bool) (test : List Node → Node → Bool) (placed_te
   step : (node : Node) (before : List Node) (b : Bool) → kept node.entry ≡ b
       → option_or (option_map (λ (p : Placed). p.0) (find placed_test (placed kept before))) (cond (test before node) (Some node) None)
       ≡ option_map (λ (p : Placed). p.0) (find placed_test (cond b (placed kept before ++ (node, enclosing (node ∷ []) before) ∷ []) (placed kept before)))
-  step node before b e = grind (arith, find-append, map-or, map-cond, or-none)
+  step node before b e = grind (arith, find-append)
 
   pub find_node-placed : (before : List Node) → find_node test [] (reverse before) ≡ option_map (λ (p : Placed). p.0) (find placed_test (placed kept before))
   unfolding find_node placed

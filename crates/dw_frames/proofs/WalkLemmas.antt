@@ -41,14 +41,8 @@ without-last-length (x ∷ y ∷ xs) = let rest = without-last-length (y ∷ xs)
 module _ (of : UnitIn) where
   -- ---- the depth after an entry
 
-  children-depth : (children : Bool) (lists : List ℕ) (number : ℕ) → length (cond children (lists ++ number ∷ []) lists) ≡ cond children (length lists + 1) (length lists)
-  children-depth children lists number = grind (arith, length-append)
-
-  function-depth : (entry : Entry) (drafts : Drafts) (idle : Bool) → is_idle of.sections of.unit entry ≡ idle → length (behind_function of.sections of.unit entry drafts).lists ≡ cond entry.children (length drafts.lists + 1) (length drafts.lists)
-  function-depth entry drafts idle e = grind (arith, children-depth)
-
   pub behind-depth : (found : Option Entry) (drafts : Drafts) → length (behind of.sections of.unit found drafts).lists ≡ depth_behind (length drafts.lists) found
-  behind-depth found drafts = grind (arith, without-last-length, function-depth, children-depth)
+  behind-depth found drafts = grind (arith, without-last-length, length-append)
 
   -- ---- what is kept after an entry
 

@@ -45,8 +45,7 @@ frames-on s unit lines here (node ∷ nodes) =
 
 frames-told : (s : Sections) (unit : DwarfUnit) (lines : Option Lines) (here : Location) (nodes : List Node) → frames_told lines here (told s unit nodes) ≡ frames (named s unit) lines here nodes
 unfolding frames
-frames-told s unit lines here [] = refl
-frames-told s unit lines here (node ∷ nodes) = frames-on s unit lines here (node ∷ nodes)
+frames-told s unit lines here nodes = grind (arith, frames-on)
 
 by_lines : (s : Sections) (unit : DwarfUnit) (a : ℕ) (nodes : List Node) (read : Result (Option Lines) Code)
     → (read >>= λ table. Ok (frames_told table (row_location table (row_at table a)) (told s unit nodes))) ≡ (read >>= λ table. Ok (frames (named s unit) table (row_location table (row_at table a)) nodes))
