@@ -34,13 +34,10 @@ module _ (ranges : Entry → Result (List Range) Bad) (size : ℕ) (declarations
       let are = ((read_by (next_node ranges size declarations) (λ (s : Reading). s.place.left) advances).read from read.0.1 read.0.0).0 read.1 in
       grind (arith, items-few (λ (s : Reading). s.place.left) (next_node ranges size declarations) advances read.0.0 from read.0.1 are, filter_map-few (λ (node : Option Node). node) read.0.0, read.2, ok_is)
 
-  children-few : (children : Bool) (q : Place) (nodes : List Node) → cond children (nodes_below ranges size declarations q) (Ok []) ≡ Ok nodes → length nodes ≤ length q.left
-  children-few children q nodes e = grind (arith, below-few, ok_is)
-
   -- each node takes a byte at least
   nodes-few : (p : Place) (nodes : List Node) → nodes_from ranges size declarations p ≡ Ok nodes → length nodes ≤ length p.left
   unfolding nodes_from
-  nodes-few p nodes e = grind (arith, bind_ok, entry-onward, or_fault-ok, children-few, ok_is)
+  nodes-few p nodes e = grind (arith, bind_ok, entry-onward, or_fault-ok, below-few, ok_is)
 
 -- those of a unit that pass a test are no more than the bytes of its entries
 pub unit-few : (s : Sections) (unit : DwarfUnit) (test : Node → Bool) (nodes : List Node) → tree s unit ≡ Ok nodes → length (filter test nodes) ≤ unit.end - unit.first_entry

@@ -32,10 +32,6 @@ next-two n = omega arith
 names-kept : (all : List Placed) (x : Placed) (group : ℕ) (found : Option Node) → ((node : Node) → found ≡ Some node → node.entry.offset < offset_of x) → Names all group found → Names (all ++ x ∷ []) group found
 names-kept all x group found behind h = grind (arith, get-pushed, get-kept)
 
--- what is found in no function that is kept isn't where one is
-none-at : (all : List Placed) (found : Option Node) (k : ℕ) (p : Placed) → Names all nowhere found → slice_get all k ≡ Some p → is_at found (offset_of p) ≡ false
-none-at all found k p h e = grind (arith, ne_eqb)
-
 module _ (s : Sections) (unit : DwarfUnit) where
   abbrev kept : List Node → List Placed
   kept before = placed (is_kept s unit) before
@@ -118,9 +114,6 @@ module _ (s : Sections) (unit : DwarfUnit) where
   sizes : (before : List Node) (drafts : Drafts) (bound : ℕ) → Follows s unit before drafts bound → length drafts.functions ≡ length (kept before)
   sizes before drafts bound f = grind (arith, length-map)
 
-  push-false : (test : Placed → Bool) (all : List Placed) (x : Placed) → test x ≡ false → first test (all ++ x ∷ []) ≡ first test all
-  push-false test all x e = first-push test all x ∙ rw e (or-none (first test all))
-
   -- nothing lies in the last function
   none-in-last : (a : ℕ) (all : List Placed) (k : ℕ) (p : Placed) → Rises (map offset_of all) → ((k : ℕ) (p : Placed) (e : Node) → slice_get all k ≡ Some p → p.1 ≡ Some e → e.entry.offset < offset_of p) → slice_get all k ≡ Some p → length all ≡ k + 1 → first (lies_in (holds_address s unit a) (offset_of p)) all ≡ None
   none-in-last a all k p rises around h size =
@@ -152,10 +145,7 @@ module _ (s : Sections) (unit : DwarfUnit) where
 
     by_subprogram : (b : Bool) → is_subprogram entry ≡ b → (a : ℕ) → owner_in (after (cond b outermost (innermost drafts))) outermost a ≡ first (is_outermost (holds_address s unit a)) (kept before ++ here ∷ [])
     by_subprogram b e a =
-        grind (arith, group-here, owner-more, sizes, group-elsewhere, lies, push-false, and_left)
-
-    unchanged : (k a : ℕ) (p : Placed) → slice_get (kept before) k ≡ Some p → lies_in (holds_address s unit a) (offset_of p) here ≡ false → owner_in drafts.claims (inside k) a ≡ first (lies_in (holds_address s unit a) (offset_of p)) (kept before ++ here ∷ [])
-    unchanged k a p e out = grind (arith, push-false)
+        grind (arith, group-here, owner-more, sizes, group-elsewhere, lies, first-push, or-none, and_left)
 
     -- functions of one offset have one number
     one-number : (k m : ℕ) (p q : Placed) → slice_get (kept before) k ≡ Some p → slice_get (kept before) m ≡ Some q → offset_of q ≡ offset_of p → m ≡ k
@@ -165,11 +155,11 @@ module _ (s : Sections) (unit : DwarfUnit) where
     -- what is inlined in each function of before
     by_group : is_inlined entry ≡ true → (group : ℕ) → Names (kept before) group here.1 → (k a : ℕ) (p : Placed) → slice_get (kept before) k ≡ Some p → owner_in (after group) (inside k) a ≡ first (lies_in (holds_address s unit a) (offset_of p)) (kept before ++ here ∷ [])
     by_group inlined group h k a p e =
-        grind (arith, group-elsewhere, unchanged, and_right, none-at, same_or_apart, same_Some, eq-eqb, and-true, next-two, group-here, owner-more, sizes, one-number, ne_eqb)
+        grind (arith, group-elsewhere, first-push, or-none, and_right, same_or_apart, same_Some, eq-eqb, and-true, next-two, group-here, owner-more, sizes, one-number, ne_eqb)
 
     inlined-before : (b : Bool) → is_subprogram entry ≡ b → (k a : ℕ) (p : Placed) → slice_get (kept before) k ≡ Some p → owner_in (after (cond b outermost (innermost drafts))) (inside k) a ≡ first (lies_in (holds_address s unit a) (offset_of p)) (kept before ++ here ∷ [])
     inlined-before b e k a p g =
-        grind (arith, group-elsewhere, unchanged, and_left, eqb-true, by_group, lies)
+        grind (arith, group-elsewhere, first-push, or-none, and_left, eqb-true, by_group, lies)
 
     none-owned : (b : Bool) (k a : ℕ) → length (kept before) ≤ k → owner_in (after (cond b outermost (innermost drafts))) (inside k) a ≡ None
     none-owned b k a past = grind (arith, group-elsewhere, lies, slice_get_within)

@@ -15,7 +15,6 @@ use Rattle.dw_symbols.specs.declared.answer.UnitFault.{UnitFault}
 use Rattle.dw_symbols.specs.Answer.{code_shown}
 use Rattle.dw_symbols.specs.Frames.{called_at, frames_on, frames_told, unit_told, answer_told}
 use Rattle.dw_symbols.specs.UnitParts.{AreFunctionsAt, HasTreeFault}
-use Rattle.dw_symbols.proofs.TreeLemmas.{answering-kept}
 
 -- ---- no unit covers the address
 
@@ -45,7 +44,8 @@ frames-on s unit lines here (node ∷ nodes) =
 
 frames-told : (s : Sections) (unit : DwarfUnit) (lines : Option Lines) (here : Location) (nodes : List Node) → frames_told lines here (told s unit nodes) ≡ frames (named s unit) lines here nodes
 unfolding frames
-frames-told s unit lines here nodes = grind (arith, frames-on)
+frames-told s unit lines here [] = refl
+frames-told s unit lines here (node ∷ nodes) = frames-on s unit lines here (node ∷ nodes)
 
 by_lines : (s : Sections) (unit : DwarfUnit) (a : ℕ) (nodes : List Node) (read : Result (Option Lines) Code)
     → (read >>= λ table. Ok (frames_told table (row_location table (row_at table a)) (told s unit nodes))) ≡ (read >>= λ table. Ok (frames (named s unit) table (row_location table (row_at table a)) nodes))
@@ -57,9 +57,6 @@ by_tree s unit a nodes read = rw read (by_lines s unit a (chain s unit nodes a) 
 -- ---- a unit does; the unit's file, the image's and the context's are the same
 
 module _ (here seen file : List ℕ) (unit : DwarfUnit) (a : ℕ) (found : here ≡ seen) (same : seen ≡ file) (is : Some unit ≡ unit_of (sections seen) a) where
-  pub answers-kind : is_skipped unit.kind ≡ false
-  answers-kind = answering-kept (sections seen) a unit (sym is)
-
   pub location-told : answer_told (sections here) unit [] a ≡ model.location file a
   unfolding location_in
   location-told = rw (found, sym same, sym is) refl

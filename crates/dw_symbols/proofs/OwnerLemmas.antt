@@ -63,15 +63,12 @@ module _ (s : Sections) (i : ℕ) (unit : DwarfUnit) (at : slice_get (model.unit
   up-to : find (is_bad s) (take (i + 1) (model.units s.info)) ≡ find (is_bad s) (unit ∷ [])
   up-to = ap (find (is_bad s)) (take-one (model.units s.info) i unit at) ∙ find-append (is_bad s) (take i (model.units s.info)) (unit ∷ []) ∙ rw good refl
 
-  bad-is : is_bad s unit ≡ is_err (ranges_in s unit)
-  bad-is = bad-by (answers unit.kind) (unit_ranges s unit)
-
   good-on : (ranges : List Range) → ranges_in s unit ≡ Ok ranges → AreGood s (i + 1)
-  good-on ranges e = grind (arith, up-to, bad-is)
+  good-on ranges e = grind (arith, up-to, bad-by)
 
   pub refused-at : (told : Option Refusal) → MatchOption told (Unit {0}) (λ refusal. checked_ranges s unit ≡ Err refusal) → MatchOption told (Unit {0}) (λ refusal. ranges_refusal s ≡ Some refusal)
   refused-at told fault =
-      grind (arith, told-by, up-to, bad-is, take-append-drop (i + 1) (model.units s.info), find-append (is_bad s) (take (i + 1) (model.units s.info)) (drop (i + 1) (model.units s.info)))
+      grind (arith, told-by, up-to, bad-by, take-append-drop (i + 1) (model.units s.info), find-append (is_bad s) (take (i + 1) (model.units s.info)) (drop (i + 1) (model.units s.info)))
 
 -- ---- the first unit that answers an address
 

@@ -1,7 +1,8 @@
 use Rattle.std.proofs.Common.{◌∙◌, ap, arith}
 use Rattle.dw_symbols.specs.ContextState.{ContextState}
 use Rattle.dw_symbols.specs.ImageUnit.{unit_in}
-use Rattle.dw_symbols.proofs.AnswerLemmas.{answer-none, answer-told, answer-fault, answers-kind}
+use Rattle.dw_symbols.proofs.AnswerLemmas.{answer-none, answer-told, answer-fault}
+use Rattle.dw_symbols.proofs.TreeLemmas.{answering-kept}
 use Rattle.dw_symbols.proofs.context.Context.look_up.Goals as goal
 
 pub returns-in_default-clause-answer : goal.returns-in_default-clause-answer
@@ -10,7 +11,7 @@ returns-in_default-clause-answer c =
 
 pub functions_at-requires-clause-kind : goal.functions_at-requires-clause-kind
 functions_at-requires-clause-kind c =
-    grind (arith, answers-kind)
+    grind (arith, answering-kept)
 
 pub returns-in-Ok-clause-answer : goal.returns-in-Ok-clause-answer
 returns-in-Ok-clause-answer c =
