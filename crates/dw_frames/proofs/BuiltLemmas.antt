@@ -1,10 +1,10 @@
 -- A tree that was built of what was kept of a unit's functions is the unit's.
-use Rattle.std.proofs.Common.{◌≡◌, ◌⊎◌, inl, inr, ℕ, zero, suc, ◌+◌, ◌<◌, ◌≤◌, Bool, true, false, List, [], ◌∷◌, length, map, reverse, Option, Some, None, Ok, refl, sym, ap, ◌∙◌, arith}
+use Rattle.std.proofs.Common.{◌≡◌, ◌⊎◌, ℕ, zero, suc, ◌+◌, ◌<◌, ◌≤◌, Bool, true, false, List, [], ◌∷◌, length, map, reverse, Option, Some, None, Ok, refl, sym, ap, ◌∙◌, arith}
 use Rattle.std.specs.Prelude.{option_map, slice_get, filter, find, ◌==◌, ◌&&◌}
 use Rattle.std.proofs.lemmas.List.{length-append, length-map}
 use Rattle.std.proofs.lemmas.List.Elements.{filter-append}
 use Rattle.std.proofs.lemmas.List.Folds.{find-append}
-use Rattle.std.proofs.lemmas.Bool.{and_parts, and_left, and_right, or_parts, eq-eqb, ne_eqb, eqb-true, cases_lt}
+use Rattle.std.proofs.lemmas.Bool.{and_parts, and_left, and_right, or_parts, eq-eqb, ne_eqb, eqb-true}
 use Rattle.std.proofs.lemmas.Option.{same_Some, slice_get-map}
 use Rattle.dw_model.specs.Entry.{Entry}
 use Rattle.dw_model.specs.Ranges.{Range, covers}
@@ -18,7 +18,7 @@ use Rattle.dw_frames.specs.Kept.{most_listed}
 use Rattle.dw_frames.specs.Placed.{Placed, placed, offset_of, Falls, Follows}
 use Rattle.dw_frames.specs.Tree.{id_of, inwards, chain_at, function_at, most_ranges, nodes_of, IsTreeOf}
 use Rattle.dw_frames.specs.UnitIn.{UnitIn}
-use Rattle.dw_ranges.proofs.GetLemmas.{get-there, get-mapped, get-pushed, map-reverse, reverse-cons}
+use Rattle.dw_ranges.proofs.GetLemmas.{get-mapped, get-pushed, map-reverse, reverse-cons}
 use Rattle.dw_frames.proofs.ChainLemmas.{IsIdle, Found, climb, chain-climbs}
 
 -- ---- the node of an offset

@@ -4,7 +4,7 @@ use Rattle.std.specs.Prelude.{option_map, option_and_then, slice_get, find}
 use Rattle.std.specs.Option.{option_or}
 use Rattle.std.proofs.lemmas.Option.{same_Some, slice_get_within}
 use Rattle.dw_model.specs.Ranges.{Range, covers}
-use Rattle.dw_index.specs.Owners.{least, least_owner}
+use Rattle.dw_index.specs.Owners.{least_owner}
 use Rattle.dw_index.proofs.OwnerLemmas.{least_owner-append}
 use Rattle.dw_index.proofs.LawLemmas.{of_list}
 use Rattle.dw_frames.specs.Placed.{first}

@@ -5,14 +5,12 @@ use Rattle.std.proofs.lemmas.List.{map_push, length-map}
 use Rattle.std.proofs.Math.Bool.{and-true}
 use Rattle.std.proofs.lemmas.Bool.{and_left, and_right, eq-eqb, ne_eqb, eqb-true, lt-ltb, le-ltb}
 use Rattle.std.proofs.lemmas.Option.{get_or_from_slice_get, same_Some, slice_get_within}
-use Rattle.dw_model.specs.declared.dwarf.TheConstants.{DW_TAG_subprogram}
 use Rattle.dw_model.specs.Entry.{Entry}
 use Rattle.dw_model.specs.Section.{Sections}
 use Rattle.dw_model.specs.Unit.{DwarfUnit}
 use Rattle.dw_model.specs.Ranges.{Range}
-use Rattle.dw_model.specs.Tree.{Node, is_function, is_subprogram, is_inlined, enclosing, is_at, holds_address}
-use Rattle.dw_index.specs.Owners.{least_owner}
-use Rattle.dw_ranges.specs.Claims.{Claim, claims_in, in_group, owner_in}
+use Rattle.dw_model.specs.Tree.{Node, is_function, is_subprogram, is_inlined, enclosing, holds_address}
+use Rattle.dw_ranges.specs.Claims.{Claim, claims_in, owner_in}
 use Rattle.dw_ranges.specs.Owned.{owned}
 use Rattle.dw_ranges.proofs.GetLemmas.{get-kept, get-last, get-pushed, get-there, get-mapped, get-unmapped}
 use Rattle.dw_ranges.proofs.GroupLemmas.{group-here, group-elsewhere, same_or_apart}

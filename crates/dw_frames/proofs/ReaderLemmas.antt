@@ -1,5 +1,5 @@
 -- One entry of a unit after the other.
-use Rattle.std.proofs.Common.{◌≡◌, ℕ, true, false, Option, Some, None, Ok, Err, refl, sym, ap, arith}
+use Rattle.std.proofs.Common.{◌≡◌, ℕ, true, false, Option, Some, Ok, Err, refl, arith}
 use Rattle.std.specs.Prelude.{MatchOption, is_err, nat_lt}
 use Rattle.dw_model.specs.Faults.{depth_fault, ranges_fault}
 use Rattle.dw_model.specs.Faults as faults

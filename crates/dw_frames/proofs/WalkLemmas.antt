@@ -1,5 +1,5 @@
 -- The entries of a unit one after the other, and what is kept of them.
-use Rattle.std.proofs.Common.{◌≡◌, ℕ, ◌+◌, ◌-◌, ◌<◌, ◌≤◌, Bool, true, false, cond, List, [], ◌∷◌, ◌++◌, length, reverse, Option, Some, None, Result, Ok, Err, refl, sym, ◌∙◌, arith, length-append}
+use Rattle.std.proofs.Common.{◌≡◌, ℕ, ◌-◌, ◌<◌, true, false, List, [], ◌∷◌, ◌++◌, length, reverse, Option, Some, None, Result, Ok, Err, refl, sym, ◌∙◌, arith, length-append}
 use Rattle.std.specs.Prelude.{MatchOption, option_map, filter_map, ◌||◌, ◌==◌}
 use Rattle.std.proofs.lemmas.Bool.{ne_eqb}
 use Rattle.std.proofs.lemmas.List.{append-nil, append_assoc}
@@ -10,11 +10,11 @@ use Rattle.dw_model.specs.Results.{◌>>=◌, or_fault}
 use Rattle.dw_model.specs.Reading.{Place, items}
 use Rattle.dw_model.specs.Abbrev.{Declaration}
 use Rattle.dw_model.specs.Entry.{Entry, entry_at}
-use Rattle.dw_model.specs.Tree.{Node, Reading, is_function, next_node, depth_behind, entry_ranges_in}
+use Rattle.dw_model.specs.Tree.{Node, Reading, next_node, depth_behind, entry_ranges_in}
 use Rattle.dw_model.proofs.ItemsLemmas.{with_front, with_front-nil, loop_more, loop_done, loop_fault}
 use Rattle.dw_model.proofs.AdvanceLemmas.{nodes_advance}
 use Rattle.dw_units.specs.Entries.{Walk}
-use Rattle.dw_frames.specs.Drafts.{Drafts, behind, behind_function, is_idle, with_list, innermost, without_last}
+use Rattle.dw_frames.specs.Drafts.{Drafts, behind, without_last}
 use Rattle.dw_frames.specs.Known.{Same}
 use Rattle.dw_frames.specs.Placed.{Follows}
 use Rattle.dw_frames.specs.Reader.{can_be_used, nodes_on}
