@@ -1,8 +1,8 @@
 -- What the unit of an address answers is what the address means.
-use Rattle.std.proofs.Common.{◌≡◌, ℕ, List, [], ◌∷◌, map, Option, Some, None, Result, Ok, refl, sym, false, arith}
+use Rattle.std.proofs.Common.{◌≡◌, ℕ, List, [], ◌∷◌, map, Option, Some, None, Result, Ok, refl, sym, arith}
 use Rattle.dw_model.specs.Results.{◌>>=◌, with_code}
 use Rattle.dw_model.specs.Section.{Sections, sections}
-use Rattle.dw_model.specs.Unit.{DwarfUnit, is_skipped}
+use Rattle.dw_model.specs.Unit.{DwarfUnit}
 use Rattle.dw_model.specs.Entry.{Entry}
 use Rattle.dw_model.specs.Tree.{Node, tree, chain}
 use Rattle.dw_model.specs.Name.{name}
