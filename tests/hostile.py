@@ -12,7 +12,7 @@ sys.path[:0] = [os.path.dirname(__file__), os.path.join(os.path.dirname(__file__
 from assemble import Section, elf_file, number, uleb
 from samples import file_of, line_table, unit
 
-LINEAR, SQUARE, BORDERS, LONG = 'linear', 'square', 'borders', 'long'
+LINEAR, SQUARE, BORDERS, CUBIC, LONG = 'linear', 'square', 'borders', 'cubic', 'long'
 
 COMPILE_UNIT, INLINED, SUBPROGRAM = 0x11, 0x1d, 0x2e
 NAME, STMT_LIST, LOW_PC, HIGH_PC, ORIGIN, RANGES, ADDR_BASE, LISTS_BASE = 0x03, 0x10, 0x11, 0x12, 0x31, 0x55, 0x73, 0x74
@@ -123,9 +123,9 @@ def span_over_units_with_bases(size):
     return units_with_bases_of_one_list(size)
 
 
-def program(count):
-    """A line program of so many rows in one sequence."""
-    rows = bytes([13 + 5 + 14 + 1]) * count  # address 1 more, line 1 more
+def program(count, rise=1):
+    """A line program of so many rows in one sequence, each of so many lines more than the one before."""
+    rows = bytes([13 + 5 + 14 + rise]) * count  # address 1 more
     return b'\0\x09\x02' + number(BEGIN, 8) + rows + b'\0\x01\x01'
 
 
@@ -317,12 +317,12 @@ def span_over_tables_of_one_program(size):
     return tables_of_one_program(size)
 
 
-def taking_turns(size, line, offsets):
-    """A unit for each line table at these offsets; the ranges of the units take turns, 16 addresses each."""
+def taking_turns(count, line, offsets):
+    """A unit for each line table at these offsets, with so many ranges of 16 addresses; those of the units take turns.
+    All rows have one location, so that the answer stays short."""
     stride = 16 * len(offsets)
-    count = size // stride
     first = declaration(1, COMPILE_UNIT, 0, [(RANGES, SEC_OFFSET), (LOW_PC, ADDR), (STMT_LIST, SEC_OFFSET)])
-    one = b''.join(b'\x04' + uleb(stride * i, 3) + uleb(stride * i + 16, 4) for i in range(count)) + b'\0'
+    one = b''.join(b'\x04' + uleb(stride * i, 4) + uleb(stride * i + 16, 4) for i in range(count)) + b'\0'
     entries = (bytes(4) + number(BEGIN + 16 * i, 8) + number(at, 4) for i, at in enumerate(offsets))
     units = b''.join(unit(b'\x01' + entry) for entry in entries)
     return file_of(units, first + b'\0', line, rnglists=one)
@@ -330,13 +330,20 @@ def taking_turns(size, line, offsets):
 
 def units_that_take_turns(size):
     """17 units whose ranges take turns, each with a line table of its own over one program; a span is asked."""
-    return taking_turns(size, *tables_before(17, lambda left: bytes(4), 0, program(size // 2)))
+    return taking_turns(size // (17 * 16), *tables_before(17, lambda left: bytes(4), 0, program(size // 2, 0)))
 
 
 def units_with_tables_that_take_turns(size):
     """64 units whose ranges take turns, each with a line table of its own beside the others; a span is asked."""
-    table = line_table(program(size // 128))
-    return taking_turns(size, table * 64, range(0, 64 * len(table), len(table)))
+    table = line_table(program(size // 128, 0))
+    return taking_turns(size // (64 * 16), table * 64, range(0, 64 * len(table), len(table)))
+
+
+def many_units_that_take_turns(size):
+    """Units whose ranges take turns, as many as the file has room for, each with a line table over one program. A span
+    is asked, with as many borders as the square of the file."""
+    tables = tables_before(size // 180, lambda left: bytes(4), 0, program(size // 4, 0))
+    return taking_turns(size // 36, *tables)
 
 
 def no_rows_between_holes(size):
@@ -363,7 +370,7 @@ KINDS = {
     'span_over_units_of_tails': SQUARE,
     'units_of_one_line_table': LINEAR, 'tables_of_one_list': LINEAR, 'tables_of_one_program_of_sequences': LINEAR,
     'tables_of_one_program': SQUARE, 'span_over_tables_of_one_program': SQUARE, 'units_that_take_turns': SQUARE,
-    'units_with_tables_that_take_turns': LINEAR,
+    'units_with_tables_that_take_turns': LINEAR, 'many_units_that_take_turns': CUBIC,
     'no_rows_between_holes': LINEAR, 'span_over_no_rows_between_holes': LINEAR,
     'names_without_end': LINEAR, 'functions_of_empty_values': LINEAR,
     'functions_of_empty_values_after_a_number': LINEAR, 'units_of_empty_values': LINEAR,
@@ -373,7 +380,7 @@ KINDS = {
 }
 # How many bytes of memory a kind may take for each byte of the file. The answer of a long one is itself longer than the
 # file: each of 511 frames has the path, and the text of the answer has it as often.
-LIMITS = {LINEAR: 64, SQUARE: 64, BORDERS: 64, LONG: 2000}
+LIMITS = {LINEAR: 64, SQUARE: 64, BORDERS: 64, CUBIC: 64, LONG: 2000}
 
 
 def every(count):
@@ -389,6 +396,7 @@ def asked(kind, size):
         'span_over_units_of_tails': (0, 16 * (size // 35)),
         'span_over_tables_of_one_program': (BEGIN, BEGIN + 16 * (size // 128)),
         'units_that_take_turns': (BEGIN, BEGIN + size), 'units_with_tables_that_take_turns': (BEGIN, BEGIN + size),
+        'many_units_that_take_turns': (BEGIN, BEGIN + 16 * (size // 180) * (size // 36)),
         'span_over_no_rows_between_holes': (BEGIN, BEGIN + size // 2),
     }
     # how many bytes a unit of 16 addresses takes of the file, with what it names
