@@ -23,7 +23,7 @@ SAID = {
     'column': 'a row has a column and no line',
     'sizeless': 'llvm-symbolizer takes a symbol without a size for all behind it, in other sections too',
     'call': 'the addr2line crate knows no file of a call whose number is 0, as in DWARF 5 by clang',
-    'dropped': 'the linker dropped the code and left its ranges: each tool takes another one',
+    'dropped': 'the linker dropped the code and left its ranges: each tool takes another one, or none',
     'several': 'several symbols without a size are at one address',
     'version': 'llvm-symbolizer writes the version of a symbol behind its name',
     'more': 'a2l-symbolizer gives a line, llvm-symbolizer none',
@@ -98,10 +98,12 @@ def reason_of_data(program, address, theirs, ours):
 
 def reason(program, address, theirs, ours):
     """Why replies to CODE differ; else none."""
-    if not program.is_code(address) and ours not in UNKNOWN:
+    if ours in UNKNOWN and program.is_sizeless(frames(theirs)[0][0]):
+        return 'sizeless'
+    if not program.is_code(address):
         return 'dropped'
     if ours in UNKNOWN:
-        return 'sizeless' if program.is_sizeless(frames(theirs)[0][0]) else None
+        return None
     if has_line(ours) and not has_line(theirs):
         return 'more'
     theirs, ours = without_columns(frames(theirs)), without_columns(frames(ours))
