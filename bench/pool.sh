@@ -182,15 +182,28 @@ def timed(count, workers, senders, processors):
     assert run.returncode == 0
     return seconds, used.ru_utime + used.ru_stime, (used.ru_nvcsw + used.ru_nivcsw) / count
 
+def stolen():
+    """For how many seconds the host has taken processors from this machine."""
+    with open('/proc/stat') as stat:
+        return int(stat.readline().split()[8]) / os.sysconf('SC_CLK_TCK')
+
+def pair(count, many, few, processors):
+    """Two runs, one after the other, after the part of their time that the host took."""
+    before, began = stolen(), time.monotonic()
+    runs = timed(count, *many, processors), timed(count, *few, processors)
+    return (stolen() - before) / (time.monotonic() - began), runs
+
 def row(name, count, many, few, processors=None):
     """Two pools beside each other, in alternating runs; each pool is its workers and its senders."""
-    runs = [(timed(count, *many, processors), timed(count, *few, processors)) for _ in range(RUNS)]
+    pairs = sorted(pair(count, many, few, processors) for _ in range(3 * RUNS))
+    runs = [runs for _, runs in pairs[:RUNS]]
     (time_many, used_many, changes), (time_few, used_few, _) = (
         [statistics.median(part) for part in zip(*side)] for side in zip(*runs))
     print(f'{name:>20} {count:>9} {many[0]:>4} and {many[1]:<3} {few[0]:>4} and {few[1]:<3} {time_many:7.3f} s {time_few:7.3f} s '
           f'{time_many / time_few:5.2f} times {used_many / used_few:10.2f} times {changes:8.2f}', flush=True)
 
-print('the medians of alternating runs: many workers and senders, few, and how many times as long the many take')
+print('the medians of alternating runs, of the third from which the host took least: many workers and senders, few, and how')
+print('many times as long the many take')
 print(f"{'processors':>20} {'addresses':>9} {'many':>12} {'few':>12} {'time':>9} {'':>9} {'':>11} {'processor time':>16} {'switches':>8}")
 _, large = list(inputs)[1:]
 for count in (100_000, large):

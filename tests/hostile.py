@@ -12,7 +12,7 @@ sys.path[:0] = [os.path.dirname(__file__), os.path.join(os.path.dirname(__file__
 from assemble import Section, elf_file, number, uleb
 from samples import file_of, line_table, unit
 
-LINEAR, SQUARE, BORDERS, CUBIC, LONG = 'linear', 'square', 'borders', 'cubic', 'long'
+LINEAR, SQUARE, BORDERS, LONG = 'linear', 'square', 'borders', 'long'
 
 COMPILE_UNIT, INLINED, SUBPROGRAM = 0x11, 0x1d, 0x2e
 NAME, STMT_LIST, LOW_PC, HIGH_PC, ORIGIN, RANGES, ADDR_BASE, LISTS_BASE = 0x03, 0x10, 0x11, 0x12, 0x31, 0x55, 0x73, 0x74
@@ -369,8 +369,8 @@ KINDS = {
     'span_over_units_with_bases': LINEAR, 'span_over_all_units_with_bases': BORDERS, 'units_of_tails': SQUARE,
     'span_over_units_of_tails': SQUARE,
     'units_of_one_line_table': LINEAR, 'tables_of_one_list': LINEAR, 'tables_of_one_program_of_sequences': LINEAR,
-    'tables_of_one_program': SQUARE, 'span_over_tables_of_one_program': SQUARE, 'units_that_take_turns': SQUARE,
-    'units_with_tables_that_take_turns': LINEAR, 'many_units_that_take_turns': CUBIC,
+    'tables_of_one_program': SQUARE, 'span_over_tables_of_one_program': SQUARE, 'units_that_take_turns': LINEAR,
+    'units_with_tables_that_take_turns': LINEAR, 'many_units_that_take_turns': BORDERS,
     'no_rows_between_holes': LINEAR, 'span_over_no_rows_between_holes': LINEAR,
     'names_without_end': LINEAR, 'functions_of_empty_values': LINEAR,
     'functions_of_empty_values_after_a_number': LINEAR, 'units_of_empty_values': LINEAR,
@@ -380,7 +380,7 @@ KINDS = {
 }
 # How many bytes of memory a kind may take for each byte of the file. The answer of a long one is itself longer than the
 # file: each of 511 frames has the path, and the text of the answer has it as often.
-LIMITS = {LINEAR: 64, SQUARE: 64, BORDERS: 64, CUBIC: 64, LONG: 2000}
+LIMITS = {LINEAR: 64, SQUARE: 64, BORDERS: 64, LONG: 2000}
 
 
 def every(count):

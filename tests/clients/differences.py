@@ -64,9 +64,9 @@ def is_left_mangled(theirs, ours):
 def reason(theirs, ours):
     """Why two lines differ; else none."""
     theirs, ours = of_one_style(theirs), of_one_style(ours)
-    if theirs == ours:
-        return 'style'
     words, others = theirs.split(), ours.split()
+    if words == others:
+        return 'style'
     unlike = [(word, other) for word, other in zip(words, others) if word != other]
     if len(words) == len(others) and all(are_of_one_address(word, other) for word, other in unlike):
         return 'symbols'

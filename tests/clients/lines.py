@@ -1,7 +1,8 @@
-"""lines.py OURS THEIRS..: compares what a client wrote with a2l-symbolizer and with others.
+"""lines.py [--any-order] OURS THEIRS..: compares what a client wrote with a2l-symbolizer and with others.
 
 Each line of ours has to be the one at its place in one of theirs that has as many lines, or to differ
-from it for a reason of differences.py. It says how many lines there are.
+from it for a reason of differences.py. With --any-order the place means nothing, since lines in the order
+of names have another one where a name differs. It says how many lines there are.
 """
 
 import collections
@@ -11,10 +12,24 @@ import sys
 import differences
 
 
-def main(ours, *theirs):
-    ours, *theirs = ([line for line in pathlib.Path(path).read_text(errors='backslashreplace').splitlines()]
-                     for path in (ours, *theirs))
+def aligned(ours, theirs):
+    """Theirs at the places of ours: lines that are the same first, then those that differ for a reason, then the rest."""
+    left, found = list(theirs), [None] * len(ours)
+    for fits in (str.__eq__, differences.reason, lambda peer, line: True):
+        for place, line in enumerate(ours):
+            peer = next((peer for peer in left if fits(peer, line)), None) if found[place] is None else None
+            if peer is not None:
+                left.remove(peer)
+                found[place] = peer
+    return found
+
+
+def main(*words):
+    paths = [path for path in words if path != '--any-order']
+    ours, *theirs = (pathlib.Path(path).read_text(errors='backslashreplace').splitlines() for path in paths)
     of_one_length = [lines for lines in theirs if len(lines) == len(ours)]
+    if len(paths) < len(words):
+        of_one_length = [aligned(ours, lines) for lines in of_one_length]
     if not of_one_length:
         sys.exit(f'{len(ours)} lines, where the others have {", ".join(str(len(lines)) for lines in theirs)}')
     counts, unlike = collections.Counter(), 0

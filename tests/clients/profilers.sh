@@ -41,30 +41,30 @@ build_pprof() {
     GO111MODULE=off GOPATH=/usr/share/gocode GOCACHE=$work/go go build -o pprof github.com/google/pprof
 }
 
-# Without the columns of samples, by which lines are sorted; and without stubs of .plt, which peers
-# take for `_init`, and a2l-symbolizer for nothing.
+# Without the columns of samples, and without stubs of .plt, which peers take for `_init`, and
+# a2l-symbolizer for nothing. Lines of as many samples are in the order of their names.
 of_lines='-symbolize=force -lines -top sorts sorts.prof | sed -E "s/^( *[0-9.]+(ms|s|%)?){5} +//" |
-    grep -vxE "_init|\[sorts\]" | sort'
+    grep -vxE "_init|\[sorts\]"'
 
 pprof_of_google() {
     profile_sorts && build_pprof || return 0
-    same 'sorts\.cc:[0-9]+' bash -c "./pprof $of_lines" &&
+    same --any-order 'sorts\.cc:[0-9]+' bash -c "./pprof $of_lines" &&
         same 'sorts\.cc' ./pprof -symbolize=force -list 'work::.*fold' sorts sorts.prof
 }
 
 # It takes addr2line where it is shown no llvm-symbolizer.
 pprof_by_addr2line() {
     profile_sorts && build_pprof || return 0
-    same 'sorts\.cc:[0-9]+' bash -c './pprof -tools "addr2line:$(dirname "$(command -v addr2line)")" '"$of_lines"
+    same --any-order 'sorts\.cc:[0-9]+' bash -c './pprof -tools "addr2line:$(dirname "$(command -v addr2line)")" '"$of_lines"
 }
 
 # The one of gperftools takes its tools from its own folder, unless it is given all of them. Frames of
 # the C library are left out here too; paths of its units are relative. So are the columns of samples
-# and stubs of .plt, as above. Lines are in the order of their places, since names may differ.
+# and stubs of .plt, as above.
 pprof_of_gperftools() {
     profile_sorts || return 0
-    same 'sorts\.cc:[0-9]+' bash -c '
+    same --any-order 'sorts\.cc:[0-9]+' bash -c '
         for tool in addr2line nm objdump c++filt; do tools+=,$tool:$(command -v $tool); done
         google-pprof --tools="${tools#,}" --lines --text ./sorts sorts.prof | grep -v " \./" |
-            sed -E "s/^( *[0-9.]+%?){5} +//" | grep -vx "_init ??:0" | awk "{ print \$NF, \$0 }" | sort'
+            sed -E "s/^( *[0-9.]+%?){5} +//" | grep -vx "_init ??:0"'
 }

@@ -11,9 +11,11 @@ use dw_bytes::Steps;
 use std::alloc::AllocError;
 use std::io::{self, ErrorKind, Lock, Read, Write};
 use std::marker::Brand;
+use std::num::NonZeroUsize;
 use std::rt::Files;
 use std::sync::Wait;
 use std::sync::ledger::{Blank, Ledger};
+use std::thread;
 use std::thread::Threads;
 
 /// Files by their paths.
@@ -27,6 +29,10 @@ impl<R: Files + AllocGlobal> Load for Disk<'_, R> {
 
     fn load(&mut self, path: &str) -> Result<Vec<u8>, LoadFault> {
         read_file(self.rt, self.rt.alloc(), path)
+    }
+
+    fn free_processors(&self) -> Option<usize> {
+        free_processors(self.rt)
     }
 }
 
@@ -134,7 +140,7 @@ fn served<T: Threads + Wait + Sync, I: Ledger, O: Ledger, E: Ledger>(
     let on = Resources {
         threads,
         alloc: rt.alloc(),
-        processors: free_processors(rt, threads),
+        processors: thread::available_parallelism(threads).map_or(1, NonZeroUsize::get),
     };
     run(
         &on,

@@ -15,4 +15,7 @@ pub trait Load {
         ensures loaded { IfOk result (λ bytes. OfFile (known self.old path.now) (λ file. bytes.items ≡ file)) }
         ensures device { IsErrOf result LoadFault.Device
             → IfSome (known self.old path.now) (λ there. there ≡ None) };
+
+    /// How many processors no other thread wants, where that is known. No promise rests on it.
+    fn free_processors(&self) -> Option<usize>;
 }

@@ -2,10 +2,7 @@
 
 use std::fs::File;
 use std::io::Read;
-use std::num::NonZeroUsize;
 use std::rt::Files;
-use std::thread;
-use std::thread::Threads;
 
 /// The front of a file that the system makes when it is read; none where it can't be read.
 fn front<'b, R: Files>(rt: &R, path: &str, buffer: &'b mut [u8]) -> Option<&'b str> {
@@ -26,17 +23,10 @@ fn others(loads: &str) -> Option<usize> {
     wanting.parse::<usize>().ok()?.checked_sub(1)
 }
 
-/// How many processors of the machine no other thread wants.
-fn unwanted<R: Files>(rt: &R) -> Option<usize> {
+/// How many processors of the machine no other thread wants; none where the system doesn't say.
+pub fn free_processors<R: Files>(rt: &R) -> Option<usize> {
     let mut buffer = [0u8; 64];
     let processors = listed(front(rt, "/sys/devices/system/cpu/online", &mut buffer)?)?;
     let others = others(front(rt, "/proc/loadavg", &mut buffer)?)?;
     Some(processors.saturating_sub(others))
-}
-
-/// How many processors this process may use that no other thread wants, one at least. Where the
-/// system doesn't say what others want, those that it may use.
-pub fn free_processors<R: Files, T: Threads>(rt: &R, threads: &T) -> usize {
-    let usable = thread::available_parallelism(threads).map_or(1, NonZeroUsize::get);
-    unwanted(rt).map_or(usable, |free| usable.min(free).max(1))
 }

@@ -45,7 +45,17 @@ pub fn run<T: Threads + Wait + Sync, S: AsStr, L: Load, R: Source, W: Sink, E: S
     }
 }
 
-/// Does what the command line asks for. The first fault decides.
+/// The same threads on no more processors than are free, but on one at least.
+fn with_free<'t, T>(on: &Resources<'t, T>, free: Option<usize>) -> Resources<'t, T> {
+    Resources {
+        threads: on.threads,
+        alloc: on.alloc,
+        processors: on.processors.min(free.unwrap_or(usize::MAX)).max(1),
+    }
+}
+
+/// Does what the command line asks for. The first fault decides. How many processors are free is
+/// asked when the file is read: who starts the program, or writes its input, wants one until then.
 fn answer<T: Threads + Wait + Sync, S: AsStr, L: Load, R: Source, W: Sink>(
     on: &Resources<'_, T>,
     words: &[S],
@@ -69,7 +79,8 @@ fn answer<T: Threads + Wait + Sync, S: AsStr, L: Load, R: Source, W: Sink>(
     let job = parse(on.alloc, words)?;
     let file = loader.load(job.file)?;
     if !job.units {
-        return symbolize_file(on, reader, writer, &file, &job.options);
+        let on = with_free(on, loader.free_processors());
+        return symbolize_file(&on, reader, writer, &file, &job.options);
     }
     list_file(on.alloc, writer, &file)?;
     Ok(Status::Clean)

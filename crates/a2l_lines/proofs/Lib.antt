@@ -6,4 +6,4 @@ pub mod TextLemmas
 pub mod SymbolizeLemmas
 pub mod OrderLemmas
 pub mod SharingLemmas
-pub mod ToldLemmas
+pub mod ReplyLemmas

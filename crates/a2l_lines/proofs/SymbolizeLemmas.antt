@@ -19,11 +19,11 @@ use Rattle.a2l_lines.specs.Text.{is_bad, some_fault}
 use Rattle.a2l_lines.specs.Sharing.{picked, Shares}
 use Rattle.a2l_lines.specs.Queries.{query_at}
 use Rattle.a2l_lines.specs.Pieces.{lines_of, pieces_for, picked_text}
-use Rattle.a2l_lines.specs.Told.{AreTold}
-use Rattle.a2l_lines.specs.declared.told.Told.{Told}
+use Rattle.a2l_lines.specs.Reply.{AreReplies}
+use Rattle.a2l_lines.specs.declared.reply.Reply.{Reply}
 use Rattle.a2l_lines.specs.Symbolize.{Asks, SymbolizesBeginning}
+use Rattle.a2l_lines.proofs.ReplyLemmas.{faults-of-replies}
 use Rattle.a2l_lines.proofs.TextLemmas.{or_true, flat_map-map, list_any-map}
-use Rattle.a2l_lines.proofs.ToldLemmas.{faults-told}
 use Rattle.a2l_lines.proofs.WriteLemmas.{Writes-start}
 
 is-known : (left : Option (List ℕ)) → IsInput left (unwrap_or left [])
@@ -153,13 +153,13 @@ any-same : {X : Type 0} (p q : X → Bool) (xs : List X) → ((x : X) → p x �
 any-same p q [] same = refl
 any-same p q (x ∷ xs) same = rw (same x, any-same p q xs same) refl
 
-pub is-status : (options : model.Options) (file : List ℕ) (words : List (List ℕ)) (left : Option (List ℕ)) (found : List (Option Query)) (asked : List Query) (picks : List ℕ) (told : List Told)
-    → (all : Asks words left (map shown found)) → Shares found asked picks → AreTold options (means file) asked told
-    → some_fault found told ≡ model.has_faults file (model.inputs words all.bytes)
-is-status options file words left found asked picks told all shares are =
+pub is-status : (options : model.Options) (file : List ℕ) (words : List (List ℕ)) (left : Option (List ℕ)) (found : List (Option Query)) (asked : List Query) (picks : List ℕ) (replies : List Reply)
+    → (all : Asks words left (map shown found)) → Shares found asked picks → AreReplies options (means file) asked replies
+    → some_fault found replies ≡ model.has_faults file (model.inputs words all.bytes)
+is-status options file words left found asked picks replies all shares are =
     let texts = model.inputs words all.bytes in
     let faulty : Query → Bool = λ query. model.is_fault (means file query) in
-    ap (λ (some : Bool). list_any is_bad found || some) (faults-told options (means file) asked told are)
+    ap (λ (some : Bool). list_any is_bad found || some) (faults-of-replies options (means file) asked replies are)
     ∙ same-tests (list_any is_bad found || list_any faulty asked) (list_any (fails file) found)
     (forth file found asked picks (list_any is_bad found) refl shares)
     (λ some. let one = any-passes (fails file) found some in back file found asked picks one.0 one.1 one.2 shares)

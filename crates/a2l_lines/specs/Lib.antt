@@ -2,7 +2,7 @@ pub mod Ends
 pub mod Input
 pub mod Queries
 pub mod Listing
-pub mod Told
+pub mod Reply
 pub mod Text
 pub mod Sharing
 pub mod Pieces

@@ -1,15 +1,15 @@
--- The text that inputs pick of what is told of queries.
+-- The text that inputs pick of the replies to queries.
 use Rattle.std.specs.Prelude.{◌≡◌, ℕ, List, [], ◌∷◌, map, flat_map, Option, slice_index_or}
 use Rattle.dw_model.specs.Answer.{Answer}
 use Rattle.dw_model.specs.Output as model
 use Rattle.dw_symbols.specs.Told.{query_shown}
 use Rattle.ticket_core.specs.declared.query.Query.{Query}
 use Rattle.a2l_lines.specs.Ends.{WritesAll, WritesBeginning}
-use Rattle.a2l_lines.specs.declared.told.Told.{Told}
+use Rattle.a2l_lines.specs.declared.reply.Reply.{Reply}
 
--- the line of a bad address, then the lines that are told of each query
-abbrev pub pieces_of : List Told → List (List ℕ)
-pieces_of told = model.bad_address_line ∷ map (λ told. told.lines.items) told
+-- the line of a bad address, then the lines of the reply to each query
+abbrev pub pieces_of : List Reply → List (List ℕ)
+pieces_of replies = model.bad_address_line ∷ map (λ reply. reply.lines.items) replies
 
 -- the lines of a query, by what it means
 abbrev pub lines_of : model.Options → (Query → Answer) → Query → List ℕ

@@ -9,7 +9,7 @@ use Rattle.ticket_core.specs.declared.query.Query.{Query}
 use Rattle.a2l_lines.specs.Ends.{WritesBeginning}
 use Rattle.a2l_lines.specs.Input.{IsInput, word_shown, asked_by, input_shown}
 use Rattle.a2l_lines.specs.Sharing.{Shares}
-use Rattle.a2l_lines.specs.Told.{AreTold}
+use Rattle.a2l_lines.specs.Reply.{AreReplies}
 use Rattle.a2l_lines.specs.Text.{options_shown}
 use Rattle.a2l_lines.specs.declared.input.Input.{Input}
 use Rattle.a2l_lines.specs.declared.options.Options.{Options}
@@ -27,11 +27,11 @@ pub record Asks (words : List (List ℕ)) (left : Option (List ℕ)) (found : Li
 abbrev pub AreAsked : List (Bor (List ℕ)) → (left : Option (List ℕ)) → List Input → Type 0
 AreAsked words left inputs = Asks (map word_shown words) left (map asked_by inputs)
 
--- what is told of the queries among inputs, and what each input picks of it
+-- the replies to the queries among inputs, and what each input picks of them
 pub record Reports (options : model.Options) (file : List ℕ) (inputs : List Input) (report : Report) : Type 0 where
   pub asked : List Query
   pub shares : Shares (map input_shown inputs) asked report.picks.items
-  pub told : AreTold options (means file) asked report.told.items
+  pub replies : AreReplies options (means file) asked report.replies.items
 
 -- how a run ends in which there were faults, or none
 abbrev pub status_for : Bool → Status

@@ -11,7 +11,7 @@ use Rattle.dw_symbols.specs.Answer.{answer_shown, frame_shown, location_shown}
 use Rattle.dw_symbols.specs.Told.{query_shown}
 use Rattle.ticket_core.specs.declared.query.Query.{Query}
 use Rattle.a2l_lines.specs.declared.options.Options.{Options}
-use Rattle.a2l_lines.specs.declared.told.Told.{Told}
+use Rattle.a2l_lines.specs.declared.reply.Reply.{Reply}
 
 -- what the options say of the text
 abbrev pub options_shown : Options → model.Options
@@ -26,8 +26,8 @@ is_bad None = true
 is_bad (Some query) = false
 
 -- some input is a bad address, or some answer a fault
-abbrev pub some_fault : List (Option Query) → List Told → Bool
-some_fault inputs told = list_any is_bad inputs || list_any (λ told. told.is_fault) told
+abbrev pub some_fault : List (Option Query) → List Reply → Bool
+some_fault inputs replies = list_any is_bad inputs || list_any (λ reply. reply.is_fault) replies
 
 -- what is after a path: `:LINE`, `:?` where the line isn't known, or `:0` where the path isn't
 -- either

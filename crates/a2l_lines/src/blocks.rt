@@ -7,8 +7,8 @@ ghost use Rattle.a2l_lines.specs.Pieces.{pieces_of, WritesPicked, PicksBeginning
 
 use crate::output::write_all;
 use crate::pieces::piece;
+use crate::reply::Reply;
 use crate::streams::{Failed, Sink};
-use crate::told::Told;
 
 /// Writes what is in a block, and empties it. After a failure a beginning of it was written.
 fn flush<W: Sink>(writer: &mut W, block: &mut Vec<u8>) -> Result<(), Failed>
@@ -62,20 +62,20 @@ fn put<W: Sink>(writer: &mut W, block: &mut Vec<u8>, piece: &[u8]) -> Result<(),
 pub fn write_picked<W: Sink>(
     writer: &mut W,
     block: &mut Vec<u8>,
-    told: &[Told],
+    replies: &[Reply],
     picks: &[usize],
 ) -> Result<(), Failed>
     requires empty { block.old.items ≡ [] }
-    requires within { All (λ pick. pick ≤ length told.now) picks.now }
+    requires within { All (λ pick. pick ≤ length replies.now) picks.now }
     ensures written { OnOk result
-        (WritesPicked (W.told writer.old) (W.told writer.new) (pieces_of told.now) picks.now) }
+        (WritesPicked (W.told writer.old) (W.told writer.new) (pieces_of replies.now) picks.now) }
     ensures failed { OnErr result (W.failures writer.old < W.failures writer.new) }
     ensures beginning { OnErr result
-        (PicksBeginning (W.told writer.old) (W.told writer.new) (pieces_of told.now) picks.now) }
+        (PicksBeginning (W.told writer.old) (W.told writer.new) (pieces_of replies.now) picks.now) }
     ensures counted { W.failures writer.old ≤ W.failures writer.new }
 {
     for i in 0..picks.len() {
-        put(writer, block, piece(told, picks[i]))?;
+        put(writer, block, piece(replies, picks[i]))?;
     }
     flush(writer, block)
 }

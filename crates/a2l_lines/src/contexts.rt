@@ -7,7 +7,7 @@ use ticket_board::Maker;
 use ticket_core::NoMemory;
 
 /// How many of the units that it read each worker keeps.
-const KEPT_UNITS: usize = 16;
+pub const KEPT_UNITS: usize = 16;
 
 /// Makes the contexts of workers, all over one image.
 #[derive(Clone, Copy)]

@@ -4,16 +4,16 @@ ghost use Rattle.std.specs.Prelude.{◌≡◌, length, IfOk, IfErr, OnOk};
 ghost use Rattle.dw_symbols.specs.Told.{means};
 ghost use Rattle.ticket_board.specs.Pool.{PoolFits, RefusesPool};
 ghost use Rattle.a2l_lines.specs.Pool.{AreAnswersOf};
+ghost use Rattle.a2l_lines.specs.Reply.{AreReplies};
 ghost use Rattle.a2l_lines.specs.Text.{options_shown};
-ghost use Rattle.a2l_lines.specs.Told.{AreTold};
 
 use crate::contexts::Contexts;
 use crate::crew::Crew;
 use crate::options::Options;
 use crate::plan::Plan;
+use crate::replier::{Replier, Repliers, Style};
+use crate::reply::Reply;
 use crate::resources::Resources;
-use crate::teller::{Style, Teller, Tellers};
-use crate::told::Told;
 use dw_symbols::{Answer, Context, Image, law_of_shown};
 use std::alloc::{AllocError, Global};
 use std::marker::PhantomData;
@@ -65,38 +65,40 @@ pub fn run_pool<'a, R: Threads + Wait + Sync, G: Gate + Sync>(
     if !pool_fits(&shape, queries.len()) {
         return Err(PoolFault::BadShape);
     }
-    let plan = Plan::as_given(alloc, image, queries, Crew::new(rt, shape.workers))?;
+    let crew = Crew::new(rt, shape.workers);
+    let plan = Plan::as_given(alloc, image, queries, crew)?;
     let queries = Queries {
         asked: queries,
         owners: &plan.owners,
+        processors: crew.processors,
     };
     run_planned(rt, alloc, image, shape, queries, gate)
 }
 
-/// What is told of each of some queries that are meant for these workers, in their order.
-pub fn tell_all<'o, R: Threads + Wait + Sync, G: Gate + Sync, O: Style + Send + Sync>(
+/// The replies to some queries that are meant for these workers, in their order.
+pub fn reply_all<'o, R: Threads + Wait + Sync, G: Gate + Sync, O: Style + Send + Sync>(
     on: &Resources<'_, R>,
     image: &Image<'_>,
     shape: Shape,
     queries: Queries<'_>,
     options: &'o Options<'o>,
     gate: &G,
-) -> Result<Vec<Told>, AllocError>
+) -> Result<Vec<Reply>, AllocError>
     requires fits { PoolFits shape (length queries.asked.now) }
     requires style { options_shown options.now ≡ O.options }
-    ensures told { IfOk result (λ told.
-        AreTold (options_shown options.now) (means image.now) queries.entry.asked.now told.items) }
+    ensures replies { IfOk result (λ replies.
+        AreReplies (options_shown options.now) (means image.now) queries.entry.asked.now replies.items) }
 {
-    let maker = Tellers::<O> {
+    let maker = Repliers::<O> {
         contexts: Contexts { image },
         options,
         style: PhantomData,
     };
-    let told = ticket_board::run_pool::<Teller<'_, '_, '_, O>, R, _, G>(
+    let replies = ticket_board::run_pool::<Replier<'_, '_, '_, O>, R, _, G>(
         on.threads, on.alloc, &maker, shape, queries, gate,
     );
-    match told {
-        Ok(told) => Ok(told),
+    match replies {
+        Ok(replies) => Ok(replies),
         Err(PoolFault::BadShape) => unreachable!(),
         Err(PoolFault::Memory) => Err(AllocError),
     }

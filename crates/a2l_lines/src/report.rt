@@ -1,4 +1,4 @@
-//! What is told of inputs: each query is answered once, and each input picks its lines.
+//! The report on inputs: each query is answered once, and each input picks its lines.
 
 ghost use Rattle.std.specs.Prelude.{◌≡◌, ◌≤◌, IfOk};
 ghost use Rattle.a2l_lines.specs.Pool.{shape_of, workers_for};
@@ -9,10 +9,10 @@ use crate::crew::Crew;
 use crate::input::Input;
 use crate::options::Options;
 use crate::plan::Plan;
-use crate::pool::tell_all;
+use crate::pool::reply_all;
+use crate::reply::Reply;
 use crate::resources::Resources;
 use crate::shares::sharing_of;
-use crate::told::Told;
 use dw_symbols::Image;
 use std::alloc::AllocError;
 use std::marker::Brand;
@@ -27,12 +27,12 @@ const WINDOW: usize = 16;
 /// How many queries each sender asks at most.
 const MOST: u64 = 1 << 60;
 
-/// What is told of the queries among some inputs.
+/// The replies to the queries among some inputs, and what each input picks of them.
 #[derive(Debug, Drop)]
 pub struct Report {
-    /// What is told of each query, in the order in which they were asked.
-    pub told: Vec<Told>,
-    /// For each input 0 where it is a bad address, and else the index of its query in `told`,
+    /// The reply to each query, in the order in which they were asked.
+    pub replies: Vec<Reply>,
+    /// For each input 0 where it is a bad address, and else the index of its query in `replies`,
     /// counted from 1.
     pub picks: Vec<usize>,
 }
@@ -50,7 +50,7 @@ fn shape_of(options: &Options<'_>, queries: usize) -> Shape
     }
 }
 
-/// What is told of some inputs. Their queries are asked in the order of a plan, so that what one
+/// The report on some inputs. Their queries are asked in the order of a plan, so that what one
 /// unit answers is asked at one time, and the workers share the units.
 pub fn report_of<T: Threads + Wait + Sync, G: Gate + Sync>(
     on: &Resources<'_, T>,
@@ -75,10 +75,11 @@ pub fn report_of<T: Threads + Wait + Sync, G: Gate + Sync>(
     let queries = Queries {
         asked: &sharing.asked,
         owners: &plan.owners,
+        processors: on.processors,
     };
-    let told = tell_all::<_, _, Brand>(on, image, shape, queries, options, gate)?;
+    let replies = reply_all::<_, _, Brand>(on, image, shape, queries, options, gate)?;
     Ok(Report {
-        told,
+        replies,
         picks: sharing.picks,
     })
 }

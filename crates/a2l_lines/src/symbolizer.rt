@@ -11,10 +11,10 @@ use crate::fault::RunFault;
 use crate::input::{Input, inputs_of_lines, inputs_of_words};
 use crate::input_bytes::read_all;
 use crate::options::Options;
+use crate::reply::Reply;
 use crate::report::report_of;
 use crate::resources::Resources;
 use crate::streams::{Failed, Sink, Source};
-use crate::told::Told;
 use dw_symbols::Image;
 use std::alloc::Global;
 use std::sync::Wait;
@@ -67,22 +67,23 @@ fn some_bad(inputs: &[Input]) -> bool
 }
 
 /// Whether some answer is a fault.
-fn some_refused(told: &[Told]) -> bool
-    ensures { result ≡ list_any (λ told. told.is_fault) told.now }
+fn some_refused(replies: &[Reply]) -> bool
+    ensures { result ≡ list_any (λ reply. reply.is_fault) replies.now }
 {
-    for told in told {
-        if told.is_fault {
+    for reply in replies {
+        if reply.is_fault {
             return true;
         }
     }
     false
 }
 
-/// How a run over these inputs ends, where this is told of those that aren't bad addresses.
-fn outcome(inputs: &[Input], told: &[Told]) -> Status
-    ensures { result ≡ status_for (some_fault (map input_shown inputs.now) told.now) }
+/// How a run over these inputs ends, where these are the replies to those that aren't bad
+/// addresses.
+fn outcome(inputs: &[Input], replies: &[Reply]) -> Status
+    ensures { result ≡ status_for (some_fault (map input_shown inputs.now) replies.now) }
 {
-    if some_bad(inputs) || some_refused(told) {
+    if some_bad(inputs) || some_refused(replies) {
         return Status::Faults;
     }
     Status::Clean
@@ -116,9 +117,9 @@ pub fn symbolize<T: Threads + Wait + Sync, R: Source, W: Sink, G: Gate + Sync>(
 {
     let inputs = inputs_of(on.alloc, reader, &options.words)?;
     let report = report_of(on, image, options, &inputs, gate)?;
-    let status = outcome(&inputs, &report.told);
+    let status = outcome(&inputs, &report.replies);
     let mut block = Vec::with_capacity(on.alloc, BLOCK)?;
-    match write_picked(writer, &mut block, &report.told, &report.picks) {
+    match write_picked(writer, &mut block, &report.replies, &report.picks) {
         Ok(()) => Ok(status),
         Err(Failed) => Err(RunFault::Write),
     }

@@ -1,5 +1,6 @@
 //! When each query is asked, so that workers share the units. No promise rests on it.
 
+use crate::contexts::KEPT_UNITS;
 use crate::survey::Survey;
 use crate::waves::{Share, shares_of};
 use std::alloc::{AllocError, Global};
@@ -7,8 +8,8 @@ use std::alloc::{AllocError, Global};
 /// How many queries of one worker are asked in a row, so that it answers as many before it waits.
 const ROW: u64 = 4;
 
-/// How many turns of a wave come after the first of each of its units.
-const LATER: u64 = u32::MAX as u64 - 1;
+/// How many turns of a wave come after those of the first queries of its units.
+const LATER: u64 = u32::MAX as u64 - 1 - KEPT_UNITS as u64;
 
 /// When a query is asked: its wave, and its turn in that.
 pub type Turn = (u32, u32);
@@ -29,8 +30,7 @@ impl Progress {
         let row = self.seen.checked_div(ROW).unwrap_or(0).wrapping_mul(ROW);
         self.seen = self.seen.wrapping_add(1);
         let part = row.wrapping_mul(LATER).checked_div(self.count).unwrap_or(0);
-        let later = u32::try_from(part).unwrap_or(u32::MAX);
-        later.saturating_add(1)
+        u32::try_from(part.wrapping_add(KEPT_UNITS as u64)).unwrap_or(u32::MAX)
     }
 }
 
@@ -89,8 +89,8 @@ impl<'s> Turns<'s> {
         Some(*share)
     }
 
-    /// The turn of the query at an index: the first query of a unit comes with those of the other
-    /// units of its wave, and a query without a unit comes last.
+    /// The turn of the query at an index: the first query of a unit comes before the later ones of
+    /// its wave, one of each worker at a time, and a query without a unit comes last.
     pub fn next(&mut self, index: usize) -> Turn {
         let (Some(unit), Some(share)) = (self.survey.units.get(index), self.share(index)) else {
             return LAST;
@@ -101,7 +101,7 @@ impl<'s> Turns<'s> {
         };
         if !*begun {
             *begun = true;
-            return (wave, 0);
+            return (wave, u32::try_from(share.rank).unwrap_or(0));
         }
         let place = share
             .wave

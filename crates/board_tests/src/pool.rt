@@ -14,7 +14,11 @@ use ticket_core::{Query, QueryKind, Shape};
 
 /// Queries of which each is meant for any worker.
 fn for_all(asked: &[Query]) -> Queries<'_> {
-    Queries { asked, owners: &[] }
+    Queries {
+        asked,
+        owners: &[],
+        processors: 2,
+    }
 }
 
 /// The answers of a pool to which nothing is refused.
@@ -115,6 +119,7 @@ fn same_for_all_owners(rt: HostRuntime) -> Result<(), Fail> {
         let queries = Queries {
             asked: &queries,
             owners: &owners,
+            processors: usize::from(owner),
         };
         let found = run_pool::<Echo, HostRuntime, Echoes, Open>(
             &rt,
@@ -140,6 +145,7 @@ fn another_workers_query(rt: HostRuntime) -> Result<(), Fail> {
     let queries = Queries {
         asked: &asked,
         owners: &[0, 0],
+        processors: 2,
     };
     let found = run_pool::<Echo, HostRuntime, Echoes, Meeting>(
         &rt,

@@ -1,17 +1,20 @@
 -- The pairs that were read once are read again.
-use Rattle.std.proofs.Common.{◌≡◌, ◌∙◌, ◌-◌, ℕ, suc, List, [], ◌∷◌, length, map, Option, Some, None, Result, Ok, refl, sym, ap, subst, arith}
-use Rattle.std.specs.Prelude.{option_map}
+use Rattle.std.proofs.Common.{◌≡◌, ◌∙◌, ◌+◌, ◌-◌, ◌<◌, ℕ, suc, List, [], ◌∷◌, length, map, Option, Some, None, Result, Ok, refl, sym, ap, subst, arith}
+use Rattle.std.specs.Prelude.{option_map, slice_index_or}
 use Rattle.std.proofs.lemmas.List.{length-map}
 use Rattle.dw_model.specs.Faults.{Fault}
-use Rattle.dw_model.specs.Reading.{Place, items, AreItems}
+use Rattle.dw_model.specs.Leb.{uleb_at}
+use Rattle.dw_model.specs.Reading.{Place, Between, bytes_at, items, AreItems}
 use Rattle.dw_model.specs.Abbrev.{Specification, next_specification}
 use Rattle.dw_model.specs.Answers.{Tells}
 use Rattle.dw_model.proofs.AdvanceLemmas.{specifications_advance}
 use Rattle.dw_model.proofs.ItemsLemmas.{read_by, are-read}
+use Rattle.dw_model.proofs.LebReading.{uleb-ok}
+use Rattle.dw_model.proofs.NumberLemmas.{bytes_at-between}
 use Rattle.dw_model.proofs.StepLemmas.{ok_is, ok-err}
 use Rattle.dw_forms.specs.declared.declaration.Spec.{Spec}
 use Rattle.dw_forms.specs.Spec.{spec_shown}
-use Rattle.dw_forms.specs.Pairs.{specs_in_read, specs_at, AreAt}
+use Rattle.dw_forms.specs.Pairs.{specs_in_read, specs_at, AreAt, ReadsShortPair}
 
 abbrev pub all_at : Place → Result (List Specification × Place) Fault
 all_at p = items (λ q. q.left) next_specification p
@@ -86,3 +89,20 @@ takes-first p q count found spec some are e is =
 
 pub counted : (specs : List Spec) (p q : Place) → all_at p ≡ Ok (map spec_shown specs, q) → AreAt p (length specs)
 counted specs p q e = ((map spec_shown specs, q), e, length-map specs spec_shown)
+
+-- ---- a name and a form of one byte each
+
+-- a byte whose top bit isn't set is a number
+one_byte : (p q : Place) (b : ℕ) → Between p (b ∷ []) q → b < 128 → uleb_at p ≡ Ok (b, q)
+one_byte p q b between low = uleb-ok p q b (b ∷ []) between (low, omega (arith, low)) (omega (arith, low))
+
+pub short_pair : (p q : Place) (bytes : List ℕ) → bytes_at 2 p ≡ Some (bytes, q) → slice_index_or bytes 0 0 < 128 → slice_index_or bytes 1 0 < 128 → ReadsShortPair (Some (slice_index_or bytes 0 0, slice_index_or bytes 1 0)) p q
+short_pair p q bytes e = let s = bytes_at-between 2 p (bytes, q) e in of bytes s.1 s.0
+  where
+    of : (bytes : List ℕ) → Between p bytes q → length bytes ≡ 2 → slice_index_or bytes 0 0 < 128 → slice_index_or bytes 1 0 < 128 → ReadsShortPair (Some (slice_index_or bytes 0 0, slice_index_or bytes 1 0)) p q
+    of [] between two low high = absurd (omega (arith, two))
+    of (a ∷ []) between two low high = absurd (omega (arith, two))
+    of (a ∷ b ∷ []) between two low high =
+        let second : Place = record { at = p.at + 1; left = b ∷ q.left } in
+        (second, one_byte p second a (between.0, refl) low, one_byte second q b (refl, omega (arith, between.1)) high)
+    of (a ∷ b ∷ c ∷ rest) between two low high = absurd (omega (arith, two))

@@ -2,6 +2,7 @@
 use Rattle.std.specs.Prelude.{◌≡◌, ℕ, List, [], ◌∷◌, length, Option, Some, None, Result, Ok, Err}
 use Rattle.dw_model.specs.Reading.{Place, items}
 use Rattle.dw_model.specs.Faults.{Fault}
+use Rattle.dw_model.specs.Leb.{uleb_at}
 use Rattle.dw_model.specs.Abbrev.{Specification, next_specification}
 use Rattle.dw_model.specs.Answers.{Tells}
 use Rattle.dw_forms.specs.declared.declaration.Spec.{Spec}
@@ -27,6 +28,12 @@ AreAt p count = (found : List Specification × Place) × (items (λ q. q.left) n
 abbrev pub TakesFirst : Option Spec → List Specification → List Specification → Type 0
 TakesFirst None old new = (old ≡ []) × (new ≡ old)
 TakesFirst (Some spec) old new = old ≡ spec_shown spec ∷ new
+
+-- Two numbers of one byte each were read, one after the other; or nothing was.
+abbrev pub ReadsShortPair : Option (ℕ × ℕ) → Place → Place → Type 0
+ReadsShortPair None old new = new ≡ old
+ReadsShortPair (Some pair) old new =
+    (between : Place) × (uleb_at old ≡ Ok (pair.0, between)) × (uleb_at between ≡ Ok (pair.1, new))
 
 -- The pairs were counted, and the definition reads as many; or its fault is told.
 abbrev pub ReadsCount : Result ℕ FormFault → Result (List Specification × Place) Fault → Place → Type 0

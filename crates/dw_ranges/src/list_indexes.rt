@@ -73,10 +73,11 @@ impl<'a> ListIndexes<'a> {
             self.left = 0;
             return Ok(Listed::Named(list));
         };
-        self.left = self.left.saturating_sub(index.size);
+        let left = self.left.saturating_sub(index.size);
         let index = Arc::new(self.alloc, index)?;
         let shared = Arc::try_clone(&index)?;
         self.indexes.insert((list.begin, list.addr), shared)?;
+        self.left = left;
         Ok(Listed::Indexed(index, list.base))
     }
 

@@ -10,3 +10,4 @@ pub mod AnswerLemmas
 pub mod ToldLemmas
 pub mod PathLemmas
 pub mod SpanLemmas
+pub mod PartLemmas

@@ -7,7 +7,7 @@ use Rattle.dw_model.specs.Pieces.{UnitFault, ArePieces, IsFirstFault, HaveLocati
 use Rattle.dw_line.specs.declared.rows.Row.{Row}
 use Rattle.dw_line.specs.declared.walk.Stretch.{Stretch}
 use Rattle.dw_symbols.specs.declared.answer.Piece.{Piece}
-use Rattle.dw_symbols.specs.Answer.{piece_shown, code_shown}
+use Rattle.dw_symbols.specs.Answer.{piece_shown}
 use Rattle.dw_line.specs.Search.{told_at, row_told}
 use Rattle.dw_line.specs.Walked.{IsStretch}
 use Rattle.dw_symbols.specs.Paths.{file_path}
@@ -17,12 +17,10 @@ use Rattle.dw_model.specs.Faults.{Bad}
 use Rattle.dw_model.specs.Matrix.{Row as ModelRow, row_of}
 use Rattle.dw_model.specs.Section.{Sections}
 use Rattle.dw_model.specs.Unit.{DwarfUnit}
-use Rattle.dw_symbols.specs.declared.answer.UnitFault.{UnitFault as CodeFault}
 use Rattle.dw_symbols.specs.declared.span.Span.{Span}
 use Rattle.dw_line.specs.Lines.{Table, lines_shown}
 use Rattle.dw_symbols.specs.UnitParts.{HasLines}
-use Rattle.dw_symbols.specs.ImageUnit.{IsUnitOf}
-use Rattle.dw_symbols.specs.Span.{AddsUnit, AddsFirst}
+use Rattle.dw_symbols.specs.Span.{AddsUnit}
 
 -- ---- one piece more
 
@@ -109,35 +107,15 @@ pub unit_adds_none : (s : Sections) (unit : DwarfUnit) (span : Span) (old : List
 unit_adds_none s unit span old rises has law = λ same from order are.
     law (place s) from span.low span.high old are rises (λ a above below. same a above below ∙ place_ok s unit None a has)
 
--- ---- the addresses of a span
+-- ---- the addresses of units
 
-place_none : (s : Sections) (a : ℕ) → None ≡ unit_of s a → place s a ≡ Ok None
+pub place_none : (s : Sections) (a : ℕ) → None ≡ unit_of s a → place s a ≡ Ok None
 unfolding place
 place_none s a none = rw (sym none) refl
 
-place_some : (s : Sections) (unit : DwarfUnit) (a : ℕ) → Some unit ≡ unit_of s a → place s a ≡ unit_place s unit a
+pub place_some : (s : Sections) (unit : DwarfUnit) (a : ℕ) → Some unit ≡ unit_of s a → place s a ≡ unit_place s unit a
 unfolding place
 place_some s unit a some = rw (sym some) refl
-
--- the addresses of a span up to an end, before which one unit answers all of them, or none does
-module _ (s : Sections) (span : Span) (end until : ℕ) (some : span.low < end) (within : end ≤ span.high) (ends : end ≤ until) where
-  abbrev pub first : Span
-  first = record { low = span.low; high = end }
-
-  pub first_none : (old : List model.Piece) → IsUnitOf s None span.low until → NoneMore → AddsFirst s span (Ok end) old old
-  first_none old none law = (
-    some,
-    within,
-    λ from order are.
-        law (place s) from span.low end old are (omega (arith, some)) (λ a above below. place_none s a (none a above (omega (arith, below, ends)))),
-  )
-
-  pub first_adds : (unit : DwarfUnit) (old new : List model.Piece) → IsUnitOf s (Some unit) span.low until → AddsUnit s unit first None old new → AddsFirst s span (Ok end) old new
-  first_adds unit old new is adds = (some, within, adds (λ a above below. place_some s unit a (is a above (omega (arith, below, ends)))))
-
-  pub first_fails : (unit : DwarfUnit) (code : CodeFault) (offset : ℕ) (old new : List model.Piece) → IsUnitOf s (Some unit) span.low until → AddsUnit s unit first (Some code) old new → offset ≡ unit.offset → AddsFirst s span (Err (offset, code)) old new
-  first_fails unit code offset old new is fails same =
-      place_some s unit span.low (is span.low (omega arith) (omega (arith, some, ends))) ∙ fails span.low ∙ ap (λ (n : ℕ). Err (n, code_shown code)) (sym same)
 
 -- ---- the whole
 

@@ -1,5 +1,5 @@
 -- The line tables that are kept, after one more, one fewer or one that was turned.
-use Rattle.std.proofs.Common.{◌≡◌, ◌≤◌, ℕ, ◌+◌, ◌-◌, List, length, take, Option, Some, Result, sym, subst, arith}
+use Rattle.std.proofs.Common.{◌≡◌, ◌≤◌, ℕ, ◌+◌, ◌-◌, Bool, List, length, take, Option, Some, Result, sym, subst, arith}
 use Rattle.std.specs.Prelude.{nat_eq, slice_get}
 use Rattle.std.specs.Map.{lookup, set_value}
 use Rattle.lru.specs.LruCache.{LruCache, lru_cache, promoted, put_entries}
@@ -16,20 +16,20 @@ use Rattle.dw_symbols.proofs.KeptLemmas.{after-same, after-put, after-set, looke
 abbrev Read : Type 0
 Read = Result (Option Table) UnitFault
 
-abbrev pub tables_of : LruCache ℕ Read → ℕ → KeptTables
-tables_of tables size = record { tables = tables; size = size }
+abbrev pub tables_of : LruCache ℕ Read → ℕ → Bool → KeptTables
+tables_of tables size dropped = record { tables = tables; size = size; has_dropped = dropped }
 
 module _ (line : List ℕ) (old : KeptTables) (are : AreTables line old) where
-  pub oldest-let-go : (new : LruCache ℕ Read) (size left : ℕ) (oldest : ℕ × Read) → Some oldest ≡ slice_get old.tables.entries (length old.tables.entries - 1) → new ≡ lru_cache (take (length old.tables.entries - 1) old.tables.entries) old.tables.cap → size ≡ table_size line oldest.0 → left ≡ old.size - size → AreTables line (tables_of new left)
+  pub oldest-let-go : {dropped : Bool} (new : LruCache ℕ Read) (size left : ℕ) (oldest : ℕ × Read) → Some oldest ≡ slice_get old.tables.entries (length old.tables.entries - 1) → new ≡ lru_cache (take (length old.tables.entries - 1) old.tables.entries) old.tables.cap → size ≡ table_size line oldest.0 → left ≡ old.size - size → AreTables line (tables_of new left dropped)
   oldest-let-go new size left oldest there same is rest =
       grind (arith, after-same (IsTableAt line) new (length old.tables.entries - 1) old.tables.entries old.tables.cap same are.each, oldest-gone line old.tables.entries new old.tables.cap old.size left oldest there same are.counted)
 
-  pub table-put : (new : LruCache ℕ Read) (offset : ℕ) (read : Read) (size : ℕ) → new ≡ lru_cache (put_entries nat_eq old.tables offset read) old.tables.cap → IsTableAt line offset read → size ≡ old.size + table_size line offset → size ≤ length line → AreTables line (tables_of new size)
+  pub table-put : {dropped : Bool} (new : LruCache ℕ Read) (offset : ℕ) (read : Read) (size : ℕ) → new ≡ lru_cache (put_entries nat_eq old.tables offset read) old.tables.cap → IsTableAt line offset read → size ≡ old.size + table_size line offset → size ≤ length line → AreTables line (tables_of new size dropped)
   table-put new offset read size same own is room =
       grind (arith, after-put (IsTableAt line) old.tables new offset read same are.each own, size-put line old.tables offset read)
 
   -- a table that was used, and may have been turned
-  pub table-used : (offset : ℕ) (named : Option ℕ) (read : Read) → Some offset ≡ named → IsTableOf line named read → AreTables line (tables_of (lru_cache (set_value (nat_eq offset) (promoted (nat_eq offset) old.tables.entries) read) old.tables.cap) old.size)
+  pub table-used : (offset : ℕ) (named : Option ℕ) (read : Read) → Some offset ≡ named → IsTableOf line named read → AreTables line (tables_of (lru_cache (set_value (nat_eq offset) (promoted (nat_eq offset) old.tables.entries) read) old.tables.cap) old.size old.has_dropped)
   table-used offset named read names own =
       grind (arith, after-set (IsTableAt line) old.tables.entries offset read are.each, size-after-set line old.tables.entries offset read)
 
@@ -41,5 +41,5 @@ module _ (s seen : Sections) (unit : DwarfUnit) (old : KeptTables) (same : s ≡
   pub named-found : Some read ≡ lookup (nat_eq offset) old.tables.entries → IsNamed s unit read
   named-found found = table-found s.line old (subst (λ (s : Sections). AreTables s.line old) (sym same) are) offset (named_table s unit) read names found
 
-  pub named-used : IsNamed s unit read → AreTables seen.line (tables_of (lru_cache (set_value (nat_eq offset) (promoted (nat_eq offset) old.tables.entries) read) old.tables.cap) old.size)
+  pub named-used : IsNamed s unit read → AreTables seen.line (tables_of (lru_cache (set_value (nat_eq offset) (promoted (nat_eq offset) old.tables.entries) read) old.tables.cap) old.size old.has_dropped)
   named-used own = table-used seen.line old are offset (named_table s unit) read names (subst (λ (seen : Sections). IsTableOf seen.line (named_table s unit) read) same own)

@@ -2,6 +2,7 @@ pub mod Answer
 pub mod Paths
 pub mod Pieces
 pub mod Span
+pub mod Parts
 pub mod Codes
 pub mod Source
 pub mod ContextState

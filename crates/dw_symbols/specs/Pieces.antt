@@ -1,8 +1,8 @@
 -- Pieces that are found in order of address.
-use Rattle.std.specs.Prelude.{◌≡◌, ◌≤◌, ◌<◌, ℕ, List, Option, Some, option_map, Result, Ok}
+use Rattle.std.specs.Prelude.{◌≡◌, ◌≤◌, ◌<◌, ℕ, List, [], ◌∷◌, Option, Some, option_map, Result, Ok}
 use Rattle.dw_model.specs.Answer as model
 use Rattle.dw_model.specs.Answer.{Lines, location_at}
-use Rattle.dw_model.specs.Pieces.{UnitFault, ArePieces}
+use Rattle.dw_model.specs.Pieces.{UnitFault, ArePieces, with_piece}
 use Rattle.dw_line.specs.declared.rows.Row.{Row}
 use Rattle.dw_line.specs.declared.walk.Stretch.{Stretch}
 use Rattle.dw_line.specs.Search.{told_at}
@@ -35,3 +35,8 @@ AddsStretch table stretch old new =
 -- the addresses of a span are added, each with the location of its row
 abbrev pub AddsRows : Lines → (low high : ℕ) → (old new : List model.Piece) → Type 0
 AddsRows table low high old new = Adds (λ a. option_map (row_place table) (told_at table.rows a)) low high old new
+
+-- pieces more after the others, one after the other
+abbrev pub with_pieces : List model.Piece → List model.Piece → List model.Piece
+with_pieces pieces [] = pieces
+with_pieces pieces (next ∷ later) = with_pieces (with_piece pieces next) later

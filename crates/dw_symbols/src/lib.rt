@@ -3,6 +3,7 @@
 
 mod answer;
 mod context;
+mod early;
 mod frames;
 mod image;
 mod image_unit;

@@ -5,9 +5,10 @@ ghost use Rattle.dw_model.specs.Pieces.{joins, with_piece};
 ghost use Rattle.dw_symbols.specs.Answer.{piece_shown};
 ghost use Rattle.dw_line.specs.Lines.{lines_shown};
 ghost use Rattle.dw_symbols.specs.Paths.{path_in, ArePathsOf};
-ghost use Rattle.dw_symbols.specs.Pieces.{with_path, AddsStretch, AddsRows};
+ghost use Rattle.dw_symbols.specs.Pieces.{with_path, with_pieces, AddsStretch, AddsRows};
 
 use crate::answer::{Location, Piece};
+use crate::early::PartPieces;
 use crate::location::location_at;
 use crate::paths::{KnownPath, copy_path, is_path, place_of};
 use dw_line::{Lines, Stretch};
@@ -104,4 +105,41 @@ pub(crate) fn push_rows(
         };
         push_stretch(alloc, lines, stretch, &mut paths, pieces)?;
     }
+}
+
+/// Whether the next piece touches this one and has its location.
+fn joins_found(piece: &Piece, next: &Piece) -> bool
+    ensures { result ≡ joins (piece_shown piece.now) (piece_shown next.now) }
+{
+    piece.end == next.begin
+        && piece.location.line == next.location.line
+        && piece.location.column == next.location.column
+        && piece.location.path == next.location.path
+}
+
+/// Adds a piece, which begins where the others end or after it.
+fn push_found(next: Piece, pieces: &mut Vec<Piece>) -> Result<(), AllocError>
+    ensures { OnOk result (map piece_shown pieces.new.items
+        ≡ with_piece (map piece_shown pieces.old.items) (piece_shown next)) }
+{
+    if let Some(last) = pieces.last_mut() {
+        if joins_found(last, &next) {
+            last.end = next.end;
+            return Ok(());
+        }
+    }
+    pieces.push(next)?;
+    Ok(())
+}
+
+/// Adds the pieces of a part, which begins where the others end or after it.
+pub(crate) fn append(part: PartPieces, pieces: &mut Vec<Piece>) -> Result<(), AllocError>
+    ensures { OnOk result (map piece_shown pieces.new.items
+        ≡ with_pieces (map piece_shown pieces.old.items) (map piece_shown part.pieces.items)) }
+{
+    let mut left = part.pieces.into_iter();
+    while let Some(piece) = left.next() {
+        push_found(piece, pieces)?;
+    }
+    Ok(())
 }

@@ -1,13 +1,17 @@
 //! Spans of addresses, and their pieces by all units that answer them.
 
-ghost use Rattle.std.specs.Prelude.{◌≡◌, ◌≤◌, ◌<◌, ℕ, IfOk, IsOk, map};
+ghost use Rattle.std.specs.Prelude.{◌≡◌, ◌≤◌, IfOk, IfSome, IsOk, OnOk, map};
+ghost use Rattle.std.specs.List.{All};
 ghost use Rattle.dw_model.specs.Section.{sections};
 ghost use Rattle.dw_model.specs.Pieces.{pieces};
 
 use crate::answer::{Answer, Piece, UnitFault};
+use crate::early::{Early, PartPieces, most_parts};
 use crate::image::Image;
+use crate::image_unit::ImageUnit;
+use crate::pieces::append;
 use crate::table_cache::KeptTables;
-use crate::unit_walk::UnitWalk;
+use crate::unit_walk::Part;
 use dw_model::laws::{law_of_more_pieces, law_of_pieces};
 use std::alloc::{AllocError, Global};
 
@@ -18,49 +22,141 @@ pub(crate) struct Span {
     pub(crate) high: u64,
 }
 
-/// The lesser of two addresses.
-fn lesser(a: u64, b: u64) -> u64
-    ensures first { result ≤ a }
-    ensures second { result ≤ b }
-    ensures above { (c : ℕ) → c < a → c < b → c < result }
-{
-    if a <= b { a } else { b }
+/// For how many bytes of pieces there is room before their turn, besides eight for each byte of the
+/// file.
+const ROOM: usize = 10 << 20;
+
+/// For how many bytes of pieces of a file there is room before their turn.
+fn room_in(image: &Image<'_>) -> usize {
+    image.bytes().len().saturating_mul(8).saturating_add(ROOM)
 }
 
 impl<'a> KeptTables<'a> {
     ghost use Rattle.dw_symbols.specs.Answer.{answer_shown, piece_shown};
     ghost use Rattle.dw_symbols.specs.Kept.{AreTables};
-    ghost use Rattle.dw_symbols.specs.Span.{AddsFirst};
+    ghost use Rattle.dw_symbols.specs.ImageUnit.{sections_in, unit_in};
+    ghost use Rattle.dw_symbols.specs.Parts.{AreFirstParts, AreFound, IsPart};
+    ghost use Rattle.dw_symbols.specs.Span.{AddsFirst, AddsPart, ArePiecesBy};
 
-    /// Adds the pieces of the first addresses of a span, of which one unit answers all, or none
-    /// does, and returns where they end; or the unit and why it can't answer them.
-    fn push_first(
+    /// How many parts of a span are found at one time: one as long as all tables that it asks are
+    /// kept.
+    fn most_parts(&self, image: &Image<'a>) -> usize {
+        if self.has_dropped() {
+            return most_parts(room_in(image));
+        }
+        1
+    }
+
+    /// The pieces of a span, of which a unit answers all addresses; none where it can't.
+    fn pieces_of(
         &mut self,
         alloc: Global,
-        units: &mut UnitWalk<'_, 'a>,
+        unit: ImageUnit<'_, 'a>,
         span: Span,
+    ) -> Result<Option<PartPieces>, AllocError>
+        requires kept { AreTables (sections_in unit).line self.old }
+        requires order { span.low ≤ span.high }
+        ensures kept { AreTables (sections_in unit.entry).line self.new }
+        ensures pieces { IfOk result (λ found. IfSome found (λ part.
+            ArePiecesBy (sections_in unit.entry) (unit_in unit.entry) span (map piece_shown part.pieces.items))) }
+    {
+        let mut pieces = Vec::with_capacity(alloc, 1)?;
+        match self.push_pieces(alloc, unit, span, &mut pieces)? {
+            Some(_) => Ok(None),
+            None => Ok(Some(PartPieces { pieces })),
+        }
+    }
+
+    /// Finds pieces before their turn, of the parts after one that are of its unit, since the line
+    /// table is at hand.
+    fn look_ahead(
+        &mut self,
+        alloc: Global,
+        image: &Image<'a>,
+        parts: &[Part<'_, 'a>],
+        from: usize,
+        early: &mut Early,
+    ) -> Result<(), AllocError>
+        requires kept { AreTables (sections image.now).line self.old }
+        requires parts { All (IsPart image.now) parts.now }
+        requires found { AreFound image.now parts.now early.old }
+        ensures kept { AreTables (sections image.now).line self.new }
+        ensures found { OnOk result (AreFound image.now parts.now early.new) }
+    {
+        let mut i = from;
+        while let Some(next) = early.follower(i) {
+            if next >= parts.len() {
+                break;
+            }
+            let part = parts[next];
+            let Some(unit) = part.unit else {
+                break;
+            };
+            if let Some(found) = self.pieces_of(alloc, unit, part.span)? {
+                early.put(next, found)?;
+            }
+            i = next;
+        }
+        Ok(())
+    }
+
+    /// Adds the pieces of a part; or returns its unit, and why that can't answer it.
+    fn push_part(
+        &mut self,
+        alloc: Global,
+        image: &Image<'a>,
+        part: Part<'_, 'a>,
         pieces: &mut Vec<Piece>,
-    ) -> Result<Result<u64, (u64, UnitFault)>, AllocError>
-        requires kept { AreTables (sections units.old).line self.old }
-        requires some { span.low < span.high }
-        ensures file { units.new ≡ units.old }
-        ensures kept { AreTables (sections units.old).line self.new }
-        ensures pieces { IfOk result (λ end. AddsFirst (sections units.old) span end
+    ) -> Result<Option<(u64, UnitFault)>, AllocError>
+        requires kept { AreTables (sections image.now).line self.old }
+        requires part { IsPart image.now part }
+        ensures kept { AreTables (sections image.now).line self.new }
+        ensures pieces { IfOk result (λ fault. AddsPart (sections image.now) part.entry.span fault
             (map piece_shown pieces.old.items) (map piece_shown pieces.new.items)) }
     {
         law_of_more_pieces();
-        let owner = units.next(span.low)?;
-        let first = Span {
-            low: span.low,
-            high: lesser(owner.until, span.high),
+        let Some(unit) = part.unit else {
+            return Ok(None);
         };
-        let Some(unit) = owner.unit else {
-            return Ok(Ok(first.high));
-        };
-        match self.push_pieces(alloc, unit, first, pieces)? {
-            Some(code) => Ok(Err((unit.offset(), code))),
-            None => Ok(Ok(first.high)),
+        match self.push_pieces(alloc, unit, part.span, pieces)? {
+            Some(code) => Ok(Some((unit.offset(), code))),
+            None => Ok(None),
         }
+    }
+
+    /// Adds the pieces of the first parts of a span, and returns where they end; or the unit that
+    /// can't answer them, and why.
+    fn push_parts(
+        &mut self,
+        alloc: Global,
+        image: &Image<'a>,
+        span: Span,
+        parts: &[Part<'_, 'a>],
+        pieces: &mut Vec<Piece>,
+    ) -> Result<Result<u64, (u64, UnitFault)>, AllocError>
+        requires kept { AreTables (sections image.now).line self.old }
+        requires parts { AreFirstParts image.now span parts.now }
+        ensures kept { AreTables (sections image.now).line self.new }
+        ensures pieces { IfOk result (λ end. AddsFirst (sections image.now) span end
+            (map piece_shown pieces.old.items) (map piece_shown pieces.new.items)) }
+    {
+        law_of_more_pieces();
+        let units = image.unit_count();
+        let mut early = Early::new(alloc, room_in(image), units, parts)?;
+        let mut at = span.low;
+        for i in 0..parts.len() {
+            let part = parts[i];
+            if let Some(known) = early.take(i) {
+                append(known, pieces)?;
+            } else {
+                if let Some(fault) = self.push_part(alloc, image, part, pieces)? {
+                    return Ok(Err(fault));
+                }
+                self.look_ahead(alloc, image, parts, i, &mut early)?;
+            }
+            at = part.span.high;
+        }
+        Ok(Ok(at))
     }
 
     /// All pieces of the addresses from `low` on and below `high`, or the fault of the first
@@ -85,7 +181,9 @@ impl<'a> KeptTables<'a> {
         let mut units = image.walk(alloc)?;
         let mut at = low;
         while at < high {
-            match self.push_first(alloc, &mut units, Span { low: at, high }, &mut pieces)? {
+            let left = Span { low: at, high };
+            let parts = units.parts(alloc, left, self.most_parts(image))?;
+            match self.push_parts(alloc, image, left, &parts, &mut pieces)? {
                 Ok(end) => at = end,
                 Err((unit, code)) => return Ok(Answer::Fault { unit, code }),
             }

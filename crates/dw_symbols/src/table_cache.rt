@@ -27,6 +27,8 @@ pub(crate) struct KeptTables<'a> {
     tables: LruCache<u64, UnitLines<'a>>,
     /// The bytes of .debug_line that they have, at most, counted for each of them.
     size: usize,
+    /// Whether one went to make room for another. No promise rests on it.
+    has_dropped: bool,
 }
 
 impl<'a> KeptTables<'a> {
@@ -38,7 +40,16 @@ impl<'a> KeptTables<'a> {
         ensures { (line : List ℕ) → IfOk result (AreTables line) }
     {
         let tables = LruCache::unbounded(alloc)?;
-        Ok(KeptTables { tables, size: 0 })
+        Ok(KeptTables {
+            tables,
+            size: 0,
+            has_dropped: false,
+        })
+    }
+
+    /// Whether a table went to make room: it may be read again and again.
+    pub(crate) fn has_dropped(&self) -> bool {
+        self.has_dropped
     }
 
     /// Lets the tables go that were used longest ago, until the one at an offset may be kept too.
@@ -49,6 +60,7 @@ impl<'a> KeptTables<'a> {
     {
         let most = line.len() - table_size(line, offset);
         while self.size > most {
+            self.has_dropped = true;
             let Some((oldest, _table)) = self.tables.pop_lru() else {
                 self.size = 0;
                 return;

@@ -1,17 +1,35 @@
 //! The units that answer the addresses of a span, from one border to the next.
 
-ghost use Rattle.std.specs.Prelude.{◌≡◌, ◌<◌, IfOk, IfSome, option_map};
+ghost use Rattle.std.specs.Prelude.{◌≡◌, ◌≤◌, ◌<◌, ℕ, IfOk, IfSome, option_map};
 ghost use Rattle.dw_model.specs.Section.{sections};
 ghost use Rattle.dw_model.specs.Steady.{last_address};
 ghost use Rattle.dw_symbols.specs.Owners.{FindsUnits};
 ghost use Rattle.dw_symbols.specs.Image.{FindsPlaces};
 ghost use Rattle.dw_symbols.specs.ImageUnit.{IsUnitOf, unit_in};
+ghost use Rattle.dw_symbols.specs.Parts.{AreFirstParts};
 
 use crate::image::Image;
 use crate::image_unit::{Covered, ImageUnit};
+use crate::span::Span;
 use dw_ranges::{Found, Owners, Window};
 use std::alloc::{AllocError, Global};
 use std::marker::Model;
+
+/// A part of a span: one unit answers all of its addresses, or none does.
+#[derive(Clone, Copy)]
+pub(crate) struct Part<'b, 'a> {
+    pub(crate) unit: Option<ImageUnit<'b, 'a>>,
+    pub(crate) span: Span,
+}
+
+/// The lesser of two addresses.
+fn lesser(a: u64, b: u64) -> u64
+    ensures first { result ≤ a }
+    ensures second { result ≤ b }
+    ensures above { (c : ℕ) → c < a → c < b → c < result }
+{
+    if a <= b { a } else { b }
+}
 
 /// A walk over the units that answer addresses. Contracts see the bytes of the file.
 #[derive(Drop)]
@@ -73,5 +91,32 @@ impl<'b, 'a> UnitWalk<'b, 'a> {
             None => None,
         };
         Ok(Covered { unit, until })
+    }
+    /// The first parts of a span, one after the other: so many at most, but one at least.
+    pub(crate) fn parts(
+        &mut self,
+        alloc: Global,
+        span: Span,
+        most: usize,
+    ) -> Result<Vec<Part<'b, 'a>>, AllocError>
+        requires some { span.low < span.high }
+        ensures file { self.new ≡ self.old }
+        ensures parts { IfOk result (λ parts. AreFirstParts self.old span parts.items) }
+    {
+        let mut parts = Vec::new(alloc);
+        let mut at = span.low;
+        while at < span.high {
+            let covered = self.next(at)?;
+            let high = lesser(covered.until, span.high);
+            parts.push(Part {
+                unit: covered.unit,
+                span: Span { low: at, high },
+            })?;
+            at = high;
+            if parts.len() >= most {
+                return Ok(parts);
+            }
+        }
+        Ok(parts)
     }
 }

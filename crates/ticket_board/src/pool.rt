@@ -29,9 +29,7 @@ pub use limits::pool_fits;
 pub use maker::Maker;
 use service::{Pool, Service};
 use std::alloc::Global;
-use std::num::NonZeroUsize;
 use std::sync::Wait;
-use std::thread;
 use std::thread::Threads;
 pub use task::Queries;
 use task::Task;
@@ -73,8 +71,7 @@ pub fn run_pool<
     }
     let key = maker.key();
     let (board, clients, workers) = open::<S>(alloc, shape, key)?;
-    let processors = thread::available_parallelism(rt).map_or(1, NonZeroUsize::get);
-    let bells = Bells::new(alloc, &shape, processors)?;
+    let bells = Bells::new(alloc, &shape, queries.processors)?;
     let task = Task {
         key,
         queries,

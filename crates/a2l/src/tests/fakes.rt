@@ -24,6 +24,10 @@ impl Load for OneFile<'_> {
             Err(AllocError) => Err(LoadFault::Memory),
         }
     }
+
+    fn free_processors(&self) -> Option<usize> {
+        None
+    }
 }
 
 /// An input that gives at most `most` bytes a call, and fails at the call that `fails_at` counts,

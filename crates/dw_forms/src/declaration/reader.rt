@@ -6,7 +6,7 @@ ghost use Rattle.dw_model.specs.Abbrev.{next_specification, declaration_behind, 
 ghost use Rattle.dw_model.specs.Answers.{ReadsOn};
 ghost use Rattle.dw_forms.specs.Fault.{form_fault};
 ghost use Rattle.dw_forms.specs.Declaration.{spec_shown, declaration_shown};
-ghost use Rattle.dw_forms.specs.Pairs.{ReadsCount};
+ghost use Rattle.dw_forms.specs.Pairs.{ReadsCount, ReadsShortPair};
 
 use crate::declaration::{Decl, Spec};
 use crate::fault::FormFault;
@@ -52,14 +52,31 @@ impl<'a> Decl<'a> {
     }
 }
 
+/// The next name and form where each is spelled by one byte, as most are.
+#[tactic(auto, using(crate::proofs::PairsLemmas::short_pair))]
+#[inline(always)]
+fn short_pair(cursor: &mut Cursor<'_>) -> Option<(u64, u64)>
+    ensures { ReadsShortPair result cursor.old cursor.new }
+{
+    let mut ahead = cursor.fork();
+    let pair = ahead.take(2)?;
+    if pair[0] >= 128 || pair[1] >= 128 {
+        return None;
+    }
+    *cursor = ahead;
+    Some((pair[0] as u64, pair[1] as u64))
+}
+
 /// The next pair of a declaration; `None` for the pair 0, 0, which ends them.
 #[tactic(auto, unfolding(dw_model::specs::Abbrev::next_specification))]
 #[inline(always)]
 pub(crate) fn next_spec(cursor: &mut Cursor<'_>) -> Result<Option<Spec>, FormFault>
     ensures { ReadsOn (option_map spec_shown) form_fault result (next_specification cursor.old) cursor.new }
 {
-    let name = cursor.uleb()?;
-    let form = cursor.uleb()?;
+    let (name, form) = match short_pair(cursor) {
+        Some(pair) => pair,
+        None => (cursor.uleb()?, cursor.uleb()?),
+    };
     if name == 0 && form == 0 {
         return Ok(None);
     }
@@ -79,13 +96,16 @@ pub(crate) fn next_spec(cursor: &mut Cursor<'_>) -> Result<Option<Spec>, FormFau
 }
 
 /// How many pairs a declaration has.
+#[inline(never)]
 fn count_specs(cursor: &mut Cursor<'_>) -> Result<usize, FormFault>
     ensures { ReadsCount result (items (λ p. p.left) next_specification cursor.old) cursor.new }
 {
     let most = cursor.left();
+    let mut ahead = cursor.fork();
     let mut count: usize = 0;
     loop {
-        let Some(_) = next_spec(cursor)? else {
+        let Some(_) = next_spec(&mut ahead)? else {
+            *cursor = ahead;
             return Ok(count);
         };
         prove!(count < most);

@@ -5,6 +5,11 @@ use std::hint;
 /// By which part of the most a thread looks longer after a look that found something.
 const GAIN: usize = 256;
 
+/// Which part of the most it looks at any rate: for some twenty microseconds, in which a thread
+/// with a processor gives several answers. Without it, threads that parked for one long wait would
+/// go on to park for each short one.
+const LEAST: usize = 16;
+
 /// A thread looks again and again before it parks, since what it waits for mostly comes within
 /// microseconds. Each time that this is in vain, as on busy processors, it looks half as long the
 /// next time, and each time that it isn't, somewhat longer. No proof rests on it.
@@ -50,7 +55,7 @@ impl Patience {
     /// The thread is about to park.
     pub fn give_up(&mut self) {
         if self.looks >= self.limit {
-            self.limit = (self.limit / 2).max(1);
+            self.limit = (self.limit / 2).max(self.most / LEAST);
         }
         self.looks = 0;
     }

@@ -5,7 +5,8 @@ use std::marker::PhantomData;
 use std::thread::Promise;
 use ticket_core::{NoMemory, Query, Shape, Solver};
 
-/// The queries that a pool answers, and which worker each of them is meant for.
+/// The queries that a pool answers, which worker each of them is meant for, and how many processors
+/// there are for that.
 #[derive(Clone, Copy, Debug)]
 pub struct Queries<'q> {
     /// The queries.
@@ -13,6 +14,9 @@ pub struct Queries<'q> {
     /// For each query the number of its worker. A query without one is meant for each worker, and
     /// so is one whose worker isn't there.
     pub owners: &'q [u8],
+    /// How many threads can run at one time. Where more are awake, one that has nothing to do parks
+    /// at once.
+    pub processors: usize,
 }
 
 /// What a pool has to answer: these queries, under this key, dealt in turn to the senders of this

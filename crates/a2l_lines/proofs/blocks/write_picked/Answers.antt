@@ -6,7 +6,7 @@ use Rattle.a2l_lines.proofs.blocks.write_picked.Goals as goal
 pub returns-in_err-put-clause-beginning : goal.returns-in_err-put-clause-beginning
 returns-in_err-put-clause-beginning g c =
     let told = g.W.Sink.told in
-    let pieces = pieces_of c.args.told.now in
+    let pieces = pieces_of c.args.replies.now in
     let block = c.loop-i.block.items in
     let piece = c.piece.result.now in
     let rest = picked_text pieces (drop (c.loop-i.i + 1) c.args.picks.now) in
@@ -18,7 +18,7 @@ returns-in_err-put-clause-beginning g c =
 pub loop-i-preserved : goal.loop-i-preserved
 loop-i-preserved g c =
     let told = g.W.Sink.told in
-    let pieces = pieces_of c.args.told.now in
+    let pieces = pieces_of c.args.replies.now in
     let piece = c.piece.result.now in
     let next = picked-next pieces c.args.picks.now piece c.loop-i.i c.loop-i-test.true c.piece.ensures in
     let so_far = rw next at c.loop-i.invariant.writes in
@@ -30,7 +30,7 @@ loop-i-preserved g c =
 pub returns-clause-beginning : goal.returns-clause-beginning
 returns-clause-beginning g c =
     let told = g.W.Sink.told in
-    let pieces = pieces_of c.args.told.now in
+    let pieces = pieces_of c.args.replies.now in
     let so_far = rw (picked-end pieces c.args.picks.now c.loop-i.i c.loop-i-test.false) at c.loop-i.invariant.writes in
     on_err-map c.flush.result
     (Writes-begins (told c.args.writer.now) (told c.loop-i.writer) (told c.flush.new.writer) (picked_text pieces c.args.picks.now) c.loop-i.block.items [] so_far)

@@ -8,6 +8,6 @@ invariant-loop-i g l =
     let told = g.W.Sink.told in
     let failures = g.W.Sink.failures in
     record {
-      writes : Writes (told l.fn.writer) (told l.writer) (picked_text (pieces_of l.told) l.picks) (l.block.items ++ picked_text (pieces_of l.told) (drop l.i l.picks));
+      writes : Writes (told l.fn.writer) (told l.writer) (picked_text (pieces_of l.replies) l.picks) (l.block.items ++ picked_text (pieces_of l.replies) (drop l.i l.picks));
       counted : failures l.fn.writer ≤ failures l.writer;
     }

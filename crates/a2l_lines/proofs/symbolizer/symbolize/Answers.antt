@@ -4,9 +4,9 @@ use Rattle.dw_symbols.specs.Told.{means}
 use Rattle.a2l_lines.specs.Input.{input_shown, word_shown}
 use Rattle.a2l_lines.specs.Text.{options_shown}
 use Rattle.a2l_lines.specs.Symbolize.{status_for}
-use Rattle.a2l_lines.specs.declared.told.Told.{Told}
+use Rattle.a2l_lines.specs.declared.reply.Reply.{Reply}
 use Rattle.a2l_lines.specs.Pieces.{pieces_of, WritesPicked, PicksBeginning}
-use Rattle.a2l_lines.proofs.ToldLemmas.{pieces-told, picks-told}
+use Rattle.a2l_lines.proofs.ReplyLemmas.{pieces-of-replies, picks-of-replies}
 use Rattle.a2l_lines.proofs.WriteLemmas.{on_err}
 use Rattle.a2l_lines.proofs.SymbolizeLemmas.{shown, asked-shown, begins, begun, is-text, is-status}
 use Rattle.a2l_lines.proofs.symbolizer.symbolize.Goals as goal
@@ -26,10 +26,10 @@ returns-in_err-block-clause-beginning g c =
 pub write_picked-requires-clause-within : goal.write_picked-requires-clause-within
 write_picked-requires-clause-within g c =
     let report = rw c.deref-2.ensures.value at c.in_ok-report.ensures in
-    let told = c.in_ok-report.report.told.items in
+    let replies = c.in_ok-report.report.replies.items in
     let picks = c.in_ok-report.report.picks.items in
     rw (c.deref-5.ensures.value, c.deref-6.ensures.value)
-    (picks-told (options_shown c.args.options.now) (means c.args.image.now) (map input_shown c.in_ok-inputs.inputs.items) report.asked picks told report.shares report.told)
+    (picks-of-replies (options_shown c.args.options.now) (means c.args.image.now) (map input_shown c.in_ok-inputs.inputs.items) report.asked picks replies report.shares report.replies)
 
 pub returns-in-Ok-clause-written : goal.returns-in-Ok-clause-written
 returns-in-Ok-clause-written g c =
@@ -39,17 +39,17 @@ returns-in-Ok-clause-written g c =
     let left = g.R.Source.left c.args.reader.now in
     let found = map input_shown c.in_ok-inputs.inputs.items in
     let picks = c.in_ok-report.report.picks.items in
-    let told = c.in_ok-report.report.told.items in
+    let replies = c.in_ok-report.report.replies.items in
     let all = rw (c.deref.ensures.value, asked-shown c.in_ok-inputs.inputs.items) at c.in_ok-inputs.ensures.asked in
     let report = rw c.deref-2.ensures.value at c.in_ok-report.ensures in
-    let seen = subst (λ (told : List Told). WritesPicked (g.W.Sink.told c.args.writer.now) (g.W.Sink.told c.write_picked.new.writer) (pieces_of told) c.deref-6.result.now) c.deref-5.ensures.value c.in-Ok.ensures.written in
+    let seen = subst (λ (replies : List Reply). WritesPicked (g.W.Sink.told c.args.writer.now) (g.W.Sink.told c.write_picked.new.writer) (pieces_of replies) c.deref-6.result.now) c.deref-5.ensures.value c.in-Ok.ensures.written in
     let written = rw c.deref-6.ensures.value at seen in
     let ended = rw (c.deref-3.ensures.value, c.deref-4.ensures.value) at c.outcome-status.ensures in
     record {
       bytes = all.bytes;
       input = all.input;
-      written = written ∙ ap (append_known (g.W.Sink.told c.args.writer.now)) (is-text options file words left found report.asked picks _ all report.shares (pieces-told options (means file) report.asked told report.told));
-      status = ended ∙ ap status_for (is-status options file words left found report.asked picks told all report.shares report.told);
+      written = written ∙ ap (append_known (g.W.Sink.told c.args.writer.now)) (is-text options file words left found report.asked picks _ all report.shares (pieces-of-replies options (means file) report.asked replies report.replies));
+      status = ended ∙ ap status_for (is-status options file words left found report.asked picks replies all report.shares report.replies);
     }
 
 pub returns-clause-beginning : goal.returns-clause-beginning
@@ -60,10 +60,10 @@ returns-clause-beginning g c =
     let left = g.R.Source.left c.args.reader.now in
     let found = map input_shown c.in_ok-inputs.inputs.items in
     let picks = c.in_ok-report.report.picks.items in
-    let told = c.in_ok-report.report.told.items in
+    let replies = c.in_ok-report.report.replies.items in
     let all = rw (c.deref.ensures.value, asked-shown c.in_ok-inputs.inputs.items) at c.in_ok-inputs.ensures.asked in
     let report = rw c.deref-2.ensures.value at c.in_ok-report.ensures in
-    let seen = subst (λ (told : List Told). PicksBeginning (g.W.Sink.told c.args.writer.now) (g.W.Sink.told c.write_picked.new.writer) (pieces_of told) c.deref-6.result.now) c.deref-5.ensures.value c.in-Err.ensures.beginning in
+    let seen = subst (λ (replies : List Reply). PicksBeginning (g.W.Sink.told c.args.writer.now) (g.W.Sink.told c.write_picked.new.writer) (pieces_of replies) c.deref-6.result.now) c.deref-5.ensures.value c.in-Err.ensures.beginning in
     let written = rw c.deref-6.ensures.value at seen in
     begun options file words left (g.W.Sink.told c.args.writer.now) (g.W.Sink.told c.write_picked.new.writer) (map shown found) _ all
-    (is-text options file words left found report.asked picks _ all report.shares (pieces-told options (means file) report.asked told report.told)) written
+    (is-text options file words left found report.asked picks _ all report.shares (pieces-of-replies options (means file) report.asked replies report.replies)) written

@@ -12,32 +12,32 @@ use Rattle.dw_forms.specs.Fault.{form_fault}
 use Rattle.dw_forms.proofs.PassLemmas.{told-stops}
 use Rattle.dw_forms.proofs.declaration.reader.count_specs.Goals as goal
 
-pub loop-count-init : goal.loop-count-init
-loop-count-init c = ([], with_front-nil next_specification (items (λ p. p.left) next_specification c.args.cursor.now), refl, omega (arith, c.left-most.ensures))
+pub loop-ahead-init : goal.loop-ahead-init
+loop-ahead-init c = rw (c.fork-ahead.ensures) ([], with_front-nil next_specification (items (λ p. p.left) next_specification c.args.cursor.now), refl, omega (arith, c.left-most.ensures))
 
 pub returns-in_err-next_spec : goal.returns-in_err-next_spec
 returns-in_err-next_spec c =
     let p = err_from_is_err_and c.from_residual.result c.from_residual.ensures.1 in
-    rw (p.1) (told-stops next_specification (λ p. p.left) specifications_advance c.loop-count.invariant.0 c.loop-count.cursor (form_fault c.in_err-next_spec.field-0.0) (form_fault p.0) (items (λ p. p.left) next_specification c.args.cursor.now) (ap form_fault p.2) c.in_err-next_spec.ensures c.loop-count.invariant.1)
+    rw (p.1) (told-stops next_specification (λ p. p.left) specifications_advance c.loop-ahead.invariant.0 c.loop-ahead.ahead (form_fault c.in_err-next_spec.field-0.0) (form_fault p.0) (items (λ p. p.left) next_specification c.args.cursor.now) (ap form_fault p.2) c.in_err-next_spec.ensures c.loop-ahead.invariant.1)
 
 pub returns-in_default : goal.returns-in_default
 returns-in_default c =
     let ended = c.in_ok-next_spec.ensures ∙ ap (λ found. Ok (option_map spec_shown found, c.next_spec.new.cursor)) c.in_default.is in
-    (c.loop-count.invariant.0, loop_done next_specification (λ p. p.left) specifications_advance c.loop-count.invariant.0 c.loop-count.cursor c.next_spec.new.cursor (items (λ p. p.left) next_specification c.args.cursor.now) ended c.loop-count.invariant.1, c.loop-count.invariant.2)
+    (c.loop-ahead.invariant.0, loop_done next_specification (λ p. p.left) specifications_advance c.loop-ahead.invariant.0 c.loop-ahead.ahead c.next_spec.new.cursor (items (λ p. p.left) next_specification c.args.cursor.now) ended c.loop-ahead.invariant.1, c.loop-ahead.invariant.2)
 
-pub loop-count-smaller : goal.loop-count-smaller
-loop-count-smaller c =
-    specifications_advance c.loop-count.cursor (spec_shown c.in-Some.field-0) c.next_spec.new.cursor (smaller spec_shown next_specification (λ p. p.left) specifications_advance c.in_ok-next_spec.field-0 c.in-Some.field-0 c.loop-count.cursor c.next_spec.new.cursor c.in-Some.is c.in_ok-next_spec.ensures)
+pub loop-ahead-smaller : goal.loop-ahead-smaller
+loop-ahead-smaller c =
+    specifications_advance c.loop-ahead.ahead (spec_shown c.in-Some.field-0) c.next_spec.new.cursor (smaller spec_shown next_specification (λ p. p.left) specifications_advance c.in_ok-next_spec.field-0 c.in-Some.field-0 c.loop-ahead.ahead c.next_spec.new.cursor c.in-Some.is c.in_ok-next_spec.ensures)
 
-pub loop-count-preserved : goal.loop-count-preserved
-loop-count-preserved c =
-    let read = smaller spec_shown next_specification (λ p. p.left) specifications_advance c.in_ok-next_spec.field-0 c.in-Some.field-0 c.loop-count.cursor c.next_spec.new.cursor c.in-Some.is c.in_ok-next_spec.ensures in
-    let fewer = specifications_advance c.loop-count.cursor (spec_shown c.in-Some.field-0) c.next_spec.new.cursor read in
-    let counted = length-append c.loop-count.invariant.0 (spec_shown c.in-Some.field-0 ∷ []) in
-    (c.loop-count.invariant.0 ++ spec_shown c.in-Some.field-0 ∷ [], loop_more next_specification (λ p. p.left) specifications_advance c.loop-count.invariant.0 (spec_shown c.in-Some.field-0) c.loop-count.cursor c.next_spec.new.cursor (items (λ p. p.left) next_specification c.args.cursor.now) read c.loop-count.invariant.1, omega (arith, counted, c.loop-count.invariant.2), omega (arith, c.loop-count.invariant.3, fewer))
+pub loop-ahead-preserved : goal.loop-ahead-preserved
+loop-ahead-preserved c =
+    let read = smaller spec_shown next_specification (λ p. p.left) specifications_advance c.in_ok-next_spec.field-0 c.in-Some.field-0 c.loop-ahead.ahead c.next_spec.new.cursor c.in-Some.is c.in_ok-next_spec.ensures in
+    let fewer = specifications_advance c.loop-ahead.ahead (spec_shown c.in-Some.field-0) c.next_spec.new.cursor read in
+    let counted = length-append c.loop-ahead.invariant.0 (spec_shown c.in-Some.field-0 ∷ []) in
+    (c.loop-ahead.invariant.0 ++ spec_shown c.in-Some.field-0 ∷ [], loop_more next_specification (λ p. p.left) specifications_advance c.loop-ahead.invariant.0 (spec_shown c.in-Some.field-0) c.loop-ahead.ahead c.next_spec.new.cursor (items (λ p. p.left) next_specification c.args.cursor.now) read c.loop-ahead.invariant.1, omega (arith, counted, c.loop-ahead.invariant.2), omega (arith, c.loop-ahead.invariant.3, fewer))
 
 pub prove-unreachable-requires : goal.prove-unreachable-requires
 prove-unreachable-requires c =
-    let read = smaller spec_shown next_specification (λ p. p.left) specifications_advance c.in_ok-next_spec.field-0 c.in-Some.field-0 c.loop-count.cursor c.next_spec.new.cursor c.in-Some.is c.in_ok-next_spec.ensures in
-    let fewer = specifications_advance c.loop-count.cursor (spec_shown c.in-Some.field-0) c.next_spec.new.cursor read in
-    omega (arith, c.loop-count.invariant.3, fewer, c.if-prove.true)
+    let read = smaller spec_shown next_specification (λ p. p.left) specifications_advance c.in_ok-next_spec.field-0 c.in-Some.field-0 c.loop-ahead.ahead c.next_spec.new.cursor c.in-Some.is c.in_ok-next_spec.ensures in
+    let fewer = specifications_advance c.loop-ahead.ahead (spec_shown c.in-Some.field-0) c.next_spec.new.cursor read in
+    omega (arith, c.loop-ahead.invariant.3, fewer, c.if-prove.true)

@@ -8,7 +8,8 @@ use Rattle.dw_symbols.proofs.table_cache.KeptTables.pieces.Goals as goal
 
 pub returns-in-Err-clause-answer : goal.returns-in-Err-clause-answer
 returns-in-Err-clause-answer c =
-    first_fault (sections c.args.image.now) c.args.span.low c.args.span.high c.loop-at.at (map piece_shown c.loop-at.pieces.items) (fault_shown (c.in-Err.unit, c.in-Err.code)) c.loop-at.invariant.from c.loop-at-test.true c.loop-at.invariant.are (rw (c.loop-at.invariant.file, c.in-Err.is) at c.in_ok-end.ensures.pieces) c.law_of_pieces.ensures.fault
+    let found = rw (c.in-Err.is) at c.in_ok-end.ensures.pieces in
+    first_fault (sections c.args.image.now) c.args.span.low c.args.span.high found.0 found.4 (fault_shown (c.in-Err.unit, c.in-Err.code)) (omega (arith, c.loop-at.invariant.from, found.1)) found.2 (found.5 c.args.span.low c.loop-at.invariant.from c.loop-at.invariant.are) found.3 c.law_of_pieces.ensures.fault
 
 pub returns-then-low-high-clause-answer : goal.returns-then-low-high-clause-answer
 returns-then-low-high-clause-answer c =

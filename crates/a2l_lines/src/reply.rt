@@ -1,9 +1,9 @@
-//! What is told of a query: the lines that are written for it.
+//! The reply to a query: the lines that are written for it.
 
 ghost use Rattle.std.specs.Prelude.{◌≡◌, IfOk};
 ghost use Rattle.dw_symbols.specs.Answer.{answer_shown};
+ghost use Rattle.a2l_lines.specs.Reply.{reply_parts, reply_to};
 ghost use Rattle.a2l_lines.specs.Text.{options_shown};
-ghost use Rattle.a2l_lines.specs.Told.{telling, told_parts};
 
 use crate::options::Options;
 use crate::text::push_query;
@@ -14,7 +14,7 @@ use ticket_core::Query;
 
 /// The lines of a query, and whether its answer is a fault.
 #[derive(Debug, Drop)]
-pub struct Told {
+pub struct Reply {
     pub lines: Vec<u8>,
     pub is_fault: bool,
 }
@@ -33,9 +33,8 @@ fn take(alloc: Global, buffer: &mut Vec<u8>) -> Result<Vec<u8>, AllocError>
     Ok(mem::replace(buffer, Vec::new(alloc)))
 }
 
-impl Told {
-    /// What is told of a query, by its answer. The lines are made in a buffer that the next ones
-    /// find.
+impl Reply {
+    /// The reply to a query, by its answer. The lines are made in a buffer that the next ones find.
     pub fn of(
         alloc: Global,
         buffer: &mut Vec<u8>,
@@ -43,8 +42,8 @@ impl Told {
         query: Query,
         answer: &Answer<'_>,
     ) -> Result<Self, AllocError>
-        ensures { IfOk result (λ told. told_parts told
-            ≡ telling (options_shown options.now) query (answer_shown answer.now)) }
+        ensures { IfOk result (λ reply. reply_parts reply
+            ≡ reply_to (options_shown options.now) query (answer_shown answer.now)) }
     {
         buffer.clear();
         push_query(alloc, buffer, options, query, answer)?;
@@ -53,6 +52,6 @@ impl Told {
             Answer::Fault { .. } => true,
             _ => false,
         };
-        Ok(Told { lines, is_fault })
+        Ok(Reply { lines, is_fault })
     }
 }

@@ -1,7 +1,0 @@
-use Rattle.a2l_lines.specs.Text.{options_shown}
-use Rattle.a2l_lines.proofs.ToldLemmas.{told-by}
-use Rattle.a2l_lines.proofs.teller.Teller.tell.Goals as goal
-
-pub returns-clause-told : goal.returns-clause-told
-returns-clause-told g c =
-    told-by (options_shown c.args.self.now.options.now) g.O.Style.options c.args.self.now.context.file c.args.query c.in_ok-answer.answer c.of.result c.args.self.now.by c.in_ok-answer.ensures.right c.of.ensures
