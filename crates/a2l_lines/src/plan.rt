@@ -22,7 +22,8 @@ pub struct Plan {
     pub owners: Vec<u8>,
 }
 
-/// The index of each query, after its turn, in order of their turns.
+/// The index of each query, after its turn, in order of their turns. The turns of one unit are in
+/// order already, and a sort that keeps equal ones in order merges them as they are.
 fn order_of(
     alloc: Global,
     turns: &mut Turns<'_>,
@@ -34,7 +35,7 @@ fn order_of(
     for i in 0..queries.len() {
         order.push((turns.next(i), i))?;
     }
-    order.sort_unstable();
+    order.sort()?;
     Ok(order)
 }
 

@@ -9,4 +9,4 @@ loop-i-preserved c = record {
 }
 
 pub returns : goal.returns
-returns c = sorted c.args.queries.now c.loop-i.order.items c.sort_unstable.new.self.items c.loop-i.i c.loop-i-test.false c.loop-i.auto.i-end c.sort_unstable.ensures.permutation c.loop-i.invariant.len c.loop-i.invariant.within c.loop-i.invariant.all
+returns c = sorted c.args.queries.now c.loop-i.order.items c.sort.new.self.items c.loop-i.i c.loop-i-test.false c.loop-i.auto.i-end c.sort.ensures.permutation c.loop-i.invariant.len c.loop-i.invariant.within c.loop-i.invariant.all
