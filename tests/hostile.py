@@ -79,6 +79,14 @@ def functions_of_tails(size):
     return one_unit(function, entries, rnglists=long_list(count))
 
 
+def functions_of_long_tails(size):
+    """The same, each list three ranges longer than the one before: a unit may keep fewer than there are."""
+    count = size // 32
+    function = declaration(2, SUBPROGRAM, 0, [(RANGES, SEC_OFFSET)])
+    entries = b''.join(b'\x02' + number(27 * (count - 1 - i), 4) for i in range(count))
+    return one_unit(function, entries, rnglists=long_list(3 * count))
+
+
 def callers_of_one_list(size):
     """Functions of two bytes, in each of which one of two bytes was inlined that names one list."""
     count = size // 14
@@ -364,7 +372,8 @@ def span_over_no_rows_between_holes(size):
 
 KINDS = {
     'tables_in_one_another': LINEAR, 'falling_tables_in_one_another': LINEAR, 'functions_of_one_list': LINEAR,
-    'inlined_of_one_list': LINEAR, 'functions_of_tails': LINEAR, 'callers_of_one_list': LINEAR,
+    'inlined_of_one_list': LINEAR, 'functions_of_tails': LINEAR, 'functions_of_long_tails': SQUARE,
+    'callers_of_one_list': LINEAR,
     'units_with_functions_of_one_list': LINEAR, 'units_of_one_list': LINEAR, 'units_with_bases_of_one_list': LINEAR,
     'span_over_units_with_bases': LINEAR, 'span_over_all_units_with_bases': BORDERS, 'units_of_tails': SQUARE,
     'span_over_units_of_tails': SQUARE,
