@@ -187,6 +187,7 @@ struct counts counts_of(const uint8_t *file, size_t size)
 
     if (take_apart(file, size, &other)) {
         counts.units = parts_of(&other.sections[INFO]);
+        counts.info_bytes = other.sections[INFO].size;
         counts.abbrev_bytes = other.sections[ABBREV].size;
         counts.line_bytes = other.sections[LINE].size;
         counts.range_bytes = other.sections[RNGLISTS].size;

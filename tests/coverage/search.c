@@ -56,7 +56,7 @@ static jmp_buf given_up;
 /* Costs as features, so that files that cost more than others are kept and go on to be changed. */
 __attribute__((section("__libfuzzer_extra_counters"))) static uint8_t costs[2][CALLS][65];
 
-/* How much of a section the units, or the tables that they name, may have in common. */
+/* How much of a section the units, their entries, or the tables that they name, may have in common. */
 static size_t values_of_units(const struct counts *has)
 {
     return has->units * has->abbrev_bytes;
@@ -65,6 +65,11 @@ static size_t values_of_units(const struct counts *has)
 static size_t ranges_of_units(const struct counts *has)
 {
     return has->units * has->range_bytes;
+}
+
+static size_t ranges_of_entries(const struct counts *has)
+{
+    return has->info_bytes * has->range_bytes;
 }
 
 static size_t lines_of_units(const struct counts *has)
@@ -83,6 +88,8 @@ static const struct known {
     {{[OPEN] = true}, values_of_units, 10000,
      "first entries may have many values that take no bytes, and tables of declarations may begin in one another"},
     {{[OPEN] = true}, ranges_of_units, 20000, "units may have the tails of one list, and each tail is read whole"},
+    {{[FRAMES] = true}, ranges_of_entries, 500000,
+     "functions may have the tails of one list, and each tail is read whole of which a unit can't keep its own part"},
     {{[PIECES] = true}, ranges_of_units, 300, "a span reads the lists of units again for each window of addresses"},
     {{[PIECES] = true, [FRAMES] = true, [LOCATIONS] = true}, lines_of_units, 10000,
      "line tables may lead to one list of files, of which each has a copy"},

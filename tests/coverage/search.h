@@ -22,9 +22,9 @@ void heap_free_all(void);
 
 /* ---- mutate.c */
 
-/* How many units a file has, and how many bytes of what they may have in common. */
+/* How many units a file has, how many bytes of entries, and of what units and entries may have in common. */
 struct counts {
-    size_t units, abbrev_bytes, line_bytes, range_bytes;
+    size_t units, info_bytes, abbrev_bytes, line_bytes, range_bytes;
 };
 
 struct counts counts_of(const uint8_t *file, size_t size);
