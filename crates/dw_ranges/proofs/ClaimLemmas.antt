@@ -1,15 +1,23 @@
 -- Ranges that owners claim in groups.
-use Rattle.std.proofs.Common.{◌≡◌, ◌∙◌, ℕ, suc, ◌+◌, ◌≤◌, ◌<◌, List, [], ◌∷◌, ◌++◌, length, take, get_or, Option, refl, sym, ap, arith, append_assoc}
-use Rattle.std.proofs.lemmas.List.{append-nil, map-append, take_all, take_more}
+use Rattle.std.proofs.Common.{◌≡◌, ℕ, suc, List, [], ◌∷◌, ◌++◌, map, reverse, Option, refl, ap, arith, append_assoc}
+use Rattle.std.specs.List.{flat_map}
+use Rattle.std.proofs.lemmas.Bool.{eq-eqb, ne_eqb}
+use Rattle.std.proofs.lemmas.List.{append-nil, map-append, reverse-reverse}
+use Rattle.std.proofs.lemmas.List.Concat.{flat_map-cons}
 use Rattle.dw_model.specs.Ranges.{Range}
 use Rattle.dw_model.specs.Text.{Tables}
+use Rattle.dw_index.specs.declared.range.Range.{Range as CodeRange}
 use Rattle.dw_index.specs.Owners.{least, least_owner}
+use Rattle.dw_index.specs.Range.{pair_shown}
 use Rattle.dw_index.specs.Segments.{owner_at}
 use Rattle.dw_index.proofs.OwnerLemmas.{least-assoc, least-none, least_owner-append}
 use Rattle.dw_ranges.specs.declared.held.HeldList.{HeldList}
-use Rattle.dw_ranges.specs.Claims.{Claim, Adds, OwnersState, claims_in, held_claims, held_ranges, in_group, owner_in, owner_of, raised}
+use Rattle.dw_ranges.specs.declared.links.Grouped.{Grouped}
+use Rattle.dw_ranges.specs.Claims.{Claim, Adds, OwnersState, claims_in, held_claims, in_group, list_claims, owner_in, owner_of, raised}
+use Rattle.dw_ranges.specs.LinkedInside.{claims_linked}
 use Rattle.dw_ranges.specs.Owned.{owned}
-use Rattle.dw_ranges.proofs.GroupLemmas.{all-elsewhere, all-here, group-append, group-elsewhere, group-here}
+use Rattle.dw_ranges.proofs.GetLemmas.{map-reverse, reverse-cons}
+use Rattle.dw_ranges.proofs.GroupLemmas.{all-elsewhere, all-here, group-append, group-reverse, same_or_apart}
 
 -- ---- claims behind others
 
@@ -41,7 +49,7 @@ raised-next k (claim ∷ claims) = grind (arith, (raised-next k claims))
 
 raised-in : (group : ℕ) (pairs : List (Range × ℕ)) → raised (claims_in group pairs) ≡ claims_in (suc group) pairs
 raised-in group [] = refl
-raised-in group (pair ∷ pairs) = ap (λ (rest : List Claim). record { group = suc group; pair = pair } ∷ rest) (raised-in group pairs)
+raised-in group (pair ∷ pairs) = ap (λ (rest : List Claim). record { group = suc group; item = pair } ∷ rest) (raised-in group pairs)
 
 pub adds_other : (group below : ℕ) (ranges : List Range) (owner : ℕ) (front others new : List Claim) → suc below ≡ group → new ≡ others ++ claims_in below (owned ranges owner) → Adds group ranges owner (front ++ raised others) (front ++ raised new)
 adds_other group below ranges owner front others new next e = grind (arith, map-append, raised-in, adds-same, append_assoc)
@@ -55,31 +63,32 @@ module _ (pairs : List (Range × ℕ)) (owners : OwnersState) (index : (a : ℕ)
   pub all-owners : (tables : Tables) (group a : ℕ) → owner_of tables owners group a ≡ owner_in (kept ++ held_claims tables owners.held) group a
   all-owners tables group a = grind (arith, owner-append, group-append, raised-first, all-here, append-nil, all-elsewhere, raised-next)
 
+-- ---- ranges that are linked
+
+pub owner-reverse : (pairs : List (Range × ℕ)) (a : ℕ) → least_owner (reverse pairs) a ≡ least_owner pairs a
+unfolding least_owner
+owner-reverse [] a = refl
+owner-reverse (pair ∷ pairs) a = grind (arith, reverse-cons, least_owner-append, least-none, least-swap, (owner-reverse pairs a))
+
+pub in-linked : (k : ℕ) (links : List (Grouped (CodeRange × ℕ))) → in_group k (claims_linked links) ≡ map pair_shown (in_group k links)
+in-linked k [] = refl
+in-linked k (one ∷ links) = grind (arith, (in-linked k links))
+
+-- those of a group, whichever comes first
+pub ruleset linked_steps = (in-linked, owner-reverse, map-reverse, reverse-reverse, append_assoc, append-nil, least-assoc, least-none)
+
 -- ---- lists that are held by name
 
-pub held_push : (tables : Tables) (lists : List HeldList) (held : HeldList) → held_claims tables (lists ++ held ∷ []) ≡ held_claims tables lists ++ claims_in held.group (owned (held_ranges tables held.list) held.owner)
+pub held_push : (tables : Tables) (lists : List (Grouped HeldList)) (held : Grouped HeldList) → held_claims tables (lists ++ held ∷ []) ≡ held_claims tables lists ++ claims_in held.group (list_claims tables held.item)
 unfolding held_claims
 held_push tables [] held = grind (arith, append-nil)
 held_push tables (list ∷ lists) held = grind (arith, append-nil, append_assoc, (held_push tables lists))
 
--- one more of them
-pub held_more : (tables : Tables) (lists : List HeldList) (i : ℕ) (one : HeldList) → one ≡ get_or lists i one → i < length lists → held_claims tables (take (i + 1) lists) ≡ held_claims tables (take i lists) ++ claims_in one.group (owned (held_ranges tables one.list) one.owner)
-held_more tables lists i one is within = grind (arith, held_push, (take_more lists i one within))
+-- the ranges in a group are those of the lists in it
+pub held-in-group : (tables : Tables) (k : ℕ) (lists : List (Grouped HeldList)) → in_group k (held_claims tables lists) ≡ flat_map (list_claims tables) (in_group k lists)
+unfolding held_claims
+held-in-group tables k [] = refl
+held-in-group tables k (held ∷ lists) = grind (arith, group-append, all-here, all-elsewhere, ne_eqb, eq-eqb, flat_map-cons, same_or_apart, (held-in-group tables k lists))
 
-module _ (tables : Tables) (lists : List HeldList) (group a : ℕ) (found : Option ℕ) where
-  -- of the first lists the least owner was found
-  abbrev pub FoundOf : (i : ℕ) → Option ℕ → Type 0
-  FoundOf i last = last ≡ least found (owner_in (held_claims tables (take i lists)) group a)
-
-  module _ (i : ℕ) (one : HeldList) (is : one ≡ get_or lists i one) (last next : Option ℕ) (within : i < length lists) (before : FoundOf i last) where
-    abbrev pairs : List (Range × ℕ)
-    pairs = owned (held_ranges tables one.list) one.owner
-
-    pub found-here : one.group ≡ group → next ≡ least last (least_owner pairs a) → FoundOf (i + 1) next
-    found-here same e = grind (arith, (held_more tables lists i one is within), group-here, least-assoc, least_owner-append)
-
-    pub found-elsewhere : (one.group ≡ group → ⊥) → next ≡ last → FoundOf (i + 1) next
-    found-elsewhere apart e = grind (arith, (held_more tables lists i one is within), group-elsewhere)
-
--- none of them, and all
-pub ruleset found_ends = (least-none, take_all)
+-- one list after another
+pub ruleset held_steps = (held-in-group, group-reverse, flat_map-cons, least_owner-append, least-assoc, least-none)

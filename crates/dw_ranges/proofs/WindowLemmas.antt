@@ -1,10 +1,9 @@
 -- Ranges of which those are kept that matter in a window of addresses.
-use Rattle.std.proofs.Common.{◌≡◌, ℕ, ◌<◌, ◌≤◌, true, List, [], ◌∷◌, ◌++◌, map, Some, append_assoc, take, length, get_or, ◌+◌, arith}
+use Rattle.std.proofs.Common.{◌≡◌, ℕ, ◌<◌, ◌≤◌, true, List, [], ◌∷◌, ◌++◌, map, Some, append_assoc, take, length, get_or, ◌+◌, sym, ap, subst, ◌∙◌, arith}
 use Rattle.std.proofs.lemmas.Bool.Decides.{nat_tests}
 use Rattle.std.proofs.lemmas.List.{append-nil, map-append, take_all, take_more}
 use Rattle.std.proofs.lemmas.List.Folds.{list_any-append}
 use Rattle.dw_model.specs.Ranges.{Range, covers}
-use Rattle.dw_model.specs.Text.{Tables}
 use Rattle.dw_index.specs.declared.range.Range.{Range as CodeRange}
 use Rattle.dw_index.specs.declared.segment.Segment.{Segment}
 use Rattle.dw_index.specs.Owners.{least_owner}
@@ -12,13 +11,9 @@ use Rattle.dw_index.specs.Range.{range_shown}
 use Rattle.dw_index.specs.Segments.{owner_at}
 use Rattle.dw_index.proofs.LawLemmas.{of_list}
 use Rattle.dw_index.proofs.OwnerLemmas.{least_owner-append, least-none}
-use Rattle.dw_ranges.specs.declared.held.HeldList.{HeldList}
 use Rattle.dw_ranges.specs.declared.window.draft.Draft.{Draft}
-use Rattle.dw_ranges.specs.Claims.{held_claims, held_ranges, in_group}
 use Rattle.dw_ranges.specs.Owned.{owned}
 use Rattle.dw_ranges.specs.Window.{ArePieces, HasOwners, PiecesTo}
-use Rattle.dw_ranges.proofs.ClaimLemmas.{held_more}
-use Rattle.dw_ranges.proofs.GroupLemmas.{group-here, group-elsewhere}
 
 -- ---- pieces of an index
 
@@ -77,11 +72,20 @@ pieces-all ranges owner at old draft past to all from has = grind (arith, (to.ad
 
 -- ---- lists that are held
 
-module _ (tables : Tables) (held : List HeldList) (k from : ℕ) (one : HeldList) (is : one ≡ get_or held k one) (within : k < length held) where
-  pub other-group : (draft : Draft) → (one.group ≡ 0 → ⊥) → HasOwners (in_group 0 (held_claims tables (take k held))) from draft → HasOwners (in_group 0 (held_claims tables (take (k + 1) held))) from draft
-  other-group draft apart has = grind (arith, (held_more tables held k one is within), group-elsewhere)
+-- Of all ranges a draft has those before some that are added later.
+pub record HasBefore (all later : List (Range × ℕ)) (from : ℕ) (draft : Draft) : Type 0 where
+  pub before : List (Range × ℕ)
+  pub parts : before ++ later ≡ all
+  pub has : HasOwners before from draft
 
-  pub one-held : (old new : Draft) → one.group ≡ 0 → HasOwners (in_group 0 (held_claims tables (take k held))) from old
-      → ((all : List (Range × ℕ)) (from : ℕ) → HasOwners all from old → HasOwners (all ++ owned (held_ranges tables one.list) one.owner) from new)
-      → HasOwners (in_group 0 (held_claims tables (take (k + 1) held))) from new
-  one-held old new same has add = grind (arith, (held_more tables held k one is within), (group-here 0 one.group (held_claims tables (take k held)) (owned (held_ranges tables one.list) one.owner) same), (add (in_group 0 (held_claims tables (take k held))) from has))
+pub more-before : (all later next rest : List (Range × ℕ)) (from : ℕ) (old new : Draft) → later ≡ next ++ rest → HasBefore all later from old
+    → ((front : List (Range × ℕ)) (from : ℕ) → HasOwners front from old → HasOwners (front ++ next) from new) → HasBefore all rest from new
+more-before all later next rest from old new is was add = record {
+  before = was.before ++ next;
+  parts = append_assoc was.before next rest ∙ ap (λ (more : List (Range × ℕ)). was.before ++ more) (sym is) ∙ was.parts;
+  has = add was.before from was.has;
+}
+
+pub all-before : (all later : List (Range × ℕ)) (from : ℕ) (draft : Draft) → later ≡ [] → HasBefore all later from draft → HasOwners all from draft
+all-before all later from draft is was =
+    subst (λ (all : List (Range × ℕ)). HasOwners all from draft) (sym (append-nil was.before) ∙ ap (λ (more : List (Range × ℕ)). was.before ++ more) (sym is) ∙ was.parts) was.has

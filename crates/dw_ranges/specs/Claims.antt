@@ -9,27 +9,27 @@ use Rattle.dw_index.specs.Segments.{owner_at}
 use Rattle.dw_ranges.specs.declared.held.HeldList.{HeldList}
 use Rattle.dw_ranges.specs.declared.held.Listed.{Listed}
 use Rattle.dw_ranges.specs.declared.held.Listed.TheVariants.{Named, Indexed}
+use Rattle.dw_ranges.specs.declared.links.Grouped.{Grouped}
 use Rattle.dw_ranges.specs.declared.range_list.RangeList.{RangeList}
 use Rattle.dw_ranges.specs.Held.{listed}
 use Rattle.dw_ranges.specs.ListIndex.{listed_from}
 use Rattle.dw_ranges.specs.Owned.{owned}
 
 -- a range with its owner, in a group
-pub record Claim : Type 0 where
-  pub group : ℕ
-  pub pair : Range × ℕ
+abbrev pub Claim : Type 0
+Claim = Grouped (Range × ℕ)
 
--- those of a group, in order
-abbrev pub in_group : ℕ → List Claim → List (Range × ℕ)
-in_group group claims = map (λ claim. claim.pair) (filter (λ claim. claim.group == group) claims)
+-- the items of a group, in order
+abbrev pub in_group : {T : Type 0} → ℕ → List (Grouped T) → List T
+in_group group items = map (λ one. one.item) (filter (λ one. one.group == group) items)
 
 -- ranges with their owners in a group
 abbrev pub claims_in : ℕ → List (Range × ℕ) → List Claim
-claims_in group pairs = map (λ pair. record { group = group; pair = pair }) pairs
+claims_in group pairs = map (λ pair. record { group = group; item = pair }) pairs
 
 -- the same ranges, each in the group after its own
 abbrev pub raised : List Claim → List Claim
-raised claims = map (λ claim. record { group = suc claim.group; pair = claim.pair }) claims
+raised claims = map (λ claim. record { group = suc claim.group; item = claim.item }) claims
 
 -- the least owner in a group of the ranges that hold an address
 abbrev pub owner_in : List Claim → (group a : ℕ) → Option ℕ
@@ -45,11 +45,15 @@ abbrev pub held_ranges : Tables → Listed → List Range
 held_ranges tables (Named list) = listed tables list
 held_ranges tables (Indexed index base) = listed_from index.value base
 
+-- those of a list that is held, with its owner
+abbrev pub list_claims : Tables → HeldList → List (Range × ℕ)
+list_claims tables held = owned (held_ranges tables held.list) held.owner
+
 -- the ranges of lists that are held
-unfoldable pub held_claims : Tables → List HeldList → List Claim
+unfoldable pub held_claims : Tables → List (Grouped HeldList) → List Claim
 held_claims tables [] = []
 held_claims tables (held ∷ lists) =
-    claims_in held.group (owned (held_ranges tables held.list) held.owner) ++ held_claims tables lists
+    claims_in held.group (list_claims tables held.item) ++ held_claims tables lists
 
 -- ---- while they are gathered
 
@@ -57,7 +61,7 @@ held_claims tables (held ∷ lists) =
 -- be kept
 pub record ClaimsState : Type 0 where
   pub kept : List Claim
-  pub held : List HeldList
+  pub held : List (Grouped HeldList)
   pub room : ℕ
 
 abbrev pub all_claims : Tables → ClaimsState → List Claim
@@ -78,7 +82,7 @@ AddsListed tables group ranges owner list old new =
 pub record OwnersState : Type 0 where
   pub index : List Segment
   pub others : List Claim
-  pub held : List HeldList
+  pub held : List (Grouped HeldList)
   pub ranges : ℕ
 
 -- the least owner in a group by the ranges that are kept

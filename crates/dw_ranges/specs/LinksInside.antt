@@ -1,36 +1,43 @@
--- What linked ranges are seen as, and how they are linked.
-use Rattle.std.specs.Prelude.{◌≡◌, ℕ, suc, cond, List, [], ◌∷◌, map, get_or, Option, Some, None, option_map, slice_get}
-use Rattle.std.specs.Prelude.{take, ◌==◌}
-use Rattle.std.specs.Option.{option_or}
-use Rattle.dw_index.specs.Range.{pair_shown}
-use Rattle.dw_ranges.specs.Claims.{Claim}
+-- What linked items are seen as, and how they are linked.
+use Rattle.std.specs.Prelude.{◌≡◌, ℕ, suc, cond, List, [], ◌∷◌, map, reverse, get_or, slice_get, take}
+use Rattle.std.specs.Prelude.{Option, Some, None, option_map, ◌==◌}
+use Rattle.std.specs.Option.{option_or, option_map_or}
+use Rattle.dw_ranges.specs.Claims.{in_group}
+use Rattle.dw_ranges.specs.declared.links.Grouped.{Grouped}
 use Rattle.dw_ranges.specs.declared.links.Link.{Link}
-use Rattle.dw_ranges.specs.declared.links.Links.TheInside.{Inside}
 
-abbrev pub link_shown : Link → Claim
-link_shown link = record { group = link.group; pair = pair_shown (link.range, link.owner) }
+abbrev pub shown : {T : Type 0} → List (Link T) → List (Grouped T)
+shown links = map (λ link. link.one) links
 
-abbrev pub links_of : Inside → List Claim
-links_of links = map link_shown links.links.items
-
--- the place of the last range in a group
-unfoldable pub last_of : ℕ → List Claim → Option ℕ
+-- the place of the last item in a group
+unfoldable pub last_of : {T : Type 0} → ℕ → List (Grouped T) → Option ℕ
 last_of number [] = None
-last_of number (range ∷ ranges) =
-    option_or (option_map suc (last_of number ranges)) (cond (range.group == number) (Some 0) None)
+last_of number (one ∷ items) =
+    option_or (option_map suc (last_of number items)) (cond (one.group == number) (Some 0) None)
 
 -- what is noted of a group
 abbrev pub noted : ℕ → List (Option ℕ) → Option ℕ
 noted number lasts = get_or lasts number None
 
 -- Each link leads to the one before it in its group.
-abbrev pub AreLinked : List Link → Type 0
-AreLinked links = (place : ℕ) (link : Link) → slice_get links place ≡ Some link
-    → link.before ≡ last_of link.group (take place (map link_shown links))
+abbrev pub AreLinked : {T : Type 0} → List (Link T) → Type 0
+AreLinked {T} links = (place : ℕ) (link : Link T) → slice_get links place ≡ Some link
+    → link.before ≡ last_of link.one.group (take place (shown links))
 
--- What is noted of each group is where its last range is.
-abbrev pub AreLasts : List (Option ℕ) → List Claim → Type 0
-AreLasts lasts ranges = (number : ℕ) → noted number lasts ≡ last_of number ranges
+-- What is noted of each group is where its last item is.
+abbrev pub AreLasts : {T : Type 0} → List (Option ℕ) → List (Grouped T) → Type 0
+AreLasts lasts items = (number : ℕ) → noted number lasts ≡ last_of number items
 
-abbrev pub IsLinked : Inside → Type 0
-IsLinked links = AreLinked links.links.items × AreLasts links.lasts.items (links_of links)
+-- ---- the items of a group, from one on and back
+
+-- the items up to a place, or none
+abbrev pub up_to : {T : Type 0} → Option ℕ → List (Grouped T) → List (Grouped T)
+up_to next items = take (option_map_or suc next 0) items
+
+-- those of them in a group, from the last one on
+abbrev pub members_to : {T : Type 0} → ℕ → Option ℕ → List (Grouped T) → List T
+members_to group next items = reverse (in_group group (up_to next items))
+
+-- at the place is an item of the group
+abbrev pub IsNext : {T : Type 0} → ℕ → Option ℕ → List (Grouped T) → Type 0
+IsNext group next items = next ≡ last_of group (up_to next items)

@@ -8,6 +8,7 @@ use Rattle.dw_index.specs.Owners.{least_owner}
 use Rattle.dw_index.specs.Range.{pair_shown}
 use Rattle.dw_index.specs.Segments.{owner_at}
 use Rattle.dw_ranges.specs.declared.held.HeldList.{HeldList}
+use Rattle.dw_ranges.specs.declared.links.Grouped.{Grouped}
 use Rattle.dw_ranges.specs.declared.window.Window.{Window}
 use Rattle.dw_ranges.specs.declared.window.draft.Draft.{Draft}
 use Rattle.dw_ranges.specs.Claims.{held_claims, owner_in}
@@ -18,7 +19,7 @@ abbrev pub HasAddress : Window → ℕ → Type 0
 HasAddress window a = (window.from ≤ a) × (a < window.until)
 
 -- at each address of the window the least owner in group 0 is found of those lists
-abbrev pub IsWindow : Tables → List HeldList → Window → Type 0
+abbrev pub IsWindow : Tables → List (Grouped HeldList) → Window → Type 0
 IsWindow tables held window =
     (a : ℕ) → HasAddress window a → owner_at window.index a ≡ owner_in (held_claims tables held) 0 a
 

@@ -7,7 +7,8 @@ ghost use Rattle.dw_ranges.specs.Claims.{Adds, AddsListed, all_claims, claims_in
 ghost use Rattle.dw_ranges.specs.Owned.{owned};
 
 use crate::held::{HeldList, Listed};
-use crate::links::Links;
+use crate::linked::push_linked;
+use crate::links::{Grouped, Links};
 use crate::list_indexes::ListIndexes;
 use crate::range_list::RangeList;
 use dw_index::Range;
@@ -22,8 +23,8 @@ pub struct Claims<'a> {
     /// The ranges in group 0, with their owners.
     pub(crate) first: Vec<(Range, usize)>,
     /// Those in groups from 1 on, of which the first is 0 here.
-    pub(crate) others: Links,
-    pub(crate) held: Vec<HeldList<'a>>,
+    pub(crate) others: Links<(Range, usize)>,
+    pub(crate) held: Vec<Grouped<HeldList<'a>>>,
     room: usize,
 }
 
@@ -80,7 +81,7 @@ impl<'a> Claims<'a> {
             push_ranges(&mut self.first, ranges, owner)?;
             return Ok(());
         }
-        self.others.push(group - 1, ranges, owner)?;
+        push_linked(&mut self.others, group - 1, ranges, owner)?;
         Ok(())
     }
 
@@ -92,7 +93,8 @@ impl<'a> Claims<'a> {
         ensures claims { OnOk result ((tables : ModelTables) → all_claims tables self.new
             ≡ all_claims tables self.old ++ claims_in group (owned (held_ranges tables list.entry) owner)) }
     {
-        self.held.push(HeldList { group, list, owner })?;
+        let item = HeldList { list, owner };
+        self.held.push(Grouped { group, item })?;
         Ok(())
     }
 

@@ -1,15 +1,15 @@
 //! Range lists that are held by name: they are asked by their indexes, or read anew for each
 //! address.
 
-ghost use Rattle.std.specs.Prelude.{◌≡◌, false, nat_le};
+ghost use Rattle.std.specs.Prelude.{◌≡◌, false, nat_le, reverse};
 ghost use Rattle.std.specs.Option.{option_map_or};
 ghost use Rattle.dw_model.specs.Ranges.{covers};
 ghost use Rattle.dw_forms.specs.Tables.{tables_shown};
 ghost use Rattle.dw_index.specs.Owners.{least, least_owner};
-ghost use Rattle.dw_ranges.specs.Claims.{held_claims, held_ranges, owner_in};
-ghost use Rattle.dw_ranges.specs.Owned.{owned};
+ghost use Rattle.dw_ranges.specs.Claims.{held_claims, held_ranges, list_claims, owner_in};
 
 use crate::at_address::list_holds;
+use crate::links::Links;
 use crate::list_index::ListIndex;
 use crate::range_list::RangeList;
 use dw_forms::Tables;
@@ -22,10 +22,9 @@ pub enum Listed<'a> {
     Indexed(Arc<ListIndex<'a>>, Option<u64>),
 }
 
-/// A range list that is held, with the owner that claims its ranges in a group.
+/// A range list that is held, with the owner that claims its ranges.
 #[derive(Drop)]
 pub struct HeldList<'a> {
-    pub group: usize,
     pub list: Listed<'a>,
     pub owner: usize,
 }
@@ -57,7 +56,7 @@ fn is_before(found: Option<usize>, owner: usize) -> bool
 #[tactic(auto, using(dw_index::proofs::LawLemmas::of_list, std::proofs::lemmas::Bool::Decides::nat_tests))]
 fn least_of(held: &HeldList<'_>, tables: &Tables<'_>, a: u64, found: Option<usize>) -> Option<usize>
     ensures { result ≡ least found
-        (least_owner (owned (held_ranges (tables_shown tables.now) held.now.list) held.now.owner) a) }
+        (least_owner (list_claims (tables_shown tables.now) held.now) a) }
 {
     if is_before(found, held.owner) {
         return found;
@@ -69,22 +68,20 @@ fn least_of(held: &HeldList<'_>, tables: &Tables<'_>, a: u64, found: Option<usiz
 }
 
 /// The lesser of an owner that was found and the least owner in a group whose list holds an
-/// address.
-#[tactic(auto, using(crate::proofs::ClaimLemmas::found_ends), unfolding(crate::specs::Claims::held_claims, dw_index::specs::Owners::least_owner))]
+/// address. Lists of other groups cost nothing.
+#[tactic(auto, using(crate::proofs::ClaimLemmas::held_steps), unfolding(dw_index::specs::Owners::least_owner))]
 pub(crate) fn least_held(
-    held: &[HeldList<'_>],
+    held: &Links<HeldList<'_>>,
     tables: &Tables<'_>,
     group: usize,
     a: u64,
     found: Option<usize>,
 ) -> Option<usize>
-    ensures { result ≡ least found (owner_in (held_claims (tables_shown tables.now) held.now) group a) }
+    ensures { result ≡ least found (owner_in (held_claims (tables_shown tables.now) (reverse held.now)) group a) }
 {
     let mut least = found;
-    for list in held {
-        if list.group == group {
-            least = least_of(list, tables, a, least);
-        }
+    for list in held.back(group) {
+        least = least_of(list, tables, a, least);
     }
     least
 }

@@ -1,12 +1,14 @@
 //! Who owns an address in a group, by ranges that are linked.
 
-ghost use Rattle.std.specs.Prelude.{◌≡◌, IfOk};
-ghost use Rattle.dw_index.specs.Owners.{least_owner};
-ghost use Rattle.dw_ranges.specs.Claims.{in_group};
-ghost use Rattle.dw_ranges.specs.LinkedInside.{AreIndexed};
+ghost use Rattle.std.specs.Prelude.{◌≡◌, ◌≤◌, ◌+◌, ◌++◌, OnOk, IfOk, length, map};
+ghost use Rattle.dw_index.specs.Owners.{least, least_owner, owner_in};
+ghost use Rattle.dw_index.specs.Range.{pair_shown, range_shown};
+ghost use Rattle.dw_ranges.specs.Owned.{owned};
+ghost use Rattle.dw_ranges.specs.Claims.{claims_in, in_group};
+ghost use Rattle.dw_ranges.specs.LinkedInside.{AreIndexed, claims_linked};
 
-use crate::links::Links;
-use dw_index::Index;
+use crate::links::{Grouped, Links};
+use dw_index::{Index, Range};
 use std::alloc::{AllocError, Global};
 use std::marker::Model;
 
@@ -16,7 +18,7 @@ const FEW: usize = 8;
 /// Ranges that owners claim in groups. Contracts see them as a list.
 #[derive(Drop)]
 pub(crate) struct Linked {
-    links: Links,
+    links: Links<(Range, usize)>,
     /// The indexes of groups with many ranges, in order.
     indexes: Vec<(usize, Index)>,
 }
@@ -33,14 +35,82 @@ impl Model for Linked {
     ghost invariant = { IsIndexed };
 }
 
+/// Adds ranges of one owner in a group.
+pub(crate) fn push_linked(
+    links: &mut Links<(Range, usize)>,
+    group: usize,
+    ranges: &[Range],
+    owner: usize,
+) -> Result<(), AllocError>
+    ensures pushed { OnOk result (claims_linked links.new
+        ≡ claims_linked links.old ++ claims_in group (owned (map range_shown ranges.now) owner)) }
+    ensures few { length links.new ≤ length links.old + length ranges.now }
+{
+    for range in ranges {
+        let item = (*range, owner);
+        links.push(Grouped { group, item })?;
+    }
+    Ok(())
+}
+
+/// The lesser of an owner that was found, where there is one, and that of a range, where the range
+/// holds an address.
+fn least_of(pair: &(Range, usize), a: u64, found: Option<usize>) -> Option<usize>
+    ensures { result ≡ least found (owner_in a (pair_shown pair.now)) }
+{
+    let (range, owner) = pair;
+    if a < range.begin || a >= range.end {
+        return found;
+    }
+    let Some(other) = found else {
+        return Some(*owner);
+    };
+    if *owner <= other {
+        return Some(*owner);
+    }
+    found
+}
+
+/// The least owner in a group of the ranges that hold an address.
+#[tactic(auto, using(crate::proofs::ClaimLemmas::linked_steps), unfolding(dw_index::specs::Owners::least_owner))]
+fn find_linked(links: &Links<(Range, usize)>, group: usize, a: u64) -> Option<usize>
+    ensures { result ≡ least_owner (in_group group (claims_linked links.now)) a }
+{
+    let mut found = None;
+    for pair in links.back(group) {
+        found = least_of(pair, a, found);
+    }
+    found
+}
+
+/// The ranges in a group, in order, each with its owner.
+#[tactic(auto, using(crate::proofs::ClaimLemmas::linked_steps))]
+fn pairs_of(
+    alloc: Global,
+    links: &Links<(Range, usize)>,
+    group: usize,
+) -> Result<Vec<(Range, usize)>, AllocError>
+    ensures { IfOk result (λ pairs. map pair_shown pairs.items ≡ in_group group (claims_linked links.now)) }
+{
+    let mut pairs = Vec::new(alloc);
+    for pair in links.back(group) {
+        pairs.push(*pair)?;
+    }
+    pairs.reverse();
+    Ok(pairs)
+}
+
 /// The indexes of the groups with many ranges.
-fn indexes_of(alloc: Global, links: &Links) -> Result<Vec<(usize, Index)>, AllocError>
-    ensures { IfOk result (λ indexes. AreIndexed links.now indexes.items) }
+fn indexes_of(
+    alloc: Global,
+    links: &Links<(Range, usize)>,
+) -> Result<Vec<(usize, Index)>, AllocError>
+    ensures { IfOk result (λ indexes. AreIndexed (claims_linked links.now) indexes.items) }
 {
     let mut indexes = Vec::new(alloc);
     for group in 0..links.count() {
         if links.is_more(group, FEW) {
-            let pairs = links.pairs(alloc, group)?;
+            let pairs = pairs_of(alloc, links, group)?;
             indexes.push((group, Index::build(alloc, &pairs)?))?;
         }
     }
@@ -49,8 +119,8 @@ fn indexes_of(alloc: Global, links: &Links) -> Result<Vec<(usize, Index)>, Alloc
 
 impl Linked {
     /// Of all ranges that were linked.
-    pub(crate) fn new(alloc: Global, links: Links) -> Result<Self, AllocError>
-        ensures { IfOk result (λ linked. linked ≡ links) }
+    pub(crate) fn new(alloc: Global, links: Links<(Range, usize)>) -> Result<Self, AllocError>
+        ensures { IfOk result (λ linked. linked ≡ claims_linked links) }
     {
         let indexes = indexes_of(alloc, &links)?;
         Ok(Linked { links, indexes })
@@ -66,6 +136,6 @@ impl Linked {
                 return index.find(a);
             }
         }
-        self.links.find(group, a)
+        find_linked(&self.links, group, a)
     }
 }

@@ -1,45 +1,49 @@
-//! Ranges that owners claim in groups, linked by their groups.
+//! Items in groups, linked by their groups.
 
-ghost use Rattle.std.specs.Prelude.{◌≡◌, ◌<◌, ◌≤◌, ◌+◌, ◌^◌, ◌++◌, ◌∷◌, ℕ, [], OnOk, IfOk, map, length};
-ghost use Rattle.dw_index.specs.Owners.{least, owner_in, least_owner};
-ghost use Rattle.dw_index.specs.Range.{pair_shown, range_shown};
-ghost use Rattle.dw_ranges.specs.Owned.{owned};
-ghost use Rattle.dw_ranges.specs.Claims.{in_group, claims_in};
+ghost use Rattle.std.specs.Prelude.{◌≡◌, ◌<◌, ◌≤◌, ◌+◌, ◌^◌, ◌++◌, ◌∷◌, ℕ, [], IfOk, OnOk, length, reverse};
+ghost use Rattle.dw_ranges.specs.Claims.{in_group};
 ghost use Rattle.dw_ranges.specs.LinksInside.{last_of, noted};
 
-use dw_index::Range;
+mod members;
+
+use members::Members;
 use std::alloc::{AllocError, Global};
 use std::marker::Model;
 
-/// A range that an owner claims in a group.
-#[derive(Clone, Copy)]
-pub(crate) struct Link {
-    range: Range,
-    owner: usize,
-    group: usize,
-    /// The place of the link before this one that has the same `group`.
+/// An item in a group.
+#[derive(Drop)]
+pub struct Grouped<T> {
+    pub group: usize,
+    pub item: T,
+}
+
+/// An item that leads to the one before it in its group.
+#[derive(Drop)]
+pub(crate) struct Link<T> {
+    one: Grouped<T>,
+    /// The place of the link before this one that has the same group.
     before: Option<usize>,
 }
 
-/// Ranges that owners claim in groups. They take one list, however many groups there are, and each
-/// range leads to the one before it in its group.
+/// Items in groups. They take one list, however many groups there are, and whoever asks one group
+/// passes no item of another. Contracts see the list.
 #[derive(Drop)]
-pub(crate) struct Links {
-    links: Vec<Link>,
+pub(crate) struct Links<T> {
+    links: Vec<Link<T>>,
     /// For each group the place of the last link in it.
     lasts: Vec<Option<usize>>,
 }
 
-impl Model for Links {
+impl<T> Model for Links<T> {
     ghost use Rattle.std.specs.Prelude.{List};
-    ghost use Rattle.dw_ranges.specs.Claims.{Claim};
-    ghost use Rattle.dw_ranges.specs.LinksInside.{links_of, IsLinked};
+    ghost use Rattle.dw_ranges.specs.declared.links.Grouped.{Grouped};
+    ghost use Rattle.dw_ranges.specs.LinksInside.{shown, AreLinked, AreLasts};
 
-    ghost Value = { List Claim };
+    ghost Value = { List (Grouped T) };
 
-    ghost view = { links_of };
+    ghost view = { λ links. shown links.links.items };
 
-    ghost invariant = { IsLinked };
+    ghost invariant = { λ links. AreLinked links.links.items × AreLasts links.lasts.items (shown links.links.items) };
 }
 
 /// Makes room for what is noted of a group.
@@ -53,25 +57,8 @@ fn reach(lasts: &mut Vec<Option<usize>>, group: usize) -> Result<(), AllocError>
     Ok(())
 }
 
-/// The lesser of an owner that was found, where there is one, and that of a range, where the range
-/// holds an address.
-fn least_of(link: &Link, a: u64, found: Option<usize>) -> Option<usize>
-    ensures { result ≡ least (owner_in a (pair_shown (link.now.range, link.now.owner))) found }
-{
-    if a < link.range.begin || a >= link.range.end {
-        return found;
-    }
-    let Some(other) = found else {
-        return Some(link.owner);
-    };
-    if link.owner <= other {
-        return Some(link.owner);
-    }
-    found
-}
-
-impl Links {
-    /// There is no range.
+impl<T: Drop> Links<T> {
+    /// There is no item.
     #[tactic(auto, unfolding(crate::specs::LinksInside::last_of))]
     pub(crate) fn new(alloc: Global) -> Self
         ensures { result ≡ [] }
@@ -82,7 +69,7 @@ impl Links {
         }
     }
 
-    /// How many ranges there are.
+    /// How many items there are.
     pub(crate) fn len(&self) -> usize
         ensures count { result ≡ length self.now }
         ensures small { result < 2 ^ 63 }
@@ -95,19 +82,9 @@ impl Links {
         self.lasts.len()
     }
 
-    /// More than so many ranges are in a group.
+    /// More than so many items are in a group.
     pub(crate) fn is_more(&self, group: usize, most: usize) -> bool {
-        let mut next = self.last(group);
-        for _ in 0..most {
-            let Some(place) = next else {
-                return false;
-            };
-            let Some(link) = self.links.get(place) else {
-                return false;
-            };
-            next = link.before;
-        }
-        next.is_some()
+        self.back(group).nth(most).is_some()
     }
 
     /// The place of the last link in a group.
@@ -118,71 +95,36 @@ impl Links {
         *place
     }
 
-    /// Adds a range.
-    fn push_one(&mut self, group: usize, range: Range, owner: usize) -> Result<(), AllocError>
-        ensures pushed { OnOk result (self.new ≡ self.old ++ claims_in group (pair_shown (range, owner) ∷ [])) }
+    /// Adds an item.
+    pub(crate) fn push(&mut self, one: Grouped<T>) -> Result<(), AllocError>
+        ensures pushed { OnOk result (self.new ≡ self.old ++ one ∷ []) }
         ensures few { length self.new ≤ length self.old + 1 }
     {
+        let group = one.group;
         reach(&mut self.lasts, group)?;
         let place = self.links.len();
         let before = self.last(group);
-        self.links.push(Link {
-            range,
-            owner,
-            group,
-            before,
-        })?;
+        self.links.push(Link { one, before })?;
         self.lasts[group] = Some(place);
         Ok(())
     }
 
-    /// Adds ranges of one owner.
-    pub(crate) fn push(
-        &mut self,
-        group: usize,
-        ranges: &[Range],
-        owner: usize,
-    ) -> Result<(), AllocError>
-        ensures pushed { OnOk result (self.new
-            ≡ self.old ++ claims_in group (owned (map range_shown ranges.now) owner)) }
-        ensures few { length self.new ≤ length self.old + length ranges.now }
+    /// Links items from the last one on, so that they are gone through in order.
+    pub(crate) fn of(alloc: Global, items: Vec<Grouped<T>>) -> Result<Self, AllocError>
+        ensures { IfOk result (λ links. links ≡ reverse items.items) }
     {
-        for range in ranges {
-            self.push_one(group, *range, owner)?;
+        let mut items = items;
+        let mut links = Links::new(alloc);
+        while let Some(one) = items.pop() {
+            links.push(one)?;
         }
-        Ok(())
+        Ok(links)
     }
 
-    /// The least owner in a group of the ranges that hold an address.
-    pub(crate) fn find(&self, group: usize, a: u64) -> Option<usize>
-        ensures { result ≡ least_owner (in_group group self.now) a }
+    /// The items of a group, from the one that was linked last on.
+    pub(crate) fn back(&self, group: usize) -> Members<'_, T>
+        ensures { result ≡ reverse (in_group group self.now) }
     {
-        let mut found = None;
-        let mut next = self.last(group);
-        while let Some(place) = next {
-            let link = self.links[place];
-            found = least_of(&link, a, found);
-            next = link.before;
-        }
-        found
-    }
-
-    /// The ranges in a group, in order, each with its owner.
-    pub(crate) fn pairs(
-        &self,
-        alloc: Global,
-        group: usize,
-    ) -> Result<Vec<(Range, usize)>, AllocError>
-        ensures { IfOk result (λ pairs. map pair_shown pairs.items ≡ in_group group self.now) }
-    {
-        let mut pairs = Vec::new(alloc);
-        let mut next = self.last(group);
-        while let Some(place) = next {
-            let link = self.links[place];
-            pairs.push((link.range, link.owner))?;
-            next = link.before;
-        }
-        pairs.reverse();
-        Ok(pairs)
+        Members::new(&self.links, group, self.last(group))
     }
 }

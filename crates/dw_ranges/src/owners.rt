@@ -12,6 +12,7 @@ ghost use Rattle.dw_ranges.specs.Window.{IsWindow};
 use crate::claims::Claims;
 use crate::held::{HeldList, least_held};
 use crate::linked::Linked;
+use crate::links::Links;
 use crate::window::{Window, lesser};
 use dw_forms::Tables;
 use dw_index::Index;
@@ -45,7 +46,8 @@ pub struct Owners<'a> {
     index: Index,
     /// Those in groups from 1 on, of which the first is 0 here.
     others: Linked,
-    held: Vec<HeldList<'a>>,
+    /// The last one first, so that they are gone through in order.
+    held: Links<HeldList<'a>>,
     /// How many ranges are kept.
     ranges: usize,
 }
@@ -77,6 +79,7 @@ impl<'a> Owners<'a> {
         } = claims;
         let index = Index::build(alloc, &first)?;
         let others = Linked::new(alloc, others)?;
+        let held = Links::of(alloc, held)?;
         Ok(Owners {
             index,
             others,

@@ -1,13 +1,12 @@
 //! Who owns the addresses of a window, of owners whose lists are held.
 
-ghost use Rattle.std.specs.Prelude.{◌≡◌, ◌≤◌, ◌<◌, ◌++◌, ℕ, List, IfOk, OnOk, map};
+ghost use Rattle.std.specs.Prelude.{◌≡◌, ◌≤◌, ◌<◌, ◌++◌, ℕ, List, IfOk, OnOk, map, reverse};
 ghost use Rattle.dw_model.specs.Ranges as model;
 ghost use Rattle.dw_model.specs.Steady.{last_address};
 ghost use Rattle.dw_forms.specs.Tables.{tables_shown};
 ghost use Rattle.dw_index.specs.Range.{range_shown};
-ghost use Rattle.dw_ranges.specs.Claims.{held_ranges};
+ghost use Rattle.dw_ranges.specs.Claims.{list_claims};
 ghost use Rattle.dw_ranges.specs.Held.{listed};
-ghost use Rattle.dw_ranges.specs.Owned.{owned};
 ghost use Rattle.dw_ranges.specs.Window.{HasAddress, HasOwners, IsWindow};
 
 mod draft;
@@ -15,6 +14,7 @@ mod end;
 
 use crate::fault::RangeFault;
 use crate::held::{HeldList, Listed};
+use crate::links::Links;
 use crate::range_list::{RangeList, read_list};
 use draft::Draft;
 use dw_forms::Tables;
@@ -35,7 +35,7 @@ pub struct Window {
 
 /// How many pieces a window has at most when there were too many ranges for it: one for eight bytes
 /// of .debug_rnglists, and four for each unit. So it takes memory in proportion to the file.
-fn most_pieces(held: &[HeldList<'_>], tables: &Tables<'_>) -> usize {
+fn most_pieces(held: &Links<HeldList<'_>>, tables: &Tables<'_>) -> usize {
     let of_lists = tables.rnglists.len() / 8;
     of_lists.saturating_add(held.len().saturating_mul(4))
 }
@@ -75,8 +75,7 @@ fn add_held(
     tables: &Tables<'_>,
 ) -> Result<(), AllocError>
     ensures { OnOk result ((all : List (model.Range × ℕ)) (from : ℕ) → HasOwners all from draft.old
-        → HasOwners (all ++ owned (held_ranges (tables_shown tables.now) held.now.list) held.now.owner)
-        from draft.new) }
+        → HasOwners (all ++ list_claims (tables_shown tables.now) held.now) from draft.new) }
 {
     match &held.list {
         Listed::Indexed(index, base) => draft.add_indexed(index, *base, held.owner),
@@ -101,26 +100,22 @@ impl Window {
     }
 
     /// The window that begins at an address, after one that had so many addresses.
-    #[tactic(auto, unfolding(crate::specs::Claims::held_claims))]
     fn read(
         alloc: Global,
-        held: &[HeldList<'_>],
+        held: &Links<HeldList<'_>>,
         tables: &Tables<'_>,
         from: u64,
         width: u64,
     ) -> Result<Self, AllocError>
         requires { from < last_address }
         ensures address { IfOk result (λ window. HasAddress window from) }
-        ensures window { IfOk result (IsWindow (tables_shown tables.now) held.now) }
+        ensures window { IfOk result (IsWindow (tables_shown tables.now) (reverse held.now)) }
     {
         let most = most_pieces(held, tables);
         let until = end_of(held, most, from, width);
         let mut draft = Draft::new(alloc, from, until, most);
         let mut ranges = Vec::new(alloc);
-        for one in held {
-            if one.group != 0 {
-                continue;
-            }
+        for one in held.back(0) {
             add_held(&mut draft, &mut ranges, one, tables)?;
         }
         let index = Index::build(alloc, &draft.pairs)?;
@@ -135,14 +130,14 @@ impl Window {
     pub(crate) fn turn_to(
         &mut self,
         alloc: Global,
-        held: &[HeldList<'_>],
+        held: &Links<HeldList<'_>>,
         tables: &Tables<'_>,
         a: u64,
     ) -> Result<(), AllocError>
         requires address { a < last_address }
-        requires window { IsWindow (tables_shown tables.now) held.now self.old }
+        requires window { IsWindow (tables_shown tables.now) (reverse held.now) self.old }
         ensures address { OnOk result (HasAddress self.new a) }
-        ensures window { IsWindow (tables_shown tables.now) held.now self.new }
+        ensures window { IsWindow (tables_shown tables.now) (reverse held.now) self.new }
     {
         if self.from <= a && a < self.until {
             return Ok(());

@@ -4,15 +4,14 @@ ghost use Rattle.std.specs.Prelude.{◌<◌};
 ghost use Rattle.dw_model.specs.Steady.{last_address};
 
 use crate::held::{HeldList, Listed};
+use crate::links::Links;
 
 /// How many borders the lists with indexes have in group 0, above one address and up to another.
-fn borders(held: &[HeldList<'_>], from: u64, until: u64) -> usize {
+fn borders(held: &Links<HeldList<'_>>, from: u64, until: u64) -> usize {
     let mut count = 0usize;
-    for one in held {
+    for one in held.back(0) {
         if let Listed::Indexed(index, base) = &one.list {
-            if one.group == 0 {
-                count = count.saturating_add(index.borders(*base, from, until));
-            }
+            count = count.saturating_add(index.borders(*base, from, until));
         }
     }
     count
@@ -39,7 +38,7 @@ impl Between {
 
 /// Where the lists with indexes have no more borders than `most` after an address, and a quarter of
 /// them at least, where they have as many. So many addresses behind it are tried first.
-fn with_borders(held: &[HeldList<'_>], most: usize, from: u64, width: u64) -> u64 {
+fn with_borders(held: &Links<HeldList<'_>>, most: usize, from: u64, width: u64) -> u64 {
     if borders(held, from, u64::MAX) <= most {
         return u64::MAX;
     }
@@ -65,7 +64,7 @@ fn with_borders(held: &[HeldList<'_>], most: usize, from: u64, width: u64) -> u6
 /// Where a window may end that begins at an address, after one of so many addresses. Any end would
 /// do; by this one a window costs no more than its lists and its pieces, and windows are often as
 /// wide as the one before.
-pub(super) fn end_of(held: &[HeldList<'_>], most: usize, from: u64, width: u64) -> u64
+pub(super) fn end_of(held: &Links<HeldList<'_>>, most: usize, from: u64, width: u64) -> u64
     ensures { from < last_address → from < result }
 {
     let until = with_borders(held, most, from, width);

@@ -1,5 +1,5 @@
-use Rattle.dw_ranges.specs.LinkedInside.{AreIndexed}
+use Rattle.dw_ranges.specs.LinkedInside.{AreIndexed, claims_linked}
 use Rattle.dw_ranges.proofs.linked.indexes_of.Given as goal
 
 abbrev pub invariant-loop-group : goal.invariant-loop-group
-invariant-loop-group l = AreIndexed l.links l.indexes.items
+invariant-loop-group l = AreIndexed (claims_linked l.links) l.indexes.items
