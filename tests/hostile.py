@@ -87,6 +87,15 @@ def functions_of_long_tails(size):
     return one_unit(function, entries, rnglists=long_list(3 * count))
 
 
+def functions_of_tails_in_turn(size):
+    """The same of two lists, in turn."""
+    count = size // 64
+    function = declaration(2, SUBPROGRAM, 0, [(RANGES, SEC_OFFSET)])
+    lists = long_list(3 * count)
+    entries = b''.join(b'\x02' + number(27 * (count - 1 - i) + at, 4) for i in range(count) for at in (0, len(lists)))
+    return one_unit(function, entries, rnglists=lists * 2)
+
+
 def callers_of_one_list(size):
     """Functions of two bytes, in each of which one of two bytes was inlined that names one list."""
     count = size // 14
@@ -372,7 +381,8 @@ def span_over_no_rows_between_holes(size):
 
 KINDS = {
     'tables_in_one_another': LINEAR, 'falling_tables_in_one_another': LINEAR, 'functions_of_one_list': LINEAR,
-    'inlined_of_one_list': LINEAR, 'functions_of_tails': LINEAR, 'functions_of_long_tails': SQUARE,
+    'inlined_of_one_list': LINEAR, 'functions_of_tails': LINEAR, 'functions_of_long_tails': LINEAR,
+    'functions_of_tails_in_turn': SQUARE,
     'callers_of_one_list': LINEAR,
     'units_with_functions_of_one_list': LINEAR, 'units_of_one_list': LINEAR, 'units_with_bases_of_one_list': LINEAR,
     'span_over_units_with_bases': LINEAR, 'span_over_all_units_with_bases': BORDERS, 'units_of_tails': SQUARE,

@@ -1,5 +1,5 @@
 -- The ranges of lists that are held by name.
-use Rattle.std.specs.Prelude.{ℕ, Bool, List, [], Result, Ok}
+use Rattle.std.specs.Prelude.{◌≡◌, ℕ, Bool, false, List, [], Result, Ok}
 use Rattle.std.specs.Result.{result_unwrap_or}
 use Rattle.dw_model.specs.Results.{◌>>=◌}
 use Rattle.dw_model.specs.Faults.{Bad}
@@ -15,3 +15,7 @@ listed tables list = result_unwrap_or (ranges_of_list tables list) []
 -- whether ranges hold an address, where they can be read
 abbrev pub held_at : ℕ → Result (List Range) Bad → Result Bool Bad
 held_at a read = read >>= λ ranges. Ok (covers a ranges)
+
+-- a list can be read, and has no range that holds an address
+abbrev pub Lacks : Tables → ℕ → RangeList → Type 0
+Lacks tables a list = held_at a (ranges_of_list tables list) ≡ Ok false

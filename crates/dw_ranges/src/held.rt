@@ -1,11 +1,12 @@
 //! Range lists that are held by name: they are asked by their indexes, or read anew for each
 //! address.
 
-ghost use Rattle.std.specs.Prelude.{◌≡◌, false, nat_le, reverse};
+ghost use Rattle.std.specs.Prelude.{◌≡◌, false, nat_le, reverse, IfSome};
 ghost use Rattle.std.specs.Option.{option_map_or};
 ghost use Rattle.dw_model.specs.Ranges.{covers};
 ghost use Rattle.dw_forms.specs.Tables.{tables_shown};
 ghost use Rattle.dw_index.specs.Owners.{least, least_owner};
+ghost use Rattle.dw_ranges.specs.Held.{Lacks};
 ghost use Rattle.dw_ranges.specs.Claims.{held_claims, held_ranges, list_claims, owner_in};
 
 use crate::at_address::list_holds;
@@ -30,12 +31,15 @@ pub struct HeldList<'a> {
 }
 
 impl<'a> Listed<'a> {
-    /// Whether the list has a range that holds an address; none where it can't be read.
-    fn holds(&self, tables: &Tables<'_>, a: u64) -> bool
-        ensures { result ≡ covers a (held_ranges (tables_shown tables.now) self.now) }
+    /// Whether the list has a range that holds an address; none where it can't be read. A list that
+    /// is known to lack the address may be absent.
+    fn holds(&self, absent: &mut Option<RangeList>, tables: &Tables<'_>, a: u64) -> bool
+        requires absent { IfSome absent.old (Lacks (tables_shown tables.now) a) }
+        ensures holds { result ≡ covers a (held_ranges (tables_shown tables.now) self.now) }
+        ensures absent { IfSome absent.new (Lacks (tables_shown tables.now) a) }
     {
         match self {
-            Listed::Named(list) => list_holds(*list, tables, a),
+            Listed::Named(list) => list_holds(*list, absent, tables, a),
             Listed::Indexed(index, base) => index.holds(*base, a),
         }
     }
@@ -54,14 +58,21 @@ fn is_before(found: Option<usize>, owner: usize) -> bool
 /// The lesser of an owner that was found, where there is one, and that of a list, where the list
 /// holds an address. The list is read only where its owner comes first.
 #[tactic(auto, using(dw_index::proofs::LawLemmas::of_list, std::proofs::lemmas::Bool::Decides::nat_tests))]
-fn least_of(held: &HeldList<'_>, tables: &Tables<'_>, a: u64, found: Option<usize>) -> Option<usize>
-    ensures { result ≡ least found
-        (least_owner (list_claims (tables_shown tables.now) held.now) a) }
+fn least_of(
+    held: &HeldList<'_>,
+    absent: &mut Option<RangeList>,
+    tables: &Tables<'_>,
+    a: u64,
+    found: Option<usize>,
+) -> Option<usize>
+    requires absent { IfSome absent.old (Lacks (tables_shown tables.now) a) }
+    ensures least { result ≡ least found (least_owner (list_claims (tables_shown tables.now) held.now) a) }
+    ensures absent { IfSome absent.new (Lacks (tables_shown tables.now) a) }
 {
     if is_before(found, held.owner) {
         return found;
     }
-    if held.list.holds(tables, a) {
+    if held.list.holds(absent, tables, a) {
         return Some(held.owner);
     }
     found
@@ -80,8 +91,9 @@ pub(crate) fn least_held(
     ensures { result ≡ least found (owner_in (held_claims (tables_shown tables.now) (reverse held.now)) group a) }
 {
     let mut least = found;
+    let mut absent = None;
     for list in held.back(group) {
-        least = least_of(list, tables, a, least);
+        least = least_of(list, &mut absent, tables, a, least);
     }
     least
 }

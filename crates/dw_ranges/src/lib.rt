@@ -21,7 +21,6 @@ mod read_lists;
 mod step;
 mod window;
 
-pub use at_address::list_holds;
 pub use claims::Claims;
 pub use dw_index::{Index, Range, law_of_least_owner};
 pub use fault::RangeFault;

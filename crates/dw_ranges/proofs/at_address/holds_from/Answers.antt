@@ -1,9 +1,17 @@
 use Rattle.std.proofs.Common.{arith}
-use Rattle.dw_forms.specs.Tables.{tables_shown, bases_shown}
-use Rattle.dw_ranges.specs.OutcomeShown.{base_shown}
+use Rattle.dw_forms.specs.Tables.{tables_shown}
+use Rattle.dw_ranges.specs.Lists.{only_addr}
+use Rattle.dw_ranges.specs.OutcomeShown.{base_shown, outcome_shown}
 use Rattle.dw_ranges.proofs.ListLemmas.{held-on}
+use Rattle.dw_ranges.proofs.PlaceLemmas.{outcome-in}
 use Rattle.dw_ranges.proofs.at_address.holds_from.Goals as goal
 
-pub loop-outcome-preserved : goal.loop-outcome-preserved
-loop-outcome-preserved c =
-    held-on (tables_shown c.args.tables.now) (bases_shown c.args.bases.now) (base_shown c.loop-outcome.base) (base_shown c.in-Some.outcome.base) c.loop-outcome.cursor c.next_outcome.new.cursor c.args.a c.loop-outcome.holds c.with_range-holds.result c.in-Some.outcome.range _ (grind arith) c.with_range-holds.ensures c.loop-outcome.invariant
+pub loop-list-preserved : goal.loop-list-preserved
+loop-list-preserved c =
+    let tables = tables_shown c.args.tables.now in
+    let bases = only_addr c.args.list.addr in
+    let base = base_shown c.loop-list.base in
+    record {
+      so_far = held-on tables bases base (base_shown c.in-Some.outcome.base) c.loop-list.cursor c.next_outcome.new.cursor c.args.a c.loop-list.holds c.with_range-holds.result c.in-Some.outcome.range _ (grind arith) c.with_range-holds.ensures c.loop-list.invariant.so_far;
+      is_in = outcome-in tables.rnglists tables bases base c.loop-list.cursor c.next_outcome.new.cursor (outcome_shown c.in-Some.outcome) (grind arith) c.loop-list.invariant.is_in;
+    }
