@@ -3,16 +3,16 @@
 # for C: libFuzzer changes files by their structure (tests/coverage/mutate.c), keeps those that pass an edge of the
 # program, or cost as much, as none before, and changes these again. What is asked of each, and what is wrong, stands at
 # the head of tests/coverage/search.c. All that was kept is then compared with the model (tests/model): listings,
-# addresses and spans, byte for byte. Words: how many seconds to search (300 without a word), and a folder in which what
-# is kept stays from one run to the next; with 0 seconds only the files of the folder are tried. It runs on all
-# processors that it may use. Run it after `rt run` in crates/a2l has built the program and `rt lib` in crates/a2l_c the
-# library. It needs clang with libclang-rt-14-dev, binutils and python3. A file with a finding is kept, what is wrong
-# with it is printed, and the script fails. The variable A2L_COVERAGE names a folder in which the build stays, and is
-# taken from.
+# addresses and spans, byte for byte. Words: how many seconds to search, on all processors that it may use, and a folder
+# in which what is kept stays from one run to the next; with 0 seconds only the files of the folder are tried. Without a
+# word it makes as many changes as take some five minutes, the same for the same library wherever it runs. Run it after
+# `rt run` in crates/a2l has built the program and `rt lib` in crates/a2l_c the library. It needs clang with
+# libclang-rt-14-dev, binutils and python3. A file with a finding is kept, what is wrong with it is printed, and the
+# script fails. The variable A2L_COVERAGE names a folder in which the build stays, and is taken from.
 kept=${TMPDIR:-/tmp}
 . "$(dirname "$0")/programs.sh"
 need_a2l
-seconds=${1:-300}
+seconds=${1:-}
 corpus=$(realpath -m "${2:-$work/corpus}")
 build=$(realpath -m "${A2L_COVERAGE:-$work/build}")
 most=8192
@@ -50,15 +50,20 @@ findings=$(mktemp -d "$kept/coverage-XXXXXX")
 trap 'rmdir "$findings" 2> /dev/null; rm -rf "$work"' EXIT
 failed=0
 cores=$(nproc)
-how=(-max_total_time="$seconds" -jobs="$cores" -workers="$cores")
-if [ "$seconds" = 0 ]; then
-    how=(-runs=0 -jobs=1)
-else
+case $seconds in
+'') how=(-runs=400000 -seed=1 -reload=0 -jobs=1) ;;
+0) how=(-runs=0 -jobs=1) ;;
+*) how=(-max_total_time="$seconds" -jobs="$cores" -workers="$cores") ;;
+esac
+# by their names: the order of a folder differs from one file system to another
+if [ "$seconds" != 0 ]; then
     python3 "$here/tests/coverage/seeds.py" seeds "$here/samples" $most
+    printf '%s,' seeds/* > seed_names
+    how+=(-seed_inputs=@seed_names)
 fi
 
 # on a stack of a megabyte
-(ulimit -c 0 -s 1024; "$build/search" "$corpus" seeds "${how[@]}" -max_len=$most -timeout=600 -report_slow_units=600 \
+(ulimit -c 0 -s 1024; "$build/search" "$corpus" "${how[@]}" -max_len=$most -timeout=600 -report_slow_units=600 \
     -rss_limit_mb=2048 -print_final_stats=1 -artifact_prefix="$findings/") > jobs.log 2>&1 || failed=1
 [ -e fuzz-0.log ] || { cat jobs.log; exit 1; }
 # where it was, without libFuzzer's own calls

@@ -38,21 +38,20 @@ fn is_absent(absent: Option<RangeList>, tail: RangeList) -> bool
     }
 }
 
-/// Whether the ranges of a list, which begins at the cursor, hold an address. It is read up to
-/// where it goes on as a list that lacks the address, where one is known.
+/// Whether the ranges of a list hold an address, where they can be read. It is read up to where it
+/// goes on as a list that lacks the address, where one is known.
 #[tactic(auto, using(crate::proofs::ListLemmas::held_steps))]
-fn holds_from(
+fn read_at(
     list: RangeList,
     absent: Option<RangeList>,
     tables: &Tables<'_>,
-    cursor: &mut Cursor<'_>,
     a: u64,
 ) -> Result<bool, RangeFault>
-    requires place { place_at (tables_shown tables.now).rnglists list.begin ≡ Ok cursor.old }
     requires absent { IfSome absent (Lacks (tables_shown tables.now) a) }
     ensures { Gives (λ x. x) range_fault result (held_at a (ranges_of_list (tables_shown tables.now) list)) }
 {
     let bases = only_addr(list.addr);
+    let mut cursor = place_at(tables.rnglists, list.begin)?;
     let mut holds = false;
     let mut base = list.base;
     loop {
@@ -64,7 +63,7 @@ fn holds_from(
         if is_absent(absent, tail) {
             return Ok(holds);
         }
-        let Some(outcome) = next_outcome(cursor, tables, &bases, base)? else {
+        let Some(outcome) = next_outcome(&mut cursor, tables, &bases, base)? else {
             return Ok(holds);
         };
         holds = with_range(holds, outcome.range, a);
@@ -72,24 +71,10 @@ fn holds_from(
     }
 }
 
-/// Whether the ranges of a list hold an address, where they can be read.
-fn read_at(
-    list: RangeList,
-    absent: Option<RangeList>,
-    tables: &Tables<'_>,
-    a: u64,
-) -> Result<bool, RangeFault>
-    requires absent { IfSome absent (Lacks (tables_shown tables.now) a) }
-    ensures { Gives (λ x. x) range_fault result (held_at a (ranges_of_list (tables_shown tables.now) list)) }
-{
-    let mut place = place_at(tables.rnglists, list.begin)?;
-    holds_from(list, absent, tables, &mut place, a)
-}
-
 /// Whether a list has a range that holds an address. A list that can't be read, by the conditions
 /// of `read_list`, has none. The list is read anew, and nothing of it is kept: this takes no
-/// memory. One that lacks the address is noted as absent, so that a longer list that ends as it
-/// does is read up to there.
+/// memory. A list that can be read and lacks the address is noted in `absent`, so that a longer
+/// one that ends in the same way is read up to there.
 pub(crate) fn list_holds(
     list: RangeList,
     absent: &mut Option<RangeList>,

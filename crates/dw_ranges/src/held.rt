@@ -31,8 +31,8 @@ pub struct HeldList<'a> {
 }
 
 impl<'a> Listed<'a> {
-    /// Whether the list has a range that holds an address; none where it can't be read. A list that
-    /// is known to lack the address may be absent.
+    /// Whether the list has a range that holds an address; none where it can't be read. `absent` is
+    /// as `list_holds` has it.
     fn holds(&self, absent: &mut Option<RangeList>, tables: &Tables<'_>, a: u64) -> bool
         requires absent { IfSome absent.old (Lacks (tables_shown tables.now) a) }
         ensures holds { result ≡ covers a (held_ranges (tables_shown tables.now) self.now) }

@@ -8,6 +8,7 @@ ghost use Rattle.dw_ranges.specs.Claims.{claims_in, in_group};
 ghost use Rattle.dw_ranges.specs.LinkedInside.{AreIndexed, claims_linked};
 
 use crate::links::{Grouped, Links};
+use crate::owners::least;
 use dw_index::{Index, Range};
 use std::alloc::{AllocError, Global};
 use std::marker::Model;
@@ -62,13 +63,7 @@ fn least_of(pair: &(Range, usize), a: u64, found: Option<usize>) -> Option<usize
     if a < range.begin || a >= range.end {
         return found;
     }
-    let Some(other) = found else {
-        return Some(*owner);
-    };
-    if *owner <= other {
-        return Some(*owner);
-    }
-    found
+    least(found, Some(*owner))
 }
 
 /// The least owner in a group of the ranges that hold an address.

@@ -125,6 +125,10 @@ impl<T: Drop> Links<T> {
     pub(crate) fn back(&self, group: usize) -> Members<'_, T>
         ensures { result ≡ reverse (in_group group self.now) }
     {
-        Members::new(&self.links, group, self.last(group))
+        Members {
+            links: &self.links,
+            group,
+            next: self.last(group),
+        }
     }
 }

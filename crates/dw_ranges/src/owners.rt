@@ -27,7 +27,7 @@ pub struct Found {
 }
 
 /// The lesser of two owners, where there are two.
-fn least(first: Option<usize>, second: Option<usize>) -> Option<usize>
+pub(crate) fn least(first: Option<usize>, second: Option<usize>) -> Option<usize>
     ensures { result ≡ least first second }
 {
     let Some(x) = first else {

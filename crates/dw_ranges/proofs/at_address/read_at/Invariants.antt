@@ -8,10 +8,10 @@ use Rattle.dw_ranges.specs.Lists.{only_addr, ranges_of_list}
 use Rattle.dw_ranges.specs.Step.{ranges_from}
 use Rattle.dw_ranges.specs.OutcomeShown.{base_shown}
 use Rattle.dw_ranges.proofs.PlaceLemmas.{IsIn}
-use Rattle.dw_ranges.proofs.at_address.holds_from.Given as goal
+use Rattle.dw_ranges.proofs.at_address.read_at.Given as goal
 
-abbrev pub invariant-loop-list : goal.invariant-loop-list
-invariant-loop-list l =
+abbrev pub invariant-loop-cursor : goal.invariant-loop-cursor
+invariant-loop-cursor l =
     let tables = tables_shown l.fn.tables in
     record {
       so_far : held_at l.a (ranges_of_list tables l.fn.list)
@@ -19,5 +19,5 @@ invariant-loop-list l =
       is_in : IsIn tables.rnglists l.cursor;
     }
 
-abbrev pub decreases-loop-list : goal.decreases-loop-list
-decreases-loop-list l = length l.cursor.left
+abbrev pub decreases-loop-cursor : goal.decreases-loop-cursor
+decreases-loop-cursor l = length l.cursor.left
