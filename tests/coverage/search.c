@@ -87,7 +87,8 @@ static const struct known {
 } known[] = {
     {{[OPEN] = true}, values_of_units, 10000,
      "first entries may have many values that take no bytes, and tables of declarations may begin in one another"},
-    {{[OPEN] = true}, ranges_of_units, 20000, "units may have the tails of one list, and each tail is read whole"},
+    {{[OPEN] = true}, ranges_of_units, 20000,
+     "units may have the tails of one list, from bases in turn, and each tail is read whole"},
     {{[FRAMES] = true}, ranges_of_entries, 500000,
      "functions may have the tails of several lists in turn, and each is read whole whose own part a unit can't keep"},
     {{[PIECES] = true}, ranges_of_units, 300, "a span reads the lists of units again for each window of addresses"},

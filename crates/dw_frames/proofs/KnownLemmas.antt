@@ -23,7 +23,8 @@ use Rattle.dw_ranges.specs.Owned.{AreOwned, owned}
 use Rattle.dw_ranges.specs.ReadLists.{Has}
 use Rattle.dw_ranges.specs.Tails.{EndsAs, ReadsNew, onto_front, tail_at}
 use Rattle.dw_ranges.proofs.GroupLemmas.{group-append, group-here, group-elsewhere, same_or_apart}
-use Rattle.dw_ranges.proofs.OwnedLemmas.{behind-owned, still-owned, now-owned}
+use Rattle.dw_ranges.proofs.OwnedLemmas.{still-owned, now-owned}
+use Rattle.dw_ranges.proofs.TailLemmas.{front-owners, tail-owned}
 use Rattle.dw_frames.specs.Drafts.{Drafts, group_of, with_function}
 use Rattle.dw_frames.specs.Known.{IsListed, IsOwned, Knows, Same, WasAdded}
 use Rattle.dw_frames.specs.Placed.{Follows}
@@ -63,7 +64,7 @@ left-out entry front rest drafts h = record {
   of = refl;
   functions = refl;
   lists = refl;
-  owners = λ k a. grind (arith, same_or_apart, group-here, group-elsewhere, behind-owned (in_group (group_of (is_subprogram entry) drafts) drafts.claims) front rest (length drafts.functions) a h);
+  owners = λ k a. front-owners drafts.claims (group_of (is_subprogram entry) drafts) front rest (length drafts.functions) k a h;
 }
 
 -- ---- what is known where more is kept
@@ -185,18 +186,11 @@ none-read tables read list (Some other) ranges e none told = absurd cc
 
 -- ---- tails that are noted
 
-front-of : (front : List Range) (later : Result (List Range) Bad) (all : List Range) → onto_front front later ≡ Ok all → (ranges : List Range) × (later ≡ Ok ranges) × (all ≡ front ++ ranges)
-front-of front (Ok ranges) all e = (ranges, refl, sym (ok_is (front ++ ranges) all e))
-front-of front (Err f) all e = absurd cc
-
-or-true : (b c : Bool) → c ≡ true → (b || c) ≡ true
-or-true b c e = grind arith
-
 -- a list that ends as one whose addresses are owned
-tail-owned : (drafts : Drafts) (list other : RangeList) (k : ℕ) → EndsAs drafts.of.sections.tables list other → IsOwned drafts list k → IsOwned drafts other k
-tail-owned drafts list other k ends h =
-    let parts = front-of ends.front (ranges_of_list drafts.of.sections.tables other) h.0.0 (sym ends.same ∙ h.0.1) in
-    ((parts.0, parts.1, ends.some parts.0 parts.1), λ a held. h.1 a (ap (covers a) parts.2 ∙ list_any-append (holds a) ends.front parts.0 ∙ or-true (covers a ends.front) (covers a parts.0) held))
+end-owned : (drafts : Drafts) (list other : RangeList) (k : ℕ) → EndsAs drafts.of.sections.tables list other → IsOwned drafts list k → IsOwned drafts other k
+end-owned drafts list other k ends h =
+    let own = tail-owned drafts.of.sections.tables list other (in_group k drafts.claims) (length drafts.functions) h.0.0 ends h.0.1 h.1 in
+    ((own.0, own.1, ends.some own.0 own.1), own.2)
 
 -- where the tails of a list are noted
 pub knows-tails : (reading other : Reading) (drafts : Drafts) (list : RangeList) (group : ℕ) (of : UnitIn) (begins : List ℕ) → other.of ≡ reading.of → reading.of ≡ of → reading.begins ≡ begins → IsOwned drafts list group
@@ -207,6 +201,6 @@ knows-tails reading other drafts list group of begins same is begin_at owns ends
     knows-noted reading other drafts same (λ known has. elim (noted known has) [
       | inl new ↦ (
           let end = ends new.0 (rw begin_at at new.1) in
-          inl (rw (new.2) (tail-owned drafts list (tail_at list new.0) 0 (rw (h.of, is) (end.1)) (rw (end.0) at owns))))
+          inl (rw (new.2) (end-owned drafts list (tail_at list new.0) 0 (rw (h.of, is) (end.1)) (rw (end.0) at owns))))
       | inr old ↦ inr old
     ]) h

@@ -14,3 +14,4 @@ pub mod GroupLemmas
 pub mod LinkLemmas
 pub mod ClaimLemmas
 pub mod WindowLemmas
+pub mod TailLemmas

@@ -1,10 +1,10 @@
 -- What units claim: the first unit that answers an address owns it.
-use Rattle.std.proofs.Common.{◌≡◌, ◌∙◌, inl, inr, ℕ, ◌+◌, ◌<◌, ◌≤◌, Bool, true, cond, List, [], ◌∷◌, ◌++◌, length, map, take, drop, Option, Some, None, Result, Ok, Err, refl, sym, ap, subst, arith}
+use Rattle.std.proofs.Common.{◌≡◌, ◌∙◌, ◌⊎◌, inl, inr, ℕ, ◌+◌, ◌<◌, ◌≤◌, Bool, true, cond, List, [], ◌∷◌, ◌++◌, length, map, take, drop, Option, Some, None, Result, Ok, Err, refl, sym, ap, subst, arith}
 use Rattle.std.specs.Prelude.{IfSome, MatchOption, find, option_map, option_and_then, option_to_list, slice_get, is_err, ◌&&◌}
 use Rattle.std.specs.Result.{result_unwrap_or}
-use Rattle.std.proofs.lemmas.List.{length-map, length-take, take-append-drop, take_all, take_more}
+use Rattle.std.proofs.lemmas.List.{append-nil, length-map, length-take, take-append-drop, take_all, take_more}
 use Rattle.std.proofs.lemmas.List.Folds.{find-append}
-use Rattle.std.proofs.lemmas.Option.{get_or_from_slice_get, slice_get-get_or, slice_get_within}
+use Rattle.std.proofs.lemmas.Option.{get_or_from_slice_get, same_Some, slice_get-get_or, slice_get_within}
 use Rattle.dw_model.specs.Results.{or_fault}
 use Rattle.dw_model.specs.Faults.{Refusal, Bad, root_ranges}
 use Rattle.dw_model.specs.Section.{Sections}
@@ -28,9 +28,11 @@ use Rattle.dw_ranges.specs.Held.{listed}
 use Rattle.dw_ranges.specs.Lists.{ranges_of_list}
 use Rattle.dw_ranges.specs.Owned.{AreOwned, owned}
 use Rattle.dw_ranges.specs.ReadLists.{Has}
+use Rattle.dw_ranges.specs.Tails.{EndsAs, ReadsNew, onto_front, tail_at}
 use Rattle.dw_ranges.proofs.ClaimLemmas.{adds-same}
 use Rattle.dw_ranges.proofs.GroupLemmas.{group-here}
 use Rattle.dw_ranges.proofs.OwnedLemmas.{still-owned, now-owned, passed-over}
+use Rattle.dw_ranges.proofs.TailLemmas.{front-owners, tail-owned}
 use Rattle.dw_frames.specs.Placed.{first}
 use Rattle.dw_frames.proofs.FirstLemmas.{first-find, first-within, owner-more}
 use Rattle.dw_symbols.specs.Owners.{Holds, IsNamed, Owns, answers_at, checked_ranges, first_unit, ranges_in}
@@ -179,12 +181,50 @@ module _ (s : Sections) (most : ℕ) (old : ClaimsState) (read : List (RangeList
         is : ranges_in s unit ≡ Ok ranges
         is = or_fault-ok (root_ranges unit.offset) (ranges_in s unit) ranges (subst (λ (s : Sections). checked_ranges s unit ≡ Ok ranges) file checked)
 
+    -- its list was read up to where it goes on as one whose addresses earlier units own
+    front-claimed : (one : RangeList) (front rest : List Range) → list ≡ Some one → ranges_of_list s.tables one ≡ Ok (front ++ rest) → AreOwned (in_group 0 (all_claims s.tables old)) i rest → AddsListed s.tables 0 front i list old new → length new.kept + new.room ≤ length old.kept + old.room + 1 → Gathered s most new after (i + 1)
+    front-claimed one front rest is e owns adds few =
+        claimed-on (front ++ rest) (of-list one is ∙ e) (elim adds [
+          | inl read ↦ λ k a. read k a ∙ front-owners (all_claims s.tables old) 0 front rest i k a owns
+          | inr held ↦
+              let ranges_are : listed s.tables held.0 ≡ front ++ rest = rw (← same_Some one held.0 (sym is ∙ held.1), e) refl in
+              subst (λ (ranges : List Range). Adds 0 ranges i (all_claims s.tables old) (all_claims s.tables new)) ranges_are held.2
+        ]) few
+
+    pub front-on : (one : RangeList) (tail : Option RangeList) (front : List Range) → list ≡ Some one → ReadsNew s.tables read one (Ok tail) front → AddsListed s.tables 0 front i list old new → length new.kept + new.room ≤ length old.kept + old.room + 1 → Gathered s most new after (i + 1)
+    front-on one None front is e adds few =
+        front-claimed one front [] is (rw (append-nil front) e) (λ a held. absurd cc) adds few
+    front-on one (Some other) front is told adds few =
+        let known = was.lists (other, 0) told.0 in
+        front-claimed one front known.0 is (told.1 ∙ ap (onto_front front) known.1) known.2 adds few
+
     -- its list is held by an index
     pub held-on : (held : Listed) → Holds s.tables list held → new.kept ≡ old.kept → new.room ≡ old.room → all_claims s.tables new ≡ all_claims s.tables old ++ claims_in 0 (owned (held_ranges s.tables held) i) → Gathered s most new after (i + 1)
     held-on held holds kept room claims =
         let same : held_ranges s.tables held ≡ holds.ranges = holds.same ∙ ap (λ (read : Result (List Range) Bad). result_unwrap_or read []) holds.read in
         claimed-on holds.ranges (of-list holds.named holds.is ∙ holds.read) (adds-same 0 holds.ranges i (all_claims s.tables old) (all_claims s.tables new) (claims ∙ ap (λ (ranges : List Range). all_claims s.tables old ++ claims_in 0 (owned ranges i)) same))
         (let size : length new.kept ≡ length old.kept = ap (λ (kept : List Claim). length kept) kept in omega (arith, size, room))
+
+-- ---- tails that are noted
+
+-- a list that ends as one that was read
+tail-read : (s : Sections) (claims : List Claim) (i : ℕ) (list other : RangeList) → EndsAs s.tables list other → IsRead s claims i list → IsRead s claims i other
+tail-read s claims i list other ends h = tail-owned s.tables list other (in_group 0 claims) i h.0 ends h.1 h.2
+
+-- where a list is noted that was read, and its tails
+pub tails-on : (s : Sections) (most : ℕ) (claims : ClaimsState) (read after : List (RangeList × ℕ)) (i : ℕ) (list : RangeList) (begins : List ℕ) → Gathered s most claims ((list, 0) ∷ read) i
+    → ((begin : ℕ) → Has begins begin → EndsAs s.tables list (tail_at list begin))
+    → ((known : RangeList × ℕ) → Has after known → ((begin : ℕ) × Has begins begin × (known ≡ (tail_at list begin, 0))) ⊎ Has ((list, 0) ∷ read) known)
+    → Gathered s most claims after i
+tails-on s most claims read after i list begins was ends noted = record {
+  units_are = was.units_are;
+  owns = was.owns;
+  lists = λ known has. elim (noted known has) [
+    | inl new ↦ rw (new.2) (tail-read s (all_claims s.tables claims) i list (tail_at list new.0) (ends new.0 (new.1)) (was.lists (list, 0) (inl refl)))
+    | inr old ↦ was.lists known old
+  ];
+  few = was.few;
+}
 
 -- ---- all units
 

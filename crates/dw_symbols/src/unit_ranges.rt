@@ -1,6 +1,6 @@
 //! The ranges of all units that answer addresses.
 
-ghost use Rattle.std.specs.Prelude.{◌≡◌, ◌≤◌, ◌+◌, ◌++◌, true, None, map, length};
+ghost use Rattle.std.specs.Prelude.{◌≡◌, ◌≤◌, ◌+◌, ◌++◌, ℕ, true, None, Some, Ok, Err, map, length};
 ghost use Rattle.std.specs.Prelude.{OnOk, IfOk, IfErr, IfSome, MatchOption};
 ghost use Rattle.std.specs.Prelude.{option_to_list};
 ghost use Rattle.dw_model.specs.Unit as model;
@@ -10,13 +10,14 @@ ghost use Rattle.dw_elf.specs.OpenFault.{refusal_of};
 ghost use Rattle.dw_units.specs.OpenUnit.{sections_of, unit_of};
 ghost use Rattle.dw_ranges.specs.Claims.{AddsListed, all_claims};
 ghost use Rattle.dw_ranges.specs.ReadLists.{Has};
+ghost use Rattle.dw_ranges.specs.Tails.{EndsAs, ReadsNew, tail_at};
 ghost use Rattle.dw_index.specs.Range.{range_shown};
 ghost use Rattle.dw_symbols.specs.Owners.{Holds, IsNamed, Owns, Refuses, checked_ranges, most_ranges};
 
 use dw_elf::OpenFault;
 use dw_ranges::{
     Claims, ListIndexes, Listed, Range, RangeFault, RangeList, ReadLists, list_of, read_list,
-    read_ranges,
+    read_new, read_ranges,
 };
 use dw_units::{OpenUnit, Units};
 use std::alloc::{AllocError, Global};
@@ -103,6 +104,32 @@ fn read_unit(
     }
 }
 
+/// Reads the ranges of a unit's list up to where it goes on as one that was read for an earlier
+/// unit, which owns the addresses from there on, and returns that one; `None` where it comes to its
+/// end. Reads into `begins`, as offsets of .debug_rnglists, where lists begin that have ranges and
+/// end as this one. The error names the unit.
+fn read_front(
+    ranges: &mut Vec<Range>,
+    begins: &mut Vec<u64>,
+    unit: OpenUnit<'_, '_>,
+    list: RangeList,
+    read: &ReadLists,
+) -> Result<Option<RangeList>, OpenFault>
+    requires { IsNamed (sections_of unit) (unit_of unit) (Some list) }
+    ensures ranges { IfOk result (λ tail. ReadsNew (sections_of unit.entry).tables read.now list (Ok tail)
+        (map range_shown ranges.new.items)) }
+    ensures begins { OnOk result ((begin : ℕ) → Has begins.new.items begin
+        → EndsAs (sections_of unit.entry).tables list (tail_at list begin)) }
+    ensures refused { IfErr result (λ fault. MatchOption (refusal_of fault) (Unit {0})
+        (λ refusal. checked_ranges (sections_of unit.entry) (unit_of unit.entry) ≡ Err refusal)) }
+{
+    match read_new(ranges, begins, list, unit.units().tables(), read) {
+        Ok(tail) => Ok(tail),
+        Err(RangeFault::Bad) => Err(OpenFault::RootRanges(unit.unit().offset)),
+        Err(RangeFault::Memory) => Err(OpenFault::Memory),
+    }
+}
+
 /// A list by its index, where it has one and can be read.
 fn indexed<'a>(
     indexes: &ListIndexes<'a>,
@@ -122,37 +149,44 @@ fn indexed<'a>(
     }
 }
 
-/// Adds the ranges of a unit, which are those of its list, where it names one; or holds the list
-/// where it was costly to read.
+/// Adds the ranges of a unit's list that were read, or holds the list where it was read to its end.
 fn add<'a>(
     claims: &mut Claims<'a>,
     indexes: &mut ListIndexes<'a>,
     ranges: &[Range],
-    list: Option<RangeList>,
+    list: RangeList,
     unit: usize,
-    costly: bool,
+    to_its_end: bool,
 ) -> Result<(), AllocError>
-    requires one { list ≡ None → length ranges.now ≤ 1 }
     ensures tables { indexes.new ≡ indexes.old }
     ensures few { length claims.new.kept + claims.new.room ≤ length claims.old.kept + claims.old.room + 1 }
     ensures claims { OnOk result
-        (AddsListed indexes.old 0 (map range_shown ranges.now) unit list claims.old claims.new) }
+        (AddsListed indexes.old 0 (map range_shown ranges.now) unit (Some list) claims.old claims.new) }
 {
-    if let Some(list) = list {
-        if costly {
-            return claims.hold(UNITS, indexes.make(list)?, unit);
-        }
+    if to_its_end {
+        return claims.hold(UNITS, indexes.make(list)?, unit);
     }
-    claims.add(UNITS, ranges, unit, list, indexes)
+    claims.add(UNITS, ranges, unit, Some(list), indexes)
+}
+
+/// The list of a unit, where as many bytes of lists were read as .debug_rnglists has.
+fn list_beyond(list: Option<RangeList>, left: usize) -> Option<RangeList>
+    ensures { IfSome result (λ one. list ≡ Some one) }
+{
+    if left > 0 {
+        return None;
+    }
+    list
 }
 
 /// What units that answer addresses claim by their places, but for those of which an earlier one
 /// owns all addresses. So a list is read once, however many units name it and count from the same
 /// bases. A list of which several units count from other bases has other ranges in each; so no more
 /// ranges of lists are kept than the bytes of .debug_rnglists can spell, and the units behind these
-/// are held by their lists. So are those whose lists are read when as many bytes of lists were read
-/// as .debug_rnglists has. A list is held by an index, and read no more, whatever the base. The
-/// error is `RootRanges`, of the first unit whose ranges can't be read, or `Memory`.
+/// are held by their lists. When as many bytes of lists were read as .debug_rnglists has, a list is
+/// read up to where it goes on as one that was read before; one that is read to its end is held by
+/// an index, and read no more, whatever the base. The error is `RootRanges`, of the first unit
+/// whose ranges can't be read, or `Memory`.
 pub(crate) fn unit_ranges<'a>(alloc: Global, units: &Units<'a>) -> Result<Claims<'a>, OpenFault>
     ensures owns { IfOk result (λ claims. Owns units.now (model.units units.now.info)
         (all_claims units.now.tables claims)) }
@@ -166,6 +200,7 @@ pub(crate) fn unit_ranges<'a>(alloc: Global, units: &Units<'a>) -> Result<Claims
     let mut read = ReadLists::new(alloc);
     let mut indexes = ListIndexes::new(alloc, tables);
     let mut ranges = Vec::new(alloc);
+    let mut begins = Vec::new(alloc);
     for i in 0..units.len() {
         let unit = units.at(i);
         let list = answering_list(unit);
@@ -177,8 +212,15 @@ pub(crate) fn unit_ranges<'a>(alloc: Global, units: &Units<'a>) -> Result<Claims
             note(&mut read, list)?;
             continue;
         }
+        if let Some(one) = list_beyond(list, left) {
+            let tail = read_front(&mut ranges, &mut begins, unit, one, &read)?;
+            add(&mut claims, &mut indexes, &ranges, one, i, tail.is_none())?;
+            read.note(one, 0)?;
+            read.note_tails(one, &begins, tables.rnglists.len())?;
+            continue;
+        }
         let size = read_unit(&mut ranges, unit, list)?;
-        add(&mut claims, &mut indexes, &ranges, list, i, size > left)?;
+        claims.add(UNITS, &ranges, i, list, &mut indexes)?;
         left = left.saturating_sub(size);
         note(&mut read, list)?;
     }
