@@ -199,6 +199,44 @@ fn one_list_from_many_bases(rt: HostRuntime) -> Result<(), Fail> {
     Ok(())
 }
 
+/// A list at 0: 0x10 to 0x20, 0x30 to 0x40 and 0x50 to 0x60 from the base of the unit on; its tails
+/// begin at 3 and 6.
+const TAILS: &[u8] = &[4, 0x10, 0x20, 4, 0x30, 0x40, 4, 0x50, 0x60, 0];
+
+/// Unit 0 has its ranges, from 0, for which as many bytes of lists are read as there are. The
+/// others count from 0x100: unit 1 has the tail at 3, and is held; of unit 2 the first range is
+/// kept, since its list goes on as that tail; unit 3 has the tail at 6, and owns no address.
+const ALIKE: &[&[u8]] = &[
+    &[1, 0, 0, 0, 0],
+    &[2, 3, 0, 0, 0, 0, 1, 0, 0, 0, 0, 0, 0],
+    &[2, 0, 0, 0, 0, 0, 1, 0, 0, 0, 0, 0, 0],
+    &[2, 6, 0, 0, 0, 0, 1, 0, 0, 0, 0, 0, 0],
+];
+
+static ALIKE_PLACES: [Place; 12] = [
+    (0x10, Some(0)),
+    (0x5f, Some(0)),
+    (0x60, None),
+    (0x10f, None),
+    (0x110, Some(2)),
+    (0x11f, Some(2)),
+    (0x120, None),
+    (0x130, Some(1)),
+    (0x13f, Some(1)),
+    (0x150, Some(1)),
+    (0x15f, Some(1)),
+    (0x160, None),
+];
+
+#[test]
+fn lists_that_end_alike(rt: HostRuntime) -> Result<(), Fail> {
+    let file = file_of(rt.alloc(), ALIKE, TAILS)?;
+    let image = image_of(rt.alloc(), &file)?;
+    expect(&rt, "ranges", &kept_in(&image), &4);
+    expect_places(&rt, &image, &ALIKE_PLACES);
+    Ok(())
+}
+
 /// Units with lists, and where the unit begins of which the list can't be read.
 type Bad = (&'static [&'static [u8]], &'static [u8], u64);
 
