@@ -1,19 +1,17 @@
 -- Functions whose range lists were read for earlier ones.
-use Rattle.std.proofs.Common.{◌≡◌, ◌∙◌, ◌⊎◌, inl, inr, ℕ, Bool, true, false, List, [], ◌∷◌, ◌++◌, length, Option, Some, None, Result, Ok, Err, refl, sym, ap, subst, arith, length-append}
-use Rattle.std.specs.Prelude.{is_err, not, ◌==◌, ◌||◌}
+use Rattle.std.proofs.Common.{◌≡◌, ◌∙◌, ◌⊎◌, inl, inr, ℕ, Bool, true, false, List, [], ◌∷◌, ◌++◌, length, Option, Some, None, Result, Ok, refl, sym, ap, subst, arith, length-append}
+use Rattle.std.specs.Prelude.{is_err, not, ◌==◌}
 use Rattle.std.specs.Result.{result_unwrap_or}
 use Rattle.std.proofs.lemmas.Bool.{ne_eqb}
 use Rattle.std.proofs.lemmas.List.{append-nil}
-use Rattle.std.proofs.lemmas.List.Folds.{list_any-append}
 use Rattle.std.proofs.lemmas.Option.{same_Some}
 use Rattle.dw_model.specs.Entry.{Entry}
 use Rattle.dw_model.specs.Faults.{Bad}
 use Rattle.dw_model.specs.Section.{Sections}
 use Rattle.dw_model.specs.Text.{Tables}
 use Rattle.dw_model.specs.Unit.{DwarfUnit}
-use Rattle.dw_model.specs.Ranges.{Range, covers, holds}
+use Rattle.dw_model.specs.Ranges.{Range}
 use Rattle.dw_model.specs.Tree.{Node, is_subprogram}
-use Rattle.dw_model.proofs.StepLemmas.{ok_is}
 use Rattle.dw_ranges.specs.declared.range_list.RangeList.{RangeList}
 use Rattle.dw_ranges.specs.Claims.{claims_in, in_group}
 use Rattle.dw_ranges.specs.Held.{listed}
@@ -22,7 +20,7 @@ use Rattle.dw_ranges.specs.Lists.{ranges_of_list}
 use Rattle.dw_ranges.specs.Owned.{AreOwned, owned}
 use Rattle.dw_ranges.specs.ReadLists.{Has}
 use Rattle.dw_ranges.specs.Tails.{EndsAs, ReadsNew, onto_front, tail_at}
-use Rattle.dw_ranges.proofs.GroupLemmas.{group-append, group-here, group-elsewhere, same_or_apart}
+use Rattle.dw_ranges.proofs.GroupLemmas.{group-append, group-here}
 use Rattle.dw_ranges.proofs.OwnedLemmas.{still-owned, now-owned}
 use Rattle.dw_ranges.proofs.TailLemmas.{front-owners, tail-owned}
 use Rattle.dw_frames.specs.Drafts.{Drafts, group_of, with_function}

@@ -1,4 +1,4 @@
-use Rattle.std.proofs.Common.{◌≡◌, ◌∙◌, ap, reverse, sym}
+use Rattle.std.proofs.Common.{◌∙◌, ap, reverse, sym}
 use Rattle.dw_ranges.specs.Claims.{in_group}
 use Rattle.dw_ranges.specs.LinksInside.{last_of, shown}
 use Rattle.dw_ranges.proofs.GroupLemmas.{up-to-last}
