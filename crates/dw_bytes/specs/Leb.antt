@@ -1,13 +1,22 @@
 -- LEB128 numbers as they are computed.
-use Rattle.std.specs.Prelude.{ℕ, ◌+◌, ◌-◌, ◌*◌, ◌%◌, ◌^◌, ℤ, List, [], ◌∷◌, Option, Some, None, nat_lt, if◌then◌else◌}
+use Rattle.std.specs.Prelude.{ℕ, ◌+◌, ◌-◌, ◌*◌, ◌%◌, ◌^◌, ℤ, List, [], ◌∷◌, take, Option, Some, None, Result, Ok}
+use Rattle.std.specs.Prelude.{nat_lt, ok_or, position, if◌then◌else◌}
 use Rattle.dw_model.specs.Faults as model
-use Rattle.dw_model.specs.Leb.{fits_i64}
+use Rattle.dw_model.specs.Leb.{groups, fits_i64}
+use Rattle.dw_model.specs.Results.{◌>>=◌}
 use Rattle.dw_bytes.specs.declared.leb.Leb.{Leb}
 use Rattle.dw_bytes.specs.declared.leb.Leb.TheVariants.{End, Wide}
 
 -- a number that fits 64 bits
 abbrev pub fits_u64 : ℕ → Option ℕ
 fits_u64 n = if nat_lt n (2 ^ 64) then Some n else None
+
+-- the unsigned number at the front of bytes, where it fits 64 bits, and how many of them it takes
+abbrev pub front_uleb : List ℕ → Result (ℕ × ℕ) model.Fault
+front_uleb bytes = do
+  n ← ok_or (position (λ b. nat_lt b 128) bytes) model.ends_early
+  number ← ok_or (fits_u64 (groups (take (n + 1) bytes))) model.too_wide
+  Ok (number, n + 1)
 
 -- the fault that an error reports
 abbrev pub leb_fault : Leb → Option model.Fault

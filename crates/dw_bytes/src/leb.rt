@@ -2,7 +2,8 @@
 
 ghost use Rattle.std.specs.Prelude.{◌≡◌, ◌<◌, ◌∷◌, [], Some, position, nat_lt};
 ghost use Rattle.dw_model.specs.Leb.{groups, signed_groups, is_negative};
-ghost use Rattle.dw_bytes.specs.Leb.{fits_u64, fits_u63, fits_signed, complements};
+ghost use Rattle.dw_model.specs.Answers.{Gives};
+ghost use Rattle.dw_bytes.specs.Leb.{fits_u64, fits_u63, fits_signed, complements, front_uleb, leb_fault};
 
 /// Why a LEB128 number can't be read.
 #[derive(Clone, Copy, Debug, PartialEq, Eq)]
@@ -37,24 +38,8 @@ pub(crate) fn last_byte(bytes: &[u8]) -> Option<usize>
     later_last_byte(bytes)
 }
 
-/// The number of these groups, where it fits 64 bits.
-#[inline(always)]
-pub(crate) fn unsigned(bytes: &[u8]) -> Option<u64>
-    ensures { result ≡ fits_u64 (groups bytes.now) }
-{
-    // Most numbers have one byte or two.
-    if bytes.len() == 1 {
-        return Some((bytes[0] % 128) as u64);
-    }
-    if bytes.len() == 2 {
-        return Some((bytes[0] % 128) as u64 + 128 * (bytes[1] % 128) as u64);
-    }
-    long_unsigned(bytes)
-}
-
-/// The same of any groups.
-#[inline(never)]
-fn long_unsigned(bytes: &[u8]) -> Option<u64>
+/// The unsigned number of these groups, where it fits 64 bits.
+fn unsigned(bytes: &[u8]) -> Option<u64>
     ensures { result ≡ fits_u64 (groups bytes.now) }
 {
     let mut value: u64 = 0;
@@ -66,6 +51,53 @@ fn long_unsigned(bytes: &[u8]) -> Option<u64>
         value = value * 128 + (byte % 128) as u64;
     }
     Some(value)
+}
+
+/// What `front_uleb` returns, of a number of any length.
+#[inline(never)]
+fn any_uleb(bytes: &[u8]) -> Result<(u64, usize), Leb>
+    ensures { Gives (λ x. x) leb_fault result (front_uleb bytes.now) }
+{
+    let last = last_byte(bytes).ok_or(Leb::End)?;
+    let (front, _) = bytes.split_at(last + 1);
+    let value = unsigned(front).ok_or(Leb::Wide)?;
+    Ok((value, last + 1))
+}
+
+/// The same of a number that has more than one byte. It isn't inlined, so that the reads of short
+/// ones stay small.
+#[inline(never)]
+fn long_uleb(bytes: &[u8]) -> Result<(u64, usize), Leb>
+    ensures { Gives (λ x. x) leb_fault result (front_uleb bytes.now) }
+{
+    // Most of them have four bytes at most.
+    if bytes.len() < 4 || bytes[0] < 128 {
+        return any_uleb(bytes);
+    }
+    let two = (bytes[0] % 128) as u64 + 128 * (bytes[1] % 128) as u64;
+    if bytes[1] < 128 {
+        return Ok((two, 2));
+    }
+    let three = two + 16384 * (bytes[2] % 128) as u64;
+    if bytes[2] < 128 {
+        return Ok((three, 3));
+    }
+    if bytes[3] < 128 {
+        return Ok((three + 2097152 * bytes[3] as u64, 4));
+    }
+    any_uleb(bytes)
+}
+
+/// The unsigned number at the front of bytes, and how many of them it takes.
+#[inline(always)]
+pub(crate) fn front_uleb(bytes: &[u8]) -> Result<(u64, usize), Leb>
+    ensures { Gives (λ x. x) leb_fault result (front_uleb bytes.now) }
+{
+    // Most numbers have one byte.
+    if bytes.is_empty() || bytes[0] >= 128 {
+        return long_uleb(bytes);
+    }
+    Ok((bytes[0] as u64, 1))
 }
 
 /// The number of the groups' complements, where it fits 63 bits: one less than how far a negative
@@ -143,7 +175,7 @@ fn long_signed(bytes: &[u8]) -> Option<i64>
         let below = below_zero(bytes)?;
         return Some(-1 - below as i64);
     }
-    let value = long_unsigned(bytes)?;
+    let value = unsigned(bytes)?;
     if value > i64::MAX as u64 {
         return None;
     }

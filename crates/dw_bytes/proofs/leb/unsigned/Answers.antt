@@ -1,6 +1,6 @@
 use Rattle.std.proofs.Common.{arith}
 use Rattle.dw_bytes.proofs.GroupLemmas.{unsigned_large}
-use Rattle.dw_bytes.proofs.leb.long_unsigned.Goals as goal
+use Rattle.dw_bytes.proofs.leb.unsigned.Goals as goal
 
 pub returns-then-value : goal.returns-then-value
 returns-then-value c =
