@@ -96,6 +96,14 @@ def functions_of_tails_in_turn(size):
     return one_unit(function, entries, rnglists=lists * 2)
 
 
+def inlined_of_tails(size):
+    """Functions inlined in one, whose lists are the tails of one list, the shortest first."""
+    count = size // 14
+    functions = declaration(2, SUBPROGRAM, 1, COVERING) + declaration(3, INLINED, 0, [(RANGES, SEC_OFFSET)])
+    entries = b''.join(b'\x03' + number(9 * (count - 1 - i), 4) for i in range(count))
+    return one_unit(functions, b'\x02' + covered() + entries, rnglists=long_list(count))
+
+
 def callers_of_one_list(size):
     """Functions of two bytes, in each of which one of two bytes was inlined that names one list."""
     count = size // 14
@@ -288,17 +296,17 @@ def span_over_units_of_tails(size):
     return units_of_tails(size)
 
 
-def units_of_tails_with_two_bases(size):
-    """The same, with two bases in turn, from which the list has other ranges."""
+def units_of_tails_with_bases(size):
+    """The same, but each unit has a base of its own, from which the list has other ranges."""
     count = size // 43
     first = declaration(1, COMPILE_UNIT, 0, [(RANGES, SEC_OFFSET), (LOW_PC, ADDR)])
-    units = b''.join(unit(b'\x01' + number(9 * (count - 1 - i), 4) + number(8 * (i % 2), 8)) for i in range(count))
+    units = b''.join(unit(b'\x01' + number(9 * (count - 1 - i), 4) + number(16 * i, 8)) for i in range(count))
     return file_of(units, first + b'\0', rnglists=long_list(count))
 
 
-def span_over_units_of_tails_with_two_bases(size):
+def span_over_units_of_tails_with_bases(size):
     """The same file, of which the span of all addresses is asked."""
-    return units_of_tails_with_two_bases(size)
+    return units_of_tails_with_bases(size)
 
 
 def units_of_tables(offsets):
@@ -395,12 +403,10 @@ def span_over_no_rows_between_holes(size):
 KINDS = {
     'tables_in_one_another': LINEAR, 'falling_tables_in_one_another': LINEAR, 'functions_of_one_list': LINEAR,
     'inlined_of_one_list': LINEAR, 'functions_of_tails': LINEAR, 'functions_of_long_tails': LINEAR,
-    'functions_of_tails_in_turn': SQUARE,
-    'callers_of_one_list': LINEAR,
+    'functions_of_tails_in_turn': SQUARE, 'inlined_of_tails': LINEAR, 'callers_of_one_list': LINEAR,
     'units_with_functions_of_one_list': LINEAR, 'units_of_one_list': LINEAR, 'units_with_bases_of_one_list': LINEAR,
     'span_over_units_with_bases': LINEAR, 'span_over_all_units_with_bases': BORDERS, 'units_of_tails': LINEAR,
-    'span_over_units_of_tails': LINEAR, 'units_of_tails_with_two_bases': SQUARE,
-    'span_over_units_of_tails_with_two_bases': SQUARE,
+    'span_over_units_of_tails': LINEAR, 'units_of_tails_with_bases': SQUARE, 'span_over_units_of_tails_with_bases': SQUARE,
     'units_of_one_line_table': LINEAR, 'tables_of_one_list': LINEAR, 'tables_of_one_program_of_sequences': LINEAR,
     'tables_of_one_program': SQUARE, 'span_over_tables_of_one_program': SQUARE, 'units_that_take_turns': LINEAR,
     'units_with_tables_that_take_turns': LINEAR, 'many_units_that_take_turns': BORDERS,
@@ -427,7 +433,7 @@ def asked(kind, size):
     spans = {
         'span_over_units_with_bases': (begin + 5, begin + 45), 'span_over_all_units_with_bases': (0, begin),
         'span_over_units_of_tails': (0, 16 * (size // 35)),
-        'span_over_units_of_tails_with_two_bases': (0, 16 * (size // 43)),
+        'span_over_units_of_tails_with_bases': (0, 32 * (size // 43)),
         'span_over_tables_of_one_program': (BEGIN, BEGIN + 16 * (size // 128)),
         'units_that_take_turns': (BEGIN, BEGIN + size), 'units_with_tables_that_take_turns': (BEGIN, BEGIN + size),
         'many_units_that_take_turns': (BEGIN, BEGIN + 16 * (size // 180) * (size // 36)),

@@ -170,17 +170,17 @@ module _ (drafts new : Drafts) (entry : Entry) (list : RangeList) where
     ];
   }
 
-  pub was-kept : (reading : Reading) (tail : Option RangeList) (front : List Range) → Knows reading drafts → ReadsNew reading.of.sections.tables reading.owned list (Ok tail) front → ((other : RangeList) → tail ≡ Some other → place ≡ 0) → (tail ≡ None → (length front == 0) ≡ false) → WasAdded entry front (Some list) drafts new → IsKept
-  was-kept reading None front knows e first some added =
+  pub was-kept : (reading : Reading) (tail : Option RangeList) (front : List Range) → Knows reading drafts → ReadsNew reading.of.sections.tables reading.owned (list, place) (Ok tail) front → (tail ≡ None → (length front == 0) ≡ false) → WasAdded entry front (Some list) drafts new → IsKept
+  was-kept reading None front knows e some added =
       read-kept front [] (rw (knows.of, append-nil front) e) (λ a held. absurd cc) (rw (append-nil front) (some refl)) added
-  was-kept reading (Some other) front knows told first some added =
-      let has = knows.owned (other, 0) told.0 in
+  was-kept reading (Some other) front knows told some added =
+      let has = knows.owned (other, place) told.0 in
       let of : reading.of.sections.tables ≡ drafts.of.sections.tables = ap (λ (of : UnitIn). of.sections.tables) (sym knows.of) in
-      read-kept front has.0.0 ((rw of at told.1) ∙ ap (onto_front front) has.0.1) (rw (first other refl) has.1) (some-behind front has.0.0 has.0.2) added
+      read-kept front has.0.0 ((rw of at told.1) ∙ ap (onto_front front) has.0.1) has.1 (some-behind front has.0.0 has.0.2) added
 
-pub none-read : (tables : Tables) (read : List (RangeList × ℕ)) (list : RangeList) (tail : Option RangeList) (ranges : List Range) → tail ≡ None → ranges ≡ [] → ReadsNew tables read list (Ok tail) ranges → ranges_of_list tables list ≡ Ok []
-none-read tables read list None ranges e none told = told ∙ ap (λ (ranges : List Range). Ok ranges) none
-none-read tables read list (Some other) ranges e none told = absurd cc
+pub none-read : (tables : Tables) (read : List (RangeList × ℕ)) (list : RangeList) (group : ℕ) (tail : Option RangeList) (ranges : List Range) → tail ≡ None → ranges ≡ [] → ReadsNew tables read (list, group) (Ok tail) ranges → ranges_of_list tables list ≡ Ok []
+none-read tables read list group None ranges e none told = told ∙ ap (λ (ranges : List Range). Ok ranges) none
+none-read tables read list group (Some other) ranges e none told = absurd cc
 
 -- ---- tails that are noted
 
@@ -192,13 +192,13 @@ end-owned drafts list other k ends h =
 
 -- where the tails of a list are noted
 pub knows-tails : (reading other : Reading) (drafts : Drafts) (list : RangeList) (group : ℕ) (of : UnitIn) (begins : List ℕ) → other.of ≡ reading.of → reading.of ≡ of → reading.begins ≡ begins → IsOwned drafts list group
-    → ((begin : ℕ) → Has begins begin → (group ≡ 0) × EndsAs of.sections.tables list (tail_at list begin))
-    → ((known : RangeList × ℕ) → Has other.owned known → ((begin : ℕ) × Has reading.begins begin × (known ≡ (tail_at list begin, 0))) ⊎ Has reading.owned known)
+    → ((begin : ℕ) → Has begins begin → EndsAs of.sections.tables list (tail_at list begin))
+    → ((known : RangeList × ℕ) → Has other.owned known → ((begin : ℕ) × Has reading.begins begin × (known ≡ (tail_at list begin, group))) ⊎ Has reading.owned known)
     → Knows reading drafts → Knows other drafts
 knows-tails reading other drafts list group of begins same is begin_at owns ends noted h =
     knows-noted reading other drafts same (λ known has. elim (noted known has) [
       | inl new ↦ (
           let end = ends new.0 (rw begin_at at new.1) in
-          inl (rw (new.2) (end-owned drafts list (tail_at list new.0) 0 (rw (h.of, is) (end.1)) (rw (end.0) at owns))))
+          inl (rw (new.2) (end-owned drafts list (tail_at list new.0) group (rw (h.of, is) end) owns)))
       | inr old ↦ inr old
     ]) h

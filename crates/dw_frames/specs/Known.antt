@@ -31,15 +31,14 @@ IsOwned drafts list group =
 abbrev pub IsListed : UnitIn → Entry → RangeList → Type 0
 IsListed of entry list = entry_ranges_in of.sections of.unit entry ≡ ranges_of_list of.sections.tables list
 
--- A list was read for a function in a group, up to where it goes on as one that is owned.
+-- A list was read for a function in a group, up to where it goes on as one that is owned there.
 pub record ReadsList (list : RangeList) (group : ℕ) (old : Reading) (result : Result (Option RangeList) RangeFault)
     (new : Reading) : Type 0 where
   pub of : new.of ≡ old.of
   pub owned : new.owned ≡ old.owned
-  pub ranges : ReadsNew old.of.sections.tables old.owned list result new.ranges
-  pub first : (tail : RangeList) → result ≡ Ok (Some tail) → group ≡ 0
+  pub ranges : ReadsNew old.of.sections.tables old.owned (list, group) result new.ranges
   pub begins : OnOk result ((begin : ℕ) → Has new.begins begin
-      → (group ≡ 0) × EndsAs old.of.sections.tables list (tail_at list begin))
+      → EndsAs old.of.sections.tables list (tail_at list begin))
 
 -- The unit is the same, and of lists it is known in which groups earlier functions own each address
 -- of theirs.

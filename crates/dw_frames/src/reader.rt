@@ -139,17 +139,17 @@ impl<'b, 'a> Reader<'b, 'a> {
     }
 
     /// Notes the places where lists begin that end as the list that was read last.
-    fn note_tails(&mut self, list: RangeList) -> Result<(), AllocError>
+    fn note_tails(&mut self, list: RangeList, group: usize) -> Result<(), AllocError>
         ensures of { self.new.of ≡ self.old.of }
         ensures owned { OnOk result ((known : _) → Has self.new.owned known
-            → ((begin : ℕ) × Has self.old.begins begin × (known ≡ (tail_at list begin, 0)))
+            → ((begin : ℕ) × Has self.old.begins begin × (known ≡ (tail_at list begin, group)))
             ⊎ Has self.old.owned known) }
     {
         if self.left > 0 || self.begins.is_empty() {
             return Ok(());
         }
         let size = self.unit.units().tables().rnglists.len();
-        self.owned.note_tails(list, &self.begins, size)?;
+        self.owned.note_tails(list, group, &self.begins, size)?;
         Ok(())
     }
 
@@ -183,18 +183,19 @@ impl<'b, 'a> Reader<'b, 'a> {
         self.make_index(list)
     }
 
-    /// Reads the ranges of a list: for a subprogram, once lists are noted, up to where the list
-    /// goes on as one that was read for an earlier one, which owns the addresses from there on.
+    /// Reads the ranges of a list: once lists are noted, up to where the list goes on as one that
+    /// was read for an earlier function of the group, which owns the addresses from there on.
     fn read(&mut self, list: RangeList, group: usize) -> Result<Option<RangeList>, RangeFault>
         ensures { ReadsList list group self.old result self.new }
     {
         let unit = self.unit;
         let tables = unit.units().tables();
-        if group == OUTERMOST && self.left == 0 {
+        if self.left == 0 {
             return read_new(
                 &mut self.ranges,
                 &mut self.begins,
                 list,
+                group,
                 tables,
                 &self.owned,
             );
@@ -273,7 +274,7 @@ impl<'b, 'a> Reader<'b, 'a> {
         }
         drafts.add(entry, &self.ranges, Some(list), &mut self.indexes)?;
         self.note_owned(list, group)?;
-        self.note_tails(list)?;
+        self.note_tails(list, group)?;
         Ok(())
     }
 

@@ -59,6 +59,13 @@ fn gather(alloc: Global, pairs: &[(Range, usize)]) -> Result<Vec<Segment>, Alloc
     merge(alloc, &first, &second)
 }
 
+/// Who owns some addresses, if one does, and where they end.
+#[derive(Clone, Copy, Debug)]
+pub struct Found {
+    pub owner: Option<usize>,
+    pub until: u64,
+}
+
 /// An index of ranges and their owners. Contracts see it as segments of addresses, each with the
 /// owner that `owner_at` finds.
 #[derive(Debug, Drop)]
@@ -116,6 +123,18 @@ impl Index {
         ensures steady { IsSteady (owner_at self.now) a result }
     {
         next_border(&self.segments, self.passed(a))
+    }
+
+    /// What `find` and `steady` return, by one search.
+    pub fn find_from(&self, a: u64) -> Found
+        requires above { a < last_address }
+        ensures owner { result.owner ≡ owner_at self.now a }
+        ensures steady { IsSteady (owner_at self.now) a result.until }
+    {
+        let passed = self.passed(a);
+        let owner = owner_of(&self.segments, passed);
+        let until = next_border(&self.segments, passed);
+        Found { owner, until }
     }
 
     /// How many segments don't begin above an address.

@@ -9,6 +9,6 @@ mod run;
 mod search;
 mod segment;
 
-pub use index::Index;
+pub use index::{Found, Index};
 pub use laws::law_of_least_owner;
 pub use range::Range;

@@ -242,9 +242,10 @@ impl<'a> Lines<'a> {
         ensures owner { IsOwner self.now.rows result.number a result.until }
         ensures border { OwnerEnds self.now.rows result.number result.until }
     {
+        let found = self.index.find_from(a);
         Owner {
-            number: self.index.find(a),
-            until: self.index.steady(a),
+            number: found.owner,
+            until: found.until,
         }
     }
 

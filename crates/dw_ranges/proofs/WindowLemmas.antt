@@ -1,19 +1,20 @@
 -- Ranges of which those are kept that matter in a window of addresses.
-use Rattle.std.proofs.Common.{◌≡◌, ℕ, ◌<◌, ◌≤◌, true, List, [], ◌∷◌, ◌++◌, map, Some, append_assoc, take, length, get_or, ◌+◌, sym, ap, subst, ◌∙◌, arith}
+use Rattle.std.proofs.Common.{◌≡◌, ℕ, ◌<◌, ◌≤◌, Bool, true, false, List, [], ◌∷◌, ◌++◌, map, Option, Some, None, append_assoc, take, length, get_or, ◌+◌, refl, sym, ap, subst, ◌∙◌, arith}
+use Rattle.std.specs.Prelude.{IfSome, MatchOption, max, min, if◌then◌else◌}
 use Rattle.std.proofs.lemmas.Bool.Decides.{nat_tests}
 use Rattle.std.proofs.lemmas.List.{append-nil, map-append, take_all, take_more}
 use Rattle.std.proofs.lemmas.List.Folds.{list_any-append}
-use Rattle.dw_model.specs.Ranges.{Range, covers}
+use Rattle.dw_model.specs.Ranges.{Range, covers, holds}
 use Rattle.dw_index.specs.declared.range.Range.{Range as CodeRange}
 use Rattle.dw_index.specs.declared.segment.Segment.{Segment}
-use Rattle.dw_index.specs.Owners.{least_owner}
+use Rattle.dw_index.specs.Owners.{least, least_owner}
 use Rattle.dw_index.specs.Range.{range_shown}
 use Rattle.dw_index.specs.Segments.{owner_at}
 use Rattle.dw_index.proofs.LawLemmas.{of_list}
 use Rattle.dw_index.proofs.OwnerLemmas.{least_owner-append, least-none}
 use Rattle.dw_ranges.specs.declared.window.draft.Draft.{Draft}
 use Rattle.dw_ranges.specs.Owned.{owned}
-use Rattle.dw_ranges.specs.Window.{ArePieces, HasOwners, PiecesTo}
+use Rattle.dw_ranges.specs.Window.{AreKnown, ArePieces, HasOwners, HaveNoGreater, PiecesTo}
 
 -- ---- pieces of an index
 
@@ -28,8 +29,16 @@ module _ (segments : List Segment) (from at next : ℕ) (pieces : List (CodeRang
 
 -- ---- ranges that are added
 
+-- an owner that is no less than one that has a lesser before it changes nothing
+pub later-owner : (x : Option ℕ) (first owner : ℕ) → least x (Some first) ≡ x → first ≤ owner → least x (Some owner) ≡ x
+later-owner None first owner e h = absurd cc
+later-owner (Some x) first owner e h = grind arith
+
+pub still-lesser : (x y : Option ℕ) (owner : ℕ) → least x (Some owner) ≡ x → least (least x y) (Some owner) ≡ least x y
+still-lesser x y owner e = grind arith
+
 -- one range more
-pub ruleset push_steps = (nat_tests, map-append, least_owner-append, least-none)
+pub ruleset push_steps = (nat_tests, map-append, least_owner-append, least-none, later-owner, still-lesser)
 
 abbrev one_of : CodeRange → ℕ → Range × ℕ
 one_of range owner = (range_shown range, owner)
@@ -41,6 +50,37 @@ shown ranges owner = owned (map range_shown ranges) owner
 abbrev pub Added : (ranges : List CodeRange) (owner k : ℕ) (old new : Draft) → Type 0
 Added ranges owner k old new =
     (all : List (Range × ℕ)) (from : ℕ) → HasOwners all from old → HasOwners (all ++ shown (take k ranges) owner) from new
+
+-- a range whose addresses have known owners that come first
+module _ (draft : Draft) (all : List (Range × ℕ)) (from : ℕ) (range : CodeRange) (owner : ℕ) (has : HasOwners all from draft) where
+  module _ (index : List Segment) (known : (a : ℕ) → max range.begin draft.from ≤ a → a < min range.end draft.until → (first : ℕ) × (owner_at index a ≡ Some first) × (first ≤ owner)) (lesser : HaveNoGreater all from draft.until index) where
+    owned-before : (a : ℕ) → from ≤ a → a < draft.until → (held : Bool) → holds a (range_shown range) ≡ held → least (least_owner all a) (if held then Some owner else None) ≡ least_owner all a
+    owned-before a low high false e = least-none (least_owner all a)
+    owned-before a low high true e =
+        let begin = has.begin in
+        let within : (range.begin ≤ a) × (a < range.end) = grind (arith, nat_tests) in
+        let first = known a (omega (arith, within.0, begin, low)) (omega (arith, within.1, high)) in
+        later-owner (least_owner all a) first.0 owner (lesser a first.0 low high (first.1)) (first.2)
+
+  pub known_added : AreKnown draft (max range.begin draft.from) (min range.end draft.until) owner → HasOwners (all ++ one_of range owner ∷ []) from draft
+  unfolding least_owner
+  known_added are = record {
+    begin = has.begin;
+    some = has.some;
+    owners = λ a low high. has.owners a low high ∙ sym (same draft.known are has.known a low high);
+    known = still draft.known has.known;
+  }
+    where
+      added : (a : ℕ) → least_owner (all ++ one_of range owner ∷ []) a ≡ least (least_owner all a) (if holds a (range_shown range) then Some owner else None)
+      added a = grind (arith, least_owner-append, least-none)
+
+      same : (known : Option (List Segment)) → MatchOption known ⊥ (λ index. (a : ℕ) → max range.begin draft.from ≤ a → a < min range.end draft.until → (first : ℕ) × (owner_at index a ≡ Some first) × (first ≤ owner)) → IfSome known (HaveNoGreater all from draft.until) → (a : ℕ) → from ≤ a → a < draft.until → least_owner (all ++ one_of range owner ∷ []) a ≡ least_owner all a
+      same None are lesser a low high = absurd are
+      same (Some index) are lesser a low high = added a ∙ owned-before index are lesser a low high (holds a (range_shown range)) refl
+
+      still : (known : Option (List Segment)) → IfSome known (HaveNoGreater all from draft.until) → IfSome known (HaveNoGreater (all ++ one_of range owner ∷ []) from draft.until)
+      still None lesser = tt
+      still (Some index) lesser = λ a first low high e. rw (added a) (still-lesser (least_owner all a) _ first (lesser a first low high e))
 
 -- what is read where there is no range
 abbrev pub no_range : CodeRange
@@ -68,7 +108,19 @@ module _ (ranges : List Range) (owner at next : ℕ) (old draft : Draft) (on : a
   }
 
 pub pieces-all : (ranges : List Range) (owner at : ℕ) (old draft : Draft) → draft.until ≤ at → PiecesTo ranges owner at old draft → (all : List (Range × ℕ)) (from : ℕ) → HasOwners all from old → HasOwners (all ++ owned ranges owner) from draft
-pieces-all ranges owner at old draft past to all from has = grind (arith, (to.added all from has), least_owner-append, of_list)
+pieces-all ranges owner at old draft past to all from has =
+    let added = to.added all from has in
+    let same : (a : ℕ) → from ≤ a → a < draft.until → least_owner (all ++ owned to.pieces owner) a ≡ least_owner (all ++ owned ranges owner) a = λ a low high. grind (arith, least_owner-append, of_list) in
+    record {
+      begin = added.begin;
+      some = added.some;
+      owners = λ a low high. added.owners a low high ∙ same a low high;
+      known = no_greater draft.known added.known same;
+    }
+  where
+    no_greater : (known : Option (List Segment)) → IfSome known (HaveNoGreater (all ++ owned to.pieces owner) from draft.until) → ((a : ℕ) → from ≤ a → a < draft.until → least_owner (all ++ owned to.pieces owner) a ≡ least_owner (all ++ owned ranges owner) a) → IfSome known (HaveNoGreater (all ++ owned ranges owner) from draft.until)
+    no_greater None lesser same = tt
+    no_greater (Some index) lesser same = λ a first low high e. rw (← same a low high) (lesser a first low high e)
 
 -- ---- lists that are held
 

@@ -24,11 +24,11 @@ pub record EndsAs (tables : Tables) (list other : RangeList) : Type 0 where
   pub same : ranges_of_list tables list ≡ onto_front front (ranges_of_list tables other)
   pub some : (ranges : List Range) → ranges_of_list tables other ≡ Ok ranges → (length ranges == 0) ≡ false
 
--- The ranges are those of the list, or those before it goes on as one that was read.
-abbrev pub ReadsNew : Tables → List (RangeList × ℕ) → RangeList
+-- The ranges are those of the list, or those before it goes on as one that was read for the owner.
+abbrev pub ReadsNew : Tables → List (RangeList × ℕ) → RangeList × ℕ
     → Result (Option RangeList) RangeFault → List Range → Type 0
-ReadsNew tables read list (Ok None) ranges = ranges_of_list tables list ≡ Ok ranges
-ReadsNew tables read list (Ok (Some other)) ranges =
-    Has read (other, 0) × (ranges_of_list tables list ≡ onto_front ranges (ranges_of_list tables other))
-ReadsNew tables read list (Err fault) ranges =
+ReadsNew tables read (list, owner) (Ok None) ranges = ranges_of_list tables list ≡ Ok ranges
+ReadsNew tables read (list, owner) (Ok (Some other)) ranges =
+    Has read (other, owner) × (ranges_of_list tables list ≡ onto_front ranges (ranges_of_list tables other))
+ReadsNew tables read (list, owner) (Err fault) ranges =
     MatchOption (range_fault fault) (Unit {0}) (λ told. ranges_of_list tables list ≡ Err told)

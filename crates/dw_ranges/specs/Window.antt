@@ -1,10 +1,10 @@
 -- Owners whose lists are held by name, at the addresses of a window.
-use Rattle.std.specs.Prelude.{◌≡◌, ◌≤◌, ◌<◌, ℕ, false, List, ◌++◌, None, map}
+use Rattle.std.specs.Prelude.{◌≡◌, ◌≤◌, ◌<◌, ℕ, false, List, ◌++◌, Some, None, map, IfSome, MatchOption}
 use Rattle.dw_model.specs.Ranges.{Range, covers}
 use Rattle.dw_model.specs.Text.{Tables}
 use Rattle.dw_index.specs.declared.range.Range.{Range as CodeRange}
 use Rattle.dw_index.specs.declared.segment.Segment.{Segment}
-use Rattle.dw_index.specs.Owners.{least_owner}
+use Rattle.dw_index.specs.Owners.{least, least_owner}
 use Rattle.dw_index.specs.Range.{pair_shown}
 use Rattle.dw_index.specs.Segments.{owner_at}
 use Rattle.dw_ranges.specs.declared.held.HeldList.{HeldList}
@@ -23,6 +23,13 @@ abbrev pub IsWindow : Tables → List (Grouped HeldList) → Window → Type 0
 IsWindow tables held window =
     (a : ℕ) → HasAddress window a → owner_at window.index a ≡ owner_in (held_claims tables held) 0 a
 
+-- from one address on and below another, where an index finds an owner, the least owner of some ranges
+-- is no greater
+abbrev pub HaveNoGreater : List (Range × ℕ) → (from until : ℕ) → List Segment → Type 0
+HaveNoGreater all from until index =
+    (a owner : ℕ) → from ≤ a → a < until → owner_at index a ≡ Some owner
+    → least (least_owner all a) (Some owner) ≡ least_owner all a
+
 -- Of all ranges, as many matter as the draft has at each address of its window, which begins at an
 -- address and has it.
 pub record HasOwners (all : List (Range × ℕ)) (from : ℕ) (draft : Draft) : Type 0 where
@@ -30,6 +37,13 @@ pub record HasOwners (all : List (Range × ℕ)) (from : ℕ) (draft : Draft) : 
   pub some : from < draft.until
   pub owners : (a : ℕ) → from ≤ a → a < draft.until
       → least_owner (map pair_shown draft.pairs.items) a ≡ least_owner all a
+  pub known : IfSome draft.known (HaveNoGreater all from draft.until)
+
+-- the addresses from one on and below another are known to have an owner, no greater than this
+abbrev pub AreKnown : Draft → (begin end owner : ℕ) → Type 0
+AreKnown draft begin end owner =
+    MatchOption draft.known ⊥ (λ index. (a : ℕ) → begin ≤ a → a < end
+    → (first : ℕ) × (owner_at index a ≡ Some first) × (first ≤ owner))
 
 -- The pieces have the owners of the segments, from one address on and below another, and no others.
 pub record ArePieces (segments : List Segment) (from end : ℕ) (pieces : List (CodeRange × ℕ)) : Type 0 where

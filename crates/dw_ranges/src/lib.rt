@@ -22,13 +22,13 @@ mod step;
 mod window;
 
 pub use claims::Claims;
-pub use dw_index::{Index, Range, law_of_least_owner};
+pub use dw_index::{Found, Index, Range, law_of_least_owner};
 pub use fault::RangeFault;
 pub use held::{HeldList, Listed};
 pub use list_index::ListIndex;
 pub use list_indexes::ListIndexes;
 pub use new_ranges::read_new;
-pub use owners::{Found, Owners};
+pub use owners::Owners;
 pub use range_list::{RangeList, list_of, read_list};
 pub use ranges::{ranges_of, read_ranges};
 pub use read_lists::ReadLists;

@@ -1,10 +1,9 @@
 //! The ranges of a list up to where it goes on as one that was read.
 
-ghost use Rattle.std.specs.Prelude.{◌≡◌, ◌⊎◌, ℕ, Ok, OnOk, IsSome, map};
+ghost use Rattle.std.specs.Prelude.{◌≡◌, ◌⊎◌, ℕ, OnOk, IsSome, map};
 ghost use Rattle.dw_forms.specs.Tables.{tables_shown};
 ghost use Rattle.dw_index.specs.Range.{range_shown};
 ghost use Rattle.dw_ranges.specs.ReadLists.{Has};
-ghost use Rattle.dw_ranges.specs.Step.{place_at};
 ghost use Rattle.dw_ranges.specs.Tails.{EndsAs, ReadsNew, tail_at};
 
 use crate::fault::RangeFault;
@@ -12,7 +11,6 @@ use crate::list::{place_at, push_some};
 use crate::next_outcome::next_outcome;
 use crate::range_list::{RangeList, only_addr};
 use crate::read_lists::{ReadLists, is_same_base};
-use dw_bytes::Cursor;
 use dw_forms::Tables;
 use dw_index::Range;
 use std::alloc::AllocError;
@@ -38,25 +36,30 @@ fn push_begin(
     Ok(())
 }
 
-/// Reads the ranges of a list, which begins at the cursor, up to where it goes on as one that was
-/// read, and the places where lists begin that have ranges and end as this one.
+/// Reads the ranges of a list that count into `ranges`, reusing its memory, up to where the list
+/// goes on as one that was read for the owner, and returns that one; `None` where it comes to its
+/// end. Reads into `begins`, as offsets of .debug_rnglists, where lists begin that have ranges and
+/// end as this one. After an error any may be in either.
+///
+/// The error is `Bad` by the conditions of `read_list`, or `Memory`.
 #[tactic(auto, using(crate::proofs::ListLemmas::entry_steps))]
-fn new_from(
+pub fn read_new(
     ranges: &mut Vec<Range>,
     begins: &mut Vec<u64>,
     list: RangeList,
+    owner: usize,
     tables: &Tables<'_>,
     read: &ReadLists,
-    cursor: &mut Cursor<'_>,
 ) -> Result<Option<RangeList>, RangeFault>
-    requires { place_at (tables_shown tables.now).rnglists list.begin ≡ Ok cursor.old }
-    ensures ranges { ReadsNew (tables_shown tables.now) read.now list result (map range_shown ranges.new.items) }
+    ensures ranges { ReadsNew (tables_shown tables.now) read.now (list, owner) result
+        (map range_shown ranges.new.items) }
     ensures begins { OnOk result ((begin : ℕ) → Has begins.new.items begin
         → EndsAs (tables_shown tables.now) list (tail_at list begin)) }
 {
     ranges.clear();
     begins.clear();
     let bases = only_addr(list.addr);
+    let mut cursor = place_at(tables.rnglists, list.begin)?;
     let mut base = list.base;
     loop {
         let tail = RangeList {
@@ -64,35 +67,14 @@ fn new_from(
             base,
             addr: list.addr,
         };
-        if read.has_tail(tail) {
+        if read.has_tail(tail, owner) {
             return Ok(Some(tail));
         }
-        let Some(outcome) = next_outcome(cursor, tables, &bases, base)? else {
+        let Some(outcome) = next_outcome(&mut cursor, tables, &bases, base)? else {
             return Ok(None);
         };
         push_begin(begins, tail, list.base, outcome.range)?;
         push_some(ranges, outcome.range)?;
         base = outcome.base;
     }
-}
-
-/// Reads the ranges of a list that count into `ranges`, reusing its memory, up to where the list
-/// goes on as one that was read, and returns that one; `None` where it comes to its end. Reads into
-/// `begins`, as offsets of .debug_rnglists, where lists begin that have ranges and end as this one.
-/// After an error any may be in either.
-///
-/// The error is `Bad` by the conditions of `read_list`, or `Memory`.
-pub fn read_new(
-    ranges: &mut Vec<Range>,
-    begins: &mut Vec<u64>,
-    list: RangeList,
-    tables: &Tables<'_>,
-    read: &ReadLists,
-) -> Result<Option<RangeList>, RangeFault>
-    ensures ranges { ReadsNew (tables_shown tables.now) read.now list result (map range_shown ranges.new.items) }
-    ensures begins { OnOk result ((begin : ℕ) → Has begins.new.items begin
-        → EndsAs (tables_shown tables.now) list (tail_at list begin)) }
-{
-    let mut place = place_at(tables.rnglists, list.begin)?;
-    new_from(ranges, begins, list, tables, read, &mut place)
 }

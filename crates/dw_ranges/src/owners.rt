@@ -15,16 +15,9 @@ use crate::linked::Linked;
 use crate::links::Links;
 use crate::window::{Window, lesser};
 use dw_forms::Tables;
-use dw_index::Index;
+use dw_index::{Found, Index};
 use std::alloc::{AllocError, Global};
 use std::marker::Model;
-
-/// Who owns some addresses in group 0, if one does, and where they end.
-#[derive(Clone, Copy, Debug)]
-pub struct Found {
-    pub owner: Option<usize>,
-    pub until: u64,
-}
 
 /// The lesser of two owners, where there are two.
 pub(crate) fn least(first: Option<usize>, second: Option<usize>) -> Option<usize>
@@ -122,10 +115,11 @@ impl<'a> Owners<'a> {
             → owner_of (tables_shown tables.now) self.now 0 c ≡ found.owner) }
     {
         window.turn_to(alloc, &self.held, tables, a)?;
-        let until = lesser(window.index.steady(a), window.until);
+        let kept = self.index.find_from(a);
+        let held = window.index.find_from(a);
         Ok(Found {
-            owner: least(self.index.find(a), window.index.find(a)),
-            until: lesser(self.index.steady(a), until),
+            owner: least(kept.owner, held.owner),
+            until: lesser(kept.until, lesser(held.until, window.until)),
         })
     }
 

@@ -1,6 +1,6 @@
 //! Which range lists were read, each for an owner.
 
-ghost use Rattle.std.specs.Prelude.{◌≡◌, ◌⊎◌, ℕ, true, false, ◌∷◌, [], Some, OnOk, IfOk, slice_get, replicate};
+ghost use Rattle.std.specs.Prelude.{◌≡◌, ◌⊎◌, ℕ, true, ◌∷◌, [], Some, None, OnOk, IfOk, slice_get, replicate};
 ghost use Rattle.dw_ranges.specs.ReadLists.{Has};
 ghost use Rattle.dw_ranges.specs.Tails.{tail_at};
 
@@ -14,9 +14,9 @@ use std::marker::Model;
 #[derive(Debug, Drop)]
 pub struct ReadLists {
     read: BTreeMap<(RangeList, usize), (RangeList, usize)>,
-    /// Of each place of .debug_rnglists whether a list that begins there was read for the owner 0,
-    /// with this base and this place of addresses; nothing before tails are noted.
-    marks: Vec<bool>,
+    /// Of each place of .debug_rnglists for which owner a list was read last that begins there and
+    /// has this base and this place of addresses; nothing before tails are noted.
+    marks: Vec<Option<usize>>,
     base: Option<u64>,
     addr: Option<u64>,
     alloc: Global,
@@ -42,30 +42,30 @@ fn is_same(one: &(RangeList, usize), list: RangeList, owner: usize) -> bool
 }
 
 /// `size` places, of which none is marked.
-fn no_marks(alloc: Global, size: usize) -> Result<Vec<bool>, AllocError>
-    ensures { IfOk result (λ marks. marks.items ≡ replicate size false) }
+fn no_marks(alloc: Global, size: usize) -> Result<Vec<Option<usize>>, AllocError>
+    ensures { IfOk result (λ marks. marks.items ≡ replicate size None) }
 {
-    let marks = vec![in alloc; false; size]?;
+    let marks = vec![in alloc; None; size]?;
     Ok(marks)
 }
 
-/// Marks a place, where there is one.
-fn mark(marks: &mut Vec<bool>, begin: u64)
-    ensures { (k : ℕ) → slice_get marks.new.items k ≡ Some true
-        → (begin ≡ k) ⊎ (slice_get marks.old.items k ≡ Some true) }
+/// Marks a place with an owner, where there is one.
+fn mark(marks: &mut Vec<Option<usize>>, begin: u64, owner: usize)
+    ensures { (k other : ℕ) → slice_get marks.new.items k ≡ Some (Some other)
+        → ((begin ≡ k) × (owner ≡ other)) ⊎ (slice_get marks.old.items k ≡ Some (Some other)) }
 {
     if begin < marks.len() as u64 {
-        marks[begin as usize] = true;
+        marks[begin as usize] = Some(owner);
     }
 }
 
-/// Marks places.
-fn mark_all(marks: &mut Vec<bool>, begins: &[u64])
-    ensures { (k : ℕ) → slice_get marks.new.items k ≡ Some true
-        → Has begins.now k ⊎ (slice_get marks.old.items k ≡ Some true) }
+/// Marks places with an owner.
+fn mark_all(marks: &mut Vec<Option<usize>>, begins: &[u64], owner: usize)
+    ensures { (k other : ℕ) → slice_get marks.new.items k ≡ Some (Some other)
+        → (Has begins.now k × (owner ≡ other)) ⊎ (slice_get marks.old.items k ≡ Some (Some other)) }
 {
     for begin in begins {
-        mark(marks, *begin);
+        mark(marks, *begin, owner);
     }
 }
 
@@ -91,19 +91,19 @@ impl ReadLists {
         }
     }
 
-    /// Whether the list begins at a place that is marked.
+    /// Whether the list begins at a place that is marked with the owner.
     #[tactic(auto, using(crate::proofs::MarkLemmas::tail_steps))]
     #[inline(always)]
-    pub(crate) fn has_tail(&self, list: RangeList) -> bool
-        ensures { result ≡ true → Has self.now (list, 0) }
+    pub(crate) fn has_tail(&self, list: RangeList, owner: usize) -> bool
+        ensures { result ≡ true → Has self.now (list, owner) }
     {
         if list.begin >= self.marks.len() as u64 {
             return false;
         }
-        if !self.marks[list.begin as usize] {
+        let Some(other) = self.marks[list.begin as usize] else {
             return false;
-        }
-        is_same_base(self.base, list.base) && is_same_base(self.addr, list.addr)
+        };
+        other == owner && is_same_base(self.base, list.base) && is_same_base(self.addr, list.addr)
     }
 
     /// Whether the list was read for the owner.
@@ -111,7 +111,7 @@ impl ReadLists {
     pub fn has(&self, list: RangeList, owner: usize) -> bool
         ensures noted { result ≡ true → Has self.now (list, owner) }
     {
-        if owner == 0 && self.has_tail(list) {
+        if self.has_tail(list, owner) {
             return true;
         }
         let Some(read) = self.read.get(&(list, owner)) else {
@@ -143,16 +143,17 @@ impl ReadLists {
         Ok(())
     }
 
-    /// Notes that lists were read for the owner 0 that begin at these places of .debug_rnglists,
+    /// Notes that lists were read for the owner that begin at these places of .debug_rnglists,
     /// which has so many bytes, with the base and the place of addresses that a list has.
     pub fn note_tails(
         &mut self,
         list: RangeList,
+        owner: usize,
         begins: &[u64],
         size: usize,
     ) -> Result<(), AllocError>
         ensures { OnOk result ((read : _) → Has self.new read
-            → ((begin : ℕ) × Has begins.now begin × (read ≡ (tail_at list begin, 0))) ⊎ Has self.old read) }
+            → ((begin : ℕ) × Has begins.now begin × (read ≡ (tail_at list begin, owner))) ⊎ Has self.old read) }
     {
         self.begin_tails(list, size)?;
         if !is_same_base(self.base, list.base) {
@@ -161,7 +162,7 @@ impl ReadLists {
         if !is_same_base(self.addr, list.addr) {
             return Ok(());
         }
-        mark_all(&mut self.marks, begins);
+        mark_all(&mut self.marks, begins, owner);
         Ok(())
     }
 }

@@ -191,7 +191,7 @@ module _ (s : Sections) (most : ℕ) (old : ClaimsState) (read : List (RangeList
               subst (λ (ranges : List Range). Adds 0 ranges i (all_claims s.tables old) (all_claims s.tables new)) ranges_are held.2
         ]) few
 
-    pub front-on : (one : RangeList) (tail : Option RangeList) (front : List Range) → list ≡ Some one → ReadsNew s.tables read one (Ok tail) front → AddsListed s.tables 0 front i list old new → length new.kept + new.room ≤ length old.kept + old.room + 1 → Gathered s most new after (i + 1)
+    pub front-on : (one : RangeList) (tail : Option RangeList) (front : List Range) → list ≡ Some one → ReadsNew s.tables read (one, 0) (Ok tail) front → AddsListed s.tables 0 front i list old new → length new.kept + new.room ≤ length old.kept + old.room + 1 → Gathered s most new after (i + 1)
     front-on one None front is e adds few =
         front-claimed one front [] is (rw (append-nil front) e) (λ a held. absurd cc) adds few
     front-on one (Some other) front is told adds few =

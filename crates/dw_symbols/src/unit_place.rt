@@ -71,6 +71,13 @@ impl<'a> Image<'a> {
             (λ found. IfSome (slice_get (units (sections self.now).info) found.place)
             (λ unit. found.size ≡ unit.end - unit.offset))) }
     {
+        if low >= high {
+            return Ok(None);
+        }
+        // Most spans begin in a unit.
+        if let Some(unit) = self.unit_at(low) {
+            return Ok(Some(place_of(unit)));
+        }
         let mut units = self.walk(alloc)?;
         let mut at = low;
         while at < high {

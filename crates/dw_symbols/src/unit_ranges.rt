@@ -116,14 +116,14 @@ fn read_front(
     read: &ReadLists,
 ) -> Result<Option<RangeList>, OpenFault>
     requires { IsNamed (sections_of unit) (unit_of unit) (Some list) }
-    ensures ranges { IfOk result (λ tail. ReadsNew (sections_of unit.entry).tables read.now list (Ok tail)
+    ensures ranges { IfOk result (λ tail. ReadsNew (sections_of unit.entry).tables read.now (list, 0) (Ok tail)
         (map range_shown ranges.new.items)) }
     ensures begins { OnOk result ((begin : ℕ) → Has begins.new.items begin
         → EndsAs (sections_of unit.entry).tables list (tail_at list begin)) }
     ensures refused { IfErr result (λ fault. MatchOption (refusal_of fault) (Unit {0})
         (λ refusal. checked_ranges (sections_of unit.entry) (unit_of unit.entry) ≡ Err refusal)) }
 {
-    match read_new(ranges, begins, list, unit.units().tables(), read) {
+    match read_new(ranges, begins, list, UNITS, unit.units().tables(), read) {
         Ok(tail) => Ok(tail),
         Err(RangeFault::Bad) => Err(OpenFault::RootRanges(unit.unit().offset)),
         Err(RangeFault::Memory) => Err(OpenFault::Memory),
@@ -216,7 +216,7 @@ pub(crate) fn unit_ranges<'a>(alloc: Global, units: &Units<'a>) -> Result<Claims
             let tail = read_front(&mut ranges, &mut begins, unit, one, &read)?;
             add(&mut claims, &mut indexes, &ranges, one, i, tail.is_none())?;
             read.note(one, 0)?;
-            read.note_tails(one, &begins, tables.rnglists.len())?;
+            read.note_tails(one, UNITS, &begins, tables.rnglists.len())?;
             continue;
         }
         let size = read_unit(&mut ranges, unit, list)?;

@@ -7,7 +7,7 @@ ghost use Rattle.dw_index.specs.Range.{range_shown};
 ghost use Rattle.dw_ranges.specs.declared.window.draft.Draft.{Draft};
 ghost use Rattle.dw_ranges.specs.ListIndex.{listed_from};
 ghost use Rattle.dw_ranges.specs.Owned.{owned};
-ghost use Rattle.dw_ranges.specs.Window.{ArePieces, HasOwners, PiecesTo};
+ghost use Rattle.dw_ranges.specs.Window.{AreKnown, ArePieces, HasOwners, PiecesTo};
 
 use super::lesser;
 use crate::list_index::ListIndex;
@@ -22,6 +22,8 @@ pub(crate) struct Draft {
     pub(crate) from: u64,
     pub(crate) until: u64,
     pub(crate) pairs: Vec<(Range, usize)>,
+    /// The owners that were found when there were too many ranges: no address gets a greater one.
+    pub(crate) known: Option<Index>,
     /// How many pieces there are at most when there were too many ranges.
     most: usize,
     alloc: Global,
@@ -42,8 +44,9 @@ fn push_piece(
     ensures pieces { IfOk result (λ next. (from : ℕ) → ArePieces index.now from at pairs.old.items
         → ArePieces index.now from next pairs.new.items) }
 {
-    let next = lesser(index.steady(at), until);
-    let Some(owner) = index.find(at) else {
+    let found = index.find_from(at);
+    let next = lesser(found.until, until);
+    let Some(owner) = found.owner else {
         return Ok(next);
     };
     let piece = Range {
@@ -90,6 +93,7 @@ impl Draft {
             from,
             until,
             pairs: Vec::new(alloc),
+            known: None,
             most,
             alloc,
         }
@@ -106,7 +110,24 @@ impl Draft {
         let index = Index::build(self.alloc, &self.pairs)?;
         self.pairs.clear();
         self.until = push_pieces(&index, self.from, self.until, self.most, &mut self.pairs)?;
+        self.known = Some(index);
         Ok(())
+    }
+
+    /// Whether all addresses from one on and below another are known to have one owner, no greater
+    /// than this.
+    fn is_known(&self, begin: u64, end: u64, owner: usize) -> bool
+        requires { begin < end }
+        ensures { result ≡ true → AreKnown self.now begin end owner }
+    {
+        let Some(known) = &self.known else {
+            return false;
+        };
+        let found = known.find_from(begin);
+        match found.owner {
+            Some(first) => first <= owner && end <= found.until,
+            None => false,
+        }
     }
 
     /// Makes room for a range.
@@ -126,10 +147,12 @@ impl Draft {
         ensures { OnOk result ((all : List (model.Range × ℕ)) (from : ℕ) → HasOwners all from self.old
             → HasOwners (all ++ (range_shown range, owner) ∷ []) from self.new) }
     {
-        if range.end <= self.from {
+        let begin = range.begin.max(self.from);
+        let end = range.end.min(self.until);
+        if begin >= end {
             return Ok(());
         }
-        if self.until <= range.begin {
+        if self.is_known(begin, end, owner) {
             return Ok(());
         }
         self.make_room()?;

@@ -1,9 +1,10 @@
-use Rattle.std.proofs.Common.{◌≡◌, ◌∙◌, false, List, length, Option, Some, None, Result, Ok, map, ap, sym, subst}
+use Rattle.std.proofs.Common.{◌≡◌, ◌∙◌, ℕ, false, List, length, Option, Some, None, Result, Ok, map, ap, sym, subst}
 use Rattle.std.specs.Prelude.{◌==◌}
 use Rattle.dw_index.specs.Range.{range_shown}
 use Rattle.dw_model.specs.Ranges.{Range}
 use Rattle.dw_ranges.specs.declared.fault.RangeFault.{RangeFault}
 use Rattle.dw_ranges.specs.declared.range_list.RangeList.{RangeList}
+use Rattle.dw_ranges.specs.Tails.{ReadsNew}
 use Rattle.dw_frames.specs.Known.{IsOwned, WasAdded}
 use Rattle.dw_frames.specs.Reading.{Reading}
 use Rattle.dw_frames.specs.UnitIn.{UnitIn}
@@ -34,11 +35,11 @@ kept-of : (c : goal.In_ok-note_tails) → IsKept c.args.drafts.now c.add.new.sel
 kept-of c =
     let told = c.in_ok-tail.ensures in
     let view = c.self-2.view_is in
-    let ok : Option RangeList → Result (Option RangeList) RangeFault = λ tail. Ok tail in
     let shown : map range_shown c.deref.result.now ≡ c.read_noted.new.self.ranges = ap (map range_shown) c.deref.ensures.value ∙ ap (λ (reading : Reading). reading.ranges) view in
     let pushed : map range_shown c.deref-2.result.now ≡ c.read_noted.new.self.ranges = ap (map range_shown) c.deref-2.ensures.value ∙ ap (λ (reading : Reading). reading.ranges) view in
     let same = c.requires.knows.of ∙ sym told.of ∙ sym (ap (λ (reading : Reading). reading.of) view) in
-    was-kept c.args.drafts.now c.add.new.self c.args.entry.now c.args.list c.args.self.now c.in_ok-tail.tail c.read_noted.new.self.ranges c.requires.knows told.ranges (λ other e. sym c.group_of-group.ensures ∙ told.first other (ap ok e))
+    was-kept c.args.drafts.now c.add.new.self c.args.entry.now c.args.list c.args.self.now c.in_ok-tail.tail c.read_noted.new.self.ranges c.requires.knows 
+    (subst (λ (group : ℕ). ReadsNew c.args.self.now.of.sections.tables c.args.self.now.owned (c.args.list, group) (Ok c.in_ok-tail.tail) c.read_noted.new.self.ranges) c.group_of-group.ensures told.ranges)
     (subst (λ (ranges : List Range). c.in_ok-tail.tail ≡ None → (length ranges == 0) ≡ false) shown (c.has_none.ensures.some c.if-has_none.false))
     (subst (λ (ranges : List Range). WasAdded c.args.entry.now ranges (Some c.args.list) c.args.drafts.now c.add.new.self) pushed (c.in_ok-add.ensures.added (ap (λ (of : UnitIn). of.sections.tables) same ∙ sym c.self-2.invariant)))
 
