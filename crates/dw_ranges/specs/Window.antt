@@ -23,8 +23,8 @@ abbrev pub IsWindow : Tables → List (Grouped HeldList) → Window → Type 0
 IsWindow tables held window =
     (a : ℕ) → HasAddress window a → owner_at window.index a ≡ owner_in (held_claims tables held) 0 a
 
--- from one address on and below another, where an index finds an owner, the least owner of some ranges
--- is no greater
+-- from one address on and below another, where an index finds an owner, some ranges have a least
+-- owner that is no greater
 abbrev pub HaveNoGreater : List (Range × ℕ) → (from until : ℕ) → List Segment → Type 0
 HaveNoGreater all from until index =
     (a owner : ℕ) → from ≤ a → a < until → owner_at index a ≡ Some owner
