@@ -1,6 +1,6 @@
 -- Ranges of which those are kept that matter in a window of addresses.
 use Rattle.std.proofs.Common.{◌≡◌, ℕ, ◌<◌, ◌≤◌, Bool, true, false, List, [], ◌∷◌, ◌++◌, map, Option, Some, None, append_assoc, take, length, get_or, ◌+◌, refl, sym, ap, subst, ◌∙◌, arith}
-use Rattle.std.specs.Prelude.{IfSome, MatchOption, max, min, if◌then◌else◌}
+use Rattle.std.specs.Prelude.{max, min}
 use Rattle.std.proofs.lemmas.Bool.Decides.{nat_tests}
 use Rattle.std.proofs.lemmas.List.{append-nil, map-append, take_all, take_more}
 use Rattle.std.proofs.lemmas.List.Folds.{list_any-append}
@@ -52,35 +52,23 @@ Added ranges owner k old new =
     (all : List (Range × ℕ)) (from : ℕ) → HasOwners all from old → HasOwners (all ++ shown (take k ranges) owner) from new
 
 -- a range whose addresses have known owners that come first
-module _ (draft : Draft) (all : List (Range × ℕ)) (from : ℕ) (range : CodeRange) (owner : ℕ) (has : HasOwners all from draft) where
-  module _ (index : List Segment) (known : (a : ℕ) → max range.begin draft.from ≤ a → a < min range.end draft.until → (first : ℕ) × (owner_at index a ≡ Some first) × (first ≤ owner)) (lesser : HaveNoGreater all from draft.until index) where
-    owned-before : (a : ℕ) → from ≤ a → a < draft.until → (held : Bool) → holds a (range_shown range) ≡ held → least (least_owner all a) (if held then Some owner else None) ≡ least_owner all a
-    owned-before a low high false e = least-none (least_owner all a)
-    owned-before a low high true e =
+pub known_added : (draft : Draft) (all : List (Range × ℕ)) (from : ℕ) (range : CodeRange) (owner : ℕ) → AreKnown draft (max range.begin draft.from) (min range.end draft.until) owner → HasOwners all from draft → HasOwners (all ++ one_of range owner ∷ []) from draft
+unfolding least_owner
+known_added draft all from range owner are has = record {
+  begin = has.begin;
+  some = has.some;
+  owners = λ a low high. has.owners a low high ∙ sym (same a low high (holds a (range_shown range)) refl);
+  known = λ a first low high e. grind (arith, least_owner-append, least-none, still-lesser, (has.known a first low high e));
+}
+  where
+    same : (a : ℕ) → from ≤ a → a < draft.until → (held : Bool) → holds a (range_shown range) ≡ held → least_owner (all ++ one_of range owner ∷ []) a ≡ least_owner all a
+    same a low high false e = grind (arith, least_owner-append, least-none)
+    same a low high true e =
         let begin = has.begin in
         let within : (range.begin ≤ a) × (a < range.end) = grind (arith, nat_tests) in
-        let first = known a (omega (arith, within.0, begin, low)) (omega (arith, within.1, high)) in
-        later-owner (least_owner all a) first.0 owner (lesser a first.0 low high (first.1)) (first.2)
-
-  pub known_added : AreKnown draft (max range.begin draft.from) (min range.end draft.until) owner → HasOwners (all ++ one_of range owner ∷ []) from draft
-  unfolding least_owner
-  known_added are = record {
-    begin = has.begin;
-    some = has.some;
-    owners = λ a low high. has.owners a low high ∙ sym (same draft.known are has.known a low high);
-    known = still draft.known has.known;
-  }
-    where
-      added : (a : ℕ) → least_owner (all ++ one_of range owner ∷ []) a ≡ least (least_owner all a) (if holds a (range_shown range) then Some owner else None)
-      added a = grind (arith, least_owner-append, least-none)
-
-      same : (known : Option (List Segment)) → MatchOption known ⊥ (λ index. (a : ℕ) → max range.begin draft.from ≤ a → a < min range.end draft.until → (first : ℕ) × (owner_at index a ≡ Some first) × (first ≤ owner)) → IfSome known (HaveNoGreater all from draft.until) → (a : ℕ) → from ≤ a → a < draft.until → least_owner (all ++ one_of range owner ∷ []) a ≡ least_owner all a
-      same None are lesser a low high = absurd are
-      same (Some index) are lesser a low high = added a ∙ owned-before index are lesser a low high (holds a (range_shown range)) refl
-
-      still : (known : Option (List Segment)) → IfSome known (HaveNoGreater all from draft.until) → IfSome known (HaveNoGreater (all ++ one_of range owner ∷ []) from draft.until)
-      still None lesser = tt
-      still (Some index) lesser = λ a first low high e. rw (added a) (still-lesser (least_owner all a) _ first (lesser a first low high e))
+        let first = are a (omega (arith, within.0, begin, low)) (omega (arith, within.1, high)) in
+        let lesser = has.known a first.0 low high (first.1) in
+        grind (arith, least_owner-append, least-none, (later-owner (least_owner all a) first.0 owner lesser (first.2)))
 
 -- what is read where there is no range
 abbrev pub no_range : CodeRange
@@ -115,12 +103,8 @@ pieces-all ranges owner at old draft past to all from has =
       begin = added.begin;
       some = added.some;
       owners = λ a low high. added.owners a low high ∙ same a low high;
-      known = no_greater draft.known added.known same;
+      known = λ a first low high e. rw (← same a low high) (added.known a first low high e);
     }
-  where
-    no_greater : (known : Option (List Segment)) → IfSome known (HaveNoGreater (all ++ owned to.pieces owner) from draft.until) → ((a : ℕ) → from ≤ a → a < draft.until → least_owner (all ++ owned to.pieces owner) a ≡ least_owner (all ++ owned ranges owner) a) → IfSome known (HaveNoGreater (all ++ owned ranges owner) from draft.until)
-    no_greater None lesser same = tt
-    no_greater (Some index) lesser same = λ a first low high e. rw (← same a low high) (lesser a first low high e)
 
 -- ---- lists that are held
 

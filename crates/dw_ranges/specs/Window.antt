@@ -1,5 +1,5 @@
 -- Owners whose lists are held by name, at the addresses of a window.
-use Rattle.std.specs.Prelude.{◌≡◌, ◌≤◌, ◌<◌, ℕ, false, List, ◌++◌, Some, None, map, IfSome, MatchOption}
+use Rattle.std.specs.Prelude.{◌≡◌, ◌≤◌, ◌<◌, ℕ, false, List, ◌++◌, Some, None, map}
 use Rattle.dw_model.specs.Ranges.{Range, covers}
 use Rattle.dw_model.specs.Text.{Tables}
 use Rattle.dw_index.specs.declared.range.Range.{Range as CodeRange}
@@ -37,13 +37,12 @@ pub record HasOwners (all : List (Range × ℕ)) (from : ℕ) (draft : Draft) : 
   pub some : from < draft.until
   pub owners : (a : ℕ) → from ≤ a → a < draft.until
       → least_owner (map pair_shown draft.pairs.items) a ≡ least_owner all a
-  pub known : IfSome draft.known (HaveNoGreater all from draft.until)
+  pub known : HaveNoGreater all from draft.until draft.known
 
 -- the addresses from one on and below another are known to have an owner, no greater than this
 abbrev pub AreKnown : Draft → (begin end owner : ℕ) → Type 0
 AreKnown draft begin end owner =
-    MatchOption draft.known ⊥ (λ index. (a : ℕ) → begin ≤ a → a < end
-    → (first : ℕ) × (owner_at index a ≡ Some first) × (first ≤ owner))
+    (a : ℕ) → begin ≤ a → a < end → (first : ℕ) × (owner_at draft.known a ≡ Some first) × (first ≤ owner)
 
 -- The pieces have the owners of the segments, from one address on and below another, and no others.
 pub record ArePieces (segments : List Segment) (from end : ℕ) (pieces : List (CodeRange × ℕ)) : Type 0 where

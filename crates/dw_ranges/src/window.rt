@@ -113,7 +113,7 @@ impl Window {
     {
         let most = most_pieces(held, tables);
         let until = end_of(held, most, from, width);
-        let mut draft = Draft::new(alloc, from, until, most);
+        let mut draft = Draft::new(alloc, from, until, most)?;
         let mut ranges = Vec::new(alloc);
         for one in held.back(0) {
             add_held(&mut draft, &mut ranges, one, tables)?;

@@ -23,7 +23,7 @@ pub(crate) struct Draft {
     pub(crate) until: u64,
     pub(crate) pairs: Vec<(Range, usize)>,
     /// The owners that were found when there were too many ranges: no address gets a greater one.
-    pub(crate) known: Option<Index>,
+    pub(crate) known: Index,
     /// How many pieces there are at most when there were too many ranges.
     most: usize,
     alloc: Global,
@@ -86,17 +86,17 @@ fn push_pieces(
 impl Draft {
     /// No range was added for the window that begins at an address and ends at another, or where
     /// there are too many pieces.
-    pub(crate) fn new(alloc: Global, from: u64, until: u64, most: usize) -> Self
-        ensures { from < until → HasOwners [] from result }
+    pub(crate) fn new(alloc: Global, from: u64, until: u64, most: usize) -> Result<Self, AllocError>
+        ensures { IfOk result (λ draft. from < until → HasOwners [] from draft) }
     {
-        Draft {
+        Ok(Draft {
             from,
             until,
             pairs: Vec::new(alloc),
-            known: None,
+            known: Index::build(alloc, &[])?,
             most,
             alloc,
-        }
+        })
     }
 
     /// Makes pieces of the ranges, and lets the window end where these are too many.
@@ -110,7 +110,7 @@ impl Draft {
         let index = Index::build(self.alloc, &self.pairs)?;
         self.pairs.clear();
         self.until = push_pieces(&index, self.from, self.until, self.most, &mut self.pairs)?;
-        self.known = Some(index);
+        self.known = index;
         Ok(())
     }
 
@@ -120,10 +120,7 @@ impl Draft {
         requires { begin < end }
         ensures { result ≡ true → AreKnown self.now begin end owner }
     {
-        let Some(known) = &self.known else {
-            return false;
-        };
-        let found = known.find_from(begin);
+        let found = self.known.find_from(begin);
         match found.owner {
             Some(first) => first <= owner && end <= found.until,
             None => false,

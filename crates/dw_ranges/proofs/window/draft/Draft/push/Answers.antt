@@ -9,4 +9,4 @@ returns c all from has = grind (arith, push_steps, (c.in_ok-make_room.ensures al
 
 pub returns-then-is_known : goal.returns-then-is_known
 returns-then-is_known c all from has =
-    known_added c.args.self.now all from c.args.range c.args.owner has (rw (← c.max-begin.ensures, ← c.min-end.ensures) (c.is_known.ensures c.if-is_known.true))
+    known_added c.args.self.now all from c.args.range c.args.owner (rw (← c.max-begin.ensures, ← c.min-end.ensures) (c.is_known.ensures c.if-is_known.true)) has
