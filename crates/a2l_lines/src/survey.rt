@@ -41,31 +41,22 @@ fn count(loads: &mut [Load], unit: UnitPlace) {
     }
 }
 
-/// The unit with which a query goes: the one that answers its address, or the first covered address
-/// of its span.
-fn unit_of(
-    alloc: Global,
-    image: &Image<'_>,
-    query: Query,
-) -> Result<Option<UnitPlace>, AllocError> {
+/// The unit with which a query goes: the one that answers its address, or the first address of its
+/// span.
+fn unit_of(image: &Image<'_>, query: Query) -> Option<UnitPlace> {
     match query.kind() {
-        QueryKind::Address(a) => Ok(image.unit_place(a)),
-        QueryKind::Span(low, high) => image.first_unit_place(alloc, low, high),
+        QueryKind::Address(a) => image.unit_place(a),
+        QueryKind::Span(low, _) => image.unit_place(low),
     }
 }
 
 /// The index of the unit of a query, which is counted.
-fn counted(
-    alloc: Global,
-    image: &Image<'_>,
-    loads: &mut [Load],
-    query: Query,
-) -> Result<usize, AllocError> {
-    let Some(unit) = unit_of(alloc, image, query)? else {
-        return Ok(usize::MAX);
+fn counted(image: &Image<'_>, loads: &mut [Load], query: Query) -> usize {
+    let Some(unit) = unit_of(image, query) else {
+        return usize::MAX;
     };
     count(loads, unit);
-    Ok(unit.place)
+    unit.place
 }
 
 /// The units of some queries, by the index of a file.
@@ -77,8 +68,7 @@ pub fn survey_of(
     let mut loads = vec![in alloc; Load { size: 0, count: 0 }; image.unit_count()]?;
     let mut units = Vec::new(alloc);
     for query in queries {
-        let unit = counted(alloc, image, &mut loads, *query)?;
-        units.push(unit)?;
+        units.push(counted(image, &mut loads, *query))?;
     }
     Ok(Survey { units, loads })
 }

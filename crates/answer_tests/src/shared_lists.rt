@@ -56,17 +56,6 @@ fn place_of(image: &Image<'_>, a: u64) -> Option<usize> {
     image.unit_place(a).map(|found| found.place)
 }
 
-/// The index of the first unit of a span, in the same way.
-fn first_place_of(
-    alloc: Global,
-    image: &Image<'_>,
-    low: u64,
-    high: u64,
-) -> Result<Option<usize>, AllocError> {
-    let found = image.first_unit_place(alloc, low, high)?;
-    Ok(found.map(|found| found.place))
-}
-
 /// How many ranges are kept, in the same way.
 fn kept_in(image: &Image<'_>) -> usize {
     image.kept()
@@ -122,29 +111,17 @@ static HELD_PLACES: [Place; 25] = [
     (0x150, None),
 ];
 
-/// The first units of spans, some of which begin where no unit is.
-static HELD_SPANS: [(u64, u64, Option<usize>); 4] = [
-    (0, 0x11, Some(0)),
-    (0x50, 0x110, None),
-    (0x50, u64::MAX, Some(1)),
-    (0x150, u64::MAX, None),
-];
-
-/// The units are held, and answer addresses and spans.
-fn expect_held<A: Abort>(rt: &A, alloc: Global, image: &Image<'_>) -> Result<(), AllocError> {
+/// The units are held, and answer addresses.
+fn expect_held<A: Abort>(rt: &A, image: &Image<'_>) {
     expect(rt, "ranges", &kept_in(image), &3);
     expect_places(rt, image, &HELD_PLACES);
-    for (low, high, wanted) in &HELD_SPANS {
-        expect(rt, low, &first_place_of(alloc, image, *low, *high)?, wanted);
-    }
-    Ok(())
 }
 
 #[test]
 fn units_held_by_their_lists(rt: HostRuntime) -> Result<(), Fail> {
     let file = file_of(rt.alloc(), HELD, FEW)?;
     let image = image_of(rt.alloc(), &file)?;
-    expect_held(&rt, rt.alloc(), &image)?;
+    expect_held(&rt, &image);
     Ok(())
 }
 

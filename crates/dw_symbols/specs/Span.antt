@@ -1,27 +1,13 @@
 -- The pieces of a span, as units add them.
-use Rattle.std.specs.Prelude.{◌≡◌, ◌≤◌, ◌<◌, ℕ, List, Option, Some, None, Result, Ok, Err, slice_get}
-use Rattle.dw_model.specs.Answer.{Piece, unit_of}
+use Rattle.std.specs.Prelude.{◌≡◌, ◌≤◌, ◌<◌, ℕ, List, Option, Some, None, Result, Ok, Err}
+use Rattle.dw_model.specs.Answer.{Piece}
 use Rattle.dw_model.specs.Section.{Sections}
-use Rattle.dw_model.specs.Unit.{DwarfUnit, units}
+use Rattle.dw_model.specs.Unit.{DwarfUnit}
 use Rattle.dw_model.specs.Pieces.{ArePieces, unit_place, place}
 use Rattle.dw_model.specs.Pieces as model
 use Rattle.dw_symbols.specs.declared.answer.UnitFault.{UnitFault}
 use Rattle.dw_symbols.specs.declared.span.Span.{Span}
 use Rattle.dw_symbols.specs.Answer.{code_shown}
-
--- no unit answers any of these addresses
-abbrev pub AreUncovered : Sections → (low high : ℕ) → Type 0
-AreUncovered sections low high = (a : ℕ) → low ≤ a → a < high → unit_of sections a ≡ None
-
-abbrev pub IsUnitAt : Sections → ℕ → ℕ → Type 0
-IsUnitAt sections unit a = slice_get (units sections.info) unit ≡ unit_of sections a
-
--- the unit at a place answers the first address that is covered, of those from one on and before
--- another; or none is covered
-abbrev pub IsFirstUnit : Sections → (low high : ℕ) → Option ℕ → Type 0
-IsFirstUnit sections low high None = AreUncovered sections low high
-IsFirstUnit sections low high (Some unit) =
-    (a : ℕ) × (low ≤ a) × (a < high) × AreUncovered sections low a × IsUnitAt sections unit a
 
 abbrev pub fault_shown : ℕ × UnitFault → model.UnitFault
 fault_shown fault = (fault.0, code_shown fault.1)

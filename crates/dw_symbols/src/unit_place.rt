@@ -1,15 +1,13 @@
 //! Which unit answers an address, as far as the index tells it.
 
-ghost use Rattle.std.specs.Prelude.{◌≡◌, ◌-◌, ◌<◌, Some, IfOk, IfSome, length, option_and_then, option_map, slice_get};
+ghost use Rattle.std.specs.Prelude.{◌≡◌, ◌-◌, ◌<◌, Some, IfSome, length, option_and_then, option_map, slice_get};
 ghost use Rattle.dw_model.specs.Section.{sections};
 ghost use Rattle.dw_model.specs.Unit.{units};
 ghost use Rattle.dw_model.specs.Answer.{unit_of};
 ghost use Rattle.dw_symbols.specs.ImageUnit.{sections_in, unit_in};
-ghost use Rattle.dw_symbols.specs.Span.{IsFirstUnit};
 
 use crate::image::Image;
 use crate::image_unit::ImageUnit;
-use std::alloc::{AllocError, Global};
 
 /// A unit that answers an address.
 #[derive(Clone, Copy, Debug, PartialEq, Eq)]
@@ -52,41 +50,5 @@ impl<'a> Image<'a> {
     {
         let unit = self.unit_at(a)?;
         Some(place_of(unit))
-    }
-
-    /// The unit that answers the first address of a span that a unit covers. `None` where no
-    /// address from `low` on and below `high` is covered. Nothing of the unit is read. The error
-    /// comes only where an allocation was refused.
-    pub fn first_unit_place(
-        &self,
-        alloc: Global,
-        low: u64,
-        high: u64,
-    ) -> Result<Option<UnitPlace>, AllocError>
-        ensures unit { IfOk result (λ found. IsFirstUnit (sections self.now) low high
-            (option_map (λ found. found.place) found)) }
-        ensures within { IfOk result (λ found. IfSome found
-            (λ found. found.place < length (units (sections self.now).info))) }
-        ensures size { IfOk result (λ found. IfSome found
-            (λ found. IfSome (slice_get (units (sections self.now).info) found.place)
-            (λ unit. found.size ≡ unit.end - unit.offset))) }
-    {
-        if low >= high {
-            return Ok(None);
-        }
-        // Most spans begin in a unit.
-        if let Some(unit) = self.unit_at(low) {
-            return Ok(Some(place_of(unit)));
-        }
-        let mut units = self.walk(alloc)?;
-        let mut at = low;
-        while at < high {
-            let owner = units.next(at)?;
-            if let Some(unit) = owner.unit {
-                return Ok(Some(place_of(unit)));
-            }
-            at = owner.until;
-        }
-        Ok(None)
     }
 }
