@@ -180,6 +180,27 @@ impl<'a> Cursor<'a> {
     pub fn uleb(&mut self) -> Result<u64, Leb>
         ensures { ReadsOrTells (λ x. x) leb_fault result (uleb_at self.old) self.old self.new }
     {
+        // Most numbers have one byte.
+        if self.left.is_empty() || self.left[0] >= 128 {
+            // A cursor that is lent lies in memory; the caller's own stays in registers.
+            let mut ahead = self.fork();
+            let value = ahead.long_uleb()?;
+            *self = ahead;
+            return Ok(value);
+        }
+        let Cursor { left, passed } = self;
+        let (front, rest) = left.split_at(1);
+        *left = rest;
+        *passed += 1;
+        Ok(front[0] as u64)
+    }
+
+    /// The same of any number. It isn't inlined, so that the reads of short ones stay small.
+    #[tactic(auto, unfolding(dw_model::specs::Leb::uleb_at))]
+    #[inline(never)]
+    fn long_uleb(&mut self) -> Result<u64, Leb>
+        ensures { ReadsOrTells (λ x. x) leb_fault result (uleb_at self.old) self.old self.new }
+    {
         let Cursor { left, passed } = self;
         let (value, size) = front_uleb(left)?;
         let (_, rest) = left.split_at(size);

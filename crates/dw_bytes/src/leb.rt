@@ -53,7 +53,7 @@ fn unsigned(bytes: &[u8]) -> Option<u64>
     Some(value)
 }
 
-/// What `front_uleb` returns, of a number of any length.
+/// The unsigned number at the front of bytes, and how many of them it takes, in any spelling.
 #[inline(never)]
 fn any_uleb(bytes: &[u8]) -> Result<(u64, usize), Leb>
     ensures { Gives (λ x. x) leb_fault result (front_uleb bytes.now) }
@@ -64,13 +64,11 @@ fn any_uleb(bytes: &[u8]) -> Result<(u64, usize), Leb>
     Ok((value, last + 1))
 }
 
-/// The same of a number that has more than one byte. It isn't inlined, so that the reads of short
-/// ones stay small.
-#[inline(never)]
-fn long_uleb(bytes: &[u8]) -> Result<(u64, usize), Leb>
+/// The same, without a loop where the number has two to four bytes.
+#[inline(always)]
+pub(crate) fn front_uleb(bytes: &[u8]) -> Result<(u64, usize), Leb>
     ensures { Gives (λ x. x) leb_fault result (front_uleb bytes.now) }
 {
-    // Most of them have four bytes at most.
     if bytes.len() < 4 || bytes[0] < 128 {
         return any_uleb(bytes);
     }
@@ -86,18 +84,6 @@ fn long_uleb(bytes: &[u8]) -> Result<(u64, usize), Leb>
         return Ok((three + 2097152 * bytes[3] as u64, 4));
     }
     any_uleb(bytes)
-}
-
-/// The unsigned number at the front of bytes, and how many of them it takes.
-#[inline(always)]
-pub(crate) fn front_uleb(bytes: &[u8]) -> Result<(u64, usize), Leb>
-    ensures { Gives (λ x. x) leb_fault result (front_uleb bytes.now) }
-{
-    // Most numbers have one byte.
-    if bytes.is_empty() || bytes[0] >= 128 {
-        return long_uleb(bytes);
-    }
-    Ok((bytes[0] as u64, 1))
 }
 
 /// The number of the groups' complements, where it fits 63 bits: one less than how far a negative
