@@ -8,7 +8,7 @@ ghost use Rattle.dw_model.specs.Answers.{Reads, ReadsOrTells};
 ghost use Rattle.dw_bytes.specs.Leb.{leb_fault};
 ghost use Rattle.dw_bytes.specs.Width.{initial_shown, size_of};
 
-use crate::leb::{Leb, front_uleb, last_byte, signed};
+use crate::leb::{Leb, last_byte, long_uleb, signed};
 use crate::width::{Initial, Width};
 use byteorder::{ByteOrder, LittleEndian};
 use dw_model::dwarf::{DW_LENGTH_64BIT, DW_LENGTH_RESERVED};
@@ -180,32 +180,19 @@ impl<'a> Cursor<'a> {
     pub fn uleb(&mut self) -> Result<u64, Leb>
         ensures { ReadsOrTells (λ x. x) leb_fault result (uleb_at self.old) self.old self.new }
     {
+        let Cursor { left, passed } = self;
         // Most numbers have one byte.
-        if self.left.is_empty() || self.left[0] >= 128 {
-            // A cursor that is lent lies in memory; the caller's own stays in registers.
-            let mut ahead = self.fork();
-            let value = ahead.long_uleb()?;
-            *self = ahead;
+        if left.is_empty() || left[0] >= 128 {
+            let (value, size) = long_uleb(left)?;
+            let (_, rest) = left.split_at(size);
+            *left = rest;
+            *passed += size;
             return Ok(value);
         }
-        let Cursor { left, passed } = self;
         let (front, rest) = left.split_at(1);
+        let value = (front[0] % 128) as u64;
         *left = rest;
         *passed += 1;
-        Ok(front[0] as u64)
-    }
-
-    /// The same of any number. It isn't inlined, so that the reads of short ones stay small.
-    #[tactic(auto, unfolding(dw_model::specs::Leb::uleb_at))]
-    #[inline(never)]
-    fn long_uleb(&mut self) -> Result<u64, Leb>
-        ensures { ReadsOrTells (λ x. x) leb_fault result (uleb_at self.old) self.old self.new }
-    {
-        let Cursor { left, passed } = self;
-        let (value, size) = front_uleb(left)?;
-        let (_, rest) = left.split_at(size);
-        *left = rest;
-        *passed += size;
         Ok(value)
     }
 

@@ -64,9 +64,10 @@ fn any_uleb(bytes: &[u8]) -> Result<(u64, usize), Leb>
     Ok((value, last + 1))
 }
 
-/// The same, without a loop where the number has two to four bytes.
-#[inline(always)]
-pub(crate) fn front_uleb(bytes: &[u8]) -> Result<(u64, usize), Leb>
+/// The same, without a loop where the number has two to four bytes. It isn't inlined, so that the
+/// reads of short numbers stay small.
+#[inline(never)]
+pub(crate) fn long_uleb(bytes: &[u8]) -> Result<(u64, usize), Leb>
     ensures { Gives (λ x. x) leb_fault result (front_uleb bytes.now) }
 {
     if bytes.len() < 4 || bytes[0] < 128 {
