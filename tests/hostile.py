@@ -405,7 +405,7 @@ KINDS = {
     'inlined_of_one_list': LINEAR, 'functions_of_tails': LINEAR, 'functions_of_long_tails': LINEAR,
     'functions_of_tails_in_turn': SQUARE, 'inlined_of_tails': LINEAR, 'callers_of_one_list': LINEAR,
     'units_with_functions_of_one_list': LINEAR, 'units_of_one_list': LINEAR, 'units_with_bases_of_one_list': LINEAR,
-    'span_over_units_with_bases': LINEAR, 'span_over_all_units_with_bases': BORDERS, 'units_of_tails': LINEAR,
+    'span_over_units_with_bases': LINEAR, 'span_over_all_units_with_bases': SQUARE, 'units_of_tails': LINEAR,
     'span_over_units_of_tails': LINEAR, 'units_of_tails_with_bases': SQUARE, 'span_over_units_of_tails_with_bases': SQUARE,
     'units_of_one_line_table': LINEAR, 'tables_of_one_list': LINEAR, 'tables_of_one_program_of_sequences': LINEAR,
     'tables_of_one_program': SQUARE, 'span_over_tables_of_one_program': SQUARE, 'units_that_take_turns': LINEAR,

@@ -21,7 +21,7 @@ ghost use Rattle.dw_frames.specs.Known.{IsListed, Knows, ReadsList};
 ghost use Rattle.dw_frames.specs.UnitIn.{unit_in};
 ghost use Rattle.dw_frames.specs.Reader.{AddsFunction, Keeps};
 
-use crate::drafts::{Drafts, NOWHERE, OUTERMOST};
+use crate::drafts::{Drafts, NOWHERE};
 use crate::fault::TreeFault;
 use dw_ranges::{
     ListIndex, ListIndexes, Listed, Range, RangeFault, RangeList, ReadLists, list_of, read_list,
