@@ -1,11 +1,11 @@
 #!/usr/bin/env bash
-# Makes files that are meant to ruin their reader (hostile.py), of 100 KB, 1 MB and 10 MB, or of the sizes that the words
-# say, and prints the time and the peak memory of a listing and of one address, with the memory for each byte of the file.
-# It fails where memory passes 64 bytes for each byte of the file and 16 MB, or where a kind whose work is linear takes more
-# than 2.6 times as long for twice the bytes. Kinds of square time run up to 1 MB, and so does one whose answer is longer
-# than its file, for which memory may be more; many_units_that_take_turns, a span with as many borders as the square of
-# the file and a line table at each, runs up to 100 KB. A span over all units with bases takes some ten minutes for 1 MB.
-# Run it after `rt run` in crates/a2l has built the program. It needs python3.
+# Makes files that are meant to ruin their reader (hostile.py), of 100 KB, 1 MB and 10 MB, or of the sizes that the
+# words say, and prints the time and the peak memory of a listing and of one address, with the memory for each byte of
+# the file. It fails where memory passes 64 bytes for each byte of the file and 16 MB, or where a kind whose work is
+# linear takes more than 2.6 times as long for twice the bytes. Kinds of square time run up to 1 MB, and so does one
+# whose answer is longer than its file, for which memory may be more; many_units_that_take_turns, a span with as many
+# borders as the square of the file and a line table at each, runs up to 100 KB. A span over all units with bases takes
+# some ten minutes for 1 MB. Run it after `rt run` in crates/a2l has built the program. It needs python3.
 . "$(dirname "$0")/programs.sh"
 need_a2l
 
