@@ -14,7 +14,7 @@ use Rattle.dw_index.proofs.LawLemmas.{of_list}
 use Rattle.dw_index.proofs.OwnerLemmas.{least_owner-append, least-none}
 use Rattle.dw_ranges.specs.declared.window.draft.Draft.{Draft}
 use Rattle.dw_ranges.specs.Owned.{owned}
-use Rattle.dw_ranges.specs.Window.{AreKnown, ArePieces, HasOwners, HaveNoGreater, PiecesTo}
+use Rattle.dw_ranges.specs.Window.{AreKnown, ArePieces, HasOwners, PiecesTo}
 
 -- ---- pieces of an index
 

@@ -1,9 +1,7 @@
-use Rattle.std.proofs.Common.{◌≡◌, ◌∙◌, ℕ, false, List, length, Option, Some, None, Result, Ok, map, ap, sym, subst}
+use Rattle.std.proofs.Common.{◌≡◌, ◌∙◌, ℕ, false, List, length, Some, None, Ok, map, ap, sym, subst}
 use Rattle.std.specs.Prelude.{◌==◌}
 use Rattle.dw_index.specs.Range.{range_shown}
 use Rattle.dw_model.specs.Ranges.{Range}
-use Rattle.dw_ranges.specs.declared.fault.RangeFault.{RangeFault}
-use Rattle.dw_ranges.specs.declared.range_list.RangeList.{RangeList}
 use Rattle.dw_ranges.specs.Tails.{ReadsNew}
 use Rattle.dw_frames.specs.Known.{IsOwned, WasAdded}
 use Rattle.dw_frames.specs.Reading.{Reading}
