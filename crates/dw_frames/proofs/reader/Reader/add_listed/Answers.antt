@@ -36,7 +36,7 @@ kept-of c =
     let shown : map range_shown c.deref.result.now ≡ c.read_noted.new.self.ranges = ap (map range_shown) c.deref.ensures.value ∙ ap (λ (reading : Reading). reading.ranges) view in
     let pushed : map range_shown c.deref-2.result.now ≡ c.read_noted.new.self.ranges = ap (map range_shown) c.deref-2.ensures.value ∙ ap (λ (reading : Reading). reading.ranges) view in
     let same = c.requires.knows.of ∙ sym told.of ∙ sym (ap (λ (reading : Reading). reading.of) view) in
-    was-kept c.args.drafts.now c.add.new.self c.args.entry.now c.args.list c.args.self.now c.in_ok-tail.tail c.read_noted.new.self.ranges c.requires.knows 
+    was-kept c.args.drafts.now c.add.new.self c.args.entry.now c.args.list c.args.self.now c.in_ok-tail.tail c.read_noted.new.self.ranges c.requires.knows
     (subst (λ (group : ℕ). ReadsNew c.args.self.now.of.sections.tables c.args.self.now.owned (c.args.list, group) (Ok c.in_ok-tail.tail) c.read_noted.new.self.ranges) c.group_of-group.ensures told.ranges)
     (subst (λ (ranges : List Range). c.in_ok-tail.tail ≡ None → (length ranges == 0) ≡ false) shown (c.has_none.ensures.some c.if-has_none.false))
     (subst (λ (ranges : List Range). WasAdded c.args.entry.now ranges (Some c.args.list) c.args.drafts.now c.add.new.self) pushed (c.in_ok-add.ensures.added (ap (λ (of : UnitIn). of.sections.tables) same ∙ sym c.self-2.invariant)))
