@@ -1,7 +1,8 @@
 -- Segments in order, and the owner that they have at an address.
-use Rattle.std.proofs.Common.{◌≡◌, ◌≢◌, ◌≤◌, ◌<◌, ℕ, zero, suc, ◌+◌, List, [], ◌∷◌, ◌++◌, length, get_or, Option, None, refl, ◌∙◌, arith}
+use Rattle.std.proofs.Common.{◌≡◌, ◌≢◌, ◌≤◌, ◌<◌, ℕ, zero, suc, ◌+◌, ◌-◌, List, [], ◌∷◌, ◌++◌, length, get_or, Option, None, refl, ◌∙◌, arith}
 use Rattle.std.proofs.lemmas.Bool.{le-leb, lt-leb}
 use Rattle.dw_index.specs.declared.segment.Segment.{Segment}
+use Rattle.dw_index.specs.Search.{Passes}
 use Rattle.dw_index.specs.Segments.{passed, owner_from, AreSegments, begin_at, Below}
 
 pub begin_at-get : (segments : List Segment) (k : ℕ) (d : Segment) → k < length segments → begin_at segments k ≡ (get_or segments k d).begin
@@ -80,3 +81,11 @@ module _ (segments : List Segment) (order : AreSegments 0 None segments) (a midd
 
   pub behind_from : a < begin_at segments middle → (k : ℕ) → middle ≤ k → k < length segments → a < begin_at segments k
   behind_from h k b e = omega (arith, rises 0 None segments middle k order b e)
+
+-- the last segment before a place and the first behind it tell for all
+pub passes : (segments : List Segment) (a count : ℕ) → AreSegments 0 None segments → count ≤ length segments → (0 < count → (get_or segments (count - 1) no_segment).begin ≤ a) → (count < length segments → a < (get_or segments count no_segment).begin) → Passes segments a count
+passes segments a count order within last next = record {
+  within = within;
+  before = λ k b. omega (arith, last (omega arith), begin_at-get segments (count - 1) no_segment (omega arith), rises 0 None segments k (count - 1) order (omega arith) (omega arith));
+  behind = λ k b e. omega (arith, next (omega arith), begin_at-get segments count no_segment (omega arith), rises 0 None segments count k order b e);
+}

@@ -10,7 +10,7 @@ ghost use Rattle.dw_index.specs.Segments.{AreIndexOf, owner_at};
 use crate::merge::merge;
 use crate::range::Range;
 use crate::run::run_of;
-use crate::search::{count_passed, count_uncounted, next_border, owner_of};
+use crate::search::{count_passed, count_uncounted, is_passed, next_border, owner_of};
 use crate::segment::Segment;
 use dw_bytes::Steps;
 use std::alloc::{AllocError, Global};
@@ -101,7 +101,7 @@ impl Index {
     pub fn find(&self, a: u64) -> Option<usize>
         ensures { result ≡ owner_at self.now a }
     {
-        owner_of(&self.segments, self.passed(a))
+        owner_of(&self.segments, self.searched(a))
     }
 
     /// The least owner of the ranges that hold an address, as `find` finds it. A step is a probe,
@@ -122,23 +122,38 @@ impl Index {
         requires above { a < last_address }
         ensures steady { IsSteady (owner_at self.now) a result }
     {
-        next_border(&self.segments, self.passed(a))
+        next_border(&self.segments, self.searched(a))
     }
 
-    /// What `find` and `steady` return, by one search.
-    pub fn find_from(&self, a: u64) -> Found
+    /// What `find` and `steady` return, by one search, from where an earlier one ended. Whoever
+    /// goes from border to border takes a few probes for each.
+    pub fn find_from(&self, a: u64, near: &mut usize) -> Found
         requires above { a < last_address }
         ensures owner { result.owner ≡ owner_at self.now a }
         ensures steady { IsSteady (owner_at self.now) a result.until }
     {
-        let passed = self.passed(a);
+        let passed = self.passed(a, *near);
+        *near = passed;
         let owner = owner_of(&self.segments, passed);
         let until = next_border(&self.segments, passed);
         Found { owner, until }
     }
 
-    /// How many segments don't begin above an address.
-    pub fn passed(&self, a: u64) -> usize
+    /// How many segments don't begin above an address. It takes a few probes where these are all,
+    /// or as many as `near` says, or one more.
+    pub fn passed(&self, a: u64, near: usize) -> usize
+        ensures { Passes self.now a result }
+    {
+        for passed in [near, near.saturating_add(1), self.segments.len()] {
+            if is_passed(&self.segments, a, passed) {
+                return passed;
+            }
+        }
+        self.searched(a)
+    }
+
+    /// The same, searched by halves.
+    fn searched(&self, a: u64) -> usize
         ensures { Passes self.now a result }
     {
         count_uncounted::<Brand>(&self.segments, a, Blank::new(1))

@@ -1,6 +1,6 @@
 //! The segment of an address, searched by halves.
 
-ghost use Rattle.std.specs.Prelude.{◌≡◌, ◌≤◌, ◌<◌, ◌+◌, ℕ, None, length, nat_le};
+ghost use Rattle.std.specs.Prelude.{◌≡◌, ◌≤◌, ◌<◌, ◌+◌, ℕ, true, None, length, nat_le};
 ghost use Rattle.dw_model.specs.Steady.{IsSteady, last_address};
 ghost use Rattle.dw_index.specs.Search.{Passes, TakesDigits};
 ghost use Rattle.dw_index.specs.Segments.{AreSegments, owner_at};
@@ -49,6 +49,20 @@ pub(crate) fn count_uncounted<L: Ledger>(segments: &[Segment], a: u64, blank: Bl
 {
     let mut steps = Steps::<L>::new(blank);
     count_passed(segments, a, &mut steps)
+}
+
+/// Whether so many segments don't begin above an address, and the others do.
+pub(crate) fn is_passed(segments: &[Segment], a: u64, count: usize) -> bool
+    requires { AreSegments 0 None segments.now }
+    ensures { result ≡ true → Passes segments.now a count }
+{
+    if count > segments.len() {
+        return false;
+    }
+    if count > 0 && segments[count - 1].begin > a {
+        return false;
+    }
+    count == segments.len() || a < segments[count].begin
 }
 
 /// The owner of the addresses that have passed so many segments.

@@ -6,7 +6,7 @@ ghost use Rattle.dw_model.specs.Steady.{last_address};
 ghost use Rattle.dw_forms.specs.Tables.{tables_shown};
 ghost use Rattle.dw_index.specs.Segments.{owner_at};
 ghost use Rattle.dw_ranges.specs.ListIndex.{IsOfList, TellsSome, listed_from, ranges_by};
-ghost use Rattle.dw_ranges.specs.Parts.{base_by, counts_at};
+ghost use Rattle.dw_ranges.specs.Parts.{base_by, counts_at, is_within};
 ghost use Rattle.dw_ranges.specs.PartsInside.{IsReadBy, base_for};
 
 mod parts;
@@ -29,6 +29,20 @@ pub(crate) enum Readable {
     /// From each that can be read.
     WithBase,
     Never,
+}
+
+/// Whether a list holds some addresses, and where they end.
+#[derive(Clone, Copy, Debug)]
+pub(crate) struct Stretch {
+    pub(crate) is_held: bool,
+    pub(crate) until: u64,
+}
+
+/// Where the searches of an address ended in the indexes of a list. No promise rests on it.
+#[derive(Clone, Copy, Debug, Default)]
+pub(crate) struct Near {
+    fixed: usize,
+    counted: usize,
 }
 
 /// An index of a range list, whichever base it counts from. Contracts see where the list begins and
@@ -83,31 +97,41 @@ fn base_for(readable: Readable, base: Option<u64>) -> Option<u64>
     }
 }
 
-/// Whether ranges that are counted from a base hold an address: of those that hold its offset the
-/// least end is an address too.
+/// Whether ranges that are counted from a base hold an address, of which those with the least end
+/// that hold its offset have this end: that end is an address too.
+fn ends_within(end: Option<usize>, base: u64) -> bool
+    ensures { result ≡ is_within base end }
+{
+    match end {
+        Some(end) => end as u64 <= u64::MAX - base,
+        None => false,
+    }
+}
+
+/// Whether ranges that are counted from a base hold an address.
 fn counts_at(counted: &Index, base: u64, a: u64) -> bool
     ensures { result ≡ counts_at (owner_at counted.now) base a }
 {
-    if a < base {
-        return false;
-    }
-    let Some(end) = counted.find(a - base) else {
-        return false;
-    };
-    end as u64 <= u64::MAX - base
+    a >= base && ends_within(counted.find(a - base), base)
 }
 
-/// An address above one, up to which `counts_at` says the same.
-fn counts_until(counted: &Index, base: u64, a: u64) -> u64
+/// What `counts_at` says, and an address above, up to which it says the same.
+fn counts_from(counted: &Index, base: u64, a: u64, near: &mut usize) -> Stretch
     requires { a < last_address }
-    ensures above { a < result }
-    ensures same { (c : ℕ) → a ≤ c → c < result
-        → counts_at (owner_at counted.now) base c ≡ counts_at (owner_at counted.now) base a }
+    ensures above { a < result.until }
+    ensures same { (c : ℕ) → a ≤ c → c < result.until → counts_at (owner_at counted.now) base c ≡ result.is_held }
 {
     if a < base {
-        return base;
+        return Stretch {
+            is_held: false,
+            until: base,
+        };
     }
-    base.saturating_add(counted.steady(a - base))
+    let found = counted.find_from(a - base, near);
+    Stretch {
+        is_held: ends_within(found.owner, base),
+        until: base.saturating_add(found.until),
+    }
 }
 
 /// How many borders there are of ranges that are counted from a base, above one address and up to
@@ -116,11 +140,11 @@ fn borders_in(counted: &Index, base: u64, from: u64, until: u64) -> usize {
     if until < base {
         return 0;
     }
-    let passed = counted.passed(until - base);
+    let passed = counted.passed(until - base, 0);
     if from < base {
         return passed;
     }
-    passed.saturating_sub(counted.passed(from - base))
+    passed.saturating_sub(counted.passed(from - base, 0))
 }
 
 impl<'a> ListIndex<'a> {
@@ -203,27 +227,34 @@ impl<'a> ListIndex<'a> {
         self.fixed.find(a).is_some() || counts_at(&self.counted, base, a)
     }
 
-    /// An address above one, up to which `holds` says the same.
+    /// What `holds` says, and an address above, up to which it says the same. Whoever goes from one
+    /// of these to the next passes the same `near`.
     #[tactic(auto, using(crate::proofs::IndexLemmas::none_listed, crate::proofs::IndexLemmas::held))]
-    pub(crate) fn steady(&self, base: Option<u64>, a: u64) -> u64
+    pub(crate) fn holds_from(&self, base: Option<u64>, a: u64, near: &mut Near) -> Stretch
         requires { a < last_address }
-        ensures above { a < result }
-        ensures same { (c : ℕ) → a ≤ c → c < result
-            → covers c (listed_from self.now base) ≡ covers a (listed_from self.now base) }
+        ensures above { a < result.until }
+        ensures same { (c : ℕ) → a ≤ c → c < result.until → covers c (listed_from self.now base) ≡ result.is_held }
     {
         let Some(base) = base_for(self.readable, base) else {
-            return u64::MAX;
+            return Stretch {
+                is_held: false,
+                until: u64::MAX,
+            };
         };
-        let until = counts_until(&self.counted, base, a);
-        lesser(self.fixed.steady(a), until)
+        let counted = counts_from(&self.counted, base, a, &mut near.counted);
+        let fixed = self.fixed.find_from(a, &mut near.fixed);
+        Stretch {
+            is_held: fixed.owner.is_some() || counted.is_held,
+            until: lesser(fixed.until, counted.until),
+        }
     }
 
     /// How many borders its ranges have from a base, above one address and up to another.
     pub(crate) fn borders(&self, base: Option<u64>, from: u64, until: u64) -> usize {
         let fixed = self
             .fixed
-            .passed(until)
-            .saturating_sub(self.fixed.passed(from));
+            .passed(until, 0)
+            .saturating_sub(self.fixed.passed(from, 0));
         let Some(base) = base_for(self.readable, base) else {
             return fixed;
         };

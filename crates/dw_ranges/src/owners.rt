@@ -115,8 +115,8 @@ impl<'a> Owners<'a> {
             → owner_of (tables_shown tables.now) self.now 0 c ≡ found.owner) }
     {
         window.turn_to(alloc, &self.held, tables, a)?;
-        let kept = self.index.find_from(a);
-        let held = window.index.find_from(a);
+        let kept = self.index.find_from(a, &mut window.near_kept);
+        let held = window.index.find_from(a, &mut window.near);
         Ok(Found {
             owner: least(kept.owner, held.owner),
             until: lesser(kept.until, lesser(held.until, window.until)),

@@ -31,6 +31,10 @@ pub struct Window {
     pub(crate) until: u64,
     /// The ranges of the lists in the window, with their owners.
     pub(crate) index: Index,
+    /// Where the last searches ended in it, and among the ranges that are kept. No promise rests on
+    /// them.
+    pub(crate) near: usize,
+    pub(crate) near_kept: usize,
 }
 
 /// How many pieces a window has at most when there were too many ranges for it: one for eight bytes
@@ -96,6 +100,8 @@ impl Window {
             from: 0,
             until: 0,
             index,
+            near: 0,
+            near_kept: 0,
         })
     }
 
@@ -123,6 +129,8 @@ impl Window {
             from,
             until: draft.until,
             index,
+            near: 0,
+            near_kept: 0,
         })
     }
 

@@ -10,7 +10,7 @@ ghost use Rattle.dw_ranges.specs.Owned.{owned};
 ghost use Rattle.dw_ranges.specs.Window.{AreKnown, ArePieces, HasOwners, PiecesTo};
 
 use super::lesser;
-use crate::list_index::ListIndex;
+use crate::list_index::{ListIndex, Near, Stretch};
 use dw_index::{Index, Range};
 use std::alloc::{AllocError, Global};
 
@@ -36,6 +36,7 @@ fn push_piece(
     index: &Index,
     at: u64,
     until: u64,
+    near: &mut usize,
     pairs: &mut Vec<(Range, usize)>,
 ) -> Result<u64, AllocError>
     requires { at < until }
@@ -44,7 +45,7 @@ fn push_piece(
     ensures pieces { IfOk result (λ next. (from : ℕ) → ArePieces index.now from at pairs.old.items
         → ArePieces index.now from next pairs.new.items) }
 {
-    let found = index.find_from(at);
+    let found = index.find_from(at, near);
     let next = lesser(found.until, until);
     let Some(owner) = found.owner else {
         return Ok(next);
@@ -73,12 +74,13 @@ fn push_pieces(
     ensures within { IfOk result (λ at. at ≤ until) }
     ensures pieces { IfOk result (λ at. ArePieces index.now from at pairs.new.items) }
 {
-    let mut at = push_piece(index, from, until, pairs)?;
+    let mut near = 0;
+    let mut at = push_piece(index, from, until, &mut near, pairs)?;
     for _ in 0..most {
         if at >= until {
             return Ok(at);
         }
-        at = push_piece(index, at, until, pairs)?;
+        at = push_piece(index, at, until, &mut near, pairs)?;
     }
     Ok(at)
 }
@@ -120,7 +122,7 @@ impl Draft {
         requires { begin < end }
         ensures { result ≡ true → AreKnown self.now begin end owner }
     {
-        let found = self.known.find_from(begin);
+        let found = self.known.find_from(begin, &mut 0);
         match found.owner {
             Some(first) => first <= owner && end <= found.until,
             None => false,
@@ -177,6 +179,7 @@ impl Draft {
         base: Option<u64>,
         owner: usize,
         begin: u64,
+        near: &mut Near,
     ) -> Result<u64, AllocError>
         requires { begin < last_address }
         ensures above { IfOk result (λ end. begin < end) }
@@ -184,11 +187,13 @@ impl Draft {
             → PiecesTo (listed_from index.now base) owner begin old self.old
             → PiecesTo (listed_from index.now base) owner end old self.new) }
     {
-        let end = index.steady(base, begin);
-        if !index.holds(base, begin) {
-            return Ok(end);
+        let Stretch {
+            is_held,
+            until: end,
+        } = index.holds_from(base, begin, near);
+        if is_held {
+            self.push(Range { begin, end }, owner)?;
         }
-        self.push(Range { begin, end }, owner)?;
         Ok(end)
     }
 
@@ -210,9 +215,10 @@ impl Draft {
         ensures { OnOk result ((all : List (model.Range × ℕ)) (from : ℕ) → HasOwners all from self.old
             → HasOwners (all ++ owned (listed_from index.now base) owner) from self.new) }
     {
+        let mut near = Near::default();
         let mut begin = self.from;
         while self.reaches(begin) {
-            begin = self.add_piece(index, base, owner, begin)?;
+            begin = self.add_piece(index, base, owner, begin, &mut near)?;
         }
         Ok(())
     }
