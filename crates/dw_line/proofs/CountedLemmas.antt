@@ -1,10 +1,9 @@
 -- How many things are kept of a table that was read.
-use Rattle.std.proofs.Common.{◌≡◌, ℕ, suc, ◌+◌, ◌*◌, ◌≤◌, List, [], ◌∷◌, length, Option, Ok, Bor, refl, ap, arith}
+use Rattle.std.proofs.Common.{◌≡◌, ℕ, suc, ◌+◌, ◌*◌, ◌≤◌, List, [], ◌∷◌, length, Bor, refl, ap, arith}
 use Rattle.std.specs.Prelude.{option_map}
-use Rattle.dw_model.specs.LineHeader.{LineHeader, line_header}
+use Rattle.dw_model.specs.LineHeader.{LineHeader}
 use Rattle.dw_model.specs.Matrix.{Row}
 use Rattle.dw_model.specs.Text.{Tables, Bases}
-use Rattle.dw_model.proofs.StepLemmas.{bind_ok, ok_is}
 use Rattle.dw_forms.specs.Tables.{tables_shown, bases_shown}
 use Rattle.dw_line.specs.declared.checkpoints.Checkpoint.{Checkpoint}
 use Rattle.dw_line.specs.declared.checkpoints.Sequence.{Sequence}
@@ -12,10 +11,11 @@ use Rattle.dw_line.specs.declared.entry_list.EntryList.{EntryList}
 use Rattle.dw_line.specs.declared.lines.Lines.TheInside.{Inside}
 use Rattle.dw_line.specs.Header.{entries_shown, header_shown}
 use Rattle.dw_line.specs.Kept.{most_kept, spelled}
-use Rattle.dw_line.specs.Lines.{Table, lines_of, matrix_of}
+use Rattle.dw_line.specs.Lines.{matrix_of}
 use Rattle.dw_line.specs.LinesInside.{lines_in, AreRead}
 use Rattle.dw_line.specs.Sequences.{used_sequences, AreSequences}
 use Rattle.dw_line.specs.TableAt.{table_size}
+use Rattle.dw_line.proofs.LinesLemmas.{read_with}
 use Rattle.dw_line.proofs.SizeLemmas.{header-within}
 
 -- a sequence is kept for each that is used
@@ -24,11 +24,6 @@ as_many header checkpoints end [] [] are = refl
 as_many header checkpoints end [] (rows ∷ used) are = absurd are
 as_many header checkpoints end (one ∷ kept) [] are = absurd are
 as_many header checkpoints end (one ∷ kept) (rows ∷ used) are = ap suc (as_many header checkpoints end kept used are.1)
-
--- the header that a table was read with
-header_of : (tables : Tables) (bases : Bases) (section : List ℕ) (comp_dir : Option (List ℕ)) (offset : ℕ) (table : Table) → lines_of tables bases section comp_dir offset ≡ Ok table → line_header tables bases section offset ≡ Ok table.header
-unfolding lines_of
-header_of tables bases section comp_dir offset table e = grind (arith, bind_ok, ok_is)
 
 -- all that is kept, where the lists have so many entries
 abbrev pub count : Inside → (directories files : ℕ) → ℕ
@@ -45,7 +40,7 @@ module _ (lines : Inside) (are : AreRead lines) where
       let tables = tables_shown lines.unit.tables in
       let bases = bases_shown lines.unit.bases in
       let comp_dir = option_map (λ (directory : Bor (List ℕ)). directory.now) lines.unit.comp_dir in
-      header-within lines.section.now lines.offset tables bases (lines_in lines).header (header_of tables bases lines.section.now comp_dir lines.offset (lines_in lines) (are.each tables bases comp_dir))
+      header-within lines.section.now lines.offset tables bases (lines_in lines).header (read_with tables bases lines.section.now comp_dir lines.offset (lines_in lines) (are.each tables bases comp_dir)).0
 
   pub count-but-files : (directories : ℕ) → ((tables : Tables) (bases : Bases) → directories ≡ length (entries_shown tables bases lines.header.directories)) → count lines directories 0 ≤ 2 * table_size lines.section.now lines.offset
   count-but-files directories first = omega (arith, lists-within, are.fits, are.leaps.few, first (tables_shown lines.unit.tables) (bases_shown lines.unit.bases))

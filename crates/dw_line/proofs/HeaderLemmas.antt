@@ -11,7 +11,7 @@ use Rattle.dw_model.specs.Faults.{Bad, bad}
 use Rattle.dw_model.specs.Instruction.{Instruction, special, copy, advance_pc, advance_line, set_file, set_column, const_add_pc, fixed_advance_pc, end_sequence, set_address, no_effect, opcode_at, next_instruction, instructions}
 use Rattle.dw_model.specs.Matrix.{special_advance, line_advance, residue, advanced, file_after, column_after, row_after, is_end, appends, rows_from, matrix}
 use Rattle.dw_line.specs.Header.{without_lists}
-use Rattle.dw_line.specs.TableAt.{table_behind_length, table_at}
+use Rattle.dw_line.specs.TableAt.{TableBytes, table_behind_length, table_at}
 
 -- no table begins after the section
 pub no_table : (section : List ℕ) (offset : ℕ) → length section < offset → None ≡ table_at section offset
@@ -20,10 +20,10 @@ no_table section offset h = rw (drop_all offset section (omega (arith, h))) refl
 
 module _ (tables : Tables) (bases : Bases) where
   -- the header in the bytes of a table, with the size of their offsets
-  abbrev pub behind : Option (List ℕ × ℕ) → Result LineHeader Bad
-  behind table = ◌>>=◌ {A = List ℕ × ℕ} {B = LineHeader} (ok_or table bad) (λ table. table_behind tables bases table.1 (start table.0))
+  abbrev pub behind : Option TableBytes → Result LineHeader Bad
+  behind table = ◌>>=◌ {A = TableBytes} {B = LineHeader} (ok_or table bad) (λ table. table_behind tables bases table.1 (start table.0))
 
-  taken : (size : ℕ) (table : Option (List ℕ × Place)) → ◌>>=◌ {A = List ℕ × Place} {B = LineHeader} (ok_or table bad) (λ table. table_behind tables bases size (start table.0)) ≡ behind (option_map (λ (table : List ℕ × Place). (table.0, size)) table)
+  taken : (size : ℕ) (table : Option (List ℕ × Place)) → ◌>>=◌ {A = List ℕ × Place} {B = LineHeader} (ok_or table bad) (λ table. table_behind tables bases size (start table.0)) ≡ behind (option_map (λ (table : List ℕ × Place). (table.0, size, table.1.at)) table)
   taken size table = grind arith
 
   long : (length : InitialLength) (p : Place) → ◌>>=◌ {A = ℕ × ℕ} {B = LineHeader} (length_of length) (λ len. ◌>>=◌ {A = List ℕ × Place} {B = LineHeader} (ok_or (bytes_at len.0 p) bad) (λ table. table_behind tables bases len.1 (start table.0))) ≡ behind (table_behind_length length p)

@@ -6,8 +6,9 @@ use Rattle.std.proofs.lemmas.Option.{same_Some, slice_get_read, slice_get_past}
 use Rattle.dw_model.specs.Faults.{bad}
 use Rattle.dw_model.specs.Text.{Tables, Bases}
 use Rattle.dw_model.specs.LineHeader.{LineHeader, line_header}
-use Rattle.dw_model.specs.Instruction.{instructions}
+use Rattle.dw_model.specs.Instruction.{Instruction, instructions}
 use Rattle.dw_model.specs.Matrix.{Row, row_in, row_of, is_used, first_address, last_address}
+use Rattle.dw_model.proofs.StepLemmas.{bind_ok, ok_is}
 use Rattle.dw_line.specs.declared.checkpoints.Checkpoint.{Checkpoint}
 use Rattle.dw_line.specs.declared.checkpoints.Sequence.{Sequence}
 use Rattle.dw_line.specs.declared.checkpoints.Checkpoints.{Checkpoints}
@@ -17,7 +18,7 @@ use Rattle.dw_line.specs.Search.{row_told}
 use Rattle.dw_line.specs.Reached.{last_in, IsReached, IsLast, FindsIn, IsRowOf}
 use Rattle.dw_line.specs.Machine.{beginning, rows_on}
 use Rattle.dw_line.specs.Header.{without_lists}
-use Rattle.dw_line.specs.Lines.{lines_of, matrix_of}
+use Rattle.dw_line.specs.Lines.{Table, lines_of, matrix_of}
 use Rattle.dw_line.specs.Program.{IsRecorded}
 use Rattle.dw_line.specs.Sequences.{used_sequences, number_among, number_of, IsSequence, AreKept}
 use Rattle.dw_line.proofs.HeaderLemmas.{same-instructions, same-matrix}
@@ -46,6 +47,25 @@ lines_are tables bases section comp_dir offset header recorded e is =
     let whole = matrix_rows (without_lists header) is.rows is.run in
     let program : instructions header ≡ Ok whole.0 = same-instructions header ∙ whole.1 in
     rw (e, program, whole.1) (λ i. Ok (record { section = section; offset = offset; header = header; rows = same-matrix header whole.0 i; comp_dir = comp_dir }))
+
+-- the header that a table was read with, and its instructions
+pub read_with : (tables : Tables) (bases : Bases) (section : List ℕ) (comp_dir : Option (List ℕ)) (offset : ℕ) (table : Table) → lines_of tables bases section comp_dir offset ≡ Ok table
+    → (line_header tables bases section offset ≡ Ok table.header) × (program : List Instruction) × (instructions table.header ≡ Ok program)
+unfolding lines_of
+read_with tables bases section comp_dir offset table e =
+    let header = bind_ok (line_header tables bases section offset) _ table e in
+    let program = bind_ok (instructions header.0) _ table header.2 in
+    let own : header.0 ≡ table.header = ap (λ (table : Table). table.header) (ok_is _ table program.2) in
+    (header.1 ∙ ap (λ (header : LineHeader). Ok header) own, program.0, ap instructions (sym own) ∙ program.1)
+
+-- a table whose program is that of another, and is run in the same way
+pub lines_alike : (tables : Tables) (bases : Bases) (section : List ℕ) (comp_dir : Option (List ℕ)) (offset : ℕ) (old new : LineHeader) (program : List Instruction) → instructions old ≡ Ok program → without_lists old ≡ without_lists new → line_header tables bases section offset ≡ Ok new
+    → lines_of tables bases section comp_dir offset ≡ Ok (record { section = section; offset = offset; header = new; rows = matrix_of (without_lists new); comp_dir = comp_dir })
+unfolding lines_of
+lines_alike tables bases section comp_dir offset old new program is same e =
+    let read : instructions (without_lists new) ≡ Ok program = ap instructions (sym same) ∙ sym (same-instructions old) ∙ is in
+    let own : instructions new ≡ Ok program = same-instructions new ∙ read in
+    rw (e, own, read) (λ i. Ok (record { section = section; offset = offset; header = new; rows = same-matrix new program i; comp_dir = comp_dir }))
 
 pub kept_of : (header : LineHeader) (recorded : Checkpoints) → IsRecorded header recorded → AreKept header recorded.checkpoints.items recorded.sequences.items (used_sequences (matrix_of header))
 kept_of header recorded is =

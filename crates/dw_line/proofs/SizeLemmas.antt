@@ -1,13 +1,14 @@
--- A table keeps no more things than twice its bytes.
-use Rattle.std.proofs.Common.{◌≡◌, ℕ, zero, suc, ◌+◌, ◌-◌, ◌*◌, ◌≤◌, Bool, false, List, [], ◌∷◌, length, drop, Option, Some, None, Result, Ok, refl, sym, subst, ap, ◌∙◌, arith, length-drop}
+-- A table keeps no more things than twice its bytes, and its program ends with it.
+use Rattle.std.proofs.Common.{◌≡◌, ℕ, zero, suc, ◌+◌, ◌-◌, ◌*◌, ◌≤◌, Bool, false, List, [], ◌∷◌, ◌++◌, length, take, drop, Option, Some, None, Result, Ok, refl, sym, subst, ap, ◌∙◌, arith, append_assoc, length-append, length-drop}
 use Rattle.std.specs.Prelude.{ok_or, option_map, nat_lt, not, ◌||◌, ◌==◌}
 use Rattle.std.specs.Option.{option_map_or}
 use Rattle.std.proofs.lemmas.Bool.{ltb-false}
+use Rattle.std.proofs.lemmas.List.{drop-drop, drop_at, take_at}
 use Rattle.std.proofs.lemmas.Option.{same_Some}
 use Rattle.dw_model.specs.declared.dwarf.TheConstants.{DWARF_VERSION, ADDRESS_SIZE}
 use Rattle.dw_model.specs.Results.{◌>>=◌, or_fault, refuse_if}
-use Rattle.dw_model.specs.Reading.{Place, start, number_at, bytes_at}
-use Rattle.dw_model.specs.InitialLength.{InitialLength, of_length, reserved, offset_size, initial_length}
+use Rattle.dw_model.specs.Reading.{Place, Between, start, number_at, bytes_at}
+use Rattle.dw_model.specs.InitialLength.{InitialLength, Width, of_length, reserved, offset_size, initial_length}
 use Rattle.dw_model.specs.Leb.{uleb_at}
 use Rattle.dw_model.specs.Form.{Value}
 use Rattle.dw_model.specs.Faults.{Bad, bad}
@@ -16,11 +17,11 @@ use Rattle.dw_model.specs.LineHeader.{LineEntry, LineHeader, Format, formats_at,
 use Rattle.dw_model.proofs.StepLemmas.{bind_ok, bind_some, ok_or-ok, ok_is}
 use Rattle.dw_model.proofs.ReadingLemmas.{between-length}
 use Rattle.dw_model.proofs.AdvanceLemmas.{number-onward}
-use Rattle.dw_model.proofs.NumberLemmas.{bytes_at-between}
+use Rattle.dw_model.proofs.NumberLemmas.{number_at-spans, bytes_at-between}
 use Rattle.dw_model.proofs.LebReading.{uleb-left}
 use Rattle.dw_model.proofs.InstructionLemmas.{or_fault-ok}
-use Rattle.dw_model.proofs.InitialLemmas.{initial-left}
-use Rattle.dw_line.specs.TableAt.{table_behind_length, table_at, table_size}
+use Rattle.dw_model.proofs.InitialLemmas.{initial-left, initial-spans}
+use Rattle.dw_line.specs.TableAt.{TableBytes, table_behind_length, table_at, table_size}
 use Rattle.dw_line.proofs.EntryLemmas.{contents-between}
 use Rattle.dw_line.proofs.HeaderLemmas.{header_behind}
 
@@ -120,19 +121,93 @@ module _ (tables : Tables) (bases : Bases) (size : ℕ) where
       all_parts (length p.left) (length version.1.left) (length address.1.left) (length segment.1.left) (length long.1.left) size (length header.0) (length header.1.left) (length x.directories + length x.files) (length x.program)
       (number-onward 2 p bad version ev) (number-onward 1 version.1 bad address ea) (number-onward 1 address.1 bad segment es) (number-onward size segment.1 bad long el) (between-length long.1 header.1 header.0 lengths.1) fields.0 (ap (λ (program : List ℕ). length program) fields.1)))))) x e
 
+-- ---- where the program of a table ends
+
+-- a piece of a section ends at an offset there
+abbrev EndsAt : List ℕ → ℕ → List ℕ → Type 0
+EndsAt section end piece = take (length piece) (drop (end - length piece) section) ≡ piece
+
+-- what is left at a place is the end of what was left at another
+abbrev IsTail : Place → List ℕ → Type 0
+IsTail p rest = (piece : List ℕ) × (p.left ≡ piece ++ rest)
+
+tail-on : (p q : Place) (rest : List ℕ) → IsTail p q.left → IsTail q rest → IsTail p rest
+tail-on p q rest first second = (first.0 ++ second.0, first.1 ∙ ap (λ (left : List ℕ). first.0 ++ left) second.1 ∙ sym (append_assoc first.0 second.0 rest))
+
+number-tail : (n : ℕ) (p : Place) (x : ℕ × Place) → ok_or (number_at n p) bad ≡ Ok x → IsTail p x.1.left
+number-tail n p x e = let s = number_at-spans n p x (ok_or-ok (number_at n p) bad x e) in (s.0, s.1.0)
+
+module _ (tables : Tables) (bases : Bases) (size : ℕ) where
+  program-tail : (p : Place) (x : LineHeader) → table_behind tables bases size p ≡ Ok x → IsTail p x.program
+  unfolding table_behind
+  program-tail p x e =
+      behind (ok_or (number_at 2 p) bad) _ (λ x. IsTail p x.program) (λ version ev.
+      behind (ok_or (number_at 1 version.1) bad) _ (λ x. IsTail p x.program) (λ address ea.
+      behind (ok_or (number_at 1 address.1) bad) _ (λ x. IsTail p x.program) (λ segment es.
+      behind (ok_or (number_at size segment.1) bad) _ (λ x. IsTail p x.program) (λ long el.
+      behind (ok_or (bytes_at long.0 long.1) bad) _ (λ x. IsTail p x.program) (λ header eh x e.
+      let fields = fields-on tables bases size header.1.left (start header.0) x (not_refused tables bases size (not (address.0 == ADDRESS_SIZE)) _ x (not_refused tables bases size (not (version.0 == DWARF_VERSION)) _ x e).1).1 in
+      let bytes = bytes_at-between long.0 long.1 header (ok_or-ok (bytes_at long.0 long.1) bad header eh) in
+      tail-on p version.1 x.program (number-tail 2 p version ev)
+      (tail-on version.1 address.1 x.program (number-tail 1 version.1 address ea)
+      (tail-on address.1 segment.1 x.program (number-tail 1 address.1 segment es)
+      (tail-on segment.1 long.1 x.program (number-tail size segment.1 long el)
+      (header.0, bytes.1.0 ∙ ap (λ (left : List ℕ). header.0 ++ left) (sym fields.1)))))))))) x e
+
+module _ (section : List ℕ) (offset : ℕ) (p : Place) (n : ℕ) (width : Width) (x : List ℕ × Place) where
+  ends : (front head program : List ℕ) → Between (record { at = offset; left = drop offset section }) front p → Between p x.0 x.1 → x.0 ≡ head ++ program → EndsAt section x.1.at program
+  ends front head program before table is =
+      let size : x.1.at - length program ≡ offset + length (front ++ head) = omega (arith, before.1, table.1, length-append front head, ap (λ (bytes : List ℕ). length bytes) is, length-append head program) in
+      let left : drop offset section ≡ (front ++ head) ++ (program ++ x.1.left) = before.0 ∙ ap (λ (left : List ℕ). front ++ left) (table.0 ∙ ap (λ (bytes : List ℕ). bytes ++ x.1.left) is ∙ append_assoc head program x.1.left) ∙ sym (append_assoc front head (program ++ x.1.left)) in
+      let from : drop (x.1.at - length program) section ≡ program ++ x.1.left = ap (λ (n : ℕ). drop n section) size ∙ sym (drop-drop (length (front ++ head)) offset section) ∙ ap (λ (rest : List ℕ). drop (length (front ++ head)) rest) left ∙ drop_at (front ++ head) (program ++ x.1.left) (length (front ++ head)) refl in
+      ap (λ (rest : List ℕ). take (length program) rest) from ∙ take_at program x.1.left (length program) refl
+
+-- the program of the table at an offset ends with the table
+program-ends : (section : List ℕ) (offset : ℕ) (x : TableBytes) (tables : Tables) (bases : Bases) (header : LineHeader) → table_at section offset ≡ Some x → line_header tables bases section offset ≡ Ok header → EndsAt section x.2 header.program
+unfolding table_at
+program-ends section offset x tables bases header e read =
+    let p : Place = record { at = offset; left = drop offset section } in
+    let found = bind_some (initial_length p) (λ unit_length. table_behind_length unit_length.0 unit_length.1) x e in
+    by found.0.0 found.0.1 found.1 found.2
+  where
+    tail : IsTail (start x.0) header.program
+    tail = program-tail tables bases x.1 (start x.0) header (rw (e) at (sym (header_behind tables bases section offset) ∙ read))
+
+    taken : (n : ℕ) (width : Width) (p : Place) → initial_length (record { at = offset; left = drop offset section }) ≡ Some (of_length n width, p) → (bytes : Option (List ℕ × Place)) → bytes_at n p ≡ bytes
+        → option_map (λ (table : List ℕ × Place). (table.0, offset_size width, table.1.at)) bytes ≡ Some x → EndsAt section x.2 header.program
+    taken n width p measured (Some table) is same =
+        let front = initial-spans width n (record { at = offset; left = drop offset section }) p measured in
+        let between = bytes_at-between n p table is in
+        let one = same_Some (table.0, offset_size width, table.1.at) x same in
+        let whole = subst (λ (bytes : List ℕ). IsTail (start bytes) header.program) (ap (λ (x : TableBytes). x.0) (sym one)) tail in
+        subst (λ (end : ℕ). EndsAt section end header.program) (ap (λ (x : TableBytes). x.2) one) (ends section offset p n width table front.0 whole.0 header.program front.1 between.1 whole.1)
+    taken n width p measured None is same = absurd cc
+
+    by : (long : InitialLength) (p : Place) → initial_length (record { at = offset; left = drop offset section }) ≡ Some (long, p) → table_behind_length long p ≡ Some x → EndsAt section x.2 header.program
+    by (of_length n width) p measured same = taken n width p measured (bytes_at n p) refl same
+    by reserved p measured same = absurd cc
+
+-- two programs that end at one offset are the same if they are as long
+pub same_programs : (section : List ℕ) (first second : ℕ) (x y : TableBytes) (tables : Tables) (bases : Bases) (one other : LineHeader) → table_at section first ≡ Some x → table_at section second ≡ Some y → x.2 ≡ y.2
+    → line_header tables bases section first ≡ Ok one → line_header tables bases section second ≡ Ok other → length one.program ≡ length other.program → one.program ≡ other.program
+same_programs section first second x y tables bases one other a b end c d size =
+    let p = program-ends section first x tables bases one a c in
+    let q = program-ends section second y tables bases other b d in
+    sym p ∙ ap (λ (n : ℕ). take n (drop (x.2 - n) section)) size ∙ ap (λ (end : ℕ). take (length other.program) (drop (end - length other.program) section)) end ∙ q
+
 module _ (section : List ℕ) (offset : ℕ) where
-  long-within : (length_read : InitialLength) (p : Place) (x : List ℕ × ℕ) → table_behind_length length_read p ≡ Some x → length x.0 ≤ length p.left
+  long-within : (length_read : InitialLength) (p : Place) (x : TableBytes) → table_behind_length length_read p ≡ Some x → length x.0 ≤ length p.left
   long-within (of_length n width) p x e = by (bytes_at n p) refl e
     where
-      by : (taken : Option (List ℕ × Place)) → bytes_at n p ≡ taken → option_map (λ (table : List ℕ × Place). (table.0, offset_size width)) taken ≡ Some x → length x.0 ≤ length p.left
+      by : (taken : Option (List ℕ × Place)) → bytes_at n p ≡ taken → option_map (λ (table : List ℕ × Place). (table.0, offset_size width, table.1.at)) taken ≡ Some x → length x.0 ≤ length p.left
       by (Some t) g h =
           let s = bytes_at-between n p t g in
-          omega (arith, ap (λ (x : List ℕ × ℕ). length x.0) (same_Some (t.0, offset_size width) x h), between-length p t.1 t.0 s.1)
+          omega (arith, ap (λ (x : TableBytes). length x.0) (same_Some (t.0, offset_size width, t.1.at) x h), between-length p t.1 t.0 s.1)
       by None g h = absurd cc
   long-within reserved p x e = absurd cc
 
   -- a table lies in its section
-  pub table_within : (x : List ℕ × ℕ) → table_at section offset ≡ Some x → length x.0 ≤ length section
+  pub table_within : (x : TableBytes) → table_at section offset ≡ Some x → length x.0 ≤ length section
   unfolding table_at
   table_within x e =
       let p : Place = record { at = offset; left = drop offset section } in
@@ -147,6 +222,6 @@ module _ (section : List ℕ) (offset : ℕ) where
   pub header-within : (tables : Tables) (bases : Bases) (header : LineHeader) → line_header tables bases section offset ≡ Ok header → length header.directories + length header.files + 2 * length header.program ≤ 2 * table_size section offset
   header-within tables bases header e = by (table_at section offset) (sym (header_behind tables bases section offset) ∙ e)
     where
-      by : (table : Option (List ℕ × ℕ)) → ◌>>=◌ {A = List ℕ × ℕ} {B = LineHeader} (ok_or table bad) (λ table. table_behind tables bases table.1 (start table.0)) ≡ Ok header → length header.directories + length header.files + 2 * length header.program ≤ 2 * option_map_or (λ (table : List ℕ × ℕ). length table.0) table 0
+      by : (table : Option TableBytes) → ◌>>=◌ {A = TableBytes} {B = LineHeader} (ok_or table bad) (λ table. table_behind tables bases table.1 (start table.0)) ≡ Ok header → length header.directories + length header.files + 2 * length header.program ≤ 2 * option_map_or (λ (table : TableBytes). length table.0) table 0
       by (Some table) e = table-on tables bases table.1 (start table.0) header e
       by None e = absurd cc

@@ -1,5 +1,5 @@
 -- The header that was read, as the definitions have it.
-use Rattle.std.specs.Prelude.{ℕ, List, [], Option, map, replicate, option_map, option_and_then, Result, Ok, nat_eq}
+use Rattle.std.specs.Prelude.{◌≡◌, ℕ, List, [], Option, map, replicate, option_map, option_and_then, Result, Ok, nat_eq}
 use Rattle.std.specs.Option.{option_or}
 use Rattle.std.specs.Map.{lookup}
 use Rattle.dw_model.specs.declared.dwarf.TheConstants.{DW_LNCT_path, DW_LNCT_directory_index}
@@ -65,6 +65,12 @@ header_in tables bases header = record {
   files = entries_shown tables bases header.files;
   program = header.program.now;
 }
+
+-- the header is that of the table at an offset, whichever unit names it
+abbrev pub IsHeaderAt : List ℕ → ℕ → Header → Type 0
+IsHeaderAt section offset header =
+    (tables : Tables) (bases : Bases)
+    → model.line_header tables bases section offset ≡ Ok (header_in tables bases header)
 
 -- a header without its lists: its program's rows depend on nothing else
 abbrev pub without_lists : model.LineHeader → model.LineHeader

@@ -4,13 +4,19 @@ use Rattle.std.specs.Option.{option_map_or}
 use Rattle.dw_model.specs.Reading.{Place, bytes_at}
 use Rattle.dw_model.specs.InitialLength.{offset_size, InitialLength, of_length, reserved, initial_length}
 
--- so many bytes as a length says, with the size of the offsets in them
-abbrev pub table_behind_length : InitialLength → Place → Option (List ℕ × ℕ)
-table_behind_length (of_length n width) p = option_map (λ table. (table.0, offset_size width)) (bytes_at n p)
+-- the bytes of a table, the size of the offsets in them, and where they end, as an offset of the
+-- section
+abbrev pub TableBytes : Type 0
+TableBytes = List ℕ × ℕ × ℕ
+
+-- so many bytes as a length says
+abbrev pub table_behind_length : InitialLength → Place → Option TableBytes
+table_behind_length (of_length n width) p =
+    option_map (λ table. (table.0, offset_size width, table.1.at)) (bytes_at n p)
 table_behind_length reserved p = None
 
 -- the bytes of the table at an offset, after its length, where they are there
-unfoldable pub table_at : List ℕ → ℕ → Option (List ℕ × ℕ)
+unfoldable pub table_at : List ℕ → ℕ → Option TableBytes
 table_at section offset =
     option_and_then (λ unit_length. table_behind_length unit_length.0 unit_length.1)
     (initial_length (record { at = offset; left = drop offset section }))

@@ -5,11 +5,13 @@ ghost use Rattle.std.specs.Prelude.{◌<◌};
 use crate::entry_list::EntryList;
 
 mod parser;
+mod same_rows;
 mod table;
 
 pub(crate) use parser::header_at;
-pub(crate) use table::table_at;
+pub(crate) use same_rows::have_same_rows;
 pub use table::table_size;
+pub(crate) use table::{TableBytes, table_at};
 
 /// The fields of a header that are used, and the program after it.
 #[derive(Debug, Drop)]

@@ -1,6 +1,7 @@
 //! A line table: the row of an address, and the path of a file.
 
-ghost use Rattle.std.specs.Prelude.{◌≡◌, ◌≤◌, ◌<◌, ◌+◌, ◌*◌, ℕ, Ok, Some, IfOk, IfErr, option_map, length, nat_lt};
+ghost use Rattle.std.specs.Prelude.{◌≡◌, ◌≤◌, ◌<◌, ◌+◌, ◌*◌, ℕ, true, false, Ok, Some, IfOk, IfErr, option_map, length};
+ghost use Rattle.std.specs.Prelude.{nat_lt, if◌then◌else◌};
 ghost use Rattle.dw_model.specs.Answers.{GivesUnlessMemory};
 ghost use Rattle.dw_model.specs.Matrix.{row_of};
 ghost use Rattle.dw_model.specs.Path.{path};
@@ -18,7 +19,7 @@ ghost use Rattle.dw_line.specs.TableAt.{table_size};
 
 use crate::checkpoints::{Checkpoint, Checkpoints, Sequence};
 use crate::fault::LineFault;
-use crate::header::{Header, header_at};
+use crate::header::{Header, have_same_rows, header_at};
 use crate::leaps::{Leap, long_ways};
 use crate::path::{AskingUnit, join, join_some};
 use crate::program::run_program;
@@ -143,6 +144,36 @@ impl<'a> Lines<'a> {
         };
     }
 
+    /// Turns to the table at another offset of the section and to a unit that names it, as
+    /// `turn_to` does, and returns whether that was done: where its header can be read, and its
+    /// program is the same bytes, run in the same way. So it has the same rows, and the program
+    /// isn't run again.
+    pub fn turn_to_table(
+        &mut self,
+        alloc: Global,
+        tables: &Tables<'a>,
+        bases: &Bases,
+        comp_dir: Option<&'a [u8]>,
+        offset: u64,
+    ) -> bool
+        ensures table { result ≡ true → lines_of (tables_shown tables.now) (bases_shown bases.now) self.old.section
+            (option_map (λ directory. directory.now) comp_dir.entry) offset ≡ Ok self.new }
+        ensures section { self.new.section ≡ self.old.section }
+        ensures offset { self.new.offset ≡ (if result then offset else self.old.offset) }
+        ensures stays { result ≡ false → self.new ≡ self.old }
+    {
+        let Ok(header) = header_at(alloc, self.section, offset) else {
+            return false;
+        };
+        if !have_same_rows(self.section, &self.header, self.offset, &header, offset) {
+            return false;
+        }
+        self.header = header;
+        self.offset = offset;
+        self.turn_to(tables, bases, comp_dir);
+        true
+    }
+
     /// The row of an address: in the first used sequence, in program order, from whose first
     /// address on and below whose end it lies, the last row whose address isn't above it. It is
     /// found by halves among the sequences and among the checkpoints of one, from which rows are
@@ -242,7 +273,7 @@ impl<'a> Lines<'a> {
         ensures owner { IsOwner self.now.rows result.number a result.until }
         ensures border { OwnerEnds self.now.rows result.number result.until }
     {
-        let found = self.index.find_from(a);
+        let found = self.index.find_from(a, &mut 0);
         Owner {
             number: found.owner,
             until: found.until,

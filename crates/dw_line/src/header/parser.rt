@@ -10,7 +10,7 @@ ghost use Rattle.dw_line.specs.Header.{header_in};
 
 use crate::entries::entry_list_of;
 use crate::fault::LineFault;
-use crate::header::{Header, table_at};
+use crate::header::{Header, TableBytes, table_at};
 use dw_bytes::{Cursor, Width};
 use dw_model::dwarf::{ADDRESS_SIZE, DWARF_VERSION};
 use std::alloc::Global;
@@ -96,6 +96,6 @@ pub(crate) fn header_at<'a>(
         → GivesUnlessMemory (header_in tables bases) line_fault result
         (line_header tables bases section.now offset) }
 {
-    let (table, width) = table_at(section, offset).ok_or(LineFault::Bad)?;
-    table_of(alloc, &mut Cursor::new(table), width)
+    let TableBytes { bytes, width, .. } = table_at(section, offset).ok_or(LineFault::Bad)?;
+    table_of(alloc, &mut Cursor::new(bytes), width)
 }

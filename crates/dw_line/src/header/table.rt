@@ -6,11 +6,21 @@ ghost use Rattle.dw_line.specs.TableAt.{table_at, table_size};
 
 use dw_bytes::{Cursor, Initial, Width};
 
-/// The bytes of the table at an offset of .debug_line, after its length, and the width of offsets
-/// in them; `None` where they aren't there.
+/// The bytes of a table after its length.
+#[derive(Clone, Copy, Debug)]
+pub(crate) struct TableBytes<'a> {
+    pub(crate) bytes: &'a [u8],
+    /// The width of offsets in them.
+    pub(crate) width: Width,
+    /// Where they end, as an offset of .debug_line.
+    pub(crate) end: usize,
+}
+
+/// The bytes of the table at an offset of .debug_line; `None` where they aren't there.
 #[tactic(auto, using(crate::proofs::HeaderLemmas::no_table), unfolding(crate::specs::TableAt::table_at))]
-pub(crate) fn table_at<'a>(section: &'a [u8], offset: u64) -> Option<(&'a [u8], Width)>
-    ensures { option_map (λ found. (found.0.now, size_of found.1)) result ≡ table_at section.now offset }
+pub(crate) fn table_at<'a>(section: &'a [u8], offset: u64) -> Option<TableBytes<'a>>
+    ensures { option_map (λ found. (found.bytes.now, size_of found.width, found.end)) result
+        ≡ table_at section.now offset }
 {
     if offset > section.len() as u64 {
         return None;
@@ -20,8 +30,9 @@ pub(crate) fn table_at<'a>(section: &'a [u8], offset: u64) -> Option<(&'a [u8], 
     let Initial::Bytes(unit_length, width) = cursor.initial_length()? else {
         return None;
     };
-    let table = cursor.take(unit_length as usize)?;
-    Some((table, width))
+    let bytes = cursor.take(unit_length as usize)?;
+    let end = cursor.at();
+    Some(TableBytes { bytes, width, end })
 }
 
 /// How many bytes the table at an offset of .debug_line has, without its length; 0 where they
@@ -31,7 +42,7 @@ pub fn table_size(section: &[u8], offset: u64) -> usize
     ensures within { result ≤ length section.now }
 {
     match table_at(section, offset) {
-        Some((table, _width)) => table.len(),
+        Some(table) => table.bytes.len(),
         None => 0,
     }
 }
