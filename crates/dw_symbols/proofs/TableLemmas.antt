@@ -1,7 +1,9 @@
 -- The line tables that are kept, after one more, one fewer or one that was turned.
-use Rattle.std.proofs.Common.{◌≡◌, ◌≤◌, ℕ, ◌+◌, ◌-◌, Bool, List, length, take, Option, Some, Result, sym, subst, arith}
+use Rattle.std.proofs.Common.{◌≡◌, ◌≤◌, ℕ, ◌+◌, ◌-◌, Bool, List, Contains, length, take, Option, Some, Result, sym, subst, arith}
 use Rattle.std.specs.Prelude.{nat_eq, slice_get}
 use Rattle.std.specs.Map.{lookup, set_value}
+use Rattle.std.proofs.lemmas.List.Elements.{Contains-get_or}
+use Rattle.std.proofs.lemmas.Option.{get_or_from_slice_get, slice_get_within}
 use Rattle.lru.specs.LruCache.{LruCache, lru_cache, promoted, put_entries}
 use Rattle.dw_model.specs.Section.{Sections}
 use Rattle.dw_model.specs.Unit.{DwarfUnit}
@@ -10,7 +12,7 @@ use Rattle.dw_line.specs.TableAt.{table_size}
 use Rattle.dw_symbols.specs.declared.answer.UnitFault.{UnitFault}
 use Rattle.dw_symbols.specs.declared.table_cache.KeptTables.{KeptTables}
 use Rattle.dw_symbols.specs.Kept.{AreTables}
-use Rattle.dw_symbols.specs.UnitParts.{IsNamed, IsTableAt, IsTableOf, named_table}
+use Rattle.dw_symbols.specs.UnitParts.{IsNamed, IsTable, IsTableAt, IsTableOf, named_table}
 use Rattle.dw_symbols.proofs.KeptLemmas.{after-same, after-put, after-set, looked-up, oldest-gone, size-put, size-after-set}
 
 abbrev Read : Type 0
@@ -23,6 +25,14 @@ module _ (line : List ℕ) (old : KeptTables) (are : AreTables line old) where
   pub oldest-let-go : {dropped : Bool} (new : LruCache ℕ Read) (size left : ℕ) (oldest : ℕ × Read) → Some oldest ≡ slice_get old.tables.entries (length old.tables.entries - 1) → new ≡ lru_cache (take (length old.tables.entries - 1) old.tables.entries) old.tables.cap → size ≡ table_size line oldest.0 → left ≡ old.size - size → AreTables line (tables_of new left dropped)
   oldest-let-go new size left oldest there same is rest =
       grind (arith, after-same (IsTableAt line) new (length old.tables.entries - 1) old.tables.entries old.tables.cap same are.each, oldest-gone line old.tables.entries new old.tables.cap old.size left oldest there same are.counted)
+
+  -- the one that goes was read
+  pub oldest-read : (oldest : ℕ × Read) → Some oldest ≡ slice_get old.tables.entries (length old.tables.entries - 1) → IsTable line oldest.1
+  oldest-read oldest there =
+      let last = length old.tables.entries - 1 in
+      let found = get_or_from_slice_get old.tables.entries last oldest oldest (sym there) in
+      let within = slice_get_within old.tables.entries last oldest (sym there) in
+      (oldest.0, are.each oldest.0 oldest.1 (subst (λ (entry : ℕ × Read). Contains old.tables.entries entry) found (Contains-get_or old.tables.entries last oldest within)))
 
   pub table-put : {dropped : Bool} (new : LruCache ℕ Read) (offset : ℕ) (read : Read) (size : ℕ) → new ≡ lru_cache (put_entries nat_eq old.tables offset read) old.tables.cap → IsTableAt line offset read → size ≡ old.size + table_size line offset → size ≤ length line → AreTables line (tables_of new size dropped)
   table-put new offset read size same own is room =

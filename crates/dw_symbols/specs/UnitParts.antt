@@ -66,6 +66,10 @@ IsTableAt line offset (Ok (Some table)) = (table.section ≡ line) × (table.off
 IsTableAt line offset (Ok None) = ⊥
 IsTableAt line offset (Err fault) = (fault ≡ Line) × IsBadTable line offset
 
+-- the same at some offset
+abbrev pub IsTable : List ℕ → Result (Option Table) UnitFault → Type 0
+IsTable line read = (offset : ℕ) × IsTableAt line offset read
+
 -- the same where there is an offset, and no table where there is none
 abbrev pub IsTableOf : List ℕ → Option ℕ → Result (Option Table) UnitFault → Type 0
 IsTableOf line None read = read ≡ Ok None

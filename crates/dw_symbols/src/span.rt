@@ -22,13 +22,16 @@ pub(crate) struct Span {
     pub(crate) high: u64,
 }
 
-/// For how many bytes of pieces there is room before their turn, besides eight for each byte of the
-/// file.
+/// For how many bytes of pieces there is room before their turn: for so many, and 24 for each byte
+/// of the file.
 const ROOM: usize = 10 << 20;
+
+/// How many parts of a span are found at one time, as long as all tables that it asks are kept.
+const FEW: usize = 256;
 
 /// For how many bytes of pieces of a file there is room before their turn.
 fn room_in(image: &Image<'_>) -> usize {
-    image.bytes().len().saturating_mul(8).saturating_add(ROOM)
+    image.bytes().len().saturating_mul(24).saturating_add(ROOM)
 }
 
 impl<'a> KeptTables<'a> {
@@ -38,13 +41,12 @@ impl<'a> KeptTables<'a> {
     ghost use Rattle.dw_symbols.specs.Parts.{AreFirstParts, AreFound, IsPart};
     ghost use Rattle.dw_symbols.specs.Span.{AddsFirst, AddsPart, ArePiecesBy};
 
-    /// How many parts of a span are found at one time: one as long as all tables that it asks are
-    /// kept.
+    /// How many parts of a span are found at one time.
     fn most_parts(&self, image: &Image<'a>) -> usize {
         if self.has_dropped() {
             return most_parts(room_in(image));
         }
-        1
+        FEW
     }
 
     /// The pieces of a span, of which a unit answers all addresses; none where it can't.
@@ -141,7 +143,11 @@ impl<'a> KeptTables<'a> {
             (map piece_shown pieces.old.items) (map piece_shown pieces.new.items)) }
     {
         law_of_more_pieces();
-        let units = image.unit_count();
+        let units = if self.has_dropped() {
+            image.unit_count()
+        } else {
+            0
+        };
         let mut early = Early::new(alloc, room_in(image), units, parts)?;
         let mut at = span.low;
         for i in 0..parts.len() {
@@ -179,10 +185,11 @@ impl<'a> KeptTables<'a> {
             return Ok(Answer::Pieces(pieces));
         }
         let mut units = image.walk(alloc)?;
+        let mut parts = Vec::new(alloc);
         let mut at = low;
         while at < high {
             let left = Span { low: at, high };
-            let parts = units.parts(alloc, left, self.most_parts(image))?;
+            units.find_parts(left, self.most_parts(image), &mut parts)?;
             match self.push_parts(alloc, image, left, &parts, &mut pieces)? {
                 Ok(end) => at = end,
                 Err((unit, code)) => return Ok(Answer::Fault { unit, code }),

@@ -1,6 +1,6 @@
 //! The line tables that were used last: together no longer than .debug_line.
 
-ghost use Rattle.std.specs.Prelude.{◌≡◌, ◌≤◌, ◌+◌, List, ℕ, IfOk, length, map};
+ghost use Rattle.std.specs.Prelude.{◌≡◌, ◌≤◌, ◌+◌, List, ℕ, IfOk, IfSome, length, map};
 ghost use Rattle.dw_line.specs.TableAt.{table_size};
 ghost use Rattle.dw_frames.specs.Told.{described_shown};
 ghost use Rattle.dw_symbols.specs.Answer.{answer_shown, piece_shown};
@@ -12,7 +12,7 @@ use crate::answer::{Answer, Piece, UnitFault};
 use crate::image_unit::ImageUnit;
 use crate::span::Span;
 use crate::unit_answers::{frames_by, push_pieces_by};
-use crate::unit_parts::{UnitLines, read_table, table_offset};
+use crate::unit_parts::{UnitLines, table_after, table_offset};
 use dw_frames::Described;
 use dw_line::table_size;
 use lru::LruCache;
@@ -33,7 +33,7 @@ pub(crate) struct KeptTables<'a> {
 
 impl<'a> KeptTables<'a> {
     ghost use Rattle.dw_symbols.specs.Kept.{AreTables};
-    ghost use Rattle.dw_symbols.specs.UnitParts.{IsTableAt};
+    ghost use Rattle.dw_symbols.specs.UnitParts.{IsTable, IsTableAt};
 
     /// No table is kept yet.
     pub(crate) fn new(alloc: Global) -> Result<Self, AllocError>
@@ -52,21 +52,26 @@ impl<'a> KeptTables<'a> {
         self.has_dropped
     }
 
-    /// Lets the tables go that were used longest ago, until the one at an offset may be kept too.
-    fn make_room(&mut self, line: &[u8], offset: u64)
+    /// Lets the tables go that were used longest ago, until the one at an offset may be kept too,
+    /// and returns the last of these.
+    fn make_room(&mut self, line: &[u8], offset: u64) -> Option<UnitLines<'a>>
         requires kept { AreTables line.now self.old }
         ensures kept { AreTables line.now self.new }
         ensures room { self.new.size + table_size line.now offset ≤ length line.now }
+        ensures gone { IfSome result (IsTable line.now) }
     {
         let most = line.len() - table_size(line, offset);
+        let mut gone = None;
         while self.size > most {
             self.has_dropped = true;
-            let Some((oldest, _table)) = self.tables.pop_lru() else {
+            let Some((oldest, table)) = self.tables.pop_lru() else {
                 self.size = 0;
-                return;
+                return gone;
             };
+            gone = Some(table);
             self.size = self.size.saturating_sub(table_size(line, oldest));
         }
+        gone
     }
 
     /// Keeps a line table, for which room was made.
@@ -100,8 +105,8 @@ impl<'a> KeptTables<'a> {
             return Ok(());
         }
         let line = unit.line();
-        self.make_room(line, offset);
-        let lines = read_table(alloc, line, unit.open(), offset)?;
+        let gone = self.make_room(line, offset);
+        let lines = table_after(alloc, line, unit.open(), offset, gone)?;
         self.put(line, offset, lines)
     }
 

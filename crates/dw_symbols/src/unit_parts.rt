@@ -1,10 +1,10 @@
 //! What is read of a unit: its functions, and the line table that it names.
 
-ghost use Rattle.std.specs.Prelude.{◌≡◌, ◌<◌, false, IfOk, length, option_map};
+ghost use Rattle.std.specs.Prelude.{◌≡◌, ◌<◌, ℕ, false, List, IfOk, IfSome, length, option_map};
 ghost use Rattle.dw_model.specs.Unit.{is_skipped, units};
 ghost use Rattle.dw_units.specs.OpenUnit.{sections_of, unit_of};
 ghost use Rattle.dw_units.specs.UnitAt.{unit_at};
-ghost use Rattle.dw_symbols.specs.UnitParts.{HasTree, HasLines, IsNamed, IsTableAt, IsTurned, AreTurned};
+ghost use Rattle.dw_symbols.specs.UnitParts.{HasTree, HasLines, IsNamed, IsTable, IsTableAt, IsTurned, AreTurned};
 ghost use Rattle.dw_symbols.specs.UnitParts.{named_table, directory_of};
 
 use crate::answer::UnitFault;
@@ -104,6 +104,46 @@ pub fn read_table<'a>(
         Err(LineFault::Bad) => Ok(Err(UnitFault::Line)),
         Err(LineFault::Memory) => Err(AllocError),
     }
+}
+
+/// A line table that was read, as the one at another offset of its section, where both have the
+/// same rows.
+fn turned_table<'a>(
+    alloc: Global,
+    gone: Option<UnitLines<'a>>,
+    unit: OpenUnit<'_, 'a>,
+    offset: u64,
+) -> Option<Lines<'a>>
+    ensures { (line : List ℕ) → IfSome gone.entry (IsTable line)
+        → IfSome result (λ lines. (lines.section ≡ line) × (lines.offset ≡ offset)) }
+{
+    let Some(Ok(Some(lines))) = gone else {
+        return None;
+    };
+    let mut lines = lines;
+    let tables = unit.units().tables();
+    if !lines.turn_to_table(alloc, tables, &unit.unit().bases, None, offset) {
+        return None;
+    }
+    Some(lines)
+}
+
+/// The same as `read_table`, after a table went to make room for it: its program isn't run again
+/// where both have the same rows.
+pub(crate) fn table_after<'a>(
+    alloc: Global,
+    line: &'a [u8],
+    unit: OpenUnit<'_, 'a>,
+    offset: u64,
+    gone: Option<UnitLines<'a>>,
+) -> Result<UnitLines<'a>, AllocError>
+    requires { IfSome gone (IsTable line.now) }
+    ensures { IfOk result (IsTableAt line.now offset) }
+{
+    if let Some(lines) = turned_table(alloc, gone, unit, offset) {
+        return Ok(Ok(Some(lines)));
+    }
+    read_table(alloc, line, unit, offset)
 }
 
 /// Turns a line table to a unit.

@@ -1,6 +1,6 @@
 //! The units that answer the addresses of a span, from one border to the next.
 
-ghost use Rattle.std.specs.Prelude.{◌≡◌, ◌≤◌, ◌<◌, ℕ, IfOk, IfSome, option_map};
+ghost use Rattle.std.specs.Prelude.{◌≡◌, ◌≤◌, ◌<◌, ℕ, IfOk, IfSome, OnOk, option_map};
 ghost use Rattle.dw_model.specs.Section.{sections};
 ghost use Rattle.dw_model.specs.Steady.{last_address};
 ghost use Rattle.dw_symbols.specs.Owners.{FindsUnits};
@@ -92,18 +92,19 @@ impl<'b, 'a> UnitWalk<'b, 'a> {
         };
         Ok(Covered { unit, until })
     }
-    /// The first parts of a span, one after the other: so many at most, but one at least.
-    pub(crate) fn parts(
+    /// Finds the first parts of a span, one after the other: so many at most, but one at least.
+    /// They take the place of those in `parts`.
+    pub(crate) fn find_parts(
         &mut self,
-        alloc: Global,
         span: Span,
         most: usize,
-    ) -> Result<Vec<Part<'b, 'a>>, AllocError>
+        parts: &mut Vec<Part<'b, 'a>>,
+    ) -> Result<(), AllocError>
         requires some { span.low < span.high }
         ensures file { self.new ≡ self.old }
-        ensures parts { IfOk result (λ parts. AreFirstParts self.old span parts.items) }
+        ensures parts { OnOk result (AreFirstParts self.old span parts.new.items) }
     {
-        let mut parts = Vec::new(alloc);
+        parts.clear();
         let mut at = span.low;
         while at < span.high {
             let covered = self.next(at)?;
@@ -114,9 +115,9 @@ impl<'b, 'a> UnitWalk<'b, 'a> {
             })?;
             at = high;
             if parts.len() >= most {
-                return Ok(parts);
+                return Ok(());
             }
         }
-        Ok(parts)
+        Ok(())
     }
 }

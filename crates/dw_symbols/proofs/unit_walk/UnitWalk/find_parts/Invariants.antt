@@ -1,6 +1,6 @@
 use Rattle.std.proofs.Common.{◌≡◌, ◌≤◌, ◌-◌}
 use Rattle.dw_symbols.specs.Parts.{AreParts}
-use Rattle.dw_symbols.proofs.unit_walk.UnitWalk.parts.Given as goal
+use Rattle.dw_symbols.proofs.unit_walk.UnitWalk.find_parts.Given as goal
 
 abbrev pub invariant-loop-at : goal.invariant-loop-at
 invariant-loop-at l = record {

@@ -1,7 +1,7 @@
 use Rattle.std.proofs.Common.{◌∙◌, refl, arith}
 use Rattle.dw_symbols.specs.declared.unit_walk.Part.{Part}
 use Rattle.dw_symbols.proofs.PartLemmas.{is_part, one_part}
-use Rattle.dw_symbols.proofs.unit_walk.UnitWalk.parts.Goals as goal
+use Rattle.dw_symbols.proofs.unit_walk.UnitWalk.find_parts.Goals as goal
 
 pub loop-at-preserved : goal.loop-at-preserved
 loop-at-preserved c =
