@@ -315,14 +315,16 @@ def units_of_tables(offsets):
     return units, declaration(1, COMPILE_UNIT, 0, [*COVERING, (STMT_LIST, SEC_OFFSET)]) + b'\0'
 
 
-def tables_before(count, lists, filler, text):
-    """Line tables one after the other, each with a header up to the same place, where one program follows. A header has
-    lists for so many bytes that are left in it. Returns the section, and where each table begins."""
-    fields = bytes.fromhex('010101fb0e0d000101010100000001000001')
-    each = 12 + len(fields) + len(lists(0))
+def tables_before(count, lists, filler, text, ways=1):
+    """Line tables one after the other, each with a header up to the same place, where one program follows, which they
+    run in so many ways, in turn. A header has lists for so many bytes that are left in it. Returns the section, and
+    where each table begins."""
+    fields = bytes.fromhex('010101fb0e0d0001010101000000010000')
+    each = 13 + len(fields) + len(lists(0))
     end = count * each + filler
+    # the last field is how many operands an opcode has that the program doesn't use
     heads = (number(end + len(text) - each * i - 4, 4) + number(5, 2) + bytes([8, 0]) + number(end - each * i - 12, 4)
-             + fields + lists(end - each * (i + 1)) for i in range(count))
+             + fields + bytes([1 + i % ways]) + lists(end - each * (i + 1)) for i in range(count))
     return b''.join(heads) + bytes(filler) + text, range(0, count * each, each)
 
 
@@ -342,10 +344,10 @@ def tables_of_one_program_of_sequences(size):
     return file_of(units, first, line)
 
 
-def tables_of_one_program(size):
+def tables_of_one_program(size, ways=1):
     """Line tables over one program of many rows."""
     count = size // 128
-    line, offsets = tables_before(count, lambda left: bytes(4), 0, program(size // 2))
+    line, offsets = tables_before(count, lambda left: bytes(4), 0, program(size // 2), ways)
     units, first = units_of_tables(offsets)
     return file_of(units, first, line)
 
@@ -353,6 +355,16 @@ def tables_of_one_program(size):
 def span_over_tables_of_one_program(size):
     """The same file, of which a span over all units is asked."""
     return tables_of_one_program(size)
+
+
+def tables_of_one_program_by_ways(size):
+    """The same, but each table runs the program in another way than the one before it."""
+    return tables_of_one_program(size, 200)
+
+
+def span_over_tables_of_one_program_by_ways(size):
+    """The same file, of which a span over all units is asked."""
+    return tables_of_one_program(size, 200)
 
 
 def taking_turns(count, line, offsets):
@@ -366,9 +378,14 @@ def taking_turns(count, line, offsets):
     return file_of(units, first + b'\0', line, rnglists=one)
 
 
-def units_that_take_turns(size):
+def units_that_take_turns(size, ways=1):
     """17 units whose ranges take turns, each with a line table of its own over one program; a span is asked."""
-    return taking_turns(size // (17 * 16), *tables_before(17, lambda left: bytes(4), 0, program(size // 2, 0)))
+    return taking_turns(size // (17 * 16), *tables_before(17, lambda left: bytes(4), 0, program(size // 2, 0), ways))
+
+
+def units_that_take_turns_by_ways(size):
+    """The same, but each table runs the program in a way of its own."""
+    return units_that_take_turns(size, 200)
 
 
 def units_with_tables_that_take_turns(size):
@@ -377,11 +394,16 @@ def units_with_tables_that_take_turns(size):
     return taking_turns(size // (64 * 16), table * 64, range(0, 64 * len(table), len(table)))
 
 
-def many_units_that_take_turns(size):
+def many_units_that_take_turns(size, ways=1):
     """Units whose ranges take turns, as many as the file has room for, each with a line table over one program. A span
     is asked, with as many borders as the square of the file."""
-    tables = tables_before(size // 180, lambda left: bytes(4), 0, program(size // 4, 0))
+    tables = tables_before(size // 180, lambda left: bytes(4), 0, program(size // 4, 0), ways)
     return taking_turns(size // 36, *tables)
+
+
+def many_units_that_take_turns_by_ways(size):
+    """The same, but each table runs the program in another way than the one before it."""
+    return many_units_that_take_turns(size, 200)
 
 
 def no_rows_between_holes(size):
@@ -409,8 +431,11 @@ KINDS = {
     'span_over_units_of_tails': LINEAR, 'units_of_tails_with_bases': SQUARE,
     'span_over_units_of_tails_with_bases': SQUARE,
     'units_of_one_line_table': LINEAR, 'tables_of_one_list': LINEAR, 'tables_of_one_program_of_sequences': LINEAR,
-    'tables_of_one_program': SQUARE, 'span_over_tables_of_one_program': SQUARE, 'units_that_take_turns': LINEAR,
-    'units_with_tables_that_take_turns': LINEAR, 'many_units_that_take_turns': BORDERS,
+    'tables_of_one_program': LINEAR, 'span_over_tables_of_one_program': LINEAR,
+    'tables_of_one_program_by_ways': SQUARE, 'span_over_tables_of_one_program_by_ways': SQUARE,
+    'units_that_take_turns': LINEAR, 'units_that_take_turns_by_ways': LINEAR,
+    'units_with_tables_that_take_turns': LINEAR, 'many_units_that_take_turns': SQUARE,
+    'many_units_that_take_turns_by_ways': BORDERS,
     'no_rows_between_holes': LINEAR, 'span_over_no_rows_between_holes': LINEAR,
     'names_without_end': LINEAR, 'functions_of_empty_values': LINEAR,
     'functions_of_empty_values_after_a_number': LINEAR, 'units_of_empty_values': LINEAR,
@@ -436,14 +461,18 @@ def asked(kind, size):
         'span_over_units_of_tails': (0, 16 * (size // 35)),
         'span_over_units_of_tails_with_bases': (0, 32 * (size // 43)),
         'span_over_tables_of_one_program': (BEGIN, BEGIN + 16 * (size // 128)),
-        'units_that_take_turns': (BEGIN, BEGIN + size), 'units_with_tables_that_take_turns': (BEGIN, BEGIN + size),
+        'span_over_tables_of_one_program_by_ways': (BEGIN, BEGIN + 16 * (size // 128)),
+        'units_that_take_turns': (BEGIN, BEGIN + size), 'units_that_take_turns_by_ways': (BEGIN, BEGIN + size),
+        'units_with_tables_that_take_turns': (BEGIN, BEGIN + size),
         'many_units_that_take_turns': (BEGIN, BEGIN + 16 * (size // 180) * (size // 36)),
+        'many_units_that_take_turns_by_ways': (BEGIN, BEGIN + 16 * (size // 180) * (size // 36)),
         'span_over_no_rows_between_holes': (BEGIN, BEGIN + size // 2),
     }
     # how many bytes a unit of 16 addresses takes of the file, with what it names
     each = {
         'units_of_one_line_table': 60, 'units_with_functions_of_one_list': 40, 'tables_of_one_list': 130,
         'tables_of_one_program_of_sequences': size // 64, 'tables_of_one_program': 128,
+        'tables_of_one_program_by_ways': 128,
     }
     if kind == 'units_with_bases_of_one_list':
         return [f'{begin + 5:x}']

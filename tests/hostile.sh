@@ -3,9 +3,9 @@
 # words say, and prints the time and the peak memory of a listing and of one address, with the memory for each byte of
 # the file. It fails where memory passes 64 bytes for each byte of the file and 16 MB, or where a kind whose work is
 # linear takes more than 2.6 times as long for twice the bytes. Kinds of square time run up to 1 MB, and so does one
-# whose answer is longer than its file, for which memory may be more; many_units_that_take_turns, a span with as many
-# borders as the square of the file and a line table at each, runs up to 100 KB. A span over all units with bases takes
-# some ten minutes for 1 MB. Run it after `rt run` in crates/a2l has built the program. It needs python3.
+# whose answer is longer than its file, for which memory may be more; many_units_that_take_turns_by_ways, a span with as
+# many borders as the square of the file and a line table at each, runs up to 100 KB. Two spans with so many borders take
+# some minutes each for 1 MB. Run it after `rt run` in crates/a2l has built the program. It needs python3.
 . "$(dirname "$0")/programs.sh"
 need_a2l
 

@@ -94,7 +94,7 @@ static const struct known {
     {{[PIECES] = true}, ranges_of_units, 300, "a span reads the lists of units again for each window of addresses"},
     {{[PIECES] = true, [FRAMES] = true, [LOCATIONS] = true}, lines_of_units, 10000,
      "line tables may lead to one list of files, of which each has a copy"},
-    {{[PIECES] = true}, lines_of_units, 1500, "one program is run again for each table of it"},
+    {{[PIECES] = true}, lines_of_units, 1500, "a program is run again for each table that runs it in another way"},
 };
 enum { KNOWN = sizeof known / sizeof *known };
 static unsigned long known_seen[KNOWN];
