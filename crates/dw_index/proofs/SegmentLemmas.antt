@@ -82,7 +82,7 @@ module _ (segments : List Segment) (order : AreSegments 0 None segments) (a midd
   pub behind_from : a < begin_at segments middle → (k : ℕ) → middle ≤ k → k < length segments → a < begin_at segments k
   behind_from h k b e = omega (arith, rises 0 None segments middle k order b e)
 
--- the last segment before a place and the first behind it tell for all
+-- if a count parts the segments next to it by an address, it parts all
 pub passes : (segments : List Segment) (a count : ℕ) → AreSegments 0 None segments → count ≤ length segments → (0 < count → (get_or segments (count - 1) no_segment).begin ≤ a) → (count < length segments → a < (get_or segments count no_segment).begin) → Passes segments a count
 passes segments a count order within last next = record {
   within = within;

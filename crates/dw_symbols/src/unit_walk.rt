@@ -92,6 +92,7 @@ impl<'b, 'a> UnitWalk<'b, 'a> {
         };
         Ok(Covered { unit, until })
     }
+
     /// Finds the first parts of a span, one after the other: so many at most, but one at least.
     /// They take the place of those in `parts`.
     pub(crate) fn find_parts(
