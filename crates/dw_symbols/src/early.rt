@@ -27,14 +27,14 @@ pub(crate) struct Early {
     room: usize,
 }
 
-/// For each part the index of the next one of its unit; where there is none, 0. Without units there
-/// is no list.
+/// For each part the index of the next one of its unit; where there is none, 0. A single part has
+/// no list.
 fn followers_of(
     alloc: Global,
     units: usize,
     parts: &[Part<'_, '_>],
 ) -> Result<Vec<usize>, AllocError> {
-    if units == 0 {
+    if parts.len() <= 1 {
         return Ok(Vec::new(alloc));
     }
     let mut followers = vec![in alloc; 0; parts.len()]?;

@@ -26,9 +26,6 @@ pub(crate) struct Span {
 /// of the file.
 const ROOM: usize = 10 << 20;
 
-/// How many parts of a span are found at one time, as long as all tables that it asks are kept.
-const FEW: usize = 256;
-
 /// For how many bytes of pieces of a file there is room before their turn.
 fn room_in(image: &Image<'_>) -> usize {
     image.bytes().len().saturating_mul(24).saturating_add(ROOM)
@@ -41,12 +38,13 @@ impl<'a> KeptTables<'a> {
     ghost use Rattle.dw_symbols.specs.Parts.{AreFirstParts, AreFound, IsPart};
     ghost use Rattle.dw_symbols.specs.Span.{AddsFirst, AddsPart, ArePiecesBy};
 
-    /// How many parts of a span are found at one time.
+    /// How many parts of a span are found at one time: one as long as all tables that it asks are
+    /// kept.
     fn most_parts(&self, image: &Image<'a>) -> usize {
         if self.has_dropped() {
             return most_parts(room_in(image));
         }
-        FEW
+        1
     }
 
     /// The pieces of a span, of which a unit answers all addresses; none where it can't.
@@ -143,11 +141,7 @@ impl<'a> KeptTables<'a> {
             (map piece_shown pieces.old.items) (map piece_shown pieces.new.items)) }
     {
         law_of_more_pieces();
-        let units = if self.has_dropped() {
-            image.unit_count()
-        } else {
-            0
-        };
+        let units = image.unit_count();
         let mut early = Early::new(alloc, room_in(image), units, parts)?;
         let mut at = span.low;
         for i in 0..parts.len() {
