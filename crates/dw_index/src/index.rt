@@ -125,8 +125,9 @@ impl Index {
         next_border(&self.segments, self.searched(a))
     }
 
-    /// What `find` and `steady` return, by one search, from where an earlier one ended. Whoever
-    /// goes from border to border takes a few probes for each.
+    /// What `find` and `steady` return, by one search. `near` is where an earlier search ended, so
+    /// whoever goes from border to border takes a few probes for each; any other number costs time
+    /// alone.
     pub fn find_from(&self, a: u64, near: &mut usize) -> Found
         requires above { a < last_address }
         ensures owner { result.owner ≡ owner_at self.now a }
@@ -139,8 +140,8 @@ impl Index {
         Found { owner, until }
     }
 
-    /// How many segments don't begin above an address. It takes a few probes where these are all,
-    /// or as many as `near` says, or one more.
+    /// How many segments don't begin above an address. `near` is a guess, and a wrong one costs
+    /// time alone: a few probes are enough where the answer is `near`, one more, or all segments.
     pub fn passed(&self, a: u64, near: usize) -> usize
         ensures { Passes self.now a result }
     {

@@ -9,7 +9,7 @@ use Rattle.dw_model.specs.InitialLength.{offset_size, InitialLength, of_length, 
 abbrev pub TableBytes : Type 0
 TableBytes = List ℕ × ℕ × ℕ
 
--- so many bytes as a length says
+-- the bytes after a length, as many as it says
 abbrev pub table_behind_length : InitialLength → Place → Option TableBytes
 table_behind_length (of_length n width) p =
     option_map (λ table. (table.0, offset_size width, table.1.at)) (bytes_at n p)

@@ -145,9 +145,9 @@ impl<'a> Lines<'a> {
     }
 
     /// Turns to the table at another offset of the section and to a unit that names it, as
-    /// `turn_to` does, and returns whether that was done: where its header can be read, and its
-    /// program is the same bytes, run in the same way. So it has the same rows, and the program
-    /// isn't run again.
+    /// `turn_to` does, and returns whether that was done: only where its header was read, for which
+    /// an allocation may be refused, and its program is the same bytes, run in the same way. So it
+    /// has the same rows, and the program isn't run again.
     pub fn turn_to_table(
         &mut self,
         alloc: Global,

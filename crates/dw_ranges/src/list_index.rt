@@ -97,8 +97,8 @@ fn base_for(readable: Readable, base: Option<u64>) -> Option<u64>
     }
 }
 
-/// Whether ranges that are counted from a base hold an address, of which those with the least end
-/// that hold its offset have this end: that end is an address too.
+/// Whether some of the ranges that hold an offset from a base are ranges of addresses, by the least
+/// of their ends: whether that, counted from the base, is an address too.
 fn ends_within(end: Option<usize>, base: u64) -> bool
     ensures { result ≡ is_within base end }
 {

@@ -98,8 +98,8 @@ impl<'a> Owners<'a> {
         least_held(&self.held, tables, group, a, self.kept(group, a))
     }
 
-    /// The least owner in group 0, and up to where it is that of all addresses, or none has any.
-    /// The lists that are held are read once for each window.
+    /// The least owner in group 0 of an address, and an address above, up to which all have that
+    /// owner, or all have none. The lists that are held are read once for each window.
     pub fn find_from(
         &self,
         alloc: Global,

@@ -31,8 +31,8 @@ pub struct Window {
     pub(crate) until: u64,
     /// The ranges of the lists in the window, with their owners.
     pub(crate) index: Index,
-    /// Where the last searches ended in it, and among the ranges that are kept. No promise rests on
-    /// them.
+    /// Where the last searches ended, in `index` and in the one of the ranges that are kept. No
+    /// promise rests on them.
     pub(crate) near: usize,
     pub(crate) near_kept: usize,
 }

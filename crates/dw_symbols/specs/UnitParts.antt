@@ -66,7 +66,7 @@ IsTableAt line offset (Ok (Some table)) = (table.section ≡ line) × (table.off
 IsTableAt line offset (Ok None) = ⊥
 IsTableAt line offset (Err fault) = (fault ≡ Line) × IsBadTable line offset
 
--- the same at some offset
+-- it is the line table at some offset of a section, or no unit can read the one there
 abbrev pub IsTable : List ℕ → Result (Option Table) UnitFault → Type 0
 IsTable line read = (offset : ℕ) × IsTableAt line offset read
 

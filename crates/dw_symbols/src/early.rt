@@ -66,13 +66,14 @@ fn size_of(pieces: &[Piece]) -> usize {
     size
 }
 
-/// How many parts there may be at one time where there is room for so many bytes.
+/// How many parts may wait at one time, with a piece each, where there is room for so many bytes.
 pub(crate) fn most_parts(room: usize) -> usize {
     room / SIZE
 }
 
 impl Early {
-    /// None is found of these parts, which are of so many units. There is room for so many bytes.
+    /// No pieces of these parts are found yet. The file has `units` units, and there is room for
+    /// `room` bytes of pieces.
     pub(crate) fn new(
         alloc: Global,
         room: usize,

@@ -22,11 +22,11 @@ pub(crate) struct Span {
     pub(crate) high: u64,
 }
 
-/// For how many bytes of pieces there is room before their turn: for so many, and 24 for each byte
-/// of the file.
+/// The room for pieces that wait for their turn, in bytes, whatever the size of the file.
 const ROOM: usize = 10 << 20;
 
-/// For how many bytes of pieces of a file there is room before their turn.
+/// The room for pieces of a file that wait for their turn, in bytes. With 24 for each byte of the
+/// file, all that a span keeps is less than 64 for each.
 fn room_in(image: &Image<'_>) -> usize {
     image.bytes().len().saturating_mul(24).saturating_add(ROOM)
 }
@@ -38,8 +38,8 @@ impl<'a> KeptTables<'a> {
     ghost use Rattle.dw_symbols.specs.Parts.{AreFirstParts, AreFound, IsPart};
     ghost use Rattle.dw_symbols.specs.Span.{AddsFirst, AddsPart, ArePiecesBy};
 
-    /// How many parts of a span are found at one time: one as long as all tables that it asks are
-    /// kept.
+    /// How many parts of a span are found at one time: one as long as all tables are kept, and as
+    /// many as there is room for once one was dropped.
     fn most_parts(&self, image: &Image<'a>) -> usize {
         if self.has_dropped() {
             return most_parts(room_in(image));

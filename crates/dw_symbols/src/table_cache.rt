@@ -53,7 +53,7 @@ impl<'a> KeptTables<'a> {
     }
 
     /// Lets the tables go that were used longest ago, until the one at an offset may be kept too,
-    /// and returns the last of these.
+    /// and returns the one that went last.
     fn make_room(&mut self, line: &[u8], offset: u64) -> Option<UnitLines<'a>>
         requires kept { AreTables line.now self.old }
         ensures kept { AreTables line.now self.new }
@@ -90,8 +90,8 @@ impl<'a> KeptTables<'a> {
         }
     }
 
-    /// Keeps the line table at an offset, which is read where it isn't kept. Room is made first, so
-    /// what is read and what is kept are never longer together than .debug_line.
+    /// Keeps the line table at an offset, which is read if it isn't kept. Room is made first; the
+    /// table that went last stays until the new one is read, which may have the same rows.
     fn hold(
         &mut self,
         alloc: Global,

@@ -106,8 +106,8 @@ pub fn read_table<'a>(
     }
 }
 
-/// A line table that was read, as the one at another offset of its section, where both have the
-/// same rows.
+/// Turns a line table that was read to the one at another offset of its section, if it is seen that
+/// both have the same rows.
 fn turned_table<'a>(
     alloc: Global,
     gone: Option<UnitLines<'a>>,

@@ -93,8 +93,8 @@ impl<'b, 'a> UnitWalk<'b, 'a> {
         Ok(Covered { unit, until })
     }
 
-    /// Finds the first parts of a span, one after the other: so many at most, but one at least.
-    /// They take the place of those in `parts`.
+    /// Finds the first parts of a span, one after the other: `most` at most, but one at least. They
+    /// replace those in `parts`, where after an error some of them are.
     pub(crate) fn find_parts(
         &mut self,
         span: Span,

@@ -6,7 +6,7 @@ ghost use Rattle.dw_line.specs.TableAt.{table_at, table_size};
 
 use dw_bytes::{Cursor, Initial, Width};
 
-/// The bytes of a table after its length.
+/// A table without its length.
 #[derive(Clone, Copy, Debug)]
 pub(crate) struct TableBytes<'a> {
     pub(crate) bytes: &'a [u8],
