@@ -26,7 +26,7 @@ pub(crate) struct Span {
 const ROOM: usize = 10 << 20;
 
 /// The room for pieces of a file that wait for their turn, in bytes. With 24 for each byte of the
-/// file, all that a span keeps is less than 64 for each.
+/// file, the peak of a span was measured below 64 for each.
 fn room_in(image: &Image<'_>) -> usize {
     image.bytes().len().saturating_mul(24).saturating_add(ROOM)
 }

@@ -94,7 +94,7 @@ impl<'b, 'a> UnitWalk<'b, 'a> {
     }
 
     /// Finds the first parts of a span, one after the other: `most` at most, but one at least. They
-    /// replace those in `parts`, where after an error some of them are.
+    /// replace those in `parts`; after an error, `parts` may lack some.
     pub(crate) fn find_parts(
         &mut self,
         span: Span,
