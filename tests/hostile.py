@@ -336,6 +336,15 @@ def tables_of_one_list(size):
     return file_of(units, first, line)
 
 
+def tables_of_long_lists(size):
+    """Line tables whose lists of files have an entry for each byte that is left in the header, up to one place."""
+    listed = lambda left: b'\0\0\x01\x01\x0b' + uleb(left, 4)
+    row = b'\0\x09\x02' + number(BEGIN, 8) + b'\x01\x02' + uleb(LENGTH) + b'\0\x01\x01'
+    line, offsets = tables_before(size // 130, listed, size // 2, row)
+    units, first = units_of_tables(offsets)
+    return file_of(units, first, line)
+
+
 def tables_of_one_program_of_sequences(size):
     """64 line tables over one program of sequences that take few bytes."""
     sequences = b''.join(b'\x02' + uleb(BEGIN + i) + b'\x01\x21\0\x01\x01' for i in range((size - 4000) // 9))
@@ -430,7 +439,8 @@ KINDS = {
     'span_over_units_with_bases': LINEAR, 'span_over_all_units_with_bases': SQUARE, 'units_of_tails': LINEAR,
     'span_over_units_of_tails': LINEAR, 'units_of_tails_with_bases': SQUARE,
     'span_over_units_of_tails_with_bases': SQUARE,
-    'units_of_one_line_table': LINEAR, 'tables_of_one_list': LINEAR, 'tables_of_one_program_of_sequences': LINEAR,
+    'units_of_one_line_table': LINEAR, 'tables_of_one_list': LINEAR, 'tables_of_long_lists': SQUARE,
+    'tables_of_one_program_of_sequences': LINEAR,
     'tables_of_one_program': LINEAR, 'span_over_tables_of_one_program': LINEAR,
     'tables_of_one_program_by_ways': SQUARE, 'span_over_tables_of_one_program_by_ways': SQUARE,
     'units_that_take_turns': LINEAR, 'units_that_take_turns_by_ways': LINEAR,
@@ -471,7 +481,7 @@ def asked(kind, size):
     # how many bytes a unit of 16 addresses takes of the file, with what it names
     each = {
         'units_of_one_line_table': 60, 'units_with_functions_of_one_list': 40, 'tables_of_one_list': 130,
-        'tables_of_one_program_of_sequences': size // 64, 'tables_of_one_program': 128,
+        'tables_of_long_lists': 130, 'tables_of_one_program_of_sequences': size // 64, 'tables_of_one_program': 128,
         'tables_of_one_program_by_ways': 128,
     }
     if kind == 'units_with_bases_of_one_list':

@@ -93,7 +93,7 @@ static const struct known {
      "functions may have tails in turn, of several lists or in several functions, and each is read whole"},
     {{[PIECES] = true}, ranges_of_units, 300, "a span reads the lists of units again for each window of addresses"},
     {{[PIECES] = true, [FRAMES] = true, [LOCATIONS] = true}, lines_of_units, 10000,
-     "line tables may lead to one list of files, of which each has a copy"},
+     "line tables may lead to one list of files, which is read for each"},
     {{[PIECES] = true}, lines_of_units, 1500, "a program is run again for each table that runs it in another way"},
 };
 enum { KNOWN = sizeof known / sizeof *known };

@@ -34,6 +34,9 @@ module _ {X A : Type 0} (view : X → A) (one : Place → Result (A × Place) Ba
   abbrev pub SoFar : List X → (count i : ℕ) → Place → Result (List A × Place) Bad → Type 0
   SoFar items count i p whole = in_front (map view items) (many (count - i) p) ≡ whole
 
+  pub begins : (count : ℕ) (p : Place) → SoFar [] count 0 p (many count p)
+  begins count p = grind arith
+
   more : (count i : ℕ) → i < count → count - i ≡ suc (count - (i + 1))
   more count i h = omega (arith, h)
 

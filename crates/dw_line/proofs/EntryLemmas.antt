@@ -1,18 +1,19 @@
 -- Reading the lists of directories and files as loops do.
-use Rattle.std.proofs.Common.{◌≡◌, ℕ, zero, suc, ◌+◌, ◌<◌, ◌≤◌, List, [], ◌∷◌, ◌++◌, length, drop, get_or, map, replicate, Option, Some, None, Result, Ok, Err, refl, sym, ap, ◌∙◌, subst, arith}
-use Rattle.std.specs.Prelude.{nat_eq, option_map, option_and_then}
+use Rattle.std.proofs.Common.{◌≡◌, ℕ, zero, suc, ◌+◌, ◌-◌, ◌<◌, ◌≤◌, true, List, [], ◌∷◌, ◌++◌, length, drop, get_or, map, replicate, Option, Some, None, Result, Ok, Err, refl, sym, ap, ◌∙◌, subst, arith}
+use Rattle.std.specs.Prelude.{nat_eq, nat_le, option_map, option_and_then}
 use Rattle.std.specs.Option.{option_or, option_map_or}
 use Rattle.std.specs.Map.{lookup}
 use Rattle.std.proofs.lemmas.List.{drop_more, drop_all}
 use Rattle.dw_model.specs.declared.dwarf.TheConstants.{DW_LNCT_path, DW_LNCT_directory_index}
 use Rattle.dw_model.specs.Results.{◌>>=◌, or_fault}
+use Rattle.dw_model.specs.Answers.{Tells}
 use Rattle.dw_model.specs.Reading.{Place, Between}
 use Rattle.dw_model.specs.Faults.{Bad, bad}
 use Rattle.dw_model.specs.Leb.{uleb_at}
 use Rattle.dw_model.specs.Form.{Value, value_at}
 use Rattle.dw_model.specs.Text.{Tables, Bases, text}
 use Rattle.dw_model.proofs.StepLemmas.{ok_is, ok-err, bind_ok, bind_err}
-use Rattle.dw_model.proofs.ReadingLemmas.{between-length, between-none}
+use Rattle.dw_model.proofs.ReadingLemmas.{between-length, between-none, made_of, past-between}
 use Rattle.dw_model.proofs.SpellingLemmas.{joined}
 use Rattle.dw_model.proofs.ValueLemmas.{value-spans}
 use Rattle.dw_model.proofs.InstructionLemmas.{or_fault-ok}
@@ -21,7 +22,7 @@ use Rattle.dw_model.specs.LineHeader.{formats_at, contents_at, entries_at, line_
 use Rattle.dw_forms.specs.Value.{value_shown}
 use Rattle.dw_line.specs.declared.entries.Format.{Format}
 use Rattle.dw_line.specs.declared.entries.Contents.{Contents}
-use Rattle.dw_line.specs.Header.{entry_shown, Used, format_shown, contents_shown, used_of, used_at}
+use Rattle.dw_line.specs.Header.{entry_shown, entry_read, entry_in, place_behind, placed, Used, format_shown, contents_shown, used_of, used_at}
 use Rattle.dw_line.proofs.CountLemmas.{in_front}
 
 plus_none : (n : ℕ) → n + 0 ≡ n
@@ -131,6 +132,62 @@ module _ (size : ℕ) where
       → directory ≡ option_map_or model.as_directory (option_map value_shown contents.directory) 0 → entry_at tables bases formats p ≡ Ok (entry_shown tables bases (record { path = contents.path; directory = directory }), q)
   entry-kept tables bases formats contents directory p q e same = grind (arith, entry-read)
 
+  -- values that are passed over
+  abbrev pub Passed : List Format → ℕ → Place → Result (Unit {0} × Place) Bad → Type 0
+  Passed formats i p whole = place_behind (contents_at size (map format_shown (drop i formats)) p) ≡ whole
+
+  pub passes_more : (formats : List Format) (i : ℕ) (d format : Format) (v : Value) (p q : Place) (whole : Result (Unit {0} × Place) Bad) → i < length formats → get_or formats i d ≡ format
+      → or_fault bad (value_at size format.form None p) ≡ Ok (v, q) → Passed formats i p whole → Passed formats (i + 1) q whole
+  unfolding contents_at
+  passes_more formats i d format v p q whole within is e so_far =
+      let others = contents_at size (map format_shown (drop (i + 1) formats)) q in
+      let read : contents_at size (map format_shown (drop i formats)) p ≡ (others >>= λ x. Ok ((format.content, v) ∷ x.0, x.1)) = rw (at_format formats i d format within is, e) refl in
+      by others ∙ ap (λ (read : Result (List (ℕ × Value) × Place) Bad). place_behind read) (sym read) ∙ so_far
+    where
+      by : (others : Result (List (ℕ × Value) × Place) Bad) → place_behind others ≡ place_behind (others >>= λ x. Ok ((format.content, v) ∷ x.0, x.1))
+      by others = grind arith
+
+  pub passes_bad : (formats : List Format) (i : ℕ) (d format : Format) (p : Place) (whole : Result (Unit {0} × Place) Bad) → i < length formats → get_or formats i d ≡ format
+      → Passed formats i p whole → or_fault bad (value_at size format.form None p) ≡ Err bad → whole ≡ Err bad
+  unfolding contents_at
+  passes_bad formats i d format p whole within is so_far e =
+      let read : contents_at size (map format_shown (drop i formats)) p ≡ Err bad = rw (at_format formats i d format within is, e) refl in
+      sym so_far ∙ ap (λ (read : Result (List (ℕ × Value) × Place) Bad). place_behind read) read
+
+  pub passes_all : (formats : List Format) (i : ℕ) (p : Place) (whole : Result (Unit {0} × Place) Bad) → length formats ≤ i → Passed formats i p whole → whole ≡ Ok (tt, p)
+  unfolding contents_at
+  passes_all formats i p whole past so_far = grind (arith, drop_all)
+
+  -- an entry whose place is kept
+  pub place-read : (tables : Tables) (bases : Bases) (formats : List model.Format) (p q : Place) → place_behind (contents_at size formats p) ≡ Ok (tt, q) → entry_at tables bases formats p ≡ Ok (entry_in tables bases size formats p, q)
+  place-read tables bases formats p q e = by (contents_at size formats p) e
+    where
+      entry : Result (List (ℕ × Value) × Place) Bad → Result (model.LineEntry × Place) Bad
+      entry read = read >>= λ contents. Ok (line_entry tables bases contents.0, contents.1)
+
+      by : (read : Result (List (ℕ × Value) × Place) Bad) → place_behind read ≡ Ok (tt, q) → entry read ≡ Ok (entry_read tables bases read, q)
+      by read e = grind (arith, ok_is)
+
+  pub place-unread : (tables : Tables) (bases : Bases) (formats : List model.Format) (p : Place) → place_behind (contents_at size formats p) ≡ Err bad → entry_at tables bases formats p ≡ Err bad
+  place-unread tables bases formats p e = grind (arith, bind_err, ok-err)
+
+  pub place-seen : (tables : Tables) (bases : Bases) (formats : List model.Format) (contents : Contents) (directory : ℕ) (p q : Place) → used_at none_found (contents_at size formats p) ≡ Ok (contents_shown contents, q)
+      → directory ≡ option_map_or model.as_directory (option_map value_shown contents.directory) 0 → entry_shown tables bases (record { path = contents.path; directory = directory }) ≡ entry_in tables bases size formats p
+  place-seen tables bases formats contents directory p q e same =
+      let read = sym (entry-kept tables bases formats contents directory p q e same) ∙ place-read tables bases formats p q (by (contents_at size formats p) e) in
+      ap (λ (x : model.LineEntry × Place). x.0) (ok_is _ _ read)
+    where
+      by : (read : Result (List (ℕ × Value) × Place) Bad) → used_at none_found read ≡ Ok (contents_shown contents, q) → place_behind read ≡ Ok (tt, q)
+      by read e = grind (arith, ok_is)
+
+  pub place-bad : (tables : Tables) (bases : Bases) (formats : List model.Format) (told : Option Bad) (p : Place) → Tells told (used_at none_found (contents_at size formats p)) → ◌≡◌ {A = model.LineEntry} (record { path = None; directory = 0 }) (entry_in tables bases size formats p)
+  place-bad tables bases formats told p = by told (contents_at size formats p)
+    where
+      by : (told : Option Bad) (read : Result (List (ℕ × Value) × Place) Bad) → Tells told (used_at none_found read) → ◌≡◌ {A = model.LineEntry} (record { path = None; directory = 0 }) (entry_read tables bases read)
+      by None read e = absurd e
+      by (Some fault) (Ok read) e = absurd cc
+      by (Some fault) (Err other) e = refl
+
   -- ---- entries without bytes
 
   pub contents-between : (formats : List model.Format) (p : Place) (x : List (ℕ × Value) × Place) → contents_at size formats p ≡ Ok x → (piece : List ℕ) × Between p piece x.1
@@ -143,6 +200,19 @@ module _ (size : ℕ) where
       let rest = contents-between formats value.0.1 others.0 others.1 in
       let last : others.0.1 ≡ x.1 = ap (λ (x : List (ℕ × Value) × Place). x.1) (ok_is ((format.0, value.0.0) ∷ others.0.0, others.0.1) x others.2) in
       (first.0 ++ rest.0, subst (Between p (first.0 ++ rest.0)) last (joined p value.0.1 others.0.1 first.0 rest.0 first.1 rest.1))
+
+  -- what is passed over lies between two places
+  pub passed-between : (formats : List model.Format) (p q : Place) → place_behind (contents_at size formats p) ≡ Ok (tt, q) → (piece : List ℕ) × Between p piece q
+  passed-between formats p q e =
+      let read = made_of (λ _. tt) (contents_at size formats p) tt q e in
+      contents-between formats p (read.0, q) read.1
+
+  -- the second place from the first one on
+  pub placed-between : (p q : Place) (piece : List ℕ) → Between p piece q → placed p q.at ≡ q
+  placed-between p q piece b =
+      let far : length piece ≡ q.at - p.at = omega (arith, b.1) in
+      let within : nat_le (q.at - p.at) (length p.left) ≡ true = grind (arith, between-length p q piece b) in
+      rw within (past-between p q piece (q.at - p.at) far b)
 
   same_place : (p q : Place) (piece : List ℕ) → Between p piece q → length q.left ≡ length p.left → q ≡ p
   same_place p q [] b e = λ i. record { at = (b.1 ∙ plus_none p.at) i; left = sym b.0 i }

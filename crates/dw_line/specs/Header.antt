@@ -1,20 +1,24 @@
 -- The header that was read, as the definitions have it.
-use Rattle.std.specs.Prelude.{◌≡◌, ℕ, List, [], Option, map, replicate, option_map, option_and_then, Result, Ok, nat_eq}
-use Rattle.std.specs.Option.{option_or}
+use Rattle.std.specs.Prelude.{◌≡◌, ◌-◌, ℕ, List, [], Option, None, map, replicate, option_map, option_and_then}
+use Rattle.std.specs.Prelude.{Result, Ok, Err, nat_eq}
+use Rattle.std.specs.Option.{option_or, option_map_or}
 use Rattle.std.specs.Map.{lookup}
 use Rattle.dw_model.specs.declared.dwarf.TheConstants.{DW_LNCT_path, DW_LNCT_directory_index}
 use Rattle.dw_model.specs.Results.{◌>>=◌}
-use Rattle.dw_model.specs.Reading.{Place}
+use Rattle.dw_model.specs.Reading.{Place, bytes_at, made}
 use Rattle.dw_model.specs.Faults.{Bad}
 use Rattle.dw_model.specs.Form.{Value}
 use Rattle.dw_model.specs.Text.{Tables, Bases, text}
 use Rattle.dw_model.specs.LineHeader as model
+use Rattle.dw_model.specs.LineHeader.{contents_at, line_entry}
+use Rattle.dw_bytes.specs.Width.{size_of}
 use Rattle.dw_forms.specs.Value.{value_shown}
 use Rattle.dw_line.specs.declared.entries.Format.{Format}
 use Rattle.dw_line.specs.declared.entries.Contents.{Contents}
 use Rattle.dw_line.specs.declared.entries.LineEntry.{LineEntry}
 use Rattle.dw_line.specs.declared.entry_list.EntryList.{EntryList}
-use Rattle.dw_line.specs.declared.entry_list.EntryList.TheVariants.{Each, Same}
+use Rattle.dw_line.specs.declared.entry_list.LongList.{LongList}
+use Rattle.dw_line.specs.declared.entry_list.EntryList.TheVariants.{Each, Long, Same}
 use Rattle.dw_line.specs.declared.header.Header.{Header}
 
 abbrev pub format_shown : Format → model.Format
@@ -48,9 +52,33 @@ entry_shown tables bases entry = record {
   directory = entry.directory;
 }
 
+-- where reading goes, and its fault
+abbrev pub place_behind : {A : Type 0} → Result (A × Place) Bad → Result (Unit {0} × Place) Bad
+place_behind read = made (λ _. tt) read
+
+-- the place with so many bytes before it, if there are so many from another on
+abbrev pub placed : Place → ℕ → Place
+placed begin at = option_map_or (λ taken. taken.1) (bytes_at (at - begin.at) begin) begin
+
+-- the entry that was read; one without a path where it can't be read
+abbrev pub entry_read : Tables → Bases → Result (List (ℕ × Value) × Place) Bad → model.LineEntry
+entry_read tables bases (Ok contents) = line_entry tables bases contents.0
+entry_read tables bases (Err fault) = record { path = None; directory = 0 }
+
+-- the entry at a place, where offsets have so many bytes
+abbrev pub entry_in : Tables → Bases → ℕ → List model.Format → Place → model.LineEntry
+entry_in tables bases size formats place = entry_read tables bases (contents_at size formats place)
+
+-- the entries of a long list
+abbrev pub long_list_shown : Tables → Bases → LongList → List model.LineEntry
+long_list_shown tables bases list =
+    map (λ at. entry_in tables bases (size_of list.width) (map format_shown list.formats.items) (placed list.begin at))
+    list.places.items
+
 -- the entries of a list
 abbrev pub entries_shown : Tables → Bases → EntryList → List model.LineEntry
 entries_shown tables bases (Each entries) = map (entry_shown tables bases) entries.items
+entries_shown tables bases (Long list) = long_list_shown tables bases list
 entries_shown tables bases (Same entry count) = replicate count (entry_shown tables bases entry)
 
 -- the header as a unit with these texts sees it

@@ -8,9 +8,10 @@ ghost use Rattle.dw_model.specs.Answers.{ReadsOn, ReadsUnlessMemory};
 ghost use Rattle.dw_bytes.specs.Width.{size_of};
 ghost use Rattle.dw_forms.specs.Value.{value_shown};
 ghost use Rattle.dw_line.specs.Fault.{line_fault};
-ghost use Rattle.dw_line.specs.Header.{format_shown, contents_shown, used_of, used_at, entry_shown, entries_shown};
+ghost use Rattle.dw_line.specs.Header.{format_shown, contents_shown, used_of, used_at, entry_in, entry_shown};
+ghost use Rattle.dw_line.specs.Header.{entries_shown, long_list_shown, place_behind, placed};
 
-use crate::entry_list::EntryList;
+use crate::entry_list::{EntryList, LongList};
 use crate::fault::LineFault;
 use crate::numbers::{uleb, value};
 use dw_bytes::{Cursor, Width};
@@ -18,6 +19,10 @@ use dw_forms::Value;
 use dw_model::dwarf::{DW_LNCT_directory_index, DW_LNCT_path};
 use smallvec::SmallVec;
 use std::alloc::Global;
+
+/// How many entries of a list are kept as they are read, at most. Of a longer list, which compilers
+/// hardly make, only the places are kept, which takes a tenth of the time.
+const MANY: u64 = 4096;
 
 /// What is in each entry of a list: a content type, a DW_LNCT code, in a form, a DW_FORM code.
 #[derive(Clone, Copy, Debug, Default, PartialEq, Eq)]
@@ -62,6 +67,7 @@ fn formats_of(
 
 impl<'a> Contents<'a> {
     /// With one more value of the entry.
+    #[inline(always)]
     fn with(self, content: u64, value: Value<'a>) -> Self
         ensures { contents_shown result ≡ used_of (contents_shown self.entry)
             ((content, value_shown value.entry) ∷ []) }
@@ -81,6 +87,7 @@ impl<'a> Contents<'a> {
 }
 
 /// The values that these formats ask for, where offsets have a width.
+#[inline(always)]
 fn contents_of<'a>(
     cursor: &mut Cursor<'a>,
     formats: &[Format],
@@ -134,6 +141,82 @@ fn entries_of<'a>(
     Ok(entries)
 }
 
+/// Passes over the values that these formats ask for, where offsets have a width.
+#[inline(always)]
+fn pass_contents(cursor: &mut Cursor<'_>, formats: &[Format], width: Width) -> Result<(), LineFault>
+    ensures { ReadsOn (λ done. done) line_fault result
+        (place_behind (contents_at (size_of width) (map format_shown formats.now) cursor.old)) cursor.new }
+{
+    for format in formats {
+        value(cursor, format.form, width)?;
+    }
+    Ok(())
+}
+
+/// How many bytes are before each of the next `count` entries of a list, all of which can be read.
+fn places_of(
+    alloc: Global,
+    cursor: &mut Cursor<'_>,
+    formats: &[Format],
+    count: u64,
+    width: Width,
+) -> Result<Vec<usize>, LineFault>
+    ensures { (tables : model.Tables) (bases : model.Bases)
+        → ReadsUnlessMemory (λ places. map (λ at. entry_in tables bases (size_of width)
+        (map format_shown formats.now) (placed cursor.old at)) places.items) line_fault result
+        (entries_at tables bases (size_of width) (map format_shown formats.now) count cursor.old) cursor.new }
+{
+    let mut places = Vec::with_capacity(alloc, count as usize)?;
+    for _ in 0..count {
+        let at = cursor.at();
+        pass_contents(cursor, formats, width)?;
+        places.push(at)?;
+    }
+    Ok(places)
+}
+
+/// The next `count` entries, by their places.
+fn long_list_of<'a>(
+    alloc: Global,
+    cursor: &mut Cursor<'a>,
+    formats: &[Format],
+    count: u64,
+    width: Width,
+) -> Result<LongList<'a>, LineFault>
+    ensures { (tables : model.Tables) (bases : model.Bases)
+        → ReadsUnlessMemory (long_list_shown tables bases) line_fault result
+        (entries_at tables bases (size_of width) (map format_shown formats.now) count cursor.old) cursor.new }
+{
+    let mut kept = Vec::with_capacity(alloc, formats.len())?;
+    kept.extend_from_slice(formats)?;
+    let begin = cursor.fork();
+    let places = places_of(alloc, cursor, formats, count, width)?;
+    Ok(LongList {
+        formats: kept,
+        width,
+        begin,
+        places,
+    })
+}
+
+/// The entry at a place; one without a path where it can't be read.
+pub(crate) fn entry_in<'a>(place: &Cursor<'a>, formats: &[Format], width: Width) -> LineEntry<'a>
+    ensures { (tables : model.Tables) (bases : model.Bases) → entry_shown tables bases result
+        ≡ entry_in tables bases (size_of width) (map format_shown formats.now) place.now }
+{
+    let mut ahead = place.fork();
+    match contents_of(&mut ahead, formats, width) {
+        Ok(contents) => LineEntry {
+            path: contents.path,
+            directory: directory_of(contents.directory),
+        },
+        Err(_) => LineEntry {
+            path: None,
+            directory: 0,
+        },
+    }
+}
+
 /// The entry of which a list consists whose entries take no bytes; `None` where they take some, or
 /// can't be read.
 fn empty_entry<'a>(cursor: &Cursor<'a>, formats: &[Format], width: Width) -> Option<LineEntry<'a>>
@@ -175,6 +258,10 @@ pub(crate) fn entry_list_of<'a>(
     }
     if let Some(entry) = empty_entry(cursor, formats.as_slice(), width) {
         return Ok(EntryList::Same(entry, count));
+    }
+    if count > MANY {
+        let list = long_list_of(alloc, cursor, formats.as_slice(), count, width)?;
+        return Ok(EntryList::Long(list));
     }
     let entries = entries_of(alloc, cursor, formats.as_slice(), count, width)?;
     Ok(EntryList::Each(entries))

@@ -37,6 +37,7 @@ pub(crate) fn sleb(cursor: &mut Cursor<'_>) -> Result<i64, LineFault>
 }
 
 /// The value of a form (section 7.5.6), where offsets have a width.
+#[inline(always)]
 pub(crate) fn value<'a>(
     cursor: &mut Cursor<'a>,
     form: u64,

@@ -69,6 +69,7 @@ impl<'a> AskingUnit<'a> {
     }
 
     /// The path of a numbered directory, from 0 on, where it is there and can be read.
+    #[inline(always)]
     fn directory_path(&self, header: &Header<'a>, n: u64) -> Option<&'a [u8]>
         ensures { option_map (λ text. text.now) result ≡ model.directory_path (header_for self.now header.now) n }
     {

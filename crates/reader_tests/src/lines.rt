@@ -133,6 +133,48 @@ const PATHS: &[u8] = &[
     5, 2, 12, 0, 0, 0, 5, 0, 12, 0, 0, 0, 5, 7, 12, 0, 0, 0, 0, 1, 16, 0, 0, 0, 0,
 ];
 
+/// The fields of a header after header_length up to the number of files: one directory, and files
+/// that have a name and the number of a directory.
+const BEFORE_FILES: &[u8] = &[
+    1, 1, 1, 0xfb, 0x0e, 0x0d, 0, 1, 1, 1, 1, 0, 0, 0, 1, 0, 0, 1, 1, 1, 8, 1, b'/', b'w', 0, 2, 1,
+    8, 2, 0x0b,
+];
+
+/// A table of 5,000 files, of which the last has another name than the others.
+fn table_of_many_files(alloc: Global) -> Result<Vec<u8>, AllocError> {
+    let mut fields = Vec::new(alloc);
+    fields.extend_from_slice(BEFORE_FILES)?;
+    fields.extend_from_slice(&[0x88, 0x27])?;
+    for _ in 0..4999 {
+        fields.extend_from_slice(&[b'a', 0, 0])?;
+    }
+    fields.extend_from_slice(&[b'z', 0, 0])?;
+    let mut header = Vec::new(alloc);
+    header.extend_from_slice(&[5, 0, 8, 0])?;
+    header.extend_from_slice(&u32::try_from(fields.len()).unwrap_or(0).to_le_bytes())?;
+    header.extend_from_slice(&fields)?;
+    line_table(alloc, &header, TWO_ROWS)
+}
+
+#[test]
+fn a_table_of_many_files(rt: HostRuntime) -> Result<(), Fail> {
+    let section = table_of_many_files(rt.alloc())?;
+    let lines = read(rt.alloc(), &section)?;
+    for (n, path) in [
+        (0, Some(b"/w/a".as_slice())),
+        (4998, Some(b"/w/a")),
+        (4999, Some(b"/w/z")),
+        (5000, None),
+    ] {
+        expect(&rt, n, &path_of(rt.alloc(), &lines, n)?.as_deref(), &path);
+    }
+    // one file too many
+    let section = poked(rt.alloc(), &section, 42, 0x89)?;
+    let fault = read(rt.alloc(), &section).err();
+    expect(&rt, "fault", &fault, &Some(LineFault::Bad));
+    Ok(())
+}
+
 /// The table at the front of a section, read once more where an allocation was refused.
 fn read_at_last<'a>(alloc: Global, section: &'a [u8]) -> Result<Lines<'a>, LineFault> {
     let lines = read(alloc, section);
