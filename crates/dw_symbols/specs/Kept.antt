@@ -1,5 +1,6 @@
 -- What is kept, by keys.
-use Rattle.std.specs.Prelude.{◌≤◌, ◌+◌, ℕ, List, [], ◌∷◌, length, Contains, Result}
+use Rattle.std.specs.Prelude.{◌≤◌, ◌+◌, ℕ, List, [], ◌∷◌, length, nat_eq, Contains, IsSome, Result}
+use Rattle.std.specs.Map.{lookup}
 use Rattle.dw_model.specs.Section.{Sections}
 use Rattle.dw_line.specs.TableAt.{table_size}
 use Rattle.dw_frames.specs.UnitIn.{UnitIn}
@@ -31,3 +32,7 @@ pub record AreTables (line : List ℕ) (kept : KeptTables) : Type 0 where
   pub each : AreOf (IsTableAt line) kept.tables.entries
   pub counted : size_together line kept.tables.entries ≤ kept.size
   pub within : kept.size ≤ length line
+
+-- the line table at an offset is kept
+abbrev pub IsKeptAt : ℕ → KeptTables → Type 0
+IsKeptAt offset kept = IsSome (lookup (nat_eq offset) kept.tables.entries)

@@ -1,6 +1,6 @@
 //! The line tables that were used last: together no longer than .debug_line.
 
-ghost use Rattle.std.specs.Prelude.{◌≡◌, ◌≤◌, ◌+◌, List, ℕ, IfOk, IfSome, length, map};
+ghost use Rattle.std.specs.Prelude.{◌≡◌, ◌≤◌, ◌+◌, List, ℕ, IfOk, IfSome, OnOk, length, map};
 ghost use Rattle.dw_line.specs.TableAt.{table_size};
 ghost use Rattle.dw_frames.specs.Told.{described_shown};
 ghost use Rattle.dw_symbols.specs.Answer.{answer_shown, piece_shown};
@@ -32,7 +32,7 @@ pub(crate) struct KeptTables<'a> {
 }
 
 impl<'a> KeptTables<'a> {
-    ghost use Rattle.dw_symbols.specs.Kept.{AreTables};
+    ghost use Rattle.dw_symbols.specs.Kept.{AreTables, IsKeptAt};
     ghost use Rattle.dw_symbols.specs.UnitParts.{IsTable, IsTableAt};
 
     /// No table is kept yet.
@@ -79,7 +79,8 @@ impl<'a> KeptTables<'a> {
         requires kept { AreTables line.now self.old }
         requires room { self.old.size + table_size line.now offset ≤ length line.now }
         requires table { IsTableAt line.now offset lines }
-        ensures { AreTables line.now self.new }
+        ensures kept { AreTables line.now self.new }
+        ensures there { OnOk result (IsKeptAt offset self.new) }
     {
         match self.tables.put(offset, lines) {
             Ok(_) => {
@@ -99,7 +100,8 @@ impl<'a> KeptTables<'a> {
         offset: u64,
     ) -> Result<(), AllocError>
         requires { AreTables (sections_in unit).line self.old }
-        ensures { AreTables (sections_in unit.entry).line self.new }
+        ensures kept { AreTables (sections_in unit.entry).line self.new }
+        ensures there { OnOk result (IsKeptAt offset self.new) }
     {
         if self.tables.contains(&offset) {
             return Ok(());
@@ -130,10 +132,10 @@ impl<'a> KeptTables<'a> {
             return frames_by(&mut none, alloc, here, functions, a);
         };
         self.hold(alloc, unit, offset)?;
-        match self.tables.get_mut(&offset) {
-            Some(lines) => frames_by(lines, alloc, here, functions, a),
-            None => Err(AllocError),
-        }
+        let Some(lines) = self.tables.get_mut(&offset) else {
+            unreachable!()
+        };
+        frames_by(lines, alloc, here, functions, a)
     }
 
     /// Adds the pieces of a span, of which a unit answers all addresses, by the line table that the
@@ -157,9 +159,9 @@ impl<'a> KeptTables<'a> {
             return push_pieces_by(&mut none, alloc, here, span, pieces);
         };
         self.hold(alloc, unit, offset)?;
-        match self.tables.get_mut(&offset) {
-            Some(lines) => push_pieces_by(lines, alloc, here, span, pieces),
-            None => Err(AllocError),
-        }
+        let Some(lines) = self.tables.get_mut(&offset) else {
+            unreachable!()
+        };
+        push_pieces_by(lines, alloc, here, span, pieces)
     }
 }
