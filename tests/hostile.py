@@ -59,6 +59,17 @@ def falling_tables_in_one_another(size):
     return file_of(units + unit(b'\x02' + covered()), declaration(1, COMPILE_UNIT, 0, []) * count + last + b'\0')
 
 
+def declarations_in_one_another(size):
+    """Units whose first entries have declarations that begin in one another, each with flags that take no bytes."""
+    count = size // 26
+    # code FLAG_PRESENT, tag COMPILE_UNIT, children FLAG_PRESENT; then pairs of a name COMPILE_UNIT and a form FLAG_PRESENT
+    pairs = bytes([FLAG_PRESENT, COMPILE_UNIT]) * (size // 4)
+    units = b''.join(unit(bytes([FLAG_PRESENT]), abbrev=12 * i) for i in range(count))
+    last = declaration(2, COMPILE_UNIT, 0, COVERING)
+    front = pairs + bytes([FLAG_PRESENT, 0, 0, 0])
+    return file_of(units + unit(b'\x02' + covered(), abbrev=len(front)), front + last + b'\0')
+
+
 def functions_of_one_list(size):
     count = size // 14
     function = declaration(2, SUBPROGRAM, 0, [(RANGES, SEC_OFFSET)])
@@ -336,13 +347,19 @@ def tables_of_one_list(size):
     return file_of(units, first, line)
 
 
-def tables_of_long_lists(size):
-    """Line tables whose lists of files have an entry for each byte that is left in the header, up to one place."""
-    listed = lambda left: b'\0\0\x01\x01\x0b' + uleb(left, 4)
+def tables_of_long_lists(size, flags=0, each=130):
+    """Line tables whose lists of files have an entry for each byte that is left in the header, up to one place. An entry
+    has so many flags that take no bytes."""
+    formats = b'\0\0' + bytes([1 + flags]) + (uleb(3) + uleb(FLAG_PRESENT)) * flags + uleb(1) + uleb(DATA1)
     row = b'\0\x09\x02' + number(BEGIN, 8) + b'\x01\x02' + uleb(LENGTH) + b'\0\x01\x01'
-    line, offsets = tables_before(size // 130, listed, size // 2, row)
+    line, offsets = tables_before(size // each, lambda left: formats + uleb(left, 4), size // 2, row)
     units, first = units_of_tables(offsets)
     return file_of(units, first, line)
+
+
+def tables_of_long_lists_of_flags(size):
+    """The same, with as many flags as there may be."""
+    return tables_of_long_lists(size, 254, 1300)
 
 
 def tables_of_one_program_of_sequences(size):
@@ -432,7 +449,8 @@ def span_over_no_rows_between_holes(size):
 
 
 KINDS = {
-    'tables_in_one_another': LINEAR, 'falling_tables_in_one_another': LINEAR, 'functions_of_one_list': LINEAR,
+    'tables_in_one_another': LINEAR, 'falling_tables_in_one_another': LINEAR, 'declarations_in_one_another': SQUARE,
+    'functions_of_one_list': LINEAR,
     'inlined_of_one_list': LINEAR, 'functions_of_tails': LINEAR, 'functions_of_long_tails': LINEAR,
     'functions_of_tails_in_turn': SQUARE, 'inlined_of_tails': LINEAR, 'callers_of_one_list': LINEAR,
     'units_with_functions_of_one_list': LINEAR, 'units_of_one_list': LINEAR, 'units_with_bases_of_one_list': LINEAR,
@@ -440,7 +458,7 @@ KINDS = {
     'span_over_units_of_tails': LINEAR, 'units_of_tails_with_bases': SQUARE,
     'span_over_units_of_tails_with_bases': SQUARE,
     'units_of_one_line_table': LINEAR, 'tables_of_one_list': LINEAR, 'tables_of_long_lists': SQUARE,
-    'tables_of_one_program_of_sequences': LINEAR,
+    'tables_of_long_lists_of_flags': SQUARE, 'tables_of_one_program_of_sequences': LINEAR,
     'tables_of_one_program': LINEAR, 'span_over_tables_of_one_program': LINEAR,
     'tables_of_one_program_by_ways': SQUARE, 'span_over_tables_of_one_program_by_ways': SQUARE,
     'units_that_take_turns': LINEAR, 'units_that_take_turns_by_ways': LINEAR,
@@ -481,7 +499,8 @@ def asked(kind, size):
     # how many bytes a unit of 16 addresses takes of the file, with what it names
     each = {
         'units_of_one_line_table': 60, 'units_with_functions_of_one_list': 40, 'tables_of_one_list': 130,
-        'tables_of_long_lists': 130, 'tables_of_one_program_of_sequences': size // 64, 'tables_of_one_program': 128,
+        'tables_of_long_lists': 130, 'tables_of_long_lists_of_flags': 1300,
+        'tables_of_one_program_of_sequences': size // 64, 'tables_of_one_program': 128,
         'tables_of_one_program_by_ways': 128,
     }
     if kind == 'units_with_bases_of_one_list':

@@ -1,16 +1,18 @@
 -- Reading the lists of directories and files as loops do.
-use Rattle.std.proofs.Common.{◌≡◌, ℕ, zero, suc, ◌+◌, ◌-◌, ◌<◌, ◌≤◌, true, List, [], ◌∷◌, ◌++◌, length, drop, get_or, map, replicate, Option, Some, None, Result, Ok, Err, refl, sym, ap, ◌∙◌, subst, arith}
+use Rattle.std.proofs.Common.{◌≡◌, ℕ, zero, suc, ◌+◌, ◌-◌, ◌<◌, ◌≤◌, true, List, [], ◌∷◌, ◌++◌, length, drop, get_or, map, replicate, Option, Some, None, Result, Ok, Err, refl, sym, ap, ◌∙◌, subst, append_assoc, arith}
 use Rattle.std.specs.Prelude.{nat_eq, nat_le, option_map, option_and_then}
 use Rattle.std.specs.Option.{option_or, option_map_or}
 use Rattle.std.specs.Map.{lookup}
 use Rattle.std.proofs.lemmas.List.{drop_more, drop_all}
-use Rattle.dw_model.specs.declared.dwarf.TheConstants.{DW_LNCT_path, DW_LNCT_directory_index}
+use Rattle.dw_model.specs.declared.dwarf.TheConstants.{DW_FORM_flag_present, DW_LNCT_path, DW_LNCT_directory_index}
 use Rattle.dw_model.specs.Results.{◌>>=◌, or_fault}
 use Rattle.dw_model.specs.Answers.{Tells}
 use Rattle.dw_model.specs.Reading.{Place, Between}
 use Rattle.dw_model.specs.Faults.{Bad, bad}
 use Rattle.dw_model.specs.Leb.{uleb_at}
-use Rattle.dw_model.specs.Form.{Value, value_at}
+use Rattle.dw_model.specs.Form.{Value, value_at, spelled_at}
+use Rattle.dw_model.specs.Form as values
+use Rattle.dw_model.specs.Reading as readings
 use Rattle.dw_model.specs.Text.{Tables, Bases, text}
 use Rattle.dw_model.proofs.StepLemmas.{ok_is, ok-err, bind_ok, bind_err}
 use Rattle.dw_model.proofs.ReadingLemmas.{between-length, between-none, made_of, past-between}
@@ -157,6 +159,39 @@ module _ (size : ℕ) where
   pub passes_all : (formats : List Format) (i : ℕ) (p : Place) (whole : Result (Unit {0} × Place) Bad) → length formats ≤ i → Passed formats i p whole → whole ≡ Ok (tt, p)
   unfolding contents_at
   passes_all formats i p whole past so_far = grind (arith, drop_all)
+
+  -- values that take no bytes needn't be passed over
+  flag-read : (p : Place) → value_at size DW_FORM_flag_present None p ≡ Ok (values.flag true, p)
+  unfolding value_at spelled_at readings.items_up_to values.next_form
+  flag-read p = refl
+
+  pub passes-less : (front behind : List Format) (format : Format) (p : Place) → format.form ≡ DW_FORM_flag_present → place_behind (contents_at size (map format_shown (front ++ format ∷ behind)) p) ≡ place_behind (contents_at size (map format_shown (front ++ behind)) p)
+  unfolding contents_at
+  passes-less [] behind format p e =
+      let read : or_fault bad (value_at size format.form None p) ≡ Ok (values.flag true, p) = rw (e, flag-read p) refl in
+      rw read (by (contents_at size (map format_shown behind) p))
+    where
+      by : (others : Result (List (ℕ × Value) × Place) Bad) → place_behind (others >>= λ x. Ok ((format.content, values.flag true) ∷ x.0, x.1)) ≡ place_behind others
+      by others = grind arith
+  passes-less (first ∷ front) behind format p e =
+      by (or_fault bad (value_at size first.form None p)) (λ q. contents_at size (map format_shown (front ++ format ∷ behind)) q) (λ q. contents_at size (map format_shown (front ++ behind)) q) (λ q. passes-less front behind format q e)
+    where
+      more : (v : Value) (long short : Result (List (ℕ × Value) × Place) Bad) → place_behind long ≡ place_behind short → place_behind (long >>= λ x. Ok ((first.content, v) ∷ x.0, x.1)) ≡ place_behind (short >>= λ x. Ok ((first.content, v) ∷ x.0, x.1))
+      more v long short e = grind arith
+
+      by : (value : Result (Value × Place) Bad) (long short : Place → Result (List (ℕ × Value) × Place) Bad) → ((q : Place) → place_behind (long q) ≡ place_behind (short q))
+          → place_behind (value >>= λ v. long v.1 >>= λ x. Ok ((first.content, v.0) ∷ x.0, x.1)) ≡ place_behind (value >>= λ v. short v.1 >>= λ x. Ok ((first.content, v.0) ∷ x.0, x.1))
+      by (Err fault) long short e = refl
+      by (Ok v) long short e = more v.0 (long v.1) (short v.1) (e v.1)
+
+  pub one-more : (kept formats : List Format) (i : ℕ) (d : Format) → i < length formats → (kept ++ get_or formats i d ∷ []) ++ drop (i + 1) formats ≡ kept ++ drop i formats
+  one-more kept formats i d within = append_assoc kept (get_or formats i d ∷ []) (drop (i + 1) formats) ∙ ap (λ (rest : List Format). kept ++ rest) (sym (drop_more formats i d within))
+
+  pub one-less : (kept formats all : List Format) (i : ℕ) (d : Format) (p : Place) → i < length formats → (get_or formats i d).form ≡ DW_FORM_flag_present → place_behind (contents_at size (map format_shown (kept ++ drop i formats)) p) ≡ place_behind (contents_at size (map format_shown all) p)
+      → place_behind (contents_at size (map format_shown (kept ++ drop (i + 1) formats)) p) ≡ place_behind (contents_at size (map format_shown all) p)
+  one-less kept formats all i d p within is so_far =
+      let here = ap (λ (rest : List Format). kept ++ rest) (drop_more formats i d within) in
+      sym (passes-less kept (drop (i + 1) formats) (get_or formats i d) p is) ∙ ap (λ (formats : List Format). place_behind (contents_at size (map format_shown formats) p)) (sym here) ∙ so_far
 
   -- an entry whose place is kept
   pub place-read : (tables : Tables) (bases : Bases) (formats : List model.Format) (p q : Place) → place_behind (contents_at size formats p) ≡ Ok (tt, q) → entry_at tables bases formats p ≡ Ok (entry_in tables bases size formats p, q)

@@ -1,8 +1,9 @@
 //! The lists of directories and of files, by section 6.2.4.1 of DWARF 5.
 
-ghost use Rattle.std.specs.Prelude.{◌≡◌, ◌∷◌, [], ℕ, None, Ok, IfSome, map, option_map, replicate};
+ghost use Rattle.std.specs.Prelude.{◌≡◌, ◌∷◌, [], ℕ, None, Ok, IfOk, IfSome, map, option_map, replicate};
 ghost use Rattle.std.specs.Option.{option_map_or};
 ghost use Rattle.dw_model.specs.LineHeader.{formats_at, contents_at, entries_at, entry_list, as_directory};
+ghost use Rattle.dw_model.specs.Reading.{Place};
 ghost use Rattle.dw_model.specs.Text as model;
 ghost use Rattle.dw_model.specs.Answers.{ReadsOn, ReadsUnlessMemory};
 ghost use Rattle.dw_bytes.specs.Width.{size_of};
@@ -16,13 +17,13 @@ use crate::fault::LineFault;
 use crate::numbers::{uleb, value};
 use dw_bytes::{Cursor, Width};
 use dw_forms::Value;
-use dw_model::dwarf::{DW_LNCT_directory_index, DW_LNCT_path};
+use dw_model::dwarf::{DW_FORM_flag_present, DW_LNCT_directory_index, DW_LNCT_path};
 use smallvec::SmallVec;
-use std::alloc::Global;
+use std::alloc::{AllocError, Global};
 
-/// How many entries of a list are kept as they are read, at most. Of a longer list, which compilers
-/// hardly make, only the places are kept, which takes a tenth of the time.
-const MANY: u64 = 4096;
+/// How many values a list may have whose entries are kept as they are read. Of a longer list, which
+/// compilers hardly make, only the places are kept, which takes a tenth of the time.
+const MANY: u64 = 8192;
 
 /// What is in each entry of a list: a content type, a DW_LNCT code, in a form, a DW_FORM code.
 #[derive(Clone, Copy, Debug, Default, PartialEq, Eq)]
@@ -141,6 +142,21 @@ fn entries_of<'a>(
     Ok(entries)
 }
 
+/// The formats whose values take bytes: the others needn't be passed over.
+fn formats_with_bytes(alloc: Global, formats: &[Format]) -> Result<SmallVec<Format, 8>, AllocError>
+    ensures { IfOk result (λ kept. (size : ℕ) (p : Place)
+        → place_behind (contents_at size (map format_shown kept.items) p)
+        ≡ place_behind (contents_at size (map format_shown formats.now) p)) }
+{
+    let mut kept = SmallVec::new(alloc);
+    for format in formats {
+        if format.form != DW_FORM_flag_present {
+            kept.push(*format)?;
+        }
+    }
+    Ok(kept)
+}
+
 /// Passes over the values that these formats ask for, where offsets have a width.
 #[inline(always)]
 fn pass_contents(cursor: &mut Cursor<'_>, formats: &[Format], width: Width) -> Result<(), LineFault>
@@ -166,10 +182,11 @@ fn places_of(
         (map format_shown formats.now) (placed cursor.old at)) places.items) line_fault result
         (entries_at tables bases (size_of width) (map format_shown formats.now) count cursor.old) cursor.new }
 {
+    let passed = formats_with_bytes(alloc, formats)?;
     let mut places = Vec::with_capacity(alloc, count as usize)?;
     for _ in 0..count {
         let at = cursor.at();
-        pass_contents(cursor, formats, width)?;
+        pass_contents(cursor, passed.as_slice(), width)?;
         places.push(at)?;
     }
     Ok(places)
@@ -259,7 +276,7 @@ pub(crate) fn entry_list_of<'a>(
     if let Some(entry) = empty_entry(cursor, formats.as_slice(), width) {
         return Ok(EntryList::Same(entry, count));
     }
-    if count > MANY {
+    if count.saturating_mul(formats.len() as u64) > MANY {
         let list = long_list_of(alloc, cursor, formats.as_slice(), count, width)?;
         return Ok(EntryList::Long(list));
     }

@@ -134,10 +134,10 @@ const PATHS: &[u8] = &[
 ];
 
 /// The fields of a header after header_length up to the number of files: one directory, and files
-/// that have a name and the number of a directory.
+/// that have a name, the number of a directory and a flag that takes no bytes.
 const BEFORE_FILES: &[u8] = &[
-    1, 1, 1, 0xfb, 0x0e, 0x0d, 0, 1, 1, 1, 1, 0, 0, 0, 1, 0, 0, 1, 1, 1, 8, 1, b'/', b'w', 0, 2, 1,
-    8, 2, 0x0b,
+    1, 1, 1, 0xfb, 0x0e, 0x0d, 0, 1, 1, 1, 1, 0, 0, 0, 1, 0, 0, 1, 1, 1, 8, 1, b'/', b'w', 0, 3, 1,
+    8, 2, 0x0b, 3, 0x19,
 ];
 
 /// A table of 5,000 files, of which the last has another name than the others.
@@ -169,7 +169,7 @@ fn a_table_of_many_files(rt: HostRuntime) -> Result<(), Fail> {
         expect(&rt, n, &path_of(rt.alloc(), &lines, n)?.as_deref(), &path);
     }
     // one file too many
-    let section = poked(rt.alloc(), &section, 42, 0x89)?;
+    let section = poked(rt.alloc(), &section, 44, 0x89)?;
     let fault = read(rt.alloc(), &section).err();
     expect(&rt, "fault", &fault, &Some(LineFault::Bad));
     Ok(())
