@@ -9,6 +9,8 @@ import sys
 
 sys.path[:0] = [os.path.dirname(__file__), os.path.join(os.path.dirname(__file__), 'fuzz')]
 
+from model.dwarf import OFFSET_SIZE_64
+
 from assemble import Section, elf_file, number, uleb
 from samples import file_of, line_table, unit
 
@@ -211,6 +213,14 @@ def units_of_empty_values(size):
     first = declaration(1, COMPILE_UNIT, 0, [(0x2000, FLAG_PRESENT)] * (size // 8))
     last = declaration(2, COMPILE_UNIT, 0, COVERING)
     return file_of(unit(b'\x01') * (size // 26) + unit(b'\x02' + covered()), first + last + b'\0')
+
+
+def units_of_empty_values_of_64_bits(size):
+    """The same in the 64-bit format."""
+    first = declaration(1, COMPILE_UNIT, 0, [(0x2000, FLAG_PRESENT)] * (size // 8))
+    last = declaration(2, COMPILE_UNIT, 0, COVERING)
+    units = unit(b'\x01', offset_size=OFFSET_SIZE_64) * (size // 50)
+    return file_of(units + unit(b'\x02' + covered()), first + last + b'\0')
 
 
 def references_of_empty_values(size):
@@ -467,7 +477,7 @@ KINDS = {
     'no_rows_between_holes': LINEAR, 'span_over_no_rows_between_holes': LINEAR,
     'names_without_end': LINEAR, 'functions_of_empty_values': LINEAR,
     'functions_of_empty_values_after_a_number': LINEAR, 'units_of_empty_values': LINEAR,
-    'references_of_empty_values': LINEAR, 'skipped_units': LINEAR, 'small_units': LINEAR, 'small_declarations': LINEAR,
+    'units_of_empty_values_of_64_bits': LINEAR, 'references_of_empty_values': LINEAR, 'skipped_units': LINEAR, 'small_units': LINEAR, 'small_declarations': LINEAR,
     'small_functions': LINEAR, 'small_sequences': LINEAR, 'small_files': LINEAR, 'no_rows': LINEAR,
     'frames_of_one_path': LONG,
 }

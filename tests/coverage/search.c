@@ -86,7 +86,7 @@ static const struct known {
     const char *reason;
 } known[] = {
     {{[OPEN] = true}, values_of_units, 10000,
-     "first entries may have many values that take no bytes, and tables of declarations may begin in one another"},
+     "declarations of first entries may begin in one another, and each is read whole"},
     {{[OPEN] = true}, ranges_of_units, 20000,
      "units may have the tails of one list, from bases of their own, and each tail is read whole"},
     {{[FRAMES] = true}, ranges_of_entries, 500000,

@@ -7,6 +7,7 @@ pub mod StoreLemmas
 pub mod TextLemmas
 pub mod FirstValueLemmas
 pub mod OntoLemmas
+pub mod NeededLemmas
 pub mod PairsLemmas
 pub mod PassLemmas
 pub mod RangedLemmas

@@ -109,7 +109,7 @@ place-found steps places name specs place are used e = grind (arith, same_Some)
 pub place-none : (size : ℕ) (steps : List Step) (places : List Place) (name : ℕ) (specs : List Specification) (p : reading.Place) → ArePlaces steps places specs → is_used name ≡ true → find_place name places ≡ None → None ≡ value_up_to size name specs p
 place-none size steps places name specs p are used e = grind (arith, undeclared)
 
-first-behind : (name : ℕ) (front back : List Specification) (one : Specification) → one.name ≡ name → is_some (first_named name (front ++ one ∷ back)) ≡ true
+pub first-behind : (name : ℕ) (front back : List Specification) (one : Specification) → one.name ≡ name → is_some (first_named name (front ++ one ∷ back)) ≡ true
 first-behind name [] back one same = rw (eq-eqb one.name name same) refl
 first-behind name (first ∷ front) back one same = grind (arith, first-behind name front back one same)
 

@@ -1,10 +1,10 @@
 pub mod AbbrevsInside
 pub mod Declaration
 pub mod Fault
-pub mod Layout
 pub mod LayoutInside
 pub mod Named
 pub mod Names
+pub mod Needed
 pub mod Pairs
 pub mod PairsInside
 pub mod Ranged

@@ -6,4 +6,4 @@ use Rattle.dw_forms.specs.declared.shape.Shape.TheVariants.{Laid, Declared}
 
 abbrev pub specs_of : Shape → List Specification
 specs_of (Laid layout) = layout.now
-specs_of (Declared specs) = specs.now
+specs_of (Declared declaration) = declaration.now.specs

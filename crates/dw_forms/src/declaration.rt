@@ -1,10 +1,9 @@
 //! What abbreviations mean, by section 7.5.3 of DWARF 5.
 
-ghost use Rattle.dw_forms.specs.Layout.{IsLayoutOf};
+ghost use Rattle.dw_forms.specs.Needed.{AreAlike, AreListed};
 
 mod reader;
 
-use crate::layout::Layout;
 use crate::pairs::Specs;
 pub(crate) use reader::{next_decl, next_spec};
 
@@ -31,8 +30,21 @@ pub struct Decl<'a> {
     pub tag: u64,
     pub children: bool,
     pub specs: Specs<'a>,
-    /// Where the values of its entries are, where it has many attributes. Walks over units lay the
-    /// others out.
-    pub(crate) layout: Option<Box<Layout<'a>>>,
-    ghost layout_is: { IsLayoutOf layout specs },
+    /// Those of the attributes that entries need, where it has many.
+    pub(crate) few: Option<Box<Vec<Spec>>>,
+    ghost alike: { AreListed few specs },
+}
+
+impl<'a> Decl<'a> {
+    /// Attributes by which entries are read as by all: those that entries need, where they are
+    /// listed, else all.
+    #[inline(always)]
+    pub fn needed(&self) -> Specs<'_>
+        ensures { AreAlike result self.now.specs }
+    {
+        let Some(few) = &self.few else {
+            return self.specs.fork();
+        };
+        Specs::listed(few.as_slice())
+    }
 }

@@ -8,6 +8,7 @@ mod first_value;
 mod form;
 mod layout;
 mod names;
+mod needed;
 mod pairs;
 mod places;
 mod ranged;

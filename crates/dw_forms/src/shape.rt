@@ -11,6 +11,7 @@ ghost use Rattle.dw_forms.specs.Value.{value_shown};
 
 use crate::declaration::Decl;
 use crate::layout::Layout;
+use crate::names::is_used;
 use crate::pairs::Specs;
 use crate::ranged::are_ranged;
 use crate::value::Value;
@@ -23,7 +24,7 @@ pub enum Shape<'b, 'a> {
     /// By a layout, which tells where most of them are.
     Laid(&'b Layout<'a>),
     /// One after the other, as the declaration asks for them.
-    Declared(&'b Specs<'a>),
+    Declared(&'b Decl<'a>),
 }
 
 impl<'b, 'a> Shape<'b, 'a> {
@@ -33,7 +34,7 @@ impl<'b, 'a> Shape<'b, 'a> {
     {
         match self {
             Shape::Laid(layout) => layout.specs(),
-            Shape::Declared(specs) => specs,
+            Shape::Declared(declaration) => &declaration.specs,
         }
     }
 
@@ -45,7 +46,7 @@ impl<'b, 'a> Shape<'b, 'a> {
     {
         match self {
             Shape::Laid(layout) => layout.may_have_ranges(),
-            Shape::Declared(specs) => are_ranged(specs),
+            Shape::Declared(declaration) => are_ranged(&declaration.needed()),
         }
     }
 
@@ -62,20 +63,21 @@ impl<'b, 'a> Shape<'b, 'a> {
     {
         match self {
             Shape::Laid(layout) => layout.first_value(name, values, width),
-            Shape::Declared(specs) => specs.first_value(name, values, width),
+            Shape::Declared(declaration) => declaration.first_value(name, values, width),
         }
     }
 }
 
 impl<'a> Decl<'a> {
-    /// How the values of its entries lie.
-    #[inline(always)]
-    pub fn shape(&self) -> Shape<'_, 'a>
-        ensures { specs_of result ≡ self.now.specs }
+    /// The value of the first attribute of a name in an entry whose values begin at a cursor, as
+    /// `Specs::first_value`. A name that is used is looked for among the attributes that entries
+    /// need.
+    fn first_value<'b>(&self, name: u64, values: &Cursor<'b>, width: Width) -> Option<Value<'b>>
+        ensures { option_map value_shown result ≡ value_up_to (size_of width) name self.now.specs values.now }
     {
-        match &self.layout {
-            Some(layout) => Shape::Laid(layout),
-            None => Shape::Declared(&self.specs),
+        if is_used(name) {
+            return self.needed().first_value(name, values, width);
         }
+        self.specs.first_value(name, values, width)
     }
 }

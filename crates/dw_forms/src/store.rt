@@ -71,7 +71,7 @@ fn read_run<'a>(
         let Some(declaration) = next_decl(cursor)? else {
             return Ok((declarations, None));
         };
-        declarations.push(declaration.laid_out(alloc, room)?)?;
+        declarations.push(declaration.listed(alloc, room)?)?;
     }
 }
 
@@ -108,8 +108,8 @@ pub struct AbbrevStore<'a> {
     runs: Vec<Run<'a>>,
     /// Where the table begins that is at an offset.
     starts: Starts,
-    /// How many attributes may still be laid out: together as many as .debug_abbrev has room for,
-    /// so that memory stays in proportion where declarations begin inside one another.
+    /// How many attributes may still be listed: together as many as .debug_abbrev has bytes, so
+    /// that memory stays in proportion where declarations begin inside one another.
     room: usize,
 }
 
@@ -135,7 +135,7 @@ impl<'a> AbbrevStore<'a> {
             section,
             runs: Vec::new(alloc),
             starts: Starts::new(alloc),
-            room: section.len() / 2,
+            room: section.len(),
         }
     }
 

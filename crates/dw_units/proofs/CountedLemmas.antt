@@ -1,6 +1,6 @@
 -- The attributes of an entry that count, as they are read one by one.
-use Rattle.std.proofs.Common.{◌≡◌, ℕ, ◌≤◌, Bool, true, false, cond, List, [], ◌∷◌, ◌++◌, length, map, Option, Some, None, sym, ap, subst, arith}
-use Rattle.std.specs.Prelude.{IsSome, nat_eq, ◌==◌}
+use Rattle.std.proofs.Common.{◌≡◌, ℕ, ◌≤◌, Bool, true, false, cond, List, [], ◌∷◌, ◌++◌, length, map, Option, Some, None, Result, Ok, Err, refl, sym, ap, ◌∙◌, subst, arith}
+use Rattle.std.specs.Prelude.{IsSome, nat_eq, option_and_then, ◌==◌}
 use Rattle.std.specs.Option.{option_or}
 use Rattle.std.specs.List.{list_any}
 use Rattle.std.specs.Map.{lookup}
@@ -10,8 +10,16 @@ use Rattle.std.proofs.lemmas.List.{length-map, map_push}
 use Rattle.std.proofs.lemmas.Map.Made.{length-le_from_is_member}
 use Rattle.std.proofs.lemmas.Bool.{cases_Bool, eqb-true, eqb-false, eq-eqb, ne_eqb, or_right}
 use Rattle.std.proofs.lemmas.List.Folds.{list_any-append}
+use Rattle.dw_model.specs.Abbrev.{Specification}
+use Rattle.dw_model.specs.Faults.{Fault}
 use Rattle.dw_model.specs.Form.{Value}
-use Rattle.dw_model.specs.Entry.{Attribute, classes}
+use Rattle.dw_model.specs.Reading.{Place}
+use Rattle.dw_model.specs.Entry.{Attribute, attributes_at, classes}
+use Rattle.dw_forms.specs.Names.{is_used}
+use Rattle.dw_forms.specs.Needed.{AreAlike}
+use Rattle.dw_forms.specs.Size.{place_behind}
+use Rattle.dw_forms.proofs.FirstValueLemmas.{read-named}
+use Rattle.dw_units.specs.View.{attributes_in, IsRead}
 use Rattle.dw_forms.specs.declared.names.TheConstants.{NAMES}
 use Rattle.dw_forms.proofs.StartLemmas.{or-none}
 use Rattle.dw_units.specs.declared.attributes.Attribute.{Attribute as CodeAttribute}
@@ -78,3 +86,31 @@ pub each-kept : (all : List Attribute) (kept : List CodeAttribute) (names : List
 each-kept all kept names counted count =
     let within = λ (name : ℕ) (member : is_member nat_eq names name ≡ true). named kept name (subst IsSome (sym (counted name)) (count.each name member)) in
     subst (λ (n : ℕ). length names ≤ n) (length-map kept (λ one. one.name)) (length-le_from_is_member nat_eq_equiv names (map (λ one. one.name) kept) count.distinct within)
+
+-- ---- by the attributes that entries need
+
+module _ (size : ℕ) (needed all : List Specification) (p : Place) (alike : AreAlike needed all) where
+  readable : (some more : Result (List Attribute × Place) Fault) → place_behind some ≡ place_behind more → IsRead more → IsRead some
+  readable (Ok found) more same read = (found, refl)
+  readable (Err fault) more same read = (let no = same ∙ ap place_behind read.1 in absurd cc)
+
+  pub needed-read : IsRead (attributes_at size all p) → IsRead (attributes_at size needed p)
+  needed-read = readable (attributes_at size needed p) (attributes_at size all p) (alike.behind size p)
+
+  first-alike : (name : ℕ) → is_used name ≡ true → IsRead (attributes_at size all p) → first_of name (attributes_in (attributes_at size needed p)) ≡ first_of name (attributes_in (attributes_at size all p))
+  first-alike name used read =
+      let some = needed-read read in
+      ap (λ read. first_of name (attributes_in read)) some.1
+      ∙ sym (read-named size name needed p some.0 some.1) ∙ alike.values size name p used ∙ read-named size name all p read.0 read.1
+      ∙ ap (λ read. first_of name (attributes_in read)) (sym read.1)
+
+  pub counted-alike : (kept : List CodeAttribute) → IsRead (attributes_at size all p) → AreCounted (attributes_in (attributes_at size needed p)) kept → AreCounted (attributes_in (attributes_at size all p)) kept
+  counted-alike kept read counted name = by (is_used name) refl
+    where
+      by : (used : Bool) → is_used name ≡ used → first_of name (map attribute_shown kept) ≡ attribute_in name (attributes_in (attributes_at size all p))
+      by true used =
+          counted name ∙ told name (attributes_in (attributes_at size needed p)) ∙ ap (option_and_then (given name)) (first-alike name used read)
+          ∙ sym (told name (attributes_in (attributes_at size all p)))
+      by false unused =
+          counted name ∙ unlisted-attribute name (attributes_in (attributes_at size needed p)) (unlisted name unused)
+          ∙ sym (unlisted-attribute name (attributes_in (attributes_at size all p)) (unlisted name unused))

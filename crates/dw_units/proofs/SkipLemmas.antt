@@ -1,12 +1,15 @@
 -- Values that are passed over in one step.
-use Rattle.std.proofs.Common.{◌≡◌, ◌∙◌, ℕ, List, Option, Some, Result, Ok, Err, ap, arith}
+use Rattle.std.proofs.Common.{◌≡◌, ◌∙◌, ℕ, List, Option, Some, Result, Ok, Err, ap, sym, arith}
 use Rattle.std.specs.Prelude.{ok_or}
 use Rattle.dw_model.specs.Faults.{Fault, ends_early}
 use Rattle.dw_model.specs.Reading.{Place, bytes_at}
+use Rattle.dw_model.specs.Abbrev.{Specification}
+use Rattle.dw_model.specs.Entry.{attributes_at}
 use Rattle.dw_model.specs.Answers.{Tells, ReadsOn}
 use Rattle.dw_model.proofs.StepLemmas.{ok_is}
 use Rattle.dw_forms.specs.declared.fault.FormFault.{FormFault}
 use Rattle.dw_forms.specs.Fault.{form_fault, Passes}
+use Rattle.dw_forms.specs.Needed.{AreAlike}
 use Rattle.dw_forms.specs.Size.{place_behind, Skips}
 
 found-at : {A : Type 0} (read : Result (A × Place) Fault) (q : Place) → place_behind read ≡ Ok (tt, q) → (found : A) × (read ≡ Ok (found, q))
@@ -26,3 +29,12 @@ tells-at read by told same fault = grind (arith, faults-at)
 
 pub passes : {A : Type 0} (read : Result (A × Place) Fault) (by : Result (Unit {0} × Place) Fault) (result : Result (Unit {0}) FormFault) (q : Place) → place_behind read ≡ by → ReadsOn (λ done. done) form_fault result by q → Passes result read q
 passes read by result q same e = grind (arith, found-at, tells-at)
+
+pub passed-alike : (size : ℕ) (needed all : List Specification) (p q : Place) (result : Result (Unit {0}) FormFault) → AreAlike needed all → Passes result (attributes_at size needed p) q → Passes result (attributes_at size all p) q
+passed-alike size needed all p q (Ok done) alike passed =
+    found-at (attributes_at size all p) q (sym (alike.behind size p) ∙ ap place_behind passed.1)
+passed-alike size needed all p q (Err fault) alike told =
+    tells-at (attributes_at size all p) (place_behind (attributes_at size needed p)) (form_fault fault) (sym (alike.behind size p)) (tells-behind (attributes_at size needed p) (form_fault fault) told)
+  where
+    tells-behind : {A : Type 0} (read : Result (A × Place) Fault) (own : Option Fault) → Tells own read → Tells own (place_behind read)
+    tells-behind read own told = grind arith

@@ -10,7 +10,7 @@ ghost use Rattle.dw_units.specs.Attribute.{attribute_shown};
 ghost use Rattle.dw_units.specs.Counted.{attribute_in, first_of, AllCount};
 
 use crate::counted::read_counted;
-use crate::values::pass_values;
+use crate::values::pass_declared;
 use dw_bytes::{Cursor, Width};
 use dw_forms::{Decl, FormFault, Specs, Value, read_value};
 use std::alloc::{AllocError, Global};
@@ -135,8 +135,8 @@ impl<'a> Attributes<'a> {
             (attributes_at (size_of width) declaration.now.specs cursor.old)) }
     {
         let values = cursor.fork();
-        pass_values(cursor, declaration.shape(), width)?;
-        let counted = read_counted(alloc, &values, declaration.shape(), width)?;
+        pass_declared(cursor, declaration, width)?;
+        let counted = read_counted(alloc, &values, declaration, width)?;
         Ok(Attributes {
             specs: declaration.specs.fork(),
             values,

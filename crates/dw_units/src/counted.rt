@@ -3,7 +3,6 @@
 ghost use Rattle.std.specs.Prelude.{◌≡◌, ◌≤◌, IfOk, length, option_map};
 ghost use Rattle.dw_model.specs.Entry.{attributes_at, classes};
 ghost use Rattle.dw_bytes.specs.Width.{size_of};
-ghost use Rattle.dw_forms.specs.Shape.{specs_of};
 ghost use Rattle.dw_forms.specs.Value.{value_shown};
 ghost use Rattle.dw_units.specs.Counted.{attribute_in, AreCounted};
 ghost use Rattle.dw_units.specs.View.{attributes_in, IsRead};
@@ -11,7 +10,7 @@ ghost use Rattle.dw_units.specs.View.{attributes_in, IsRead};
 use crate::attributes::Attribute;
 use crate::class::counts;
 use dw_bytes::{Cursor, Width};
-use dw_forms::{Layout, NAMES, Shape, Value};
+use dw_forms::{Decl, Layout, NAMES, Value};
 use std::alloc::{AllocError, Global};
 
 /// The value of the first attribute of a name, where it counts for the name.
@@ -55,23 +54,18 @@ fn counted_by<'a>(
     Ok(kept)
 }
 
-/// The same, where the values lie in a shape.
+/// The same, of an entry of a declaration.
 pub(crate) fn read_counted<'a>(
     alloc: Global,
     values: &Cursor<'a>,
-    shape: Shape<'_, '_>,
+    declaration: &Decl<'_>,
     width: Width,
 ) -> Result<Vec<Attribute<'a>>, AllocError>
-    requires { IsRead (attributes_at (size_of width) (specs_of shape) values.now) }
+    requires { IsRead (attributes_at (size_of width) declaration.now.specs values.now) }
     ensures counted { IfOk result (λ kept.
-        AreCounted (attributes_in (attributes_at (size_of width) (specs_of shape.entry) values.now)) kept.items) }
+        AreCounted (attributes_in (attributes_at (size_of width) declaration.now.specs values.now)) kept.items) }
     ensures few { IfOk result (λ kept. length kept.items ≤ length classes) }
 {
-    match shape {
-        Shape::Laid(layout) => counted_by(alloc, values, layout, width),
-        Shape::Declared(specs) => {
-            let layout = Layout::of(alloc, specs, true)?;
-            counted_by(alloc, values, &layout, width)
-        }
-    }
+    let layout = Layout::of(alloc, &declaration.needed(), true)?;
+    counted_by(alloc, values, &layout, width)
 }

@@ -69,7 +69,8 @@ pub(crate) enum Known<'b, 'a> {
 /// Declarations with codes below this are kept.
 const CODES: u64 = 0x4000;
 
-/// Declarations with so many attributes are kept. Those with more are laid out when they are read.
+/// Declarations with so many attributes are kept. Of those with more, `Decl::needed` lists what
+/// entries need.
 const ATTRIBUTES: usize = 64;
 
 /// Of how many bytes of its unit's entries one is kept.
@@ -225,7 +226,7 @@ pub(crate) fn declared_meaning<'b, 'a>(
         tag: declaration.tag,
         children: declaration.children,
         size: None,
-        shape: declaration.shape(),
+        shape: Shape::Declared(declaration),
     })
 }
 

@@ -11,10 +11,10 @@ ghost use Rattle.dw_units.specs.Layouts.{IsSize};
 
 use crate::layouts::Meaning;
 use dw_bytes::{Cursor, Width};
-use dw_forms::{FormFault, Layout, Shape, Specs, read_value};
+use dw_forms::{Decl, FormFault, Layout, Shape, Specs, read_value};
 
 /// Passes over the values that a declaration asks for, where offsets have a width.
-pub(crate) fn pass_attributes(
+fn pass_attributes(
     cursor: &mut Cursor<'_>,
     specs: &Specs<'_>,
     width: Width,
@@ -26,6 +26,17 @@ pub(crate) fn pass_attributes(
         read_value(cursor, spec.form, spec.implicit, width)?;
     }
     Ok(())
+}
+
+/// Passes over the values of an entry of a declaration, by those of its attributes that are needed.
+pub(crate) fn pass_declared(
+    cursor: &mut Cursor<'_>,
+    declaration: &Decl<'_>,
+    width: Width,
+) -> Result<(), FormFault>
+    ensures { Passes result (attributes_at (size_of width) declaration.now.specs cursor.old) cursor.new }
+{
+    pass_attributes(cursor, &declaration.needed(), width)
 }
 
 /// Passes over the values of an entry: in the 32-bit format from one of no fixed size to the next,
@@ -63,7 +74,7 @@ pub(crate) fn pass_values(
     let mut place = cursor.fork();
     match shape {
         Shape::Laid(layout) => pass_each(&mut place, layout, width)?,
-        Shape::Declared(specs) => pass_attributes(&mut place, specs, width)?,
+        Shape::Declared(declaration) => pass_declared(&mut place, declaration, width)?,
     }
     *cursor = place;
     Ok(())

@@ -10,36 +10,37 @@ ghost use Rattle.dw_forms.specs.Pairs.{ReadsCount, ReadsShortPair};
 
 use crate::declaration::{Decl, Spec};
 use crate::fault::FormFault;
-use crate::layout::Layout;
+use crate::needed::needed_of;
 use crate::pairs::Specs;
 use dw_bytes::Cursor;
 use dw_model::dwarf::DW_FORM_implicit_const;
 use std::alloc::{AllocError, Global};
 
-/// How many attributes at most a declaration has that isn't laid out when it is read.
+/// Of a declaration with more attributes than this, those are listed that entries need.
 const FEW: usize = 64;
 
 impl<'a> Decl<'a> {
-    /// The same with its layout, where it has many attributes, and no more than there is room for.
-    /// So many units of one long declaration don't lay it out again.
-    pub(crate) fn laid_out(self, alloc: Global, room: &mut usize) -> Result<Self, AllocError>
-        ensures same { IfOk result (λ laid. declaration_shown laid ≡ declaration_shown self.entry) }
-        ensures offset { IfOk result (λ laid. laid.offset ≡ self.entry.offset) }
+    /// The same declaration; where it has many attributes, those that entries need are listed, if
+    /// there is room for them. So units with one long declaration don't each read all of it.
+    pub(crate) fn listed(self, alloc: Global, room: &mut usize) -> Result<Self, AllocError>
+        ensures same { IfOk result (λ listed. declaration_shown listed ≡ declaration_shown self.entry) }
+        ensures offset { IfOk result (λ listed. listed.offset ≡ self.entry.offset) }
     {
-        let count = self.specs.len();
-        if count <= FEW || count > *room {
+        if self.specs.len() <= FEW {
             return Ok(self);
         }
-        *room -= count;
-        let layout = Layout::of(alloc, &self.specs, true)?;
-        let layout = Box::new(alloc, layout)?;
+        let Some(few) = needed_of(alloc, &self.specs, *room)? else {
+            return Ok(self);
+        };
+        *room -= few.len();
+        let few = Box::new(alloc, few)?;
         let Decl {
             offset,
             code,
             tag,
             children,
             specs,
-            layout: _,
+            few: _,
         } = self;
         Ok(Decl {
             offset,
@@ -47,7 +48,7 @@ impl<'a> Decl<'a> {
             tag,
             children,
             specs,
-            layout: Some(layout),
+            few: Some(few),
         })
     }
 }
@@ -133,7 +134,7 @@ fn declaration_of<'a>(
         tag,
         children: children != 0,
         specs: Specs::new(pairs, count),
-        layout: None,
+        few: None,
     })
 }
 
