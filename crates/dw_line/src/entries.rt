@@ -182,11 +182,12 @@ fn places_of(
         (map format_shown formats.now) (placed cursor.old at)) places.items) line_fault result
         (entries_at tables bases (size_of width) (map format_shown formats.now) count cursor.old) cursor.new }
 {
-    let passed = formats_with_bytes(alloc, formats)?;
+    let kept = formats_with_bytes(alloc, formats)?;
+    let passed = kept.as_slice();
     let mut places = Vec::with_capacity(alloc, count as usize)?;
     for _ in 0..count {
         let at = cursor.at();
-        pass_contents(cursor, passed.as_slice(), width)?;
+        pass_contents(cursor, passed, width)?;
         places.push(at)?;
     }
     Ok(places)

@@ -19,7 +19,7 @@ returns-in_err-pass_contents c = λ tables bases.
     let formats = map format_shown c.args.formats.now in
     let p = err_from_is_err_and c.from_residual-in_err-pass_contents.result c.from_residual-in_err-pass_contents.ensures.1 in
     let whole = entries_at tables bases size formats c.args.count c.args.cursor.now in
-    let same : place_behind (contents_at size (map format_shown c.as_slice.result.now) c.loop.cursor) ≡ place_behind (contents_at size formats c.loop.cursor) = rw c.as_slice.ensures (c.in_ok-passed.ensures size c.loop.cursor) in
+    let same : place_behind (contents_at size (map format_shown c.as_slice-passed.result.now) c.loop.cursor) ≡ place_behind (contents_at size formats c.loop.cursor) = rw c.as_slice-passed.ensures (c.in_ok-kept.ensures size c.loop.cursor) in
     rw (p.1) (tells (line_fault c.in_err-pass_contents.field-0.0) (line_fault p.0) (place_behind (contents_at size formats c.loop.cursor)) whole (ap line_fault p.2) (subst (λ (read : Result (Unit {0} × Place) Bad). Tells (line_fault c.in_err-pass_contents.field-0.0) read) same c.in_err-pass_contents.ensures)
     (λ e. stops (λ at. entry_in tables bases size formats (placed c.args.cursor.now at)) (entry_at size tables bases formats) (entries_at tables bases size formats) (entries-none size tables bases formats) (entries-some size tables bases formats) c.loop.places.items c.args.count c.loop.counter c.loop.cursor whole c.loop-test.true (c.loop.invariant.read tables bases) (place-unread size tables bases formats c.loop.cursor e)))
 
@@ -34,7 +34,7 @@ loop-preserved c =
     let size = size_of c.args.width in
     let formats = map format_shown c.args.formats.now in
     let before = c.loop.invariant.passed in
-    let same : place_behind (contents_at size (map format_shown c.as_slice.result.now) c.loop.cursor) ≡ place_behind (contents_at size formats c.loop.cursor) = rw c.as_slice.ensures (c.in_ok-passed.ensures size c.loop.cursor) in
+    let same : place_behind (contents_at size (map format_shown c.as_slice-passed.result.now) c.loop.cursor) ≡ place_behind (contents_at size formats c.loop.cursor) = rw c.as_slice-passed.ensures (c.in_ok-kept.ensures size c.loop.cursor) in
     let read = sym same ∙ c.in_ok-pass_contents.ensures in
     let next = passed-between size formats c.loop.cursor c.pass_contents.new.cursor read in
     record {
