@@ -10,12 +10,15 @@ PROGRAM = crates/a2l/out/a2l
 WHY = crates/a2l_why/out/a2l_why
 SYMBOLIZER = rust/target/release/a2l-symbolizer
 
+# The files of the module for Python.
+MODULE = __init__.py __main__.py py.typed liba2l.so
+
 # All that is installed, below PREFIX, and the folders that hold nothing else.
 INSTALLED = bin/a2l bin/a2l_why bin/a2l-symbolizer bin/llvm-symbolizer-a2l $(LIBDIR)/liba2l.a \
     $(LIBDIR)/pkgconfig/a2l.pc include/a2l.h include/a2l_file.h share/man/man1/a2l.1 share/man/man1/a2l_why.1 \
-    share/man/man1/a2l-symbolizer.1 share/man/man3/liba2l.3 lib/a2l/python/a2l.py lib/a2l/python/liba2l.so \
+    share/man/man1/a2l-symbolizer.1 share/man/man3/liba2l.3 $(MODULE:%=lib/a2l/python/a2l/%) \
     lib/a2l/tools/llvm-symbolizer lib/a2l/tools/addr2line
-FOLDERS = lib/a2l/python lib/a2l/tools lib/a2l
+FOLDERS = lib/a2l/python/a2l lib/a2l/python lib/a2l/tools lib/a2l
 
 .PHONY: all library shared program why symbolizer install install-files install-why install-symbolizer \
     uninstall dist deb
@@ -32,7 +35,7 @@ library:
 	rm -f out/liba2l.a
 	ar rcsD out/liba2l.a out/a2l.o
 
-# The same object, to be loaded by a program that runs: python/a2l.py does.
+# The same object, to be loaded by a program that runs: python/a2l does.
 shared: library
 	$(CC) -shared -Wl,-z,defs -o out/liba2l.so -Wl,--whole-archive out/liba2l.a -Wl,--no-whole-archive
 
@@ -54,15 +57,15 @@ install: library shared program why symbolizer
 fill = sed -e 's|@PREFIX@|$(PREFIX)|g' -e 's|@LIBDIR@|$(LIBDIR)|g' -e 's|@VERSION@|$(VERSION)|g' $(1) \
     > "$(DESTDIR)$(PREFIX)/$(2)" && chmod 644 "$(DESTDIR)$(PREFIX)/$(2)"
 
-# The same of what is built already. The shared object is put beside a2l.py and not into lib, where `-la2l` would prefer
-# it, so that programs of C would need it when they run.
+# The same of what is built already. The shared object is put into the module for Python and not into lib, where `-la2l`
+# would prefer it, so that programs of C would need it when they run.
 install-files:
 	install -d "$(DESTDIR)$(PREFIX)/bin" "$(DESTDIR)$(PREFIX)/$(LIBDIR)/pkgconfig" "$(DESTDIR)$(PREFIX)/include" \
-	    "$(DESTDIR)$(PREFIX)/lib/a2l/python" "$(DESTDIR)$(PREFIX)/share/man/man1" "$(DESTDIR)$(PREFIX)/share/man/man3"
+	    "$(DESTDIR)$(PREFIX)/lib/a2l/python/a2l" "$(DESTDIR)$(PREFIX)/share/man/man1" "$(DESTDIR)$(PREFIX)/share/man/man3"
 	install -m 755 $(PROGRAM) "$(DESTDIR)$(PREFIX)/bin/a2l"
 	install -m 644 out/liba2l.a "$(DESTDIR)$(PREFIX)/$(LIBDIR)/liba2l.a"
-	install -m 755 out/liba2l.so "$(DESTDIR)$(PREFIX)/lib/a2l/python/liba2l.so"
-	install -m 644 python/a2l.py "$(DESTDIR)$(PREFIX)/lib/a2l/python/a2l.py"
+	install -m 755 out/liba2l.so "$(DESTDIR)$(PREFIX)/lib/a2l/python/a2l/liba2l.so"
+	cd python/a2l && install -m 644 $(filter-out liba2l.so,$(MODULE)) "$(DESTDIR)$(PREFIX)/lib/a2l/python/a2l/"
 	install -m 644 include/a2l.h include/a2l_file.h "$(DESTDIR)$(PREFIX)/include/"
 	$(call fill,include/a2l.pc.in,$(LIBDIR)/pkgconfig/a2l.pc)
 	$(call fill,docs/a2l.1,share/man/man1/a2l.1)
@@ -85,7 +88,7 @@ install-symbolizer:
 
 # Takes away what `make install` has put in place, with what Python has made of it, and the folders of a2l alone.
 uninstall:
-	cd "$(DESTDIR)$(PREFIX)" && rm -f $(INSTALLED) && rm -rf lib/a2l/python/__pycache__ && \
+	cd "$(DESTDIR)$(PREFIX)" && rm -f $(INSTALLED) && rm -rf lib/a2l/python/a2l/__pycache__ && \
 	    for folder in $(FOLDERS); do [ ! -d $$folder ] || rmdir $$folder; done
 
 # A release of what is built.

@@ -1,10 +1,10 @@
 #!/usr/bin/env bash
-# How long python/a2l.py takes, and how much memory, beside a loop over the Rust crate addr2line and beside Python that
+# How long python/a2l takes, and how much memory, beside a loop over the Rust crate addr2line and beside Python that
 # asks llvm-symbolizer through a pipe, all in one run: 10,000 random addresses of a program, and a million samples of
 # 20,000 of them. The program is built of as many units of templates as the first word says (60 without, about 100 MB),
 # or it is the one that the word names. Each makes values of all frames, which Python has in the end, and says how many
 # they are. Each is run as often as the second word says (3 without, llvm-symbolizer once on a million), and the least
-# time of the whole process counts. Then a2l.py alone on 100, 1,000 and 100,000 random addresses. Run it after
+# time of the whole process counts. Then python/a2l alone on 100, 1,000 and 100,000 random addresses. Run it after
 # `make shared`. It prints a table, and tests nothing but that a2l and the crate have as many frames.
 . "$(dirname "$0")/../tests/programs.sh"
 times=${2:-3}

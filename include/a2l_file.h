@@ -1,7 +1,7 @@
 /* Opens a file by its path for liba2l: its bytes are mapped, so that an address reads only the pages that it needs. This
  * is no part of the library, and can be changed to read files in another way.
  *
- * A file that changes while it is mapped may end the process by SIGBUS. */
+ * A file that changes while it is mapped may end the process by SIGBUS. It needs POSIX; a strict -std=c11 will do. */
 #ifndef A2L_FILE_H
 #define A2L_FILE_H
 
@@ -12,6 +12,13 @@
 #include <unistd.h>
 
 #include "a2l.h"
+
+/* A strict -std=c11 hides O_CLOEXEC; the file is open but for a moment. */
+#ifdef O_CLOEXEC
+#define A2L_FILE_CLOSED_BY_EXEC O_CLOEXEC
+#else
+#define A2L_FILE_CLOSED_BY_EXEC 0
+#endif
 
 /* A file that is mapped. */
 typedef struct a2l_file {
@@ -24,7 +31,8 @@ static inline bool a2l_file_map(const char *path, a2l_file *file)
 {
     struct stat about;
     void *bytes;
-    int descriptor = open(path, O_RDONLY | O_CLOEXEC);
+    /* O_NONBLOCK, not to wait for the other end of a pipe, which is no regular file. */
+    int descriptor = open(path, O_RDONLY | O_NONBLOCK | A2L_FILE_CLOSED_BY_EXEC);
 
     if (descriptor < 0)
         return false;

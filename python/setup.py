@@ -1,10 +1,13 @@
-"""The version of the wheel, the library in it, and the machine that it is for. pyproject.toml says the rest."""
+"""The library in the wheel, and the machine that it is for. pyproject.toml says the rest."""
 
 import os
+import re
 import shutil
+import subprocess
 
 from setuptools import setup
 from setuptools.command.build_py import build_py
+from setuptools.command.sdist import sdist
 from setuptools.dist import Distribution
 
 try:
@@ -14,13 +17,25 @@ except ImportError:
     from wheel.bdist_wheel import bdist_wheel
 
 HERE = os.path.dirname(os.path.abspath(__file__))
-LIBRARY = 'liba2l.so'
+PLACE = os.path.join('a2l', 'liba2l.so')
 
 
-def version():
-    """What the file VERSION says, at the top of the repository or of a release."""
-    with open(os.path.join(HERE, os.pardir, 'VERSION'), encoding='ascii') as file:
-        return file.read().strip()
+def library():
+    """The library: that of a release, which is there already, or that of `make shared`."""
+    places = [os.path.join(HERE, PLACE), os.path.join(HERE, os.pardir, 'out', 'liba2l.so')]
+    found = [place for place in places if os.path.exists(place)]
+    if not found:
+        raise SystemExit('no liba2l.so: build it by `make shared`')
+    return found[0]
+
+
+def oldest_glibc():
+    """The oldest version of glibc that has all symbols of the library, or None if readelf isn't there."""
+    try:
+        shown = subprocess.run(['readelf', '-V', library()], check=True, capture_output=True, text=True).stdout
+    except (OSError, subprocess.CalledProcessError):
+        return None
+    return max((tuple(map(int, found)) for found in re.findall(r'\bGLIBC_(\d+)\.(\d+)', shown)), default=None)
 
 
 class Binary(Distribution):
@@ -31,22 +46,31 @@ class Binary(Distribution):
 
 
 class Build(build_py):
-    """Puts the library beside a2l.py: that of a release, which is there already, or that of `make shared`."""
+    """Puts the library into the package."""
 
     def run(self):
         super().run()
-        places = [os.path.join(HERE, LIBRARY), os.path.join(HERE, os.pardir, 'out', LIBRARY)]
-        found = [place for place in places if os.path.exists(place)]
-        if not found:
-            raise SystemExit(f'no {LIBRARY}: build it by `make shared`')
-        shutil.copy(found[0], os.path.join(self.build_lib, LIBRARY))
+        shutil.copy(library(), os.path.join(self.build_lib, PLACE))
+
+
+class Source(sdist):
+    """Puts the library into the source distribution, of which a wheel can then be made anywhere."""
+
+    def make_release_tree(self, base_dir, files):
+        super().make_release_tree(base_dir, files)
+        shutil.copy(library(), os.path.join(base_dir, PLACE))
 
 
 class Wheel(bdist_wheel):
     """A wheel for every Python 3, since the library knows nothing of Python."""
 
     def get_tag(self):
-        return ('py3', 'none', super().get_tag()[2])
+        machine = super().get_tag()[2]
+        glibc = oldest_glibc()
+        if glibc and machine.startswith('linux_'):
+            # pip knows no such tag before 2.5; PEP 600
+            machine = 'manylinux_{}_{}_'.format(*max(glibc, (2, 5))) + machine[len('linux_'):]
+        return ('py3', 'none', machine)
 
 
-setup(version=version(), distclass=Binary, cmdclass={'build_py': Build, 'bdist_wheel': Wheel})
+setup(distclass=Binary, cmdclass={'build_py': Build, 'sdist': Source, 'bdist_wheel': Wheel})

@@ -1,4 +1,4 @@
-"""Tests of a2l.py: python3 -m unittest python/test_a2l.py, after `make shared`.
+"""Tests of the module a2l: python3 -m unittest python/test_a2l.py, after `make shared`.
 
 What is expected was worked out by hand, from the bytes of samples/inlined.elf and the standards. tests/python.sh
 compares answers with those of the program, on many programs.
@@ -277,21 +277,44 @@ class Handles(Files):
         self.assertEqual((len(found), all(found)), (800, True))
 
 
+def run_python(*words, text='', **variables):
+    """Runs another Python that finds the module."""
+    return subprocess.run([sys.executable, *words], env={**os.environ, 'PYTHONPATH': HERE, **variables}, input=text,
+                          capture_output=True, text=True, check=False)
+
+
+class CommandLine(unittest.TestCase):
+    """What `python -m a2l` writes."""
+
+    LINES = '0x0000000000401004\nleaf\n/w/a.c:4\nmid\n/w/a.c:30\nmain\n/w/z.c:20\n'
+
+    def test_addresses_are_words_or_lines(self):
+        for words, text in (('401004',), ''), (('0x401004',), ''), ((), '401004\n'):
+            told = run_python('-m', 'a2l', SAMPLE, *words, text=text)
+            self.assertEqual((told.returncode, told.stdout, told.stderr), (0, self.LINES, ''))
+        told = run_python('-m', 'a2l', SAMPLE, '0')
+        self.assertEqual((told.returncode, told.stdout), (0, '0x0000000000000000\n??\n??:0\n'))
+
+    def test_what_is_wrong_is_told(self):
+        for words, why in ((SAMPLE, 'zz'), "'zz' is no address"), ((__file__, '1'), 'file refused: 1 NotElf'), \
+                (('/nowhere', '1'), 'No such file'), ((), 'usage: '):
+            told = run_python('-m', 'a2l', *words)
+            self.assertEqual((told.returncode, told.stdout), (2, ''))
+            self.assertIn(why, told.stderr)
+
+
 class Library(unittest.TestCase):
     """How the library is found, and what it is."""
 
-    def run_python(self, code, **variables):
-        return subprocess.run([sys.executable, '-c', code], env={**os.environ, 'PYTHONPATH': HERE, **variables},
-                              capture_output=True, text=True, check=False)
-
     def test_the_version_is_that_of_the_release(self):
         with open(os.path.join(TOP, 'VERSION'), encoding='ascii') as file:
-            self.assertEqual(a2l.version(), file.read().strip())
+            version = file.read().strip()
+        self.assertEqual((a2l.version(), a2l.__version__), (version, version))
 
     def test_a_library_that_is_missing(self):
         code = f'import a2l\ntry: a2l.open({SAMPLE!r})\nexcept a2l.LibraryMissing as why: print(why)'
         for named in ('/nowhere/liba2l.so', SAMPLE):
-            told = self.run_python(code, A2L_LIBRARY=named)
+            told = run_python('-c', code, A2L_LIBRARY=named)
             self.assertIn('make shared', told.stdout, told.stderr)
 
     def test_structs_are_those_of_the_header(self):

@@ -14,7 +14,7 @@ mv root/usr/local "$name"
 sed -i 's|^prefix=.*|prefix=${pcfiledir}/../..|' "$name/lib/pkgconfig/a2l.pc"
 add_sources "$name" VERSION LICENSE CHANGELOG.md README.md 'docs/*.md' examples python rust samples
 # once, beside what makes a wheel of it
-mv "$name/lib/a2l/python/liba2l.so" "$name/python/"
+mv "$name/lib/a2l/python/a2l/liba2l.so" "$name/python/a2l/"
 rm -r "$name/lib/a2l/python"
 
 (cd "$name" && find . -type f -printf '%P\n' | sort | xargs -d '\n' sha256sum) > SHA256SUMS

@@ -4,8 +4,9 @@
 # machine's compilers, some of them many times, of one that isn't there, of one that is refused, of one by its build id,
 # and it has lines that can't be read. The rows have to be what `a2l` writes for each address; the counts of all rows
 # those of the table; and the addresses of a unit in one part. Then the job again, in which each part is run twice; in
-# which a worker is killed when the first parts are there; and in which two tasks kill each worker that takes them. The
-# rows, when sorted, have to be the same to the byte, but for the part that failed. The large program is built of six
+# which a worker is killed when the first parts are there; in which two tasks kill each worker that takes them; and in
+# which a part takes longer than it may. The rows, when sorted, have to be the same to the byte, but for the part that
+# failed. A job with a worker that lacks a module ends at once. The large program is built of six
 # units of templates, or it is the one that a word names. Run it after `rt run` in crates/a2l has built the program; the
 # library is built here. The last line counts what agrees.
 . "$(dirname "$0")/programs.sh"
@@ -143,7 +144,7 @@ fi
 /usr/bin/python3 -c 'import distributed' 2> /dev/null ||
     { echo "skipped, no python3-distributed here: the job for Dask"; exit 0; }
 cat > jobs.py << 'END_PY'
-"""jobs.py SYMBOLIZE-FOLDER: runs the job in the four ways, and tells what each has done."""
+"""jobs.py SYMBOLIZE-FOLDER: runs the job in the five ways, and tells what each has done."""
 import glob
 import os
 import signal
@@ -155,7 +156,7 @@ import symbolize
 import parts
 from distributed import Client
 
-TABLES, FOLDERS, SECONDS = ['table/one', 'table/two'], ['nothing', os.path.abspath('ids')], 0.05
+TABLES, FOLDERS, PACE = ['table/one', 'table/two'], ['nothing', os.path.abspath('ids')], parts.Pace(0.05)
 
 def kill_one(client, out, killed):
     """Kills a worker, by its own number, when the first parts are there and others aren't."""
@@ -170,7 +171,7 @@ def killed(client):
     died = []
     thread = threading.Thread(target=kill_one, args=(client, 'rows/killed', died))
     thread.start()
-    summary = symbolize.run(client, TABLES, 'rows/killed', FOLDERS, SECONDS)
+    summary = symbolize.run(client, TABLES, 'rows/killed', FOLDERS, PACE)
     thread.join()
     (pid, count), = died
     assert count < summary.parts, 'the job had ended before a worker was killed'
@@ -187,7 +188,7 @@ def twice(client):
         return first
     again = []
     client.submit = both
-    summary = symbolize.run(client, TABLES, 'rows/twice', FOLDERS, SECONDS)
+    summary = symbolize.run(client, TABLES, 'rows/twice', FOLDERS, PACE)
     client.submit = submit
     ran = sum(future.exception() is None for future in again)
     return summary, ran
@@ -201,16 +202,43 @@ def failing(client):
             function = die
         return submit(function, part, *words, **named)
     client.submit = submit_deadly
-    summary = symbolize.run(client, TABLES, 'rows/failing', FOLDERS, SECONDS)
+    summary = symbolize.run(client, TABLES, 'rows/failing', FOLDERS, PACE)
     client.submit = submit
     return summary
 
 def die(*_):
     os.kill(os.getpid(), signal.SIGKILL)
 
+def late(client):
+    """The part of one program takes longer than it may, wherever it is run."""
+    submit = client.submit
+    def submit_late(function, part, *words, **named):
+        return submit(sleep if part.program == '/nowhere' else function, part, *words, **named)
+    client.submit = submit_late
+    summary = symbolize.run(client, TABLES, 'rows/late', FOLDERS, parts.Pace(PACE.seconds, 3))
+    client.submit = submit
+    return summary
+
+def sleep(part):
+    with parts.within(part.limit):
+        time.sleep(60)
+
+def hide():
+    sys.modules['asked'] = None
+
+def without_module(client):
+    """A job with a worker that lacks a module ends at once, and tells which."""
+    client.run(hide, workers=sorted(client.run(os.getpid))[:1])
+    try:
+        symbolize.run(client, TABLES, 'rows/without', FOLDERS, PACE)
+    except SystemExit as why:
+        assert '1 of 2 workers' in str(why) and 'asked' in str(why), why
+    else:
+        raise AssertionError('a worker without a module is asked')
+
 if __name__ == '__main__':
     with symbolize.local(2) as cluster, Client(cluster) as client:
-        whole = symbolize.run(client, TABLES, 'rows/whole', FOLDERS, SECONDS)
+        whole = symbolize.run(client, TABLES, 'rows/whole', FOLDERS, PACE)
         assert (whole.refused, whole.failed, whole.bad, whole.workers) == (2, 0, 4, 2), whole
         assert whole.parts > whole.programs + 5, whole
         again, ran = twice(client)
@@ -219,11 +247,14 @@ if __name__ == '__main__':
         assert (after.rows, after.parts, after.failed) == (whole.rows, whole.parts, 0), after
         last = failing(client)
         assert last.failed == 1 and last.parts < whole.parts, last
+        limited = late(client)
+        assert limited.failed == 1 and limited.parts == whole.parts, limited
+        without_module(client)
     print(f'{whole.parts} parts of {whole.programs} programs, a worker killed when {count} were there, {ran} run twice')
 END_PY
 export PYTHONWARNINGS=ignore
 told=$(timeout 600 /usr/bin/python3 jobs.py "$here/examples/dask" 2> jobs.log) || { tail -n 40 jobs.log; exit 1; }
-for way in whole twice killed failing; do
+for way in whole twice killed failing late; do
     LC_ALL=C sort rows/$way/*.jsonl > sorted.$way
     [ -s rows/$way/summary.json ] && [ ! -e rows/$way/unfinished ] || { echo "$way: the job didn't end"; exit 1; }
 done
@@ -232,8 +263,12 @@ cmp sorted.whole sorted.twice || { echo "parts that are run twice: other rows"; 
 cmp sorted.whole sorted.killed || { echo "a worker that is killed: other rows"; exit 1; }
 grep -v '"/nowhere"' sorted.whole | cmp - <(grep -v '"/nowhere"' sorted.failing) ||
     { echo "a part that fails: other rows"; exit 1; }
-[ "$(grep -c '"failed": "KilledWorker", "addresses": 5' sorted.failing)" = 1 ] ||
-    { echo "a part that fails has no row"; exit 1; }
+grep -v '"/nowhere"' sorted.whole | cmp - <(grep -v '"/nowhere"' sorted.late) ||
+    { echo "a part that takes too long: other rows"; exit 1; }
+for way in failing late; do
+    [ "$(grep -c '"failed": "KilledWorker", "addresses": 5' sorted.$way)" = 1 ] ||
+        { echo "$way: a part has no row"; exit 1; }
+done
 [ "$(grep -c '"bad"' sorted.whole)" = 4 ] || { echo "other bad lines"; exit 1; }
 
 # The counts of all rows are those of the table, and the addresses of a unit are in one part.

@@ -27,6 +27,30 @@ done
 make -s -C "$here/examples" OUT="$work/out" "$work/out/addresses" "$work/out/crash" "$work/out/frames" > make.log 2>&1 ||
     { cat make.log; exit 1; }
 
+# a2l_file.h is taken by each standard of C and C++ that its users may have, and waits for no pipe.
+cat > map.c << 'END_C'
+#include <stdio.h>
+#include "a2l_file.h"
+int main(int count, char **words)
+{
+    a2l_file file;
+    errno = 0;
+    if (count == 2 && a2l_file_map(words[1], &file))
+        a2l_file_unmap(&file);
+    printf("%d\n", errno == EINVAL ? 1 : errno == EISDIR ? 2 : errno == 0 ? 0 : 3);
+    return 0;
+}
+END_C
+mkfifo fifo
+for standard in c11 c17 gnu11 c++11; do
+    language=c
+    [ "${standard#c++}" = "$standard" ] || language=c++
+    "${CC:-cc}" -x $language -std=$standard -Wall -Wextra -Wpedantic -Werror -I"$here/include" -o map map.c ||
+        { echo "a2l_file.h: $standard"; exit 1; }
+    [ "$(timeout 10 ./map fifo; ./map "$work"; ./map map.c)" = "$(printf '1\n2\n0')" ] ||
+        { echo "a2l_file.h, by $standard: another outcome for a pipe, a folder or a file"; exit 1; }
+done
+
 # The addresses of .text of a file, every so many of them.
 addresses_of() {
     local begin size
@@ -112,10 +136,10 @@ fi
 # What is installed is enough for a program.
 make -s -C "$here" install-files DESTDIR="$work/root" PREFIX=/opt/a2l PROGRAM="$a2l" > make.log 2>&1 || { cat make.log; exit 1; }
 for file in bin/a2l lib/liba2l.a lib/pkgconfig/a2l.pc include/a2l.h include/a2l_file.h share/man/man1/a2l.1 \
-    share/man/man3/liba2l.3 lib/a2l/python/a2l.py lib/a2l/python/liba2l.so; do
+    share/man/man3/liba2l.3 lib/a2l/python/a2l/__init__.py lib/a2l/python/a2l/__main__.py lib/a2l/python/a2l/liba2l.so; do
     [ -s "$work/root/opt/a2l/$file" ] || { echo "not installed: $file"; exit 1; }
 done
-[ "$(find "$work/root" -type f | wc -l)" = 9 ] || { echo "more is installed"; exit 1; }
+[ "$(find "$work/root" -type f | wc -l)" = 11 ] || { echo "more is installed"; exit 1; }
 "${CC:-cc}" "${flags[@]}" -I"$work/root/opt/a2l/include" -I"$here/examples" -o installed "$here/examples/addresses.c" \
     -L"$work/root/opt/a2l/lib" -la2l
 ./installed "$here/samples/inlined.elf" 401004 > found

@@ -1,5 +1,5 @@
 #!/usr/bin/env bash
-# The module for Python, python/a2l.py: its doctest and its unittest tests, by each Python that is here, python3 and
+# The module for Python, python/a2l: its doctest and its unittest tests, by each Python that is here, python3 and
 # /usr/bin/python3; then what it tells of programs, as text, beside what `a2l` writes, to the byte: frames, locations
 # and spans of each sample program and sample file, and of 10,000 random addresses of a large program; arrays of numpy,
 # where it is here; four threads; and memory that runs out in a question, after which the next one is answered. The
@@ -18,7 +18,7 @@ pythons=(python3)
 [ ! -x /usr/bin/python3 ] || [ "$(command -v python3)" = /usr/bin/python3 ] || pythons+=(/usr/bin/python3)
 tests=0
 for python in "${pythons[@]}"; do
-    (cd "$here" && "$python" -m doctest python/a2l.py) || { echo "$python: the doctest fails"; exit 1; }
+    (cd "$here" && PYTHONPATH=python "$python" -c 'import a2l, doctest, sys; sys.exit(doctest.testmod(a2l).failed)') || { echo "$python: the doctest fails"; exit 1; }
     "$python" "$here/python/test_a2l.py" > "$work/unittest.log" 2>&1 || { cat unittest.log; exit 1; }
     tests=$((tests + $(sed -nE 's/^Ran ([0-9]+) tests? .*/\1/p' unittest.log)))
     sed -nE "s|^.*skipped=.*|skipped, a C compiler is wanted: structs by $python|p" unittest.log
@@ -29,7 +29,7 @@ build_levels
 need_large "${1:-6}"
 
 cat > compare.py << 'END_PY'
-"""compare.py PROGRAM FILE..: what python/a2l.py tells of files, and what the program writes of them, to the byte."""
+"""compare.py PROGRAM FILE..: what python/a2l tells of files, and what the program writes of them, to the byte."""
 import random
 import re
 import subprocess
@@ -179,6 +179,6 @@ installed=$(cd / && PYTHONPATH=$work/root/opt/a2l/lib/a2l/python python3 -c '
 import sys, a2l
 with a2l.open(sys.argv[1]) as program:
     print(a2l.__file__, *(frame.function for frame in program.frames(0x401004)))' "$here/samples/inlined.elf")
-[ "$installed" = "$work/root/opt/a2l/lib/a2l/python/a2l.py leaf mid main" ] || { echo "installed: $installed"; exit 1; }
+[ "$installed" = "$work/root/opt/a2l/lib/a2l/python/a2l/__init__.py leaf mid main" ] || { echo "installed: $installed"; exit 1; }
 
 echo "$tests tests pass; $agreed are the program's; $refusals"

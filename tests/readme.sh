@@ -37,9 +37,9 @@ for block in blocks:
             wrong.append('the example of the library is not that of crates/answer_tests/src/library.rt')
     elif first.startswith('with a2l.open'):
         shown += 1
-        doctest = re.sub(r'^(>>> |\.\.\. ?)', '', open('python/a2l.py', encoding='utf-8').read(), flags=re.M)
+        doctest = re.sub(r'^(>>> |\.\.\. ?)', '', open('python/a2l/__init__.py', encoding='utf-8').read(), flags=re.M)
         if block not in doctest:
-            wrong.append('the example for Python is not one of python/a2l.py')
+            wrong.append('the example for Python is not one of python/a2l')
 for path in re.findall(r'\b(?:docs|tests|bench|examples|include|python|rust|samples)/[\w./-]+\w', text):
     if not os.path.exists(path):
         wrong.append(f'{path} is not there')

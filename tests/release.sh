@@ -56,7 +56,7 @@ cat > frames.py << 'END_PY'
 import os
 import sys
 import a2l
-assert os.path.dirname(a2l.__file__) == os.path.realpath(sys.argv[1]), a2l.__file__
+assert os.path.dirname(a2l.__file__) == os.path.join(os.path.realpath(sys.argv[1]), 'a2l'), a2l.__file__
 with a2l.open(sys.argv[2]) as program:
     for frame in program.frames(0x401004):
         print(frame.function, frame.location)
@@ -86,7 +86,7 @@ agree() {
 }
 numbers() { printf '%d.%d.%d' $(($1 >> 16)) $(($1 >> 8 & 255)) $(($1 & 255)); }
 agree include/a2l.h "$(numbers "$(sed -nE 's/^#define A2L_VERSION (0x[0-9a-f]+)u$/\1/p' "$here/include/a2l.h")")"
-agree python/a2l.py "$(sed -nE 's/^_VERSION = \(([0-9]+), ([0-9]+)\)$/\1.\2/p' "$here/python/a2l.py").${version##*.}"
+agree python/a2l "$(sed -nE "s/^__version__ = '([0-9.]+)'\$/\1/p" "$here/python/a2l/__init__.py")"
 agree docs/PROMISES.md "$(sed -nE 's/^\| The version is ([0-9.]+)\. .*/\1/p' "$here/docs/PROMISES.md")"
 [ ! -e "$here/CHANGELOG.md" ] || agree CHANGELOG.md "$(sed -nE '/^## /{s/^## ([0-9.]+).*/\1/p;q}' "$here/CHANGELOG.md")"
 crates=$("$here/rust/cargo.sh" metadata --no-deps --format-version 1 | grep -oE '"version":"[^"]*"' | cut -d '"' -f 4)

@@ -13,20 +13,30 @@ import threading
 import time
 import uuid
 from collections import OrderedDict
-from dataclasses import dataclass
+from contextlib import contextmanager
+from dataclasses import dataclass, replace
 from typing import Dict, Iterator, List, Optional, Sequence, Tuple
 
 import a2l
 import asked
 
-# How long a part should take. One that keeps a unit whole may take up to twice as long.
-SECONDS = 2.0
 # What a part takes, about: for each address, and for each byte of the program where all of its units are read.
 PER_ADDRESS, PER_BYTE = 60e-6, 6e-9
 # How many programs a worker keeps open.
 OPEN = 8
 # How many addresses are asked for at once to find where a unit ends.
 PROBES = 16
+
+
+@dataclass(frozen=True)
+class Pace:
+    """How many seconds a part should take, and how many it may take; without a limit, as many as it takes.
+
+    A part that keeps a unit whole may take up to twice as long as it should.
+    """
+
+    seconds: float = 2.0
+    limit: Optional[float] = None
 
 
 @dataclass(frozen=True)
@@ -40,6 +50,7 @@ class Part:
     end: int
     out: str
     number: int
+    limit: Optional[float] = None
 
     @property
     def name(self) -> str:
@@ -100,8 +111,7 @@ def cut(part: Part, wanted: int) -> List[Part]:
     addresses, _ = asked.read(part.asked, part.begin, part.end)
     even = [len(addresses) * k // wanted for k in range(wanted + 1)]
     cuts = sorted({0, len(addresses), *(_border(program, addresses, *both) for both in zip(even[1:], even[2:]))})
-    return [Part(part.program, part.path, part.asked, part.begin + begin, part.begin + end, part.out, part.number)
-            for begin, end in zip(cuts, cuts[1:])]
+    return [replace(part, begin=part.begin + begin, end=part.begin + end) for begin, end in zip(cuts, cuts[1:])]
 
 
 def _border(program: a2l.Program, addresses: Sequence[int], begin: int, end: int) -> int:
@@ -122,8 +132,31 @@ def _border(program: a2l.Program, addresses: Sequence[int], begin: int, end: int
     return begin if low == end else low
 
 
+@contextmanager
+def within(limit: Optional[float]) -> Iterator[None]:
+    """Ends this process if the block takes more seconds: a question to the library can't be interrupted."""
+    if limit is None:
+        yield
+        return
+    timer = threading.Timer(limit, os._exit, (1,))
+    timer.daemon = True
+    timer.start()
+    try:
+        yield
+    finally:
+        timer.cancel()
+
+
 def answer(part: Part) -> Done:
-    """Answers a part: its rows are in the folder then, also where its program is refused or missing."""
+    """Answers a part: its rows are in the folder then, also if its program is refused or missing.
+
+    A part that takes longer than its limit ends the worker's process, as any other death of a worker would.
+    """
+    with within(part.limit):
+        return _answer(part)
+
+
+def _answer(part: Part) -> Done:
     begun = time.perf_counter()
     addresses, counts = asked.read(part.asked, part.begin, part.end)
     answers: List[a2l.Answer] = []

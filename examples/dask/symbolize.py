@@ -1,7 +1,8 @@
 #!/usr/bin/env python3
 """Answers tables of addresses of many programs, by Dask.
 
-    symbolize.py --out FOLDER [--workers N | --scheduler ADDRESS] [--build-ids FOLDER].. [--seconds S] TABLE..
+    symbolize.py --out FOLDER [--workers N | --scheduler ADDRESS] [--build-ids FOLDER].. [--seconds S] [--limit S]
+                 TABLE..
 
 A table has lines `program,address,count`: a path or a build id, an address of the file in hexadecimal digits, and how
 often it was seen. Equal addresses are added up. FOLDER then has files of JSON lines, a row for each address:
@@ -15,8 +16,9 @@ and again). So the counts of all rows are those of the tables. A line of a table
 `summary.json` is written last.
 
 Without --scheduler it starts N workers (4) of one thread each on this machine. Workers elsewhere are started with
-a2l.py and this folder in PYTHONPATH, and see programs and FOLDER under the same paths. A bar shows how far it is, and
-so does Dask's dashboard, which wants the package bokeh. The status is 1 where something has failed.
+the module a2l and this folder in PYTHONPATH, and see programs and FOLDER under the same paths. A bar shows how far it
+is, and so does Dask's dashboard, which wants the package bokeh. A part that takes longer than --limit ends its worker,
+and is `failed` when it has ended several. The status is 1 if something has failed.
 """
 
 from __future__ import annotations
@@ -44,7 +46,7 @@ from distributed import Client, LocalCluster, as_completed, progress  # noqa: E4
 class Summary:
     """What a job has done: its parts, those whose program was refused, and its seconds.
 
-    `asking` is the sum of the seconds for which workers asked python/a2l.py, and `share` is the part of the workers'
+    `asking` is the sum of the seconds for which workers asked the module a2l, and `share` is the part of the workers'
     time in which they did something else, or nothing.
     """
 
@@ -62,14 +64,24 @@ class Summary:
     share: float = 0.0
 
 
-def wanted_parts(programs: Dict[str, asked.Asked], folders: List[str], out: str) -> List[parts.Part]:
+def check_workers(client: Client) -> None:
+    """Ends the job if a worker lacks a module, since each of its parts would fail."""
+    told = client.run(exec, 'import a2l, asked, parts', on_error='return')
+    lacking = {worker: why for worker, why in told.items() if why is not None}
+    for worker, why in list(lacking.items())[:1]:
+        raise SystemExit(f'{len(lacking)} of {len(told)} workers can\'t work, as {worker}: {why}. Start each with the '
+                         'module a2l and the folder of this program in PYTHONPATH')
+
+
+def wanted_parts(programs: Dict[str, asked.Asked], folders: List[str], out: str,
+                 limit: Optional[float]) -> List[parts.Part]:
     """Each program as one part, whose addresses are in a file."""
     found = []
     for number, (program, addresses) in enumerate(sorted(programs.items())):
         path = os.path.join(out, 'asked', f'{number:06}')
         addresses.write(path)
         place = asked.path_of(program, folders)
-        found.append(parts.Part(program, place, path, 0, len(addresses.addresses), out, number))
+        found.append(parts.Part(program, place, path, 0, len(addresses.addresses), out, number, limit))
     return found
 
 
@@ -130,9 +142,10 @@ def _write_failed(part: parts.Part, why: BaseException) -> None:
     parts.write(os.path.join(part.out, part.name), rows)
 
 
-def run(client: Client, tables: List[str], out: str, folders: List[str], seconds: float = parts.SECONDS,
+def run(client: Client, tables: List[str], out: str, folders: List[str], pace: parts.Pace = parts.Pace(),
         bar: bool = False) -> Summary:
     """Does the whole job. The folder has to be new, or empty."""
+    check_workers(client)
     os.makedirs(out, exist_ok=True)
     if os.listdir(out):
         raise SystemExit(f'{out} is not empty')
@@ -143,9 +156,9 @@ def run(client: Client, tables: List[str], out: str, folders: List[str], seconds
     programs, bad = asked.read_tables(tables)
     if bad:
         parts.write(os.path.join(out, 'bad.jsonl'), bad)
-    whole = wanted_parts(programs, folders, out)
+    whole = wanted_parts(programs, folders, out, pace.limit)
     read = time.perf_counter()
-    whole = cut_parts(client, whole, seconds)
+    whole = cut_parts(client, whole, pace.seconds)
     cut = time.perf_counter()
     summary.programs, summary.parts, summary.bad = len(programs), len(whole), len(bad)
     answer_parts(client, whole, summary, bar)
@@ -171,14 +184,16 @@ def main(words: Optional[List[str]] = None) -> int:
     parser.add_argument('--workers', type=int, default=4, metavar='N', help='how many workers of this machine')
     parser.add_argument('--scheduler', metavar='ADDRESS', help='a scheduler of Dask that is there')
     parser.add_argument('--build-ids', action='append', metavar='FOLDER', help='where build ids are looked for')
-    parser.add_argument('--seconds', type=float, default=parts.SECONDS, metavar='S', help='how long a part should take')
+    parser.add_argument('--seconds', type=float, default=parts.Pace.seconds, metavar='S',
+                        help='how long a part should take')
+    parser.add_argument('--limit', type=float, metavar='S', help='how long a part may take')
     parser.add_argument('tables', nargs='+', metavar='TABLE')
     chosen = parser.parse_args(words)
     cluster = None if chosen.scheduler else local(chosen.workers)
     with Client(cluster or chosen.scheduler) as client:
         print(f'dashboard: {client.dashboard_link}')
         folders = chosen.build_ids or ['/usr/lib/debug/.build-id']
-        summary = run(client, chosen.tables, chosen.out, folders, chosen.seconds, bar=True)
+        summary = run(client, chosen.tables, chosen.out, folders, parts.Pace(chosen.seconds, chosen.limit), bar=True)
     if cluster is not None:
         cluster.close()
     print(json.dumps(asdict(summary)))

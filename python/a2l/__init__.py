@@ -53,10 +53,13 @@ from dataclasses import dataclass
 from typing import Any, Callable, Dict, Iterable, List, Optional, Sequence, Tuple, Type, Union
 
 __all__ = [
-    'open', 'Program', 'Frame', 'Location', 'Piece', 'Answer', 'Fault', 'version',
+    'open', 'Program', 'Frame', 'Location', 'Piece', 'Answer', 'Fault', 'version', '__version__',
     'Error', 'OutOfMemory', 'Closed', 'LibraryMissing', 'UnitFault', 'Refused', 'NotElf', 'NotElf64Little',
     'Relocatable', 'SectionTable', 'SectionRange', 'Compressed', 'UnitHeader', 'AddressSize', 'Root', 'RootRanges',
 ]
+
+# The version of this module.
+__version__ = '0.1.0'
 
 # How many units a program keeps, where nothing else is said.
 CAPACITY = 1024
@@ -263,7 +266,7 @@ class _Piece(ctypes.Structure):
 _DONE, _MEMORY, _REFUSED, _SHORT = 0, 1, 2, 7
 _NOT_COVERED, _FAULT = 0, 2
 # First and second number of the interface's version.
-_VERSION = (0, 1)
+_VERSION = tuple(map(int, __version__.split('.')[:2]))
 
 _TO_HANDLE, _SIZE, _ADDRESS, _TO = ctypes.POINTER(_Handle), ctypes.c_size_t, ctypes.c_uint64, ctypes.c_void_p
 # Calls that may take long: other threads of Python run meanwhile.
@@ -295,7 +298,8 @@ class _Library:
                 setattr(self, name[len('a2l_'):], call)
         told = self.version()
         if (told >> 16, told >> 8 & 255) != _VERSION:
-            raise LibraryMissing(f'{path} has version {told >> 16}.{told >> 8 & 255}, wanted is 0.1')
+            wanted = '.'.join(map(str, _VERSION))
+            raise LibraryMissing(f'{path} has version {told >> 16}.{told >> 8 & 255}, wanted is {wanted}')
 
     def __getattr__(self, name: str) -> Callable[..., int]:
         raise AttributeError(name)
@@ -306,7 +310,7 @@ def _places() -> List[str]:
     system looks for libraries."""
     named = os.environ.get('A2L_LIBRARY')
     here = os.path.dirname(os.path.abspath(__file__))
-    near = [os.path.join(here, 'liba2l.so'), os.path.join(here, os.pardir, 'out', 'liba2l.so')]
+    near = [os.path.join(here, 'liba2l.so'), os.path.join(here, os.pardir, os.pardir, 'out', 'liba2l.so')]
     return [named] if named else [place for place in near if os.path.exists(place)] + ['liba2l.so']
 
 
@@ -488,8 +492,8 @@ class Program:
         """The functions at an address, innermost first, with where in the source each stands.
 
         The innermost stands where the line table says, each other one where it calls the one before. No frames are
-        there where no unit covers the address. Each call reads the address's unit again, which may take milliseconds:
-        ask for many by `frames_of`.
+        there where no unit covers the address. The first address of a unit reads the unit, which may take milliseconds.
+        To ask for many at once, `frames_of` takes less time for each.
 
         Raises `UnitFault`, `OutOfMemory`, `Closed`, or ValueError for a number that is no address.
         """
