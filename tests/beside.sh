@@ -1,0 +1,157 @@
+#!/usr/bin/env bash
+# Programs, objects and modules of many kinds, built here by each compiler that is here, of which all addresses of code are
+# asked for in both protocols, beside llvm-symbolizer 19 and GNU addr2line 2.40. What both say of a function, its file or
+# its line, a2l-symbolizer has to say, but for the reasons in tests/clients/agreed.py, each with its evidence in the file.
+# The kinds stand in the table below, one a line: another kind is another line. It says which compilers are missing here.
+# The word is a pattern: then only cases whose names it matches are tried.
+. "$(dirname "$0")/programs.sh"
+need_symbolizer
+has "all of it" llvm-symbolizer-19 addr2line || exit 0
+only=${1:-.}
+passed=0
+failures=0
+
+# Sources without headers, so that each compiler for another machine takes them.
+write_sources() {
+    cat > one.c <<'END_C'
+volatile int count;
+int two(int x);
+static inline __attribute__((always_inline)) int inner(int x) { count = x; return count + 1; }
+static int middle(int x) {
+    if (x > 9)
+        return inner(x) * two(x);
+    return inner(x + 1);
+}
+#ifdef SECTIONS
+__attribute__((section(".init.text"))) int begin(int x) {
+    return inner(x) + two(x);
+}
+__attribute__((section(".exit.text"))) int end(int x) {
+    for (int i = 0; i < x; i++) count += middle(i);
+    return inner(x);
+}
+#endif
+__attribute__((noinline)) int once(int x) { return middle(x) + inner(2 * x); }
+int main(int argc, char **argv) {
+    return once(argc) + (argv[0] != 0);
+}
+END_C
+    cat > two.c <<'END_C'
+extern volatile int count;
+static inline __attribute__((always_inline)) int deep(int x) { return x * count; }
+static inline __attribute__((always_inline)) int deeper(int x) {
+    return deep(x) + deep(x + 1);
+}
+int two(int x) {
+    count = x;
+    return deeper(x);
+}
+__attribute__((cold)) int rare(int x) { return deeper(count) - x; }
+END_C
+}
+
+# How files are built. The words: the name, and the compiler with its flags. Each leaves the file to ask in `file`, and
+# may leave more words for agreed.py in `options`.
+
+build_linked() {
+    local name=$1
+    shift
+    file=$name
+    "$@" -nostdlib -static -Wl,-e,main one.c two.c -o "$name"
+}
+
+build_object() {
+    local name=$1
+    shift
+    file=$name.o
+    "$@" -c one.c -o "$name.o" && link_twin "$name"
+}
+
+# Several objects in one, as a kernel module is.
+build_joined() {
+    local name=$1
+    shift
+    file=$name.o
+    "$@" -DSECTIONS -c one.c -o "$name-one.o" && "$@" -c two.c -o "$name-two.o" &&
+        "${tools}ld" ${emulation:+-m "$emulation"} -r "$name-one.o" "$name-two.o" -o "$name.o" && link_twin "$name"
+}
+
+# Its debug information is in a file of its own.
+build_apart() {
+    build_joined "$@"
+    "${tools}objcopy" --only-keep-debug "$1.o" "$1.debug" && "${tools}strip" -g "$1.o" -o "$1-cut.o" &&
+        "${tools}objcopy" --add-gnu-debuglink="$1.debug" "$1-cut.o"
+    file=$1-cut.o
+}
+
+# The twin of an object: linked, with each section at addresses of its own.
+link_twin() {
+    readelf -SW "$1.o" | python3 -c '
+import re, sys
+names = dict.fromkeys(re.findall(r"\] (\S+) +\w+ +\w+ \w+ \w+ \w\w +\w*A\w* ", sys.stdin.read()))
+print("SECTIONS {", *(f"{name} {0x10000 * (place + 1):#x} : {{ *({name}) }}" for place, name in enumerate(names)), "}")' > "$1.ld"
+    "${tools}ld" ${emulation:+-m "$emulation"} -T "$1.ld" -e 0 --no-relax --noinhibit-exec --unresolved-symbols=ignore-all \
+        "$1.o" -o "$1.twin" 2> "$1.log" || true
+    options+=(--twin "$1.twin")
+}
+
+# The words that start a compiler for a machine, and the prefix of its tools; fails where they aren't here.
+choose() {
+    local compiler=$1 machine=$2
+    tools='' emulation='' words=("$compiler")
+    case $machine in
+    x86-64) ;;
+    narrow) words+=(-m32) emulation=elf_i386 ;;
+    *)
+        tools=$machine-linux-gnu-
+        if [ "$compiler" = gcc ]; then words=("${tools}gcc"); else words+=(--target="$machine-linux-gnu"); fi
+        ;;
+    esac
+    has "$compiler for $machine" "${words[0]}" "${tools}ld" "${tools}addr2line" > missing ||
+        { grep -qxFf missing told || tee -a told < missing; return 1; }
+}
+
+# Builds one case and compares. The words: its name, how it is built, the compiler, the machine, and the flags.
+try() {
+    local name=$1 how=$2 file options=()
+    [[ $name =~ $only ]] || return 0
+    choose "$3" "$4" || return 0
+    "build_$how" "$name" "${words[@]}" "${@:5}" > build.log 2>&1 ||
+        { echo "skipped, not built here: $name"; tail -n 3 build.log; return 0; }
+    if python3 "$here/tests/clients/agreed.py" --tool "$symbolizer" --gnu "${tools}addr2line" \
+        ${options[0]+"${options[@]}"} "$name" "$file"; then
+        passed=$((passed + 1))
+    else
+        failures=$((failures + 1))
+        echo "$name FAILED"
+    fi
+}
+
+# The kinds: a name, how it is built, the compilers, the machines, and the flags, of which each set after a comma is
+# another case.
+table() {
+    cat << 'END'
+linked  linked  gcc,clang-14,clang-19  x86-64,narrow,aarch64,riscv64  -g -gdwarf-5 -O0,-g -gdwarf-5 -O2,-g -gdwarf-5 -O2 -flto
+object  object  gcc,clang-14,clang-19  x86-64,narrow,aarch64,riscv64  -g -gdwarf-5 -O0,-g -gdwarf-5 -O2,-g -gdwarf-5 -O2 -ffunction-sections
+joined  joined  gcc,clang-14,clang-19  x86-64,narrow,aarch64,riscv64  -g -gdwarf-5 -O0,-g -gdwarf-5 -O2,-g -gdwarf-5 -O2 -ffunction-sections
+older   joined  gcc,clang-14,clang-19  x86-64                         -g -gdwarf-4 -O2
+packed  joined  gcc,clang-14,clang-19  x86-64                         -g -gdwarf-5 -O2 -gz=zlib
+apart   apart   gcc,clang-14,clang-19  x86-64,narrow,aarch64,riscv64  -g -gdwarf-5 -O2
+END
+}
+
+write_sources
+: > told
+while read -r kind how compilers machines flags; do
+    for compiler in ${compilers//,/ }; do
+        for machine in ${machines//,/ }; do
+            while read -r -a set; do
+                label=$(IFS=; echo "$kind-$compiler-$machine${set[*]:1}")
+                try "$label" "$how" "$compiler" "$machine" "${set[@]}"
+            done < <(tr , '\n' <<< "$flags")
+        done
+    done
+done < <(table)
+
+echo "$passed cases say what both originals say, $failures don't"
+[ "$passed" -gt 0 ] && [ "$failures" = 0 ]
