@@ -13,7 +13,7 @@ use crate::names::Names;
 use crate::program::Answerer;
 use crate::programs::{Found, Programs};
 use crate::reply::{Answer, Reply};
-use crate::request::{parse, Kind, Module, Request, Target};
+use crate::request::{Kind, Module, Request, Target};
 use crate::shape::Shape;
 
 /// What the command line says of a conversation.
@@ -95,7 +95,7 @@ impl Conversation {
         if self.settings.style == OutputStyle::Json {
             let objects: Vec<_> =
                 lines.iter().map(|line| self.with_reply(line, |_, reply| json::object(reply))).collect();
-            llvm::say(&mut replies, format_args!("{}\n", serde_json::Value::from(objects)));
+            json::write(&serde_json::Value::from(objects), &mut replies);
         } else {
             lines.iter().for_each(|line| self.reply(line, &mut replies));
         }
@@ -107,14 +107,17 @@ impl Conversation {
     pub fn reply(&mut self, line: &[u8], out: &mut Vec<u8>) {
         self.with_reply(line, |settings, reply| match (settings.style, settings.identity) {
             (OutputStyle::Llvm, _) => llvm::write(&settings.shape, reply, out),
-            (OutputStyle::Gnu, Identity::Addr2line) => gnu::write(gnu::Tool::Binutils, &settings.shape, reply, out),
-            (OutputStyle::Gnu, _) => gnu::write(gnu::Tool::Llvm, &settings.shape, reply, out),
-            (OutputStyle::Json, _) => llvm::say(out, format_args!("{}\n", json::object(reply))),
+            (OutputStyle::Gnu, Identity::Addr2line) => gnu::write(&settings.shape, reply, out),
+            (OutputStyle::Gnu, _) => llvm::write_short(&settings.shape, reply, out),
+            (OutputStyle::Json, _) => json::write(&json::object(reply), out),
         });
     }
 
     fn with_reply<T>(&mut self, line: &[u8], write: impl FnOnce(&Settings, &Reply<'_>) -> T) -> T {
-        let request = parse(self.settings.identity.protocol(), self.settings.module.as_ref(), line);
+        let request = match self.settings.identity.protocol() {
+            Protocol::Llvm(spelling) => llvm::parse(spelling, self.settings.module.as_ref(), line),
+            Protocol::Gnu => gnu::parse(self.settings.module.as_ref(), line),
+        };
         let answered = request.as_ref().map_or(Ok(Answer::Frames(Vec::new())), |request| self.answer(request));
         let (answer, failure) = match (answered, &request) {
             (Ok(answer), _) => (answer, None),

@@ -1,84 +1,56 @@
-//! Replies in GNU's style: a line for each name and each place. `??` with `??:0` is a whole reply
-//! alone, by which clients find its end, and never a part of another one.
+//! What GNU's addr2line has of its own: how requests are spelled, and how replies are written, a line
+//! for each name and each place. `??` with `??:0` is a whole reply alone, by which clients find its
+//! end, and never a part of another one.
 
-use crate::arguments::Functions;
-use crate::llvm;
-use crate::reply::{Answer, Frame, Reply};
-use crate::request::Target;
+use crate::numbers::digits_of;
+use crate::reply::Reply;
+use crate::request::{Kind, Module, Request, Target};
 use crate::shape::Shape;
+use crate::writer::Writer;
 
-/// Which of the two addr2lines is followed, where they differ.
-#[derive(Debug, Clone, Copy, PartialEq, Eq)]
-pub enum Tool {
-    Binutils,
-    Llvm,
+/// The request of a line without its end, about the module of the command line; none where it has
+/// no number.
+pub fn parse(module: Option<&Module>, line: &[u8]) -> Option<Request> {
+    Some(Request { kind: Kind::Code, module: module?.clone(), target: Target::Address(number(line)?) })
+}
+
+/// The number at the front of a line, in hexadecimal digits; none where there is no digit. A number
+/// that doesn't fit is the greatest one.
+fn number(line: &[u8]) -> Option<u64> {
+    let digits = match line.trim_ascii_start() {
+        [b'0', b'x' | b'X', digits @ ..] => digits,
+        digits => digits,
+    };
+    let end = digits.iter().position(|byte| !byte.is_ascii_hexdigit()).unwrap_or(digits.len());
+    (end > 0).then(|| digits_of(&digits[..end], 16).unwrap_or(u64::MAX))
 }
 
 /// Writes a reply, whose answer is as the shape shows it.
-pub fn write(tool: Tool, shape: &Shape, reply: &Reply<'_>, out: &mut Vec<u8>) {
-    match tool {
-        Tool::Binutils => padded_address(shape, reply, out),
-        Tool::Llvm => llvm::address(shape, reply, out),
-    }
-    match &reply.answer {
-        Answer::Frames(frames) if frames.is_empty() => unknown(tool, shape, out),
-        Answer::Frames(frames) => {
-            frames.iter().enumerate().for_each(|(index, shown)| frame(shape, shown, index > 0, out));
-        }
-        Answer::Variable(shown) => llvm::variable(shown.as_ref(), out),
-        Answer::Locals => out.extend_from_slice(b"??\n"),
-    }
-}
-
-/// The address of a request in 16 digits; 0 where the line has no number.
-fn padded_address(shape: &Shape, reply: &Reply<'_>, out: &mut Vec<u8>) {
-    if !shape.addresses {
-        return;
-    }
+pub fn write(shape: &Shape, reply: &Reply<'_>, out: &mut Vec<u8>) {
+    let mut writer = Writer::new(shape, out);
+    // 0 where the line has no number.
     let address = match reply.request.map(|request| &request.target) {
         Some(Target::Address(address)) => *address,
         _ => 0,
     };
-    llvm::say(out, format_args!("0x{address:016x}{}", if shape.pretty { ": " } else { "\n" }));
-}
-
-fn unknown(tool: Tool, shape: &Shape, out: &mut Vec<u8>) {
-    let name: &[u8] = match (shape.functions, shape.pretty, tool) {
-        (Functions::None, _, _) => b"",
-        (_, false, _) => b"??\n",
-        (_, true, Tool::Binutils) => b"?? ",
-        (_, true, Tool::Llvm) => b"?? at ",
-    };
-    out.extend_from_slice(name);
-    out.extend_from_slice(b"??:0\n");
-}
-
-fn frame(shape: &Shape, frame: &Frame, is_caller: bool, out: &mut Vec<u8>) {
-    llvm::name(shape, frame, is_caller, out);
-    match &frame.path {
-        Some(path) if frame.line > 0 => {
-            out.extend_from_slice(path);
-            llvm::say(out, format_args!(":{}\n", frame.line));
-        }
-        path => {
-            out.extend_from_slice(path.as_deref().unwrap_or(b"??"));
-            out.extend_from_slice(b":?\n");
-        }
-    }
+    writer.address(format_args!("0x{address:016x}"));
+    writer.answer(&reply.answer, Writer::short_place, |writer| writer.unknown(" ", "??:0"));
 }
 
 #[cfg(test)]
 mod tests {
     use super::*;
+    use crate::arguments::Functions;
+    use crate::reply::{Answer, Frame};
     use crate::shape::Frames;
 
-    fn written(tool: Tool, pretty: bool, frames: Vec<Frame>) -> String {
+    fn written(pretty: bool, frames: Vec<Frame>) -> String {
         let functions = Functions::Linkage;
         let (frames_shown, addresses, demangles, basenames) = (Frames::All, false, false, false);
         let shape = Shape { functions, frames: frames_shown, addresses, pretty, demangles, basenames };
         let reply = Reply { line: b"10", request: None, failure: None, answer: Answer::Frames(frames) };
         let mut out = Vec::new();
-        write(tool, &shape, &reply, &mut out);
+        write(&shape, &reply, &mut out);
         String::from_utf8(out).expect("UTF-8")
     }
 
@@ -89,15 +61,30 @@ mod tests {
     #[test]
     fn the_sentinel_is_no_part_of_a_reply() {
         let frames = vec![frame(Some("f"), None, 0), frame(None, Some("a.c"), 0), frame(None, None, 7)];
-        for tool in [Tool::Binutils, Tool::Llvm] {
-            assert_eq!(written(tool, false, frames.clone()), "f\n??:?\n??\na.c:?\n??\n??:?\n");
-            assert_eq!(written(tool, false, Vec::new()), "??\n??:0\n");
-        }
+        assert_eq!(written(false, frames), "f\n??:?\n??\na.c:?\n??\n??:?\n");
+        assert_eq!(written(false, Vec::new()), "??\n??:0\n");
     }
 
     #[test]
-    fn unknown_addresses_on_one_line() {
-        assert_eq!(written(Tool::Binutils, true, Vec::new()), "?? ??:0\n");
-        assert_eq!(written(Tool::Llvm, true, Vec::new()), "?? at ??:0\n");
+    fn an_unknown_address_on_one_line() {
+        assert_eq!(written(true, Vec::new()), "?? ??:0\n");
+    }
+
+    #[test]
+    fn numbers_of_gnu() {
+        for (line, wanted) in [
+            ("0000000000001129", Some(0x1129)),
+            ("0x1129 trailing", Some(0x1129)),
+            ("  12zz", Some(0x12)),
+            ("-1", None),
+            ("ffffffffffffffff", Some(u64::MAX)),
+            ("fffffffffffffffff", Some(u64::MAX)),
+            (",", None),
+            ("", None),
+            ("x", None),
+            ("0x", None),
+        ] {
+            assert_eq!(number(line.as_bytes()), wanted, "{line}");
+        }
     }
 }

@@ -8,6 +8,12 @@ use serde_json::{json, Map, Value};
 use crate::reply::{Answer, Frame, Reply};
 use crate::request::{Kind, Module, Target};
 
+/// Writes a value on a line of its own.
+pub fn write(value: &Value, out: &mut Vec<u8>) {
+    out.extend_from_slice(value.to_string().as_bytes());
+    out.push(b'\n');
+}
+
 /// The object of a reply, whose answer is as a shape shows it.
 pub fn object(reply: &Reply<'_>) -> Value {
     let mut object = Map::new();

@@ -1,32 +1,52 @@
 //! A symbolizer that other tools start and talk with, line by line: in LLVM's protocol, in GNU's,
 //! or in JSON. Answers of DWARF 5 come from the proved library; the conversation around them is
 //! tested.
-#![forbid(unsafe_code)]
+#![deny(unsafe_code)]
 
-pub mod arguments;
-pub mod conversation;
-pub mod debug_files;
-pub mod fallback;
-pub mod gnu;
-pub mod guard;
-pub mod identity;
-pub mod image;
-pub mod json;
-pub mod llvm;
-pub mod names;
-pub mod numbers;
-pub mod open_file;
-pub mod program;
-pub mod programs;
-pub mod relocated;
-pub mod reply;
-pub mod request;
-pub mod sections;
-pub mod self_check;
-pub mod settings;
-pub mod shape;
-pub mod source_paths;
-pub mod split;
-pub mod symbols;
-pub mod units;
-pub mod variables;
+// The conversation: who is spoken for, what is asked, and how replies are written.
+mod arguments;
+mod conversation;
+mod gnu;
+mod identity;
+mod json;
+mod llvm;
+mod names;
+mod numbers;
+mod reply;
+mod request;
+mod self_check;
+mod settings;
+mod shape;
+mod writer;
+
+// The files that are asked about, and where their debug information is.
+mod debug_files;
+mod image;
+mod open_file;
+mod program;
+mod programs;
+mod sections;
+mod symbols;
+
+// Debug information that the library doesn't read.
+mod fallback;
+mod guard;
+mod relocated;
+mod source_paths;
+mod split;
+mod units;
+mod variables;
+
+pub use arguments::{identity_of, Arguments, CacheSize};
+pub use conversation::Conversation;
+pub use debug_files::DebugFiles;
+pub use guard::silence_panics;
+pub use identity::Identity;
+pub use names::{Length, Names};
+pub use open_file::{OpenFile, Opener};
+pub use program::{Program, Sources};
+pub use programs::{Found, Programs};
+pub use reply::{Frame, Variable};
+pub use request::Module;
+pub use self_check::self_check;
+pub use settings::conversation;

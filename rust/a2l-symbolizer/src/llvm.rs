@@ -1,69 +1,186 @@
-//! Replies in LLVM's style: each ends with an empty line, and has no other one.
+//! What LLVM's tools have of their own: how requests are spelled, and how replies are written. In
+//! LLVM's style a reply ends with an empty line, and has no other one.
 
-use std::io::Write;
+use std::ffi::OsStr;
+use std::os::unix::ffi::OsStrExt;
+use std::path::PathBuf;
 
-use crate::arguments::Functions;
-use crate::reply::{Answer, Frame, Reply, Variable};
-use crate::request::Target;
+use crate::numbers::{hexadecimal_bytes, number, Spelling};
+use crate::reply::{Frame, Reply};
+use crate::request::{Kind, Module, Request, Target};
 use crate::shape::Shape;
+use crate::writer::Writer;
 
-/// Writes a reply, whose answer is as the shape shows it.
+/// Writes a reply in LLVM's style; its answer is as the shape shows it.
 pub fn write(shape: &Shape, reply: &Reply<'_>, out: &mut Vec<u8>) {
-    address(shape, reply, out);
-    match &reply.answer {
-        Answer::Frames(frames) if frames.is_empty() => frame(shape, &Frame::default(), false, out),
-        Answer::Frames(frames) => {
-            frames.iter().enumerate().for_each(|(index, shown)| frame(shape, shown, index > 0, out));
-        }
-        Answer::Variable(shown) => variable(shown.as_ref(), out),
-        Answer::Locals => out.extend_from_slice(b"??\n"),
-    }
-    out.push(b'\n');
+    let mut writer = Writer::new(shape, out);
+    address(&mut writer, reply);
+    writer.answer(&reply.answer, place, |writer| writer.unknown(" at ", "??:0:0"));
+    writer.bytes(b"\n");
 }
 
-/// The name of a variable, where it begins and its size, and where it is declared.
-pub fn variable(variable: Option<&Variable>, out: &mut Vec<u8>) {
-    let Some(variable) = variable else {
-        return out.extend_from_slice(b"??\n0 0\n??:?\n");
-    };
-    out.extend_from_slice(&variable.name);
-    say(out, format_args!("\n{} {}\n", variable.start, variable.size));
-    match &variable.path {
-        Some(path) => {
-            out.extend_from_slice(path);
-            say(out, format_args!(":{}\n", variable.line));
-        }
-        None => out.extend_from_slice(b"??:?\n"),
+/// Writes a reply in GNU's style as LLVM's tools do; its answer is as the shape shows it.
+pub fn write_short(shape: &Shape, reply: &Reply<'_>, out: &mut Vec<u8>) {
+    let mut writer = Writer::new(shape, out);
+    address(&mut writer, reply);
+    writer.answer(&reply.answer, Writer::short_place, |writer| writer.unknown(" at ", "??:0"));
+}
+
+/// The address of a request, which isn't padded; nothing where the line has none.
+fn address(writer: &mut Writer<'_>, reply: &Reply<'_>) {
+    if let Some(Target::Address(address)) = reply.request.map(|request| &request.target) {
+        writer.address(format_args!("{address:#x}"));
     }
 }
 
-/// The address of a request, which isn't padded.
-pub fn address(shape: &Shape, reply: &Reply<'_>, out: &mut Vec<u8>) {
-    if let (true, Some(Target::Address(address))) = (shape.addresses, reply.request.map(|request| &request.target)) {
-        say(out, format_args!("{address:#x}{}", if shape.pretty { ": " } else { "\n" }));
-    }
-}
-
-/// The name of a frame, where names are shown, with what stands between it and the place.
-pub fn name(shape: &Shape, frame: &Frame, is_caller: bool, out: &mut Vec<u8>) {
-    if shape.functions == Functions::None {
-        return;
-    }
-    if shape.pretty && is_caller {
-        out.extend_from_slice(b" (inlined by) ");
-    }
-    out.extend_from_slice(frame.name.as_deref().unwrap_or(b"??"));
-    out.extend_from_slice(if shape.pretty { b" at " } else { b"\n" });
-}
-
-fn frame(shape: &Shape, frame: &Frame, is_caller: bool, out: &mut Vec<u8>) {
-    name(shape, frame, is_caller, out);
-    out.extend_from_slice(frame.path.as_deref().unwrap_or(b"??"));
+fn place(writer: &mut Writer<'_>, frame: &Frame) {
+    writer.bytes(frame.path.as_deref().unwrap_or(b"??"));
     let (line, column) = if frame.path.is_some() { (frame.line, frame.column) } else { (0, 0) };
-    say(out, format_args!(":{line}:{column}\n"));
+    writer.text(format_args!(":{line}:{column}\n"));
 }
 
-/// Writes into memory, which can't fail.
-pub fn say(out: &mut Vec<u8>, text: std::fmt::Arguments<'_>) {
-    out.write_fmt(text).expect("memory takes all that is written");
+/// The request of a line without its end; none where it has no number that fits into 64 bits, or no
+/// module. `given` is the module that the command line has, if it has one: then a line has no
+/// module.
+pub fn parse(spelling: Spelling, given: Option<&Module>, line: &[u8]) -> Option<Request> {
+    let (kind, rest) = kind(line);
+    let rest = rest.trim_ascii_start();
+    if let Some(module) = given {
+        return Some(Request { kind, module: module.clone(), target: first_target(spelling, rest)? });
+    }
+    let (rest, by_build_id) = match (rest.strip_prefix(b"FILE:"), rest.strip_prefix(b"BUILDID:")) {
+        (Some(rest), _) => (rest, false),
+        (_, Some(rest)) => (rest, true),
+        _ => (rest, false),
+    };
+    let (name, target) = name_and_target(spelling, rest.trim_ascii_start())?;
+    let module = if by_build_id {
+        Module::BuildId(hexadecimal_bytes(name)?)
+    } else {
+        Module::Path(PathBuf::from(OsStr::from_bytes(without_architecture(name))))
+    };
+    Some(Request { kind, module, target })
+}
+
+/// The word before the module, if it is there.
+fn kind(line: &[u8]) -> (Kind, &[u8]) {
+    let words: [(&[u8], Kind); 3] = [(b"CODE ", Kind::Code), (b"DATA ", Kind::Data), (b"FRAME ", Kind::Frame)];
+    let found = words.into_iter().find_map(|(word, kind)| Some((kind, line.strip_prefix(word)?)));
+    found.unwrap_or((Kind::Code, line))
+}
+
+/// The name of the module and what is asked for in it.
+fn name_and_target(spelling: Spelling, text: &[u8]) -> Option<(&[u8], Target)> {
+    let (name, rest) = first_word(text)?;
+    let mut found = first_target(spelling, rest).map(|target| (name, target));
+    if !matches!(found, Some((_, Target::Address(_)))) {
+        found = quoted_name(spelling, text).map(|(name, address)| (name, Target::Address(address))).or(found);
+    }
+    found.filter(|(name, _)| !name.is_empty())
+}
+
+/// The first word, or what stands in quotes, and what follows it.
+fn first_word(text: &[u8]) -> Option<(&[u8], &[u8])> {
+    match text.first()? {
+        quote @ (b'"' | b'\'') => {
+            let end = 1 + text[1..].iter().position(|byte| byte == quote)?;
+            Some((&text[1..end], &text[end + 1..]))
+        }
+        _ => Some(text.split_at(text.iter().position(|&byte| byte == b' ').unwrap_or(text.len()))),
+    }
+}
+
+/// A name in quotes that has such quotes itself, which LLVM can't spell: it ends at the last one,
+/// and a number follows.
+fn quoted_name(spelling: Spelling, text: &[u8]) -> Option<(&[u8], u64)> {
+    let quote = text.first().filter(|first| matches!(first, b'"' | b'\''))?;
+    let end = text.iter().rposition(|byte| byte == quote).filter(|&end| end > 0)?;
+    match first_target(spelling, &text[end + 1..])? {
+        Target::Address(address) => Some((&text[1..end], address)),
+        Target::Symbol { .. } => None,
+    }
+}
+
+/// What the first word of a text asks for; whatever follows it doesn't count.
+fn first_target(spelling: Spelling, text: &[u8]) -> Option<Target> {
+    let word = text.trim_ascii().split(|&byte| byte == b' ').next()?;
+    if let Some(address) = number(spelling, word) {
+        return Some(Target::Address(address));
+    }
+    if word.first()?.is_ascii_digit() {
+        return None;
+    }
+    let plus = word.iter().rposition(|&byte| byte == b'+').filter(|&plus| plus > 0);
+    let (name, offset) =
+        plus.and_then(|plus| Some((&word[..plus], number(Spelling::OfC, &word[plus + 1..])?))).unwrap_or((word, 0));
+    Some(Target::Symbol { name: name.to_vec(), offset })
+}
+
+/// A name of a module without the architecture that clang's runtimes may append.
+fn without_architecture(name: &[u8]) -> &[u8] {
+    const ARCHITECTURES: [&[u8]; 9] =
+        [b"x86_64", b"x86_64h", b"i386", b"i686", b"aarch64", b"arm64", b"arm", b"riscv64", b"ppc64le"];
+    match name.iter().rposition(|&byte| byte == b':') {
+        Some(colon) if colon > 0 && ARCHITECTURES.contains(&&name[colon + 1..]) => &name[..colon],
+        _ => name,
+    }
+}
+
+#[cfg(test)]
+mod tests {
+    use super::*;
+
+    /// The kind, path and address of a line.
+    fn asked(line: &str) -> Option<(Kind, String, u64)> {
+        let Request { kind, module: Module::Path(path), target: Target::Address(address) } =
+            parse(Spelling::OfC, None, line.as_bytes())?
+        else {
+            return None;
+        };
+        Some((kind, path.display().to_string(), address))
+    }
+
+    #[test]
+    fn modules() {
+        for (line, kind, path) in [
+            (r#"CODE "a b" 0x10"#, Kind::Code, "a b"),
+            (r#""a b" 0x10"#, Kind::Code, "a b"),
+            ("'a b' 16", Kind::Code, "a b"),
+            (r#"DATA "a" 0x10 trailing"#, Kind::Data, "a"),
+            ("FRAME a 0x10", Kind::Frame, "a"),
+            ("FILE:a 0x10", Kind::Code, "a"),
+            (r#"CODE FILE: "a" 0x10"#, Kind::Code, "a"),
+            (r#"CODE "a:x86_64" 0x10"#, Kind::Code, "a"),
+            ("a:b 0x10", Kind::Code, "a:b"),
+            (r#"CODE "a"b" 0x10"#, Kind::Code, r#"a"b"#),
+        ] {
+            assert_eq!(asked(line), Some((kind, path.to_owned(), 16)), "{line}");
+        }
+    }
+
+    #[test]
+    fn no_requests() {
+        for line in ["", " ", "CODE", "garbage", "CODE a 0x", "a 0xfffffffffffffffff", r#"CODE "a"#, r#"CODE "" 0x10"#]
+        {
+            assert_eq!(parse(Spelling::OfC, None, line.as_bytes()), None, "{line}");
+        }
+    }
+
+    #[test]
+    fn build_ids_and_symbols() {
+        let request = parse(Spelling::OfC, None, b"BUILDID:0aff 0x10").expect("a request");
+        assert_eq!(request.module, Module::BuildId(vec![0x0a, 0xff]));
+        assert_eq!(parse(Spelling::OfC, None, b"BUILDID:zz 0x10"), None);
+        let request = parse(Spelling::OfC, None, b"a main 0x10").expect("a request");
+        assert_eq!(request.target, Target::Symbol { name: b"main".to_vec(), offset: 0 });
+        let request = parse(Spelling::OfC, None, b"a main+0x10").expect("a request");
+        assert_eq!(request.target, Target::Symbol { name: b"main".to_vec(), offset: 16 });
+    }
+
+    #[test]
+    fn numbers_alone() {
+        let module = Module::Path(PathBuf::from("a"));
+        let request = parse(Spelling::OfC, Some(&module), b"CODE 0x10").expect("a request");
+        assert_eq!((request.module, request.target), (module, Target::Address(16)));
+    }
 }

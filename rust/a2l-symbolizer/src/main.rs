@@ -6,11 +6,7 @@ use std::io::{self, ErrorKind, Write};
 use std::os::unix::ffi::OsStrExt;
 use std::process::ExitCode;
 
-use a2l_symbolizer::arguments::{identity_of, Arguments};
-use a2l_symbolizer::guard::silence_panics;
-use a2l_symbolizer::identity::Identity;
-use a2l_symbolizer::self_check::self_check;
-use a2l_symbolizer::settings::conversation;
+use a2l_symbolizer::{conversation, identity_of, self_check, silence_panics, Arguments, Identity};
 
 /// The status of all failures, as the tools have it for which this one stands.
 const FAILED: u8 = 1;

@@ -21,17 +21,6 @@ pub fn number(spelling: Spelling, word: &[u8]) -> Option<u64> {
     }
 }
 
-/// The number at the front of a line, in hexadecimal digits, as GNU's addr2line reads it; none where
-/// there is no digit. A number that doesn't fit is the greatest one.
-pub fn gnu_number(line: &[u8]) -> Option<u64> {
-    let digits = match line.trim_ascii_start() {
-        [b'0', b'x' | b'X', digits @ ..] => digits,
-        digits => digits,
-    };
-    let end = digits.iter().position(|byte| !byte.is_ascii_hexdigit()).unwrap_or(digits.len());
-    (end > 0).then(|| digits_of(&digits[..end], 16).unwrap_or(u64::MAX))
-}
-
 /// The bytes of a text of hexadecimal digits.
 pub fn hexadecimal_bytes(digits: &[u8]) -> Option<Vec<u8>> {
     if digits.is_empty() || digits.len() % 2 != 0 {
@@ -41,7 +30,7 @@ pub fn hexadecimal_bytes(digits: &[u8]) -> Option<Vec<u8>> {
 }
 
 /// The number of some digits, all of them; none where it doesn't fit.
-fn digits_of(digits: &[u8], radix: u32) -> Option<u64> {
+pub fn digits_of(digits: &[u8], radix: u32) -> Option<u64> {
     if !digits.first()?.is_ascii_alphanumeric() {
         return None;
     }
@@ -78,24 +67,6 @@ mod tests {
         assert_eq!(number(Spelling::Hexadecimal, b"272c"), Some(0x272c));
         assert_eq!(number(Spelling::Hexadecimal, b"0x10"), Some(0x10));
         assert_eq!(number(Spelling::Hexadecimal, b","), None);
-    }
-
-    #[test]
-    fn numbers_of_gnu() {
-        for (line, wanted) in [
-            ("0000000000001129", Some(0x1129)),
-            ("0x1129 trailing", Some(0x1129)),
-            ("  12zz", Some(0x12)),
-            ("-1", None),
-            ("ffffffffffffffff", Some(u64::MAX)),
-            ("fffffffffffffffff", Some(u64::MAX)),
-            (",", None),
-            ("", None),
-            ("x", None),
-            ("0x", None),
-        ] {
-            assert_eq!(gnu_number(line.as_bytes()), wanted, "{line}");
-        }
     }
 
     #[test]

@@ -11,14 +11,17 @@ use a2l::File;
 /// How files are brought into memory.
 #[derive(Debug, Clone, Copy, PartialEq, Eq)]
 pub enum Opener {
+    /// Whoever starts the program sees to it that nobody writes to files that are asked about.
     Map,
     Read,
 }
 
 impl Opener {
+    #[expect(unsafe_code, reason = "only who starts the program knows whether files are written to")]
     pub fn open(self, path: &Path) -> io::Result<OpenFile> {
         let (file, about) = match self {
-            Opener::Map => File::map(path)?,
+            // SAFETY: the manual asks this of whoever doesn't say --no-mmap.
+            Opener::Map => unsafe { File::map(path) }?,
             Opener::Read => File::read(path)?,
         };
         Ok(OpenFile { path: path.to_owned(), file: Arc::new(file), stamp: Stamp::of(&about) })

@@ -36,16 +36,20 @@ fn open(path: &Path) -> io::Result<(std::fs::File, Metadata)> {
 impl File {
     /// Maps a regular file, and returns what the system knew of it then.
     ///
-    /// A process that reads bytes which another one has cut off the file gets the signal SIGBUS;
-    /// see [`end_where_cut_off`](crate::end_where_cut_off). The file isn't to be written while
-    /// it is mapped.
-    pub fn map(path: &Path) -> io::Result<(File, Metadata)> {
+    /// Bytes that another process cuts off while the file is mapped raise SIGBUS where they are
+    /// read, which ends this process: see [`end_where_cut_off`](crate::end_where_cut_off).
+    ///
+    /// # Safety
+    ///
+    /// Nobody writes to the file for as long as the `File` lives, which nothing here can check:
+    /// Rust and the library may read a byte twice, and rely on finding the same. A new file that is
+    /// put at the path, as linkers and package managers do, is no such write.
+    pub unsafe fn map(path: &Path) -> io::Result<(File, Metadata)> {
         let (file, about) = open(path)?;
         if about.len() == 0 {
             return Ok((File::from(Vec::new()), about));
         }
-        // SAFETY: the mapping is only read. That nobody else writes the file is asked of the caller,
-        // as of all who map files.
+        // SAFETY: the mapping is only read, and the caller promises that nobody writes the file.
         let mapped = unsafe { Mmap::map(&file) }?;
         Ok((File(Bytes::Mapped(mapped)), about))
     }

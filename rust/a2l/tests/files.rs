@@ -1,6 +1,7 @@
 //! Files that are mapped or read, and programs that own theirs.
 
 use a2l::{Error, File, Part, Program};
+use std::fs::Metadata;
 use std::io::Write;
 use std::path::{Path, PathBuf};
 use std::process::Command;
@@ -25,22 +26,28 @@ impl Drop for Scratch {
     }
 }
 
+/// Maps a file of these tests.
+fn map(path: impl AsRef<Path>) -> std::io::Result<(File, Metadata)> {
+    // SAFETY: no test writes to such a file while it is mapped.
+    unsafe { File::map(path.as_ref()) }
+}
+
 #[test]
 fn both_ways_give_the_bytes() {
     let wanted = std::fs::read(SAMPLE).expect("the sample");
-    for opened in [File::map(Path::new(SAMPLE)), File::read(Path::new(SAMPLE))] {
+    for opened in [map(SAMPLE), File::read(Path::new(SAMPLE))] {
         let (file, about) = opened.expect("a file that is opened");
         assert_eq!(*file, *wanted);
         assert_eq!(about.len(), wanted.len() as u64);
     }
     let empty = Scratch::new("empty", b"");
-    assert_eq!(File::map(&empty.0).expect("a file that is opened").0.len(), 0);
+    assert_eq!(map(&empty.0).expect("a file that is opened").0.len(), 0);
 }
 
 #[test]
 fn what_is_no_file() {
     for path in ["/", "/no/such", "/dev/null"] {
-        assert!(File::map(Path::new(path)).is_err() && File::read(Path::new(path)).is_err(), "{path}");
+        assert!(map(path).is_err() && File::read(Path::new(path)).is_err(), "{path}");
     }
 }
 
@@ -56,7 +63,7 @@ fn parts_keep_their_file() {
 
 #[test]
 fn a_program_owns_its_file() {
-    let (file, _) = File::map(Path::new(SAMPLE)).expect("the sample");
+    let (file, _) = map(SAMPLE).expect("the sample");
     let mut program = Program::open(Arc::new(file), 1).unwrap_or_else(|why| panic!("{why}"));
     let found = program.find_frames(0x401004).expect("no fault").expect("frames");
     let names: Vec<_> = found.frames.iter().map(|frame| frame.function_name()).collect();
@@ -78,7 +85,7 @@ fn bytes_that_are_cut_off() {
     let name = "A2L_FILE_TO_CUT_OFF";
     if let Some(path) = std::env::var_os(name) {
         a2l::end_where_cut_off("it was cut off\n", 7).expect("a handler");
-        let (file, _) = File::map(Path::new(&path)).expect("a file that is opened");
+        let (file, _) = map(&path).expect("a file that is opened");
         std::fs::OpenOptions::new().write(true).open(&path).and_then(|file| file.set_len(0)).expect("it is cut off");
         // The process ends here.
         let _ = writeln!(std::io::stdout(), "{}", file[4096]);
