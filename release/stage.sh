@@ -1,5 +1,5 @@
 # shellcheck shell=bash disable=SC2034
-# Sourced by dist.sh and deb.sh: a folder for what is packed (`work`), which is removed at the end, the version, and the
+# Sourced by dist.sh, deb.sh and wheel.sh: a folder for what is packed (`work`), which is removed at the end, the version, and the
 # time that all files get, which is that of the last commit.
 set -euo pipefail
 here=$(cd "$(dirname "${BASH_SOURCE[0]}")/.." && pwd)
@@ -22,6 +22,9 @@ stage() {
     find root -type f \( -path '*/bin/*' -o -name '*.so' \) -exec strip --strip-unneeded {} +
     find root -name '*.a' -exec strip --strip-debug {} +
 }
+
+# What the release is made of, and under which licences, in a folder: NOTICES and a2l.spdx.json.
+add_notices() { python3 "$here/release/notices.py" "$1" > /dev/null; }
 
 # The files in git below the paths that the words name, into a folder. A path may be missing.
 add_sources() {

@@ -14,6 +14,7 @@ five='-g -gdwarf-5 -O2'
 passed=0
 failures=0
 
+# shellcheck source=/dev/null
 for part in tools sanitizers profilers traces debug_files programs; do . "$clients/$part.sh"; done
 make_tools
 write_sources

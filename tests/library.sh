@@ -99,9 +99,9 @@ ways=$(awk -v all="${took[all]}" -v each="${took[each]}" -v anew="${took[anew]}"
 refused=0
 : > empty
 for n in 0 1 63 64 200 400 600 685; do
-    head -c "$n" "$here/samples/inlined.elf" > cut
-    "$a2l" -e cut 401004 2> wanted && { echo "a file of $n bytes is accepted"; exit 1; }
-    "$work/out/addresses" cut 401004 2> found && { echo "a file of $n bytes is accepted"; exit 1; }
+    head -c "$n" "$here/samples/inlined.elf" > cut.elf
+    "$a2l" -e cut.elf 401004 2> wanted && { echo "a file of $n bytes is accepted"; exit 1; }
+    "$work/out/addresses" cut.elf 401004 2> found && { echo "a file of $n bytes is accepted"; exit 1; }
     sed -i 's/^a2l: //' wanted
     cmp wanted found || { echo "another refusal of $n bytes"; exit 1; }
     refused=$((refused + 1))

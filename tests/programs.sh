@@ -1,3 +1,4 @@
+# shellcheck shell=bash
 # Sourced by the other scripts, and run by none: it names the repository (`here`), makes a folder for what a
 # script makes (`work`), goes there, and removes it at the end. It has the sample programs that they share, and
 # what else several of them do.
@@ -201,7 +202,7 @@ END_CC
 
 # Builds a program of `unit1.cc` and so on, and `main.cc`, under the name that the word says.
 build_units() {
-    ls ./unit*.cc main.cc | xargs -P "$(nproc)" -I{} g++ -std=c++17 -g -gdwarf-5 -O1 -c {} -o {}.o
+    printf '%s\n' ./unit*.cc main.cc | xargs -P "$(nproc)" -I{} g++ -std=c++17 -g -gdwarf-5 -O1 -c {} -o {}.o
     # as a response file, since there may be many
     ls ./unit*.cc.o main.cc.o > objects
     g++ @objects -o "$1"

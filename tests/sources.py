@@ -4,12 +4,15 @@
 Each crate uses each crate that crates.txt names for it. No line of an .rt file or of a definition is longer than 120
 columns, but for attributes, and no line of a comment longer than 100. The text that an edit of must-fail/ replaces is
 in its file just once, and what it puts there differs; there are no more edits than the gate has time for. Each file
-that docs/ARCHITECTURE.md names in the section of a crate is in that crate, or in the one that it names beside it. The
-last line counts crates and edits; it fails where one is wrong.
+that docs/ARCHITECTURE.md names in the section of a crate is in that crate, or in the one that it names beside it.
+shellcheck, if it is here, has nothing to say of a script but what .shellcheckrc wants. The last line counts crates and
+edits; it fails if one is wrong.
 """
 
 import os
 import re
+import shutil
+import subprocess
 import sys
 
 TOP = os.path.join(os.path.dirname(os.path.abspath(__file__)), '..')
@@ -72,8 +75,20 @@ def missing(crates):
                 yield f'docs/ARCHITECTURE.md: {", ".join(own)}: {name} is not there'
 
 
+def scripts():
+    """What shellcheck says of the scripts."""
+    if shutil.which('shellcheck') is None:
+        print('skipped, no shellcheck here: scripts')
+        return []
+    tracked = subprocess.run(['git', 'ls-files'], cwd=TOP, check=True, capture_output=True, text=True).stdout
+    paths = [path for path in tracked.split('\n')
+             if path.endswith('.sh') or path in ('.ci/run', 'tests/all', 'tests/packages')]
+    told = subprocess.run(['shellcheck', '-x', '-f', 'gcc', *paths], cwd=TOP, check=False, capture_output=True, text=True)
+    return (told.stdout + told.stderr).split('\n')
+
+
 def main():
-    wrong, tried = [], 0
+    wrong, tried = scripts(), 0
     crates = [line.split('#')[0] for line in read(os.path.join(TOP, 'crates.txt')).split('\n')]
     crates = [line.split(':') for line in crates if ':' in line]
     for name, dependencies in crates:

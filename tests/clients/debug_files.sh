@@ -1,3 +1,4 @@
+# shellcheck shell=bash
 # Sourced by tests/clients.sh: debug information that stands in another file, which is found by build
 # id, by a link with a checksum, and through a server. Each way gives the lines of the whole program.
 

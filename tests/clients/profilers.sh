@@ -1,3 +1,4 @@
+# shellcheck shell=bash
 # Sourced by tests/clients.sh: profiles of one program, by perf and by gperftools.
 
 profilers() {

@@ -1,3 +1,4 @@
+# shellcheck shell=bash
 # Sourced by tests/clients.sh: programs of all kinds, of which the same addresses are asked for beside
 # llvm-symbolizer; names as c++filt writes them; and the program's own check.
 

@@ -1,3 +1,4 @@
+# shellcheck shell=bash
 # Sourced by tests/clients.sh: reports of sanitizers, when they are written and after the fact, and
 # of a crash of clang.
 

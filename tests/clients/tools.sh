@@ -1,3 +1,4 @@
+# shellcheck shell=bash
 # Sourced by tests/clients.sh: folders with symbolizers for PATH, and how what a client writes with
 # each of them is compared.
 

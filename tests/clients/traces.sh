@@ -1,3 +1,4 @@
+# shellcheck shell=bash
 # Sourced by tests/clients.sh: clients that print a stack or a place, and start addr2line for each.
 
 traces() {
