@@ -4,6 +4,7 @@ use std::borrow::Cow;
 
 use crate::arguments::Functions;
 use crate::names::{Length, Names};
+use crate::plain::without_controls;
 use crate::reply::{Answer, Frame, Variable};
 
 /// Which of the frames are shown.
@@ -34,7 +35,7 @@ impl Shape {
         Names::new(if self.functions == Functions::Short { Length::Short } else { Length::Whole })
     }
 
-    /// The answer as it is written: no name and no path has an end of a line.
+    /// The answer as it is written: no name and no path has a control character but tab.
     pub fn shown(&self, names: &mut Names, answer: Answer) -> Answer {
         match answer {
             Answer::Frames(frames) => {
@@ -68,22 +69,18 @@ impl Shape {
     }
 
     fn path(&self, path: &[u8]) -> Vec<u8> {
-        one_line(if self.basenames { basename(path) } else { path })
+        without_controls(if self.basenames { basename(path) } else { path })
     }
 
     fn name(&self, names: &mut Names, name: &[u8]) -> Vec<u8> {
         let is_readable = self.demangles || self.functions == Functions::Short;
-        one_line(&if is_readable { Cow::Owned(names.readable(name)) } else { Cow::Borrowed(name) })
+        without_controls(&if is_readable { Cow::Owned(names.readable(name)) } else { Cow::Borrowed(name) })
     }
 }
 
 /// The last part of a path; the path where it ends with a slash.
 fn basename(path: &[u8]) -> &[u8] {
     path.rsplit(|&byte| byte == b'/').next().filter(|last| !last.is_empty()).unwrap_or(path)
-}
-
-fn one_line(text: &[u8]) -> Vec<u8> {
-    text.iter().map(|&byte| if matches!(byte, b'\n' | b'\r') { b'?' } else { byte }).collect()
 }
 
 #[cfg(test)]
@@ -97,7 +94,7 @@ mod tests {
     fn shown(frames: Frames, basenames: bool) -> Vec<Frame> {
         let functions = Functions::Linkage;
         let shape = Shape { functions, frames, addresses: false, pretty: false, demangles: true, basenames };
-        let answer = Answer::Frames(vec![frame("_Z1fi", "/a/b.c", 1), frame("two\nlines", "c\r\n/d", 2)]);
+        let answer = Answer::Frames(vec![frame("_Z1fi", "/a/b.c", 1), frame("two\nlines", "c\r\x1b/d", 2)]);
         match shape.shown(&mut shape.names(), answer) {
             Answer::Frames(frames) => frames,
             other => panic!("{other:?}"),
@@ -105,7 +102,7 @@ mod tests {
     }
 
     #[test]
-    fn no_ends_of_lines() {
+    fn no_control_characters() {
         assert_eq!(shown(Frames::All, false), [frame("f(int)", "/a/b.c", 1), frame("two?lines", "c??/d", 2)]);
     }
 
