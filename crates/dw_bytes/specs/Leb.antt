@@ -23,6 +23,11 @@ abbrev pub leb_fault : Leb → Option model.Fault
 leb_fault End = Some model.ends_early
 leb_fault Wide = Some model.too_wide
 
+-- the number of each reason
+abbrev pub fault_number : Leb → ℕ
+fault_number End = 1
+fault_number Wide = 2
+
 -- the number of the complements of groups of seven bits
 abbrev pub complements : List ℕ → ℕ
 complements [] = 0

@@ -14,6 +14,21 @@ pub enum Leb {
     Wide,
 }
 
+impl Leb {
+    ghost use Rattle.std.specs.Prelude.{◌≡◌};
+    ghost use Rattle.dw_bytes.specs.Leb.{fault_number};
+
+    /// The number of the reason, 1 or 2.
+    pub fn number(&self) -> u8
+        ensures { result ≡ fault_number self.now }
+    {
+        match self {
+            Leb::End => 1,
+            Leb::Wide => 2,
+        }
+    }
+}
+
 /// The index of the first byte whose top bit isn't set, among any bytes.
 #[inline(never)]
 fn later_last_byte(bytes: &[u8]) -> Option<usize>
