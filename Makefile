@@ -1,6 +1,6 @@
 # The libraries for C and Python, the symbolizer for other tools, what is installed, and a release. `make` builds the
-# libraries, `make install` puts all in place with the programs, and `make uninstall` takes it away. `make dist`,
-# `make deb` and `make wheel` pack what is built (docs/RELEASING.md).
+# libraries, `make install` puts all in place with the programs, and `make uninstall` takes it away. `make dist`
+# packs what is built (docs/RELEASING.md).
 PREFIX ?= /usr/local
 LIBDIR ?= lib
 DESTDIR ?=
@@ -21,7 +21,7 @@ INSTALLED = bin/a2l bin/a2l_why bin/a2l-symbolizer bin/llvm-symbolizer-a2l $(LIB
 FOLDERS = lib/a2l/python/a2l lib/a2l/python lib/a2l/tools lib/a2l
 
 .PHONY: all library shared program why symbolizer install install-files install-why install-symbolizer \
-    uninstall dist deb wheel
+    uninstall dist tarball deb wheel
 
 all: library shared
 
@@ -91,6 +91,9 @@ uninstall:
 	cd "$(DESTDIR)$(PREFIX)" && rm -f $(INSTALLED) && rm -rf lib/a2l/python/a2l/__pycache__ && \
 	    for folder in $(FOLDERS); do [ ! -d $$folder ] || rmdir $$folder; done
 
-# A release of what is built.
-dist deb wheel:
-	release/$@.sh
+# A release of what is built, with the sums of all.
+dist: tarball deb wheel
+	cd out/release && sha256sum a2l-$(VERSION)-* *_$(VERSION)_*
+
+tarball deb wheel:
+	release/$@.sh > /dev/null

@@ -1,6 +1,6 @@
 #!/usr/bin/env bash
 # Packs what is built for Debian, as `a2l` (the programs), `liba2l-dev` (the library for C) and `python3-a2l`, into
-# out/release. As of dist.sh, one commit gives the same bytes. The last lines are the sums of the packages.
+# out/release. As of tarball.sh, one commit gives the same bytes. The last lines are the sums of the packages.
 # shellcheck source-path=SCRIPTDIR
 . "$(dirname "$0")/stage.sh"
 machine=$(dpkg --print-architecture)
@@ -18,8 +18,8 @@ take() {
     done
 }
 
-# What Debian wants to read of a package: its changes, and who may copy it.
-add_documents() {
+# What Debian wants to read of a package: its changes, who may copy it, and the notices of its parts.
+describe() {
     local package=$1 folder=debian/$1/usr/share/doc/$1
     mkdir -p "$folder"
     printf '%s (%s) unstable; urgency=medium\n\n  * Version %s.\n\n -- %s  %s\n' "$package" "$version" "$version" \
@@ -28,6 +28,8 @@ add_documents() {
         printf 'Copyright (C) %s the authors of a2l\n\n' "$(date -d "@$SOURCE_DATE_EPOCH" +%Y)"
         git -C "$here" show HEAD:LICENSE 2> /dev/null || echo 'License: none is stated.'
     } > "$folder/copyright"
+    cp notices/* "$folder/"
+    gzip -n9 "$folder"/{NOTICES,a2l.spdx.json}
     [ ! -d "debian/$package/usr/share/man" ] || find "debian/$package/usr/share/man" -type f -exec gzip -n9 {} +
 }
 
@@ -75,7 +77,12 @@ left=$(find root ! -type d)
 [ -z "$left" ] || { echo "in no package: $left" >&2; exit 1; }
 
 printf 'Source: a2l\n\nPackage: a2l\nArchitecture: any\n' > debian/control
-for package in a2l liba2l-dev python3-a2l; do add_documents $package; done
+mkdir -p notices documents debian/a2l/usr/share/doc
+add_notices notices
+add_documents documents
+rm documents/CHANGELOG.md $(cd notices && printf 'documents/%s ' *)
+mv documents debian/a2l/usr/share/doc/a2l
+for package in a2l liba2l-dev python3-a2l; do describe $package; done
 add_scripts
 pack a2l << END
 Section: devel

@@ -1,5 +1,5 @@
 # shellcheck shell=bash disable=SC2034
-# Sourced by dist.sh, deb.sh and wheel.sh: a folder for what is packed (`work`), which is removed at the end, the version, and the
+# Sourced by tarball.sh, deb.sh and wheel.sh: a folder for what is packed (`work`), which is removed at the end, the version, and the
 # time that all files get, which is that of the last commit.
 set -euo pipefail
 here=$(cd "$(dirname "${BASH_SOURCE[0]}")/.." && pwd)
@@ -25,6 +25,13 @@ stage() {
 
 # What the release is made of, and under which licences, in a folder: NOTICES and a2l.spdx.json.
 add_notices() { python3 "$here/release/notices.py" "$1" > /dev/null; }
+
+# What users read, and the samples that it shows, in a folder. The README ends there before what only the sources have.
+add_documents() {
+    add_sources "$1" CHANGELOG.md README.md SECURITY.md docs/ADDRESSES.md docs/SCALE.md docs/WHY.md samples
+    sed -i '/^## From the sources$/,$d' "$1/README.md"
+    add_notices "$1"
+}
 
 # The files in git below the paths that the words name, into a folder. A path may be missing.
 add_sources() {

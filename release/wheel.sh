@@ -1,6 +1,6 @@
 #!/usr/bin/env bash
 # Packs the module for Python with the library in it: out/release/a2l-VERSION-py3-none-manylinux_.._x86_64.whl, which pip
-# installs without network. As of dist.sh, one commit gives the same bytes. The last line is the sum of the wheel.
+# installs without network. As of tarball.sh, one commit gives the same bytes. The last line is the sum of the wheel.
 # shellcheck source-path=SCRIPTDIR
 . "$(dirname "$0")/stage.sh"
 

@@ -1,7 +1,7 @@
 #!/usr/bin/env bash
 # The README says what is: each command that it shows with a `$` writes what stands below it, the usage line is the
-# program's, the lines of the library's examples stand in the tests that run them, each file that it names is there, and
-# it has at most 8 KB. Run it after `rt run` in crates/a2l has built the program. It needs python3.
+# program's, the lines of the library's examples stand in the tests that run them, each file that it names is there, each
+# of its figures stands in docs/FIGURES.md, as do those of the pictures, and it has at most 8 KB. Run it after `rt run` in crates/a2l has built the program. It needs python3.
 set -euo pipefail
 cd "$(dirname "$0")/.."
 [ -x crates/a2l/out/a2l ] || { echo "build the program first: cd crates/a2l && rt run"; exit 1; }
@@ -20,6 +20,8 @@ for block in blocks:
     if first.startswith('$ '):
         shown += 1
         words = first[2:].split()
+        # as in a release
+        words[0] = {'bin/a2l': 'crates/a2l/out/a2l', 'bin/a2l_why': 'crates/a2l_why/out/a2l_why'}.get(words[0], words[0])
         if not os.path.exists(words[0]):
             print(f'skipped, {words[0]} is not built')
             continue
@@ -40,6 +42,13 @@ for block in blocks:
         doctest = re.sub(r'^(>>> |\.\.\. ?)', '', open('python/a2l/__init__.py', encoding='utf-8').read(), flags=re.M)
         if block not in doctest:
             wrong.append('the example for Python is not one of python/a2l')
+figures = open('docs/FIGURES.md', encoding='utf-8').read()
+for figure in re.findall(r'\b[\d,.]*\d (?:s|ms|MB|GB|microseconds)\b', re.sub('^    .*$', '', text, flags=re.M)):
+    if not re.search(rf'(?<![\d.,]){re.escape(figure)}\b', figures):
+        wrong.append(f'{figure} is not in docs/FIGURES.md')
+charts = subprocess.run([sys.executable, 'bench/charts.py', '--check'], capture_output=True, text=True, check=False)
+if charts.returncode:
+    wrong.append(charts.stderr.strip())
 for path in re.findall(r'\b(?:docs|tests|bench|examples|include|python|rust|samples)/[\w./-]+\w', text):
     if not os.path.exists(path):
         wrong.append(f'{path} is not there')

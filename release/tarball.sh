@@ -1,8 +1,9 @@
 #!/usr/bin/env bash
 # Packs a release of what is built: out/release/a2l-VERSION-x86_64-linux.tar.gz. It has what `make install` puts in
-# place, the module for Python as pip takes it, the crates of Rust, which find the library in ../lib, the examples and
-# the documents, the notices of all parts, and the sums of all files. One commit, built by the same tools, gives the same bytes: all files have
-# the time of the commit and no owner, and stand in order. The last line is the sum of the tarball.
+# place, the module for Python as pip takes it, the crates of Rust, which find the library in ../lib, the examples, the
+# documents for users, the notices of all parts, and the sums of all files. One commit, built by the same tools, gives
+# the same bytes: all files have the time of the commit and no owner, and stand in order. The last line is the sum of
+# the tarball.
 # shellcheck source-path=SCRIPTDIR
 . "$(dirname "$0")/stage.sh"
 name=a2l-$version-$(uname -m)-linux
@@ -12,8 +13,8 @@ mv root/usr/local "$name"
 # it may be unpacked anywhere
 # shellcheck disable=SC2016
 sed -i 's|^prefix=.*|prefix=${pcfiledir}/../..|' "$name/lib/pkgconfig/a2l.pc"
-add_sources "$name" VERSION LICENSE CHANGELOG.md README.md 'docs/*.md' examples python rust samples
-add_notices "$name"
+add_sources "$name" VERSION LICENSE examples python rust
+add_documents "$name"
 # once, beside what makes a wheel of it
 mv "$name/lib/a2l/python/a2l/liba2l.so" "$name/python/a2l/"
 rm -r "$name/lib/a2l/python"
