@@ -64,13 +64,16 @@ impl Conversation {
         self.programs.get(module).map(drop).map_err(|why| format!("'{}': {why}", module_name(module)))
     }
 
-    /// Looks for the section of the command line, where it has one and the file can be opened.
+    /// Looks for the section of the command line, where it has one and the file can be opened. The
+    /// text of an error is GNU's.
     pub fn find_section(&mut self) -> Result<(), String> {
         let (Some(module), Some(name)) = (&self.settings.module, &self.settings.section) else {
             return Ok(());
         };
         match self.programs.get(module) {
-            Ok(found) if found.program.section_address(name).is_none() => Err(format!("cannot find section {name}")),
+            Ok(found) if !found.program.has_section(name) => {
+                Err(format!("{}: cannot find section {name}", module_name(module)))
+            }
             _ => Ok(()),
         }
     }
@@ -168,19 +171,22 @@ fn nothing(kind: Kind) -> Answer {
 
 fn answer(settings: &Settings, found: Found<'_>, request: &Request) -> Answer {
     let Found { program, sources, .. } = found;
-    let address = match &request.target {
+    let place = match &request.target {
         // The greatest number is what clients send where they want nothing to be found.
         Target::Address(u64::MAX) => None,
         Target::Address(address) => {
-            let begin = settings.section.as_ref().map_or(Some(0), |name| program.section_address(name));
-            begin.map(|begin| begin.wrapping_add(address.wrapping_sub(settings.adjust)))
+            let address = address.wrapping_sub(settings.adjust);
+            match &settings.section {
+                Some(name) => program.placement().in_section(name.as_bytes(), address),
+                None => program.placement().place(address, request.kind == Kind::Code),
+            }
         }
         Target::Symbol { name, offset } if request.kind == Kind::Code => program.find_symbol(name, *offset, sources),
         Target::Symbol { .. } => None,
     };
-    match (request.kind, address) {
-        (Kind::Code, Some(address)) => Answer::Frames(program.find_frames(address, sources)),
-        (Kind::Data, Some(address)) => Answer::Variable(program.find_variable(address, sources)),
+    match (request.kind, place) {
+        (Kind::Code, Some(place)) => Answer::Frames(program.find_frames(place, sources)),
+        (Kind::Data, Some(place)) => Answer::Variable(program.find_variable(place, sources)),
         (kind, _) => nothing(kind),
     }
 }

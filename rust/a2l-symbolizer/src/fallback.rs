@@ -1,17 +1,18 @@
 //! Answers of the addr2line crate, for debug information that the library doesn't read.
 
 use std::cell::OnceCell;
-use std::path::Path;
 use std::sync::Arc;
 
 use a2l::{File, Part};
 use addr2line::Context;
-use gimli::{Dwarf, EndianReader, RunTimeEndian, SectionId};
-use object::{Object, ObjectKind};
+use gimli::{Dwarf, EndianReader, RunTimeEndian};
+use object::Object;
 
 use crate::debug_files::DebugFiles;
 use crate::guard::guarded;
-use crate::relocated::{relocated, Placement};
+use crate::open_file::OpenFile;
+use crate::placement::{PlacedFile, Placement};
+use crate::relocated::relocated;
 use crate::reply::Frame;
 use crate::sections::{part, Error};
 use crate::split::SplitUnits;
@@ -23,8 +24,6 @@ pub type Reader = EndianReader<RunTimeEndian, Part>;
 /// A file that the addr2line crate has opened.
 pub struct Fallback {
     context: Context<Reader>,
-    /// Where the sections of a relocatable file were put.
-    placement: Option<Placement>,
     split: SplitUnits,
     /// Made when it is first needed.
     variables: OnceCell<Option<Variables>>,
@@ -32,18 +31,18 @@ pub struct Fallback {
 
 impl Fallback {
     /// Opens a file; none where the crate can't read it.
-    pub fn open(path: &Path, file: &Arc<File>, debug_files: &DebugFiles) -> Option<Fallback> {
+    pub fn open(file: &PlacedFile, debug_files: &DebugFiles) -> Option<Fallback> {
         guarded(|| {
-            let object = object::File::parse(&***file).ok()?;
-            let mut dwarf = dwarf(file, &object).ok()?;
+            let OpenFile { path, file: bytes, .. } = &file.file;
+            let object = object::File::parse(&***bytes).ok()?;
+            let mut dwarf = dwarf(bytes, &object, &file.placement).ok()?;
             if let Some(other) = debug_files.supplementary(path, &object) {
                 let object = object::File::parse(&**other).ok()?;
-                dwarf.load_sup(|id| section(&other, &object, id)).ok()?;
+                dwarf.load_sup(|id| section_named(&other, &object, Some(id.name()))).ok()?;
             }
             let split = SplitUnits::new(path, debug_files.opener());
-            let placement = (object.kind() == ObjectKind::Relocatable).then(|| Placement::of(&object));
             let context = Context::from_dwarf(dwarf).ok()?;
-            Some(Fallback { context, placement, split, variables: OnceCell::new() })
+            Some(Fallback { context, split, variables: OnceCell::new() })
         })?
     }
 
@@ -54,7 +53,7 @@ impl Fallback {
     }
 
     fn frames(&self, address: u64) -> Option<Vec<Frame>> {
-        let mut found = self.context.find_frames(self.placed(address)?).ok()?;
+        let mut found = self.context.find_frames(address).ok()?;
         let mut frames = Vec::new();
         while let Some(frame) = found.next().ok()? {
             let name = frame.function.as_ref().map(|function| function.name.bytes().to_vec());
@@ -79,16 +78,8 @@ impl Fallback {
         guarded(|| self.split_frames(address, place))?
     }
 
-    /// The address as the context has it.
-    fn placed(&self, address: u64) -> Option<u64> {
-        match &self.placement {
-            Some(placement) => placement.address(address),
-            None => Some(address),
-        }
-    }
-
     fn split_frames(&self, address: u64, place: &Frame) -> Option<Vec<Frame>> {
-        let unit = self.context.find_dwarf_unit(self.placed(address)?)?;
+        let unit = self.context.find_dwarf_unit(address)?;
         self.split.find_frames(self.context.dwarf(), unit, address, place.clone())
     }
 
@@ -101,7 +92,7 @@ impl Fallback {
     /// The folder in which the compiler ran that made the code at an address: an attribute of the
     /// unit, else the first folder of its line table.
     pub fn folder(&self, address: u64) -> Option<Vec<u8>> {
-        let unit = self.context.find_dwarf_unit(self.placed(address)?)?;
+        let unit = self.context.find_dwarf_unit(address)?;
         if let Some(folder) = &unit.comp_dir {
             return Some(folder.bytes().to_vec());
         }
@@ -111,21 +102,18 @@ impl Fallback {
 }
 
 /// The sections of a file, as gimli takes them.
-fn dwarf(file: &Arc<File>, object: &object::File<'_>) -> Result<Dwarf<Reader>, Error> {
-    Dwarf::load(|id| section(file, object, id))
-}
-
-fn section(file: &Arc<File>, object: &object::File<'_>, id: SectionId) -> Result<Reader, Error> {
-    section_named(file, object, Some(id.name()))
+fn dwarf(file: &Arc<File>, object: &object::File<'_>, placement: &Placement) -> Result<Dwarf<Reader>, Error> {
+    Dwarf::load(|id| match placement.is_relocatable() {
+        true => Ok(reader(object, relocated(object, placement, id.name())?)),
+        false => section_named(file, object, Some(id.name())),
+    })
 }
 
 /// The section of a file that has a name; empty where the file has none, or no name is known.
 pub fn section_named(file: &Arc<File>, object: &object::File<'_>, name: Option<&str>) -> Result<Reader, Error> {
-    let name = name.unwrap_or_default();
-    let bytes = match object.kind() {
-        ObjectKind::Relocatable => relocated(object, name)?,
-        _ => part(file, object, name)?,
-    };
-    let endian = if object.is_little_endian() { RunTimeEndian::Little } else { RunTimeEndian::Big };
-    Ok(EndianReader::new(bytes, endian))
+    Ok(reader(object, part(file, object, name.unwrap_or_default())?))
+}
+
+fn reader(object: &object::File<'_>, bytes: Part) -> Reader {
+    EndianReader::new(bytes, if object.is_little_endian() { RunTimeEndian::Little } else { RunTimeEndian::Big })
 }

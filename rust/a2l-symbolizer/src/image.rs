@@ -1,41 +1,69 @@
-//! A file of the debug information of another one, decompressed, as the library reads it.
+//! A file of the debug information of another one, decompressed and relocated, as the library reads
+//! it.
 
 use a2l::File;
 use flate2::{Decompress, FlushDecompress, Status};
-use object::elf::{FileHeader64, SectionHeader64, SHT_PROGBITS, SHT_STRTAB};
+use object::elf::{FileHeader64, SectionHeader64, ET_DYN, ET_REL, SHT_PROGBITS, SHT_STRTAB};
 use object::endian::{LittleEndian, U16, U32, U64};
 use object::pod::bytes_of;
-use object::read::elf::ElfFile64;
-use object::{CompressedData, CompressionFormat, Object, ObjectSection};
+use object::read::elf::FileHeader;
+use object::{CompressedData, CompressionFormat, Object, ObjectSection, Section};
 
-use crate::sections::{compressed, Error};
+use crate::placement::Placement;
+use crate::relocated::relocate;
+use crate::sections::{compressed, name_of_debug_section, Error};
 
 /// The sections that the library reads, without what is before each name.
 const READ: [&[u8]; 8] = [b"info", b"abbrev", b"line", b"line_str", b"str", b"str_offsets", b"addr", b"rnglists"];
 
-/// An image of the sections of a file that the library reads, of at most so many bytes.
-pub fn image(file: &File, most: u64) -> Result<File, Error> {
-    let object = ElfFile64::<LittleEndian>::parse(&**file)?;
-    let mut found = Vec::new();
-    for section in object.sections() {
-        let name = section.name_bytes()?;
-        let rest = name.strip_prefix(b".debug_").or_else(|| name.strip_prefix(b".zdebug_"));
-        if let Some(rest) = rest.filter(|rest| READ.contains(rest)) {
-            found.push(([&b".debug_"[..], rest].concat(), compressed(&section)?));
-        }
-    }
-    let size = found.iter().try_fold(0_u64, |size, (_, data)| size.checked_add(data.uncompressed_size));
+/// An image of the sections of a file that the library reads, of at most so many bytes. Sections of
+/// a relocatable file that have one name become one, as in a program.
+pub fn image(file: &File, placement: &Placement, most: u64) -> Result<File, Error> {
+    let (header, object) = (FileHeader64::<LittleEndian>::parse(&**file)?, object::File::parse(&**file)?);
+    header.endian()?;
+    let found = sections_read(&object, placement)?;
+    let size = found.iter().try_fold(0_u64, |size, (_, _, data)| size.checked_add(data.uncompressed_size));
     let size = size.filter(|&size| size <= most).and_then(|size| usize::try_from(size).ok()).ok_or(Error::TooMany)?;
     let mut image = Image::new(size)?;
-    for (name, data) in &found {
+    for (name, section, data) in &found {
+        let begin = image.bytes.len();
         image.add(name, data)?;
+        if placement.is_relocatable() {
+            relocate(&object, placement, section, &mut image.bytes[begin..])?;
+        }
     }
-    Ok(image.finish(object.raw_header()))
+    Ok(image.finish(header))
+}
+
+/// A section that the library reads: what follows `.debug_` in its name, and its bytes.
+type Found<'data, 'file> = (&'static [u8], Section<'data, 'file>, CompressedData<'data>);
+
+/// The sections that the library reads, those of one name together.
+fn sections_read<'data, 'file>(
+    object: &'file object::File<'data>,
+    placement: &Placement,
+) -> Result<Vec<Found<'data, 'file>>, Error> {
+    let mut found = Vec::new();
+    for section in object.sections() {
+        let name = name_of_debug_section(section.name_bytes()?);
+        let read = name.and_then(|name| READ.into_iter().find(|&read| read == name));
+        if let Some(name) = read {
+            let data = compressed(&section)?;
+            found.push((name, section, data));
+        }
+    }
+    found.sort_by_key(|&(name, ..)| name);
+    if !placement.is_relocatable() {
+        found.dedup_by_key(|&mut (name, ..)| name);
+    }
+    Ok(found)
 }
 
 /// A file that is put together: a header, bytes of sections, their names, and the table of
 /// sections.
 struct Image {
+    /// The name of the last section, after `.debug_`.
+    last: &'static [u8],
     bytes: Vec<u8>,
     names: Vec<u8>,
     sections: Vec<SectionHeader64<LittleEndian>>,
@@ -50,10 +78,11 @@ impl Image {
         let mut bytes = Vec::new();
         bytes.try_reserve_exact(size.saturating_add(Image::FRAME)).map_err(|_| Error::TooMany)?;
         bytes.resize(std::mem::size_of::<FileHeader64<LittleEndian>>(), 0);
-        Ok(Image { bytes, names: vec![0], sections: vec![header(0, 0, 0, 0)] })
+        Ok(Image { last: b"", bytes, names: vec![0], sections: vec![header(0, 0, 0, 0)] })
     }
 
-    fn add(&mut self, name: &[u8], data: &CompressedData<'_>) -> Result<(), Error> {
+    /// Adds bytes to the last section where that has this name, else begins the next one.
+    fn add(&mut self, name: &'static [u8], data: &CompressedData<'_>) -> Result<(), Error> {
         let begin = self.bytes.len();
         match data.format {
             CompressionFormat::None => self.bytes.extend_from_slice(data.data),
@@ -70,13 +99,21 @@ impl Image {
         if size as u64 != data.uncompressed_size {
             return Err(Error::Damaged);
         }
-        self.sections.push(header(self.names.len(), SHT_PROGBITS, begin, size));
-        self.names.extend_from_slice(name);
-        self.names.push(0);
+        match self.sections.last_mut() {
+            Some(section) if self.last == name => {
+                let all = section.sh_size.get(LittleEndian) + size as u64;
+                section.sh_size = U64::new(LittleEndian, all);
+            }
+            _ => {
+                self.sections.push(header(self.names.len(), SHT_PROGBITS, begin, size));
+                self.names.extend_from_slice(&[b".debug_", name, b"\0"].concat());
+                self.last = name;
+            }
+        }
         Ok(())
     }
 
-    /// The file, with a header like that of the other one.
+    /// The file, with a header like that of the other one. What was relocatable is linked now.
     fn finish(mut self, like: &FileHeader64<LittleEndian>) -> File {
         let name = self.names.len();
         self.names.extend_from_slice(b".shstrtab\0");
@@ -84,6 +121,9 @@ impl Image {
         self.bytes.extend_from_slice(&self.names);
         self.bytes.resize(self.bytes.len().next_multiple_of(8), 0);
         let mut first = *like;
+        if first.e_type.get(LittleEndian) == ET_REL {
+            first.e_type = U16::new(LittleEndian, ET_DYN);
+        }
         first.e_phoff = U64::new(LittleEndian, 0);
         first.e_phnum = U16::new(LittleEndian, 0);
         first.e_shoff = U64::new(LittleEndian, self.bytes.len() as u64);
@@ -128,7 +168,7 @@ mod tests {
 
     #[test]
     fn an_image_has_the_same_answers() {
-        let image = image(&sample(), 1 << 20).expect("an image");
+        let image = image(&sample(), &Placement::default(), 1 << 20).expect("an image");
         let mut program = a2l::Program::open(Arc::new(image), 1).expect("a file that is accepted");
         let frames = program.find_frames(0x401004).expect("no fault").expect("frames").frames;
         let names: Vec<_> = frames.iter().map(|frame| frame.function_name()).collect();
@@ -137,7 +177,7 @@ mod tests {
 
     #[test]
     fn an_image_is_bounded() {
-        assert!(matches!(image(&sample(), 100), Err(Error::TooMany)));
+        assert!(matches!(image(&sample(), &Placement::default(), 100), Err(Error::TooMany)));
     }
 
     #[test]
@@ -148,7 +188,7 @@ mod tests {
         for size in 49..52 {
             let data = CompressedData { format: CompressionFormat::Zlib, data: &packed, uncompressed_size: size };
             let mut image = Image::new(100).expect("memory");
-            let added = image.add(b".debug_str", &data);
+            let added = image.add(b"str", &data);
             assert_eq!(added.is_ok(), size == 50, "{size}: {added:?}");
         }
     }
@@ -163,16 +203,15 @@ mod tests {
         };
         let bytes = [bytes_of(&claim), &[0; 16][..]].concat();
         let mut image = Image::new(bytes.len()).expect("memory");
-        image.add(b".debug_info", &CompressedData::none(&bytes)).expect("bytes that aren't compressed");
+        image.add(b"info", &CompressedData::none(&bytes)).expect("bytes that aren't compressed");
         image.sections[1].sh_flags = U64::new(LittleEndian, SHF_COMPRESSED.into());
         let sample = sample();
-        let object = ElfFile64::<LittleEndian>::parse(&*sample).expect("the sample");
-        image.finish(object.raw_header())
+        image.finish(FileHeader64::<LittleEndian>::parse(&*sample).expect("the sample"))
     }
 
     #[test]
     fn claims_are_bounded() {
-        assert!(matches!(image(&claiming(1 << 40), u64::MAX), Err(Error::TooLong)));
-        assert!(matches!(image(&claiming(1 << 10), u64::MAX), Err(Error::Damaged)));
+        assert!(matches!(image(&claiming(1 << 40), &Placement::default(), u64::MAX), Err(Error::TooLong)));
+        assert!(matches!(image(&claiming(1 << 10), &Placement::default(), u64::MAX), Err(Error::Damaged)));
     }
 }

@@ -24,6 +24,7 @@ mod writer;
 mod debug_files;
 mod image;
 mod open_file;
+mod placement;
 mod program;
 mod programs;
 mod sections;

@@ -43,7 +43,7 @@ fn start(identity: Identity, arguments: &Arguments) -> ExitCode {
     }
     let mut conversation = conversation(identity, arguments);
     if let Err(why) = conversation.find_section() {
-        return fail(identity, &why);
+        return end(identity, &why);
     }
     if arguments.requests.is_empty() {
         let ended = conversation.run(io::stdin().lock(), io::stdout().lock());
@@ -68,7 +68,11 @@ fn finish(identity: Identity, ended: io::Result<()>) -> ExitCode {
 }
 
 fn fail(identity: Identity, why: &str) -> ExitCode {
+    end(identity, &format!("error: {why}"))
+}
+
+fn end(identity: Identity, why: &str) -> ExitCode {
     // Nobody is left who could be told where this can't be written.
-    let _ = writeln!(io::stderr(), "{}: error: {why}", identity.name());
+    let _ = writeln!(io::stderr(), "{}: {why}", identity.name());
     ExitCode::from(FAILED)
 }

@@ -1,15 +1,17 @@
 //! A file that is asked about: who answers for it, and the answers.
 
 use std::path::Path;
+use std::sync::Arc;
 
-use a2l::UnitFrames;
-use object::{Object, ObjectSection};
+use a2l::{File, UnitFrames};
+use object::Object;
 
 use crate::debug_files::DebugFiles;
 use crate::fallback::Fallback;
 use crate::image::image;
 use crate::names::is_mangled;
 use crate::open_file::OpenFile;
+use crate::placement::{PlacedFile, Placement};
 use crate::reply::{Frame, Variable};
 use crate::sections::{has_debug_info, has_supplement};
 use crate::symbols::{Kind, Symbols};
@@ -44,9 +46,9 @@ pub enum Answerer {
 
 /// A file that is open.
 pub struct Program {
-    file: OpenFile,
+    file: PlacedFile,
     /// The file that has the debug information, where that is another one.
-    debug: Option<OpenFile>,
+    debug: Option<PlacedFile>,
     library: Option<a2l::Program>,
     answerer: Answerer,
     /// Made when they are first needed.
@@ -61,6 +63,8 @@ impl Program {
     pub fn open(file: OpenFile, sources: &Sources) -> Program {
         let found = has_debug_info(&file.file);
         let debug = if found { None } else { sources.debug_files.of_program(&file.path, &file.file) };
+        let file = PlacedFile::of_program(file);
+        let debug = debug.and_then(|debug| file.debug_file(debug));
         let mut program = Program {
             file,
             debug,
@@ -78,23 +82,20 @@ impl Program {
     }
 
     fn open_library(&mut self, sources: &Sources) {
-        let file = &self.with_debug_info().file;
-        let opened = a2l::Program::open(file.clone(), CAPACITY);
-        let opened = match opened {
-            Err(why @ a2l::Error::Refused { number: a2l::COMPRESSED, .. }) => match image(file, sources.most) {
-                Ok(image) => a2l::Program::open(image.into(), CAPACITY).map_err(|why| why.to_string()),
-                Err(other) => Err(format!("{why}: {other}")),
-            },
-            other => other.map_err(|why| why.to_string()),
-        };
-        match opened {
+        let PlacedFile { file, placement } = self.with_debug_info();
+        match open(&file.file, placement, sources.most) {
             Ok(library) => (self.library, self.answerer) = (Some(library), Answerer::Library),
             Err(why) => self.answerer = Answerer::Others(why),
         }
     }
 
-    fn with_debug_info(&self) -> &OpenFile {
+    fn with_debug_info(&self) -> &PlacedFile {
         self.debug.as_ref().unwrap_or(&self.file)
+    }
+
+    /// Where the sections are. Addresses below are places of these.
+    pub fn placement(&self) -> &Placement {
+        &self.file.placement
     }
 
     /// Who answers for the debug information.
@@ -104,19 +105,19 @@ impl Program {
 
     /// The path of the file that has the debug information.
     pub fn debug_path(&self) -> &Path {
-        &self.with_debug_info().path
+        &self.with_debug_info().file.path
     }
 
     /// How many bytes of files and of memory this takes.
     pub fn bytes(&self) -> u64 {
         let library = self.library.as_ref().map_or(0, |library| library.file().len());
-        let debug = self.debug.as_ref().map_or(0, |debug| debug.file.len());
-        (self.file.file.len() + debug + library) as u64
+        let debug = self.debug.as_ref().map_or(0, |debug| debug.file.file.len());
+        (self.file.file.file.len() + debug + library) as u64
     }
 
     /// One of its files isn't what it was.
     pub fn has_changed(&self) -> bool {
-        self.file.has_changed() || self.debug.as_ref().is_some_and(OpenFile::has_changed)
+        self.file.file.has_changed() || self.debug.as_ref().is_some_and(|debug| debug.file.has_changed())
     }
 
     /// The functions at an address, innermost first; none where nothing is known.
@@ -138,7 +139,7 @@ impl Program {
     /// Names functions whose names dwz has put into a file of its own, which the library doesn't
     /// read.
     fn name_by_supplement(&mut self, address: u64, frames: &mut [Frame], sources: &Sources) {
-        if !has_supplement(&self.with_debug_info().file) {
+        if !has_supplement(&self.with_debug_info().file.file) {
             return;
         }
         let named = self.fallback(sources).map(|fallback| fallback.find_frames(address)).unwrap_or_default();
@@ -206,7 +207,7 @@ impl Program {
     fn fallback(&mut self, sources: &Sources) -> Option<&Fallback> {
         if self.fallback.is_none() {
             let debug = self.with_debug_info();
-            let opened = Fallback::open(&debug.path, &debug.file, &sources.debug_files);
+            let opened = Fallback::open(debug, &sources.debug_files);
             self.fallback = Some(opened.map(Box::new));
         }
         self.fallback.as_ref()?.as_deref()
@@ -227,8 +228,9 @@ impl Program {
             return;
         }
         let (name, file, start) = (symbol.name.to_vec(), symbol.file.map(<[u8]>::to_vec), symbol.start);
+        let start = Some(self.placement().address(start));
         let frame = frames.pop().unwrap_or_default();
-        frames.push(Frame { name: Some(name), path: frame.path.clone().or(file), start: Some(start), ..frame });
+        frames.push(Frame { name: Some(name), path: frame.path.clone().or(file), start, ..frame });
     }
 
     fn symbols(&mut self, kind: Kind) -> &Symbols {
@@ -236,14 +238,12 @@ impl Program {
             Kind::Functions => &mut self.functions,
             Kind::Variables => &mut self.variables,
         };
-        let debug = self.debug.as_ref().map(|debug| &debug.file);
-        place.get_or_insert_with(|| Symbols::read(&self.file.file, debug, kind))
+        place.get_or_insert_with(|| Symbols::read(&self.file, self.debug.as_ref(), kind))
     }
 
-    /// The first address of a section.
-    pub fn section_address(&self, name: &str) -> Option<u64> {
-        let object = object::File::parse(&**self.file.file).ok()?;
-        Some(object.section_by_name(name)?.address())
+    /// The file has a section of this name, loaded or not.
+    pub fn has_section(&self, name: &str) -> bool {
+        object::File::parse(&**self.file.file.file).is_ok_and(|object| object.section_by_name(name).is_some())
     }
 
     /// The variable at an address, or the function there.
@@ -262,6 +262,7 @@ impl Program {
         if let Some(declared) = fallback.and_then(|fallback| fallback.declaration(variable.start)) {
             (variable.path, variable.line) = (Some(declared.path.to_vec()), declared.line);
         }
+        variable.start = self.placement().address(variable.start);
         Some(variable)
     }
 
@@ -276,6 +277,19 @@ impl Program {
             let symbol = self.symbols(kind).named(name)?;
             Some(if offset < symbol.size { symbol.start + offset } else { symbol.start })
         })
+    }
+}
+
+/// Opens the library over a file. Where that is relocatable or has compressed sections, it reads an
+/// image of them. The text of an error says why it reads neither.
+fn open(file: &Arc<File>, placement: &Placement, most: u64) -> Result<a2l::Program, String> {
+    let numbers = [a2l::RELOCATABLE, a2l::COMPRESSED];
+    match a2l::Program::open(file.clone(), CAPACITY) {
+        Err(why @ a2l::Error::Refused { number, .. }) if numbers.contains(&number) => {
+            let image = image(file, placement, most).map_err(|other| format!("{why}: {other}"))?;
+            a2l::Program::open(image.into(), CAPACITY).map_err(|why| why.to_string())
+        }
+        other => other.map_err(|why| why.to_string()),
     }
 }
 

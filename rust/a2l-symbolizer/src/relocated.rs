@@ -1,98 +1,196 @@
-//! Relocatable files: their sections are put one after the other, as a linker would put them.
+//! Relocatable files: numbers of debug information that wait for a linker.
 
 use a2l::{File, Part};
-use object::elf::SHF_ALLOC;
-use object::{Object, ObjectSection, ObjectSymbol, Relocation, RelocationKind, RelocationTarget, SectionFlags};
-use object::{SectionIndex, SectionKind};
+use object::elf::{
+    R_386_TLS_LDO_32, R_AARCH64_TLS_DTPREL, R_ARM_TLS_LDO32, R_RISCV_ADD16, R_RISCV_ADD32, R_RISCV_ADD64, R_RISCV_ADD8,
+    R_RISCV_SET16, R_RISCV_SET32, R_RISCV_SET8, R_RISCV_SUB16, R_RISCV_SUB32, R_RISCV_SUB64, R_RISCV_SUB8,
+    R_RISCV_TLS_DTPREL32, R_RISCV_TLS_DTPREL64, R_X86_64_DTPOFF32, R_X86_64_DTPOFF64,
+};
+use object::{
+    Architecture, Object, ObjectSection, ObjectSymbol, Relocation, RelocationKind, RelocationTarget, Section,
+};
 
-use crate::sections::{decompressed, Error};
+use crate::placement::Placement;
+use crate::sections::{decompressed, name_of_debug_section, Error};
 
-/// Where the sections of a relocatable file are put, so that no two of them have an address in
-/// common: in the file each begins at 0.
-pub struct Placement(Vec<Placed>);
-
-struct Placed {
-    index: SectionIndex,
-    begin: u64,
-    size: u64,
-    is_code: bool,
+/// What a relocation does with the number in its place.
+#[derive(Debug, Clone, Copy, PartialEq, Eq)]
+enum Change {
+    Set,
+    Add,
+    Subtract,
 }
 
-/// The first section begins here, since code at 0 is taken for code that a linker has dropped.
-const FIRST: u64 = 1 << 16;
-
-impl Placement {
-    /// The places of the sections that are loaded.
-    pub fn of(object: &object::File<'_>) -> Placement {
-        let mut next = FIRST;
-        let mut placed = Vec::new();
-        for section in object.sections().filter(is_loaded) {
-            let (size, is_code) = (section.size(), section.kind() == SectionKind::Text);
-            placed.push(Placed { index: section.index(), begin: next, size, is_code });
-            next = next.saturating_add(size).checked_next_multiple_of(64).unwrap_or(next);
-        }
-        Placement(placed)
-    }
-
-    /// The place of an address that counts from the begin of a section: of the first one of code
-    /// that is so long.
-    pub fn address(&self, address: u64) -> Option<u64> {
-        let section = self.0.iter().find(|section| section.is_code && address < section.size)?;
-        section.begin.checked_add(address)
-    }
-
-    fn begin(&self, index: SectionIndex) -> u64 {
-        self.0.iter().find(|section| section.index == index).map_or(0, |section| section.begin)
-    }
-
-    fn target(&self, object: &object::File<'_>, relocation: &Relocation) -> u64 {
-        match relocation.target() {
-            RelocationTarget::Symbol(index) => object.symbol_by_index(index).map_or(0, |symbol| {
-                symbol.address().wrapping_add(symbol.section_index().map_or(0, |section| self.begin(section)))
-            }),
-            RelocationTarget::Section(index) => self.begin(index),
-            _ => 0,
-        }
-    }
+/// How the number is written.
+#[derive(Debug, Clone, Copy, PartialEq, Eq)]
+enum Form {
+    Bytes(usize),
+    Leb128,
 }
 
-fn is_loaded<'data>(section: &impl ObjectSection<'data>) -> bool {
-    matches!(section.flags(), SectionFlags::Elf { sh_flags } if sh_flags & u64::from(SHF_ALLOC) != 0)
-}
+/// Those of RISC-V that `object` has no names for.
+const R_RISCV_SET_ULEB128: u32 = 60;
+const R_RISCV_SUB_ULEB128: u32 = 61;
 
-/// A section of a relocatable file, in which each address is that of its symbol; empty where the
-/// file doesn't have it.
-pub fn relocated(object: &object::File<'_>, name: &str) -> Result<Part, Error> {
-    let Some(section) = object.section_by_name(name) else {
-        return Ok(Part::whole(File::from(Vec::new())));
-    };
-    let placement = Placement::of(object);
-    let mut bytes = decompressed(&section)?.into_owned();
-    for (offset, relocation) in section.relocations() {
-        if relocation.kind() == RelocationKind::Absolute {
-            let target = placement.target(object, &relocation);
-            // A relocation outside of the section changes nothing.
-            let _ = apply(&mut bytes, offset, &relocation, target, object.is_little_endian());
+/// The sections of a relocatable file that have a name, one after the other, as a linker would make
+/// one of them; empty where the file has none.
+pub fn relocated(object: &object::File<'_>, placement: &Placement, name: &str) -> Result<Part, Error> {
+    let mut bytes = Vec::new();
+    let wanted = name_of_debug_section(name.as_bytes());
+    for section in object.sections() {
+        if wanted.is_some() && name_of_debug_section(section.name_bytes()?) == wanted {
+            let begin = bytes.len();
+            bytes.extend_from_slice(&decompressed(&section)?);
+            relocate(object, placement, &section, &mut bytes[begin..])?;
         }
     }
     Ok(Part::whole(File::from(bytes)))
 }
 
-/// Writes the sum of a target and the addend, which may stand in the place itself.
-fn apply(bytes: &mut [u8], offset: u64, relocation: &Relocation, target: u64, little: bool) -> Option<()> {
-    let size = usize::from(relocation.size() / 8).min(8);
-    let begin = usize::try_from(offset).ok()?;
-    let place = bytes.get_mut(begin..begin.checked_add(size)?)?;
+/// Changes the bytes of a section as its relocations say. One outside of the section changes
+/// nothing.
+pub fn relocate(
+    object: &object::File<'_>,
+    placement: &Placement,
+    section: &Section<'_, '_>,
+    bytes: &mut [u8],
+) -> Result<(), Error> {
+    let (architecture, is_little) = (object.architecture(), object.is_little_endian());
+    for (offset, relocation) in section.relocations() {
+        let Some((change, form)) = meaning(architecture, &relocation)? else {
+            continue;
+        };
+        let value = target(object, placement, &relocation).wrapping_add(relocation.addend() as u64);
+        let place = usize::try_from(offset).ok().and_then(|offset| bytes.get_mut(offset..));
+        place.and_then(|place| apply(place, change, form, value, is_little));
+    }
+    Ok(())
+}
+
+/// The place of the symbol of a relocation.
+fn target(object: &object::File<'_>, placement: &Placement, relocation: &Relocation) -> u64 {
+    match relocation.target() {
+        RelocationTarget::Symbol(index) => object
+            .symbol_by_index(index)
+            .map_or(0, |symbol| placement.of_symbol(symbol.section_index(), symbol.address())),
+        RelocationTarget::Section(index) => placement.of_symbol(Some(index), 0),
+        _ => 0,
+    }
+}
+
+/// What a relocation does; nothing where it says where a variable of a thread is, which isn't
+/// asked. One that isn't known leaves a number that would be wrong.
+fn meaning(architecture: Architecture, relocation: &Relocation) -> Result<Option<(Change, Form)>, Error> {
+    let kind = match relocation.kind() {
+        RelocationKind::Absolute => {
+            let change = if relocation.has_implicit_addend() { Change::Add } else { Change::Set };
+            return Ok(Some((change, Form::Bytes(usize::from(relocation.size() / 8).min(8)))));
+        }
+        RelocationKind::Elf(kind) => kind,
+        _ => return Err(Error::Relocation),
+    };
+    match (architecture, kind) {
+        (_, 0)
+        | (Architecture::X86_64 | Architecture::X86_64_X32, R_X86_64_DTPOFF32 | R_X86_64_DTPOFF64)
+        | (Architecture::I386, R_386_TLS_LDO_32)
+        | (Architecture::Arm, R_ARM_TLS_LDO32)
+        | (Architecture::Aarch64, R_AARCH64_TLS_DTPREL)
+        | (Architecture::Riscv32 | Architecture::Riscv64, R_RISCV_TLS_DTPREL32 | R_RISCV_TLS_DTPREL64) => Ok(None),
+        (Architecture::Riscv32 | Architecture::Riscv64, kind) => of_riscv(kind).map(Some).ok_or(Error::Relocation),
+        _ => Err(Error::Relocation),
+    }
+}
+
+/// RISC-V writes a distance as a sum and a difference, since a linker makes code shorter.
+fn of_riscv(kind: u32) -> Option<(Change, Form)> {
+    Some(match kind {
+        R_RISCV_SET8 => (Change::Set, Form::Bytes(1)),
+        R_RISCV_SET16 => (Change::Set, Form::Bytes(2)),
+        R_RISCV_SET32 => (Change::Set, Form::Bytes(4)),
+        R_RISCV_ADD8 => (Change::Add, Form::Bytes(1)),
+        R_RISCV_ADD16 => (Change::Add, Form::Bytes(2)),
+        R_RISCV_ADD32 => (Change::Add, Form::Bytes(4)),
+        R_RISCV_ADD64 => (Change::Add, Form::Bytes(8)),
+        R_RISCV_SUB8 => (Change::Subtract, Form::Bytes(1)),
+        R_RISCV_SUB16 => (Change::Subtract, Form::Bytes(2)),
+        R_RISCV_SUB32 => (Change::Subtract, Form::Bytes(4)),
+        R_RISCV_SUB64 => (Change::Subtract, Form::Bytes(8)),
+        R_RISCV_SET_ULEB128 => (Change::Set, Form::Leb128),
+        R_RISCV_SUB_ULEB128 => (Change::Subtract, Form::Leb128),
+        _ => return None,
+    })
+}
+
+/// Changes the number with which some bytes begin; nothing where they end before it does.
+fn apply(bytes: &mut [u8], change: Change, form: Form, value: u64, is_little: bool) -> Option<()> {
+    let changed = |old: u64| match change {
+        Change::Set => value,
+        Change::Add => old.wrapping_add(value),
+        Change::Subtract => old.wrapping_sub(value),
+    };
+    let size = match form {
+        Form::Bytes(size) => size,
+        Form::Leb128 => return apply_leb128(bytes, changed),
+    };
+    let place = bytes.get_mut(..size)?;
     let mut number = [0; 8];
     number[..size].copy_from_slice(place);
-    if !little {
+    if !is_little {
         number[..size].reverse();
     }
-    let implicit = if relocation.has_implicit_addend() { u64::from_le_bytes(number) } else { 0 };
-    let sum = target.wrapping_add(relocation.addend() as u64).wrapping_add(implicit);
-    place.copy_from_slice(&sum.to_le_bytes()[..size]);
-    if !little {
+    place.copy_from_slice(&changed(u64::from_le_bytes(number)).to_le_bytes()[..size]);
+    if !is_little {
         place.reverse();
     }
     Some(())
+}
+
+/// The same in LEB128, which keeps its length.
+fn apply_leb128(bytes: &mut [u8], changed: impl FnOnce(u64) -> u64) -> Option<()> {
+    let last = bytes.iter().take(10).position(|byte| byte & 0x80 == 0)?;
+    let place = &mut bytes[..=last];
+    let old = place.iter().rev().fold(0, |number: u64, byte| number << 7 | u64::from(byte & 0x7f));
+    let mut number = changed(old);
+    for byte in place {
+        *byte = *byte & 0x80 | (number & 0x7f) as u8;
+        number >>= 7;
+    }
+    Some(())
+}
+
+#[cfg(test)]
+mod tests {
+    use super::*;
+
+    fn changed(bytes: &[u8], change: Change, form: Form, value: u64, is_little: bool) -> Vec<u8> {
+        let mut bytes = bytes.to_vec();
+        apply(&mut bytes, change, form, value, is_little).expect("a number that is all there");
+        bytes
+    }
+
+    #[test]
+    fn numbers_of_bytes() {
+        assert_eq!(changed(&[9; 5], Change::Set, Form::Bytes(4), 0x0102_0304, true), [4, 3, 2, 1, 9]);
+        assert_eq!(changed(&[9; 5], Change::Set, Form::Bytes(4), 0x0102_0304, false), [1, 2, 3, 4, 9]);
+        assert_eq!(changed(&[0, 1], Change::Add, Form::Bytes(2), 0xff, false), [1, 0]);
+        assert_eq!(changed(&[0, 1], Change::Subtract, Form::Bytes(2), 1, true), [0xff, 0]);
+        assert_eq!(changed(&[2], Change::Subtract, Form::Bytes(1), 3, true), [0xff]);
+    }
+
+    #[test]
+    fn leb128_keeps_its_length() {
+        assert_eq!(changed(&[0x80, 0x80, 0, 7], Change::Set, Form::Leb128, 300, true), [0xac, 0x82, 0, 7]);
+        assert_eq!(changed(&[0xac, 0x82, 0], Change::Subtract, Form::Leb128, 299, true), [0x81, 0x80, 0]);
+    }
+
+    #[test]
+    fn numbers_that_are_cut_off_stay() {
+        for (bytes, form) in
+            [(&[1, 2, 3][..], Form::Bytes(4)), (&[0x80, 0x81], Form::Leb128), (&[0xff; 12], Form::Leb128)]
+        {
+            let mut left = bytes.to_vec();
+            assert_eq!(apply(&mut left, Change::Add, form, 5, true), None);
+            assert_eq!(left, bytes);
+        }
+    }
 }

@@ -19,6 +19,8 @@ pub enum Error {
     TooLong,
     /// The sections take more bytes than are allowed.
     TooMany,
+    /// A relocation of debug information is of a kind that isn't known.
+    Relocation,
     /// Bytes that are no zlib, or another number of them than the section claims.
     Damaged,
 }
@@ -29,8 +31,9 @@ impl fmt::Display for Error {
             Error::Object(why) => write!(f, "{why}"),
             Error::Dwarf(why) => write!(f, "{why}"),
             Error::TooLong => write!(f, "a compressed section claims more than {MOST} times its bytes"),
+            Error::Relocation => write!(f, "a relocation of debug information is of a kind that isn't known"),
             Error::Damaged => write!(f, "a compressed section is damaged, or not of zlib"),
-            Error::TooMany => write!(f, "the compressed sections take more memory than is allowed"),
+            Error::TooMany => write!(f, "the sections take more memory than is allowed"),
         }
     }
 }
@@ -56,6 +59,12 @@ pub fn has_debug_info(file: &File) -> bool {
 /// A file has names in a file of dwz's.
 pub fn has_supplement(file: &File) -> bool {
     object::File::parse(&**file).is_ok_and(|object| object.section_by_name(".gnu_debugaltlink").is_some())
+}
+
+/// What follows `.debug_` in the name of a section of debug information, or `.zdebug_` where it is
+/// compressed in GNU's older form.
+pub fn name_of_debug_section(name: &[u8]) -> Option<&[u8]> {
+    name.strip_prefix(b".debug_").or_else(|| name.strip_prefix(b".zdebug_"))
 }
 
 /// The bytes of a section, compressed or not, which claims no more than such bytes can be.

@@ -1,8 +1,6 @@
 //! Names from symbol tables: which function or variable has an address.
 
-use std::sync::Arc;
-
-use a2l::{File, Part};
+use a2l::Part;
 use object::elf::{
     FileHeader32, FileHeader64, SHF_EXECINSTR, SHT_DYNSYM, SHT_SYMTAB, STB_GLOBAL, STB_LOCAL, STB_WEAK, STT_FILE,
     STT_FUNC, STT_GNU_IFUNC, STT_NOTYPE, STT_OBJECT,
@@ -10,6 +8,8 @@ use object::elf::{
 use object::read::elf::{FileHeader, SectionHeader, SectionTable, Sym, SymbolTable};
 use object::read::{Error, FileKind};
 use object::Endianness;
+
+use crate::placement::{PlacedFile, Placement};
 
 /// What symbols are looked for.
 #[derive(Debug, Clone, Copy, PartialEq, Eq)]
@@ -83,7 +83,7 @@ impl Binding {
 impl Symbols {
     /// Those of .symtab of a file. Where that has none, those of .dynsym and after these those of
     /// .symtab of its debug file, which may have no symbols that are in .dynsym.
-    pub fn read(file: &Arc<File>, debug: Option<&Arc<File>>, kind: Kind) -> Symbols {
+    pub fn read(file: &PlacedFile, debug: Option<&PlacedFile>, kind: Kind) -> Symbols {
         let table = |file, table| of_file(file, table, kind).ok().filter(|table| !table.entries.is_empty());
         if let Some(own) = table(file, SHT_SYMTAB) {
             return Symbols(vec![own]);
@@ -141,21 +141,22 @@ fn without_version(name: &[u8]) -> &[u8] {
     }
 }
 
-fn of_file(file: &Arc<File>, table: u32, kind: Kind) -> Result<Table, Error> {
-    match FileKind::parse(&***file)? {
+fn of_file(file: &PlacedFile, table: u32, kind: Kind) -> Result<Table, Error> {
+    match FileKind::parse(&**file.file.file)? {
         FileKind::Elf32 => of_elf::<FileHeader32<Endianness>>(file, table, kind),
         FileKind::Elf64 => of_elf::<FileHeader64<Endianness>>(file, table, kind),
         _ => Ok(Table { entries: Vec::new(), names: None }),
     }
 }
 
-fn of_elf<Elf: FileHeader<Endian = Endianness>>(file: &Arc<File>, table: u32, kind: Kind) -> Result<Table, Error> {
+fn of_elf<Elf: FileHeader<Endian = Endianness>>(file: &PlacedFile, table: u32, kind: Kind) -> Result<Table, Error> {
+    let (placement, file) = (&file.placement, &file.file.file);
     let data: &[u8] = file;
     let header = Elf::parse(data)?;
     let endian = header.endian()?;
     let sections = header.sections(endian, data)?;
     let symbols = sections.symbols(endian, data, table)?;
-    let of_kind = OfKind { endian, sections: &sections, symbols: &symbols, kind };
+    let of_kind = OfKind { endian, sections: &sections, symbols: &symbols, placement, kind };
     let mut entries = of_kind.entries();
     entries.sort_by_key(|entry| (entry.start, entry.rank, entry.end));
     end_unsized(&mut entries);
@@ -172,6 +173,7 @@ struct OfKind<'s, 'data, Elf: FileHeader> {
     endian: Endianness,
     sections: &'s SectionTable<'data, Elf>,
     symbols: &'s SymbolTable<'data, Elf>,
+    placement: &'s Placement,
     kind: Kind,
 }
 
@@ -197,25 +199,31 @@ impl<Elf: FileHeader<Endian = Endianness>> OfKind<'_, '_, Elf> {
             (Kind::Functions, STT_NOTYPE) => false,
             _ => return None,
         };
-        let section = self.symbols.symbol_section(self.endian, symbol, index).ok()??;
-        let section = self.sections.section(section).ok()?;
+        let index = self.symbols.symbol_section(self.endian, symbol, index).ok()??;
+        let section = self.sections.section(index).ok()?;
         if !typed && !self.may_be_function(symbol, section) {
             return None;
         }
-        let start: u64 = symbol.st_value(self.endian).into();
+        let section_size: u64 = section.sh_size(self.endian).into();
+        let section_end = match self.placement.is_relocatable() {
+            true => self.placement.of_symbol(Some(index), section_size),
+            false => section.sh_addr(self.endian).into().saturating_add(section_size),
+        };
+        let start = self.placement.of_symbol(Some(index), symbol.st_value(self.endian).into());
         let size: u64 = symbol.st_size(self.endian).into();
-        let section_end = section.sh_addr(self.endian).into().saturating_add(section.sh_size(self.endian).into());
         let end = if size > 0 { start.saturating_add(size) } else { section_end };
+        let end = if self.placement.is_relocatable() { end.min(section_end) } else { end };
         let rank = Rank { typed, sized: size > 0, binding: Binding::of(symbol.st_bind()) };
         Some(Entry { start, end, reach: end, name: symbol.st_name(self.endian), file: 0, rank })
     }
 
     /// A symbol without a type is a label of assembly, if it stands among instructions and marks no
-    /// kind of bytes there ($x, $d).
+    /// kind of bytes there ($x, $d) and no place of debug information (.L0).
     fn may_be_function(&self, symbol: &Elf::Sym, section: &Elf::SectionHeader) -> bool {
         let flags: u64 = section.sh_flags(self.endian).into();
         let named = symbol.name(self.endian, self.symbols.strings());
-        flags & u64::from(SHF_EXECINSTR) != 0 && named.is_ok_and(|name| !name.is_empty() && name[0] != b'$')
+        flags & u64::from(SHF_EXECINSTR) != 0
+            && named.is_ok_and(|name| !name.is_empty() && name[0] != b'$' && !name.starts_with(b".L"))
     }
 }
 
@@ -243,6 +251,8 @@ fn set_reach(entries: &mut [Entry]) {
 #[cfg(test)]
 mod tests {
     use super::*;
+
+    use a2l::File;
 
     fn entry(start: u64, size: u64, end: u64, name: u32) -> Entry {
         bound(STB_GLOBAL, start, size, end, name)

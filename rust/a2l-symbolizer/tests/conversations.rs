@@ -183,7 +183,10 @@ fn what_is_refused() {
             &["-e", "/etc/passwd", "0x10"],
             "llvm-symbolizer: error: '/etc/passwd': The file was not recognized as a valid object file\n",
         ),
-        (&["-e", SAMPLE, "-j", ".none"], "llvm-symbolizer: error: cannot find section .none\n"),
+        (
+            &["--as=addr2line", "-e", SAMPLE, "-j", ".none"],
+            &format!("addr2line: {SAMPLE}: cannot find section .none\n"),
+        ),
     ] {
         let output = run(TOOL, words, "");
         assert_eq!(String::from_utf8_lossy(&output.stderr), wanted);

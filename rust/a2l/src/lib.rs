@@ -29,6 +29,8 @@ use std::ptr::null_mut;
 /// How many units a context keeps, where nothing else is said.
 const CAPACITY: usize = 1024;
 
+/// The number of the refusal of a relocatable file.
+pub const RELOCATABLE: u32 = 3;
 /// The number of the refusal of a file whose sections are compressed.
 pub const COMPRESSED: u32 = 6;
 
