@@ -12,3 +12,7 @@ pub record Passes (segments : List Segment) (a passed : ℕ) : Type 0 where
 -- the steps from one number to another are at most as many as a size has binary digits
 abbrev pub TakesDigits : (size old new : ℕ) → Type 0
 TakesDigits size old new = (digits : ℕ) → size < 2 ^ digits → new ≤ old + digits
+
+-- they are at least as many as it takes to halve a size to nothing
+abbrev pub TakesHalvings : (size old new : ℕ) → Type 0
+TakesHalvings size old new = (halvings : ℕ) → 2 ^ halvings ≤ size + 1 → old + halvings ≤ new

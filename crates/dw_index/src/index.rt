@@ -1,16 +1,18 @@
 //! An index of ranges that finds the least owner of an address.
 
-ghost use Rattle.std.specs.Prelude.{◌≡◌, ◌≤◌, ◌<◌, ◌*◌, ℕ, List, [], ◌∷◌, None, IfOk, map, length};
+ghost use Rattle.std.specs.Prelude.{◌≡◌, ◌≤◌, ◌<◌, ◌+◌, ◌*◌, ℕ, List, [], ◌∷◌, None, IfOk, map, length};
 ghost use Rattle.dw_model.specs.Steady.{IsSteady, last_address};
 ghost use Rattle.dw_index.specs.Owners.{least_owner};
 ghost use Rattle.dw_index.specs.Range.{pair_shown};
-ghost use Rattle.dw_index.specs.Search.{Passes, TakesDigits};
+ghost use Rattle.dw_index.specs.Search.{Passes, TakesDigits, TakesHalvings};
 ghost use Rattle.dw_index.specs.Segments.{AreIndexOf, owner_at};
 
 use crate::merge::merge;
 use crate::range::Range;
 use crate::run::run_of;
-use crate::search::{count_passed, count_uncounted, is_passed, next_border, owner_of};
+use crate::search::{
+    count_from, count_from_uncounted, count_passed, count_uncounted, next_border, owner_of,
+};
 use crate::segment::Segment;
 use dw_bytes::Steps;
 use std::alloc::{AllocError, Global};
@@ -97,6 +99,13 @@ impl Index {
         Ok(Index { segments })
     }
 
+    /// How many segments it keeps.
+    pub fn segment_count(&self) -> usize
+        ensures { result ≡ length self.now }
+    {
+        self.segments.len()
+    }
+
     /// The least owner of the ranges that hold an address; `None` where none holds it.
     pub fn find(&self, a: u64) -> Option<usize>
         ensures { result ≡ owner_at self.now a }
@@ -105,11 +114,12 @@ impl Index {
     }
 
     /// The least owner of the ranges that hold an address, as `find` finds it. A step is a probe,
-    /// one comparison of the address with the begin of a segment: there are at most as many as the
-    /// number of segments has binary digits.
+    /// one comparison of the address with the begin of a segment: there are as many as the number
+    /// of segments has binary digits, or one fewer.
     pub fn find_counted<L: Ledger>(&self, a: u64, steps: &mut Steps<L>) -> Option<usize>
         ensures owner { result ≡ owner_at self.now a }
         ensures counted { TakesDigits (length self.now) steps.old steps.new }
+        ensures least { TakesHalvings (length self.now) steps.old steps.new }
     {
         let passed = count_passed(&self.segments, a, steps);
         owner_of(&self.segments, passed)
@@ -133,7 +143,34 @@ impl Index {
         ensures owner { result.owner ≡ owner_at self.now a }
         ensures steady { IsSteady (owner_at self.now) a result.until }
     {
-        let passed = self.passed(a, *near);
+        self.found(self.passed(a, *near), near)
+    }
+
+    /// What `find_from` returns. A step is a probe: there are at most six more than by
+    /// `find_counted`, whatever `near` is.
+    pub fn find_from_counted<L: Ledger>(
+        &self,
+        a: u64,
+        near: &mut usize,
+        steps: &mut Steps<L>,
+    ) -> Found
+        requires above { a < last_address }
+        ensures owner { result.owner ≡ owner_at self.now a }
+        ensures steady { IsSteady (owner_at self.now) a result.until }
+        ensures counted { TakesDigits (length self.now) (steps.old + 6) steps.new }
+    {
+        let passed = count_from(&self.segments, a, *near, steps);
+        self.found(passed, near)
+    }
+
+    /// The owner of the addresses that have passed so many segments, and where they end; `near` is
+    /// the number of these segments then.
+    fn found(&self, passed: usize, near: &mut usize) -> Found
+        requires { passed ≤ length self.now }
+        ensures owner { (a : ℕ) → Passes self.now a passed → result.owner ≡ owner_at self.now a }
+        ensures steady { (a : ℕ) → a < last_address → Passes self.now a passed
+            → IsSteady (owner_at self.now) a result.until }
+    {
         *near = passed;
         let owner = owner_of(&self.segments, passed);
         let until = next_border(&self.segments, passed);
@@ -145,12 +182,7 @@ impl Index {
     pub fn passed(&self, a: u64, near: usize) -> usize
         ensures { Passes self.now a result }
     {
-        for passed in [near, near.saturating_add(1), self.segments.len()] {
-            if is_passed(&self.segments, a, passed) {
-                return passed;
-            }
-        }
-        self.searched(a)
+        count_from_uncounted::<Brand>(&self.segments, a, near, Blank::new(1))
     }
 
     /// The same, searched by halves.
