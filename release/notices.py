@@ -5,7 +5,7 @@ is a list of the parts in SPDX 2.3.
     notices.py FOLDER
 
 The parts are the crates of Rust that the programs of rust/ are linked from, without those that only run while they are
-built; the standard library of Rust; the C++ runtime that writes names; and the crates of the toolchain that crates.txt
+built; the standard library of Rust; the two C++ runtimes that write names; and the crates of the toolchain that crates.txt
 names, with those that they stand on. A part brings the licence files beside its sources, or what Debian's package of it
 says. A crate of Rust without either ends the script. One commit and the same tools give the same bytes; the time is
 that of SOURCE_DATE_EPOCH.
@@ -104,11 +104,11 @@ def library_of_rust():
                 texts or debian_copyright('libstd-rust-dev'))
 
 
-def runtime_of_cxx():
-    """The C++ runtime's demangler, if the symbolizer is linked with it: the package that has the archive."""
+def runtimes_of_cxx():
+    """The demanglers that the symbolizer is linked with: the packages that have the archives."""
     linked_with = re.findall(r'(/\S+/lib(?:stdc\+\+|c\+\+abi)\.a)', run('sh', '-c', 'cat "$0"/rust/target/release/build/'
                                                                       'a2l-*/output 2> /dev/null || true', TOP))
-    for path in sorted(set(linked_with))[:1]:
+    for path in sorted(set(linked_with)):
         package = run('dpkg', '-S', os.path.realpath(path)).split(':')[0]
         version = run('dpkg-query', '-W', '-f', '${Version}', package)
         licence = 'Apache-2.0 WITH LLVM-exception' if 'c++abi' in path else 'GPL-3.0-or-later WITH GCC-exception-3.1'
@@ -173,7 +173,7 @@ def spdx(parts, version):
 
 def main():
     folder = sys.argv[1]
-    parts = [*crates_of_rust(), library_of_rust(), *runtime_of_cxx(), *crates_of_toolchain()]
+    parts = [*crates_of_rust(), library_of_rust(), *runtimes_of_cxx(), *crates_of_toolchain()]
     parts.sort(key=lambda part: (part.origin, part.name, part.version))
     with open(os.path.join(folder, 'NOTICES'), 'w', encoding='utf-8') as file:
         file.write(notices(parts))

@@ -1,11 +1,11 @@
 # shellcheck shell=bash
 # Sourced by tests/clients.sh: programs of all kinds, of which the same addresses are asked for beside
-# llvm-symbolizer; names as c++filt writes them; and the program's own check.
+# llvm-symbolizer; names as llvm-cxxfilt and c++filt write them; and the program's own check.
 
 programs() {
     client "replies of programs that a2l reads" theirs/llvm-symbolizer -- newer_programs
     client "replies of programs that it doesn't read" theirs/llvm-symbolizer -- older_programs
-    client "readable names" c++filt g++ -- readable_names
+    client "readable names" c++filt llvm-cxxfilt-19 g++ -- readable_names
     client "self-check" gcc -- self_checks
 }
 
@@ -61,15 +61,16 @@ build_others() {
 readable_names() {
     build_sorts
     build_faults g++ 2
-    local library
-    library=$(g++ -print-file-name=libstdc++.so.6)
-    set -- sorts faults-g++-2 "$(realpath "$library")"
+    local library libraries=(/usr/lib/x86_64-linux-gnu/libLLVM.so.19.1)
+    [ -e "${libraries[0]}" ] || { echo "skipped, no ${libraries[0]} here: its names"; libraries=(); }
+    for library in libstdc++.so.6 libstdc++.a; do libraries+=("$(realpath "$(g++ -print-file-name=$library)")"); done
+    set -- sorts faults-g++-2 "${libraries[@]}"
     if has "names of Rust" rustc; then
         rustc -g -C opt-level=2 words.rs -o names-legacy
         rustc -g -C opt-level=2 -C symbol-mangling-version=v0 words.rs -o names-v0
         set -- "$@" names-legacy names-v0
     fi
-    python3 "$clients/names.py" ours/llvm-symbolizer "$@"
+    python3 "$clients/names.py" "$symbolizer" "$@"
 }
 
 self_checks() {

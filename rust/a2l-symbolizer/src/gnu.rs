@@ -40,6 +40,8 @@ pub fn write(shape: &Shape, reply: &Reply<'_>, out: &mut Vec<u8>) {
 #[cfg(test)]
 mod tests {
     use super::*;
+    use a2l::CxxStyle;
+
     use crate::arguments::Functions;
     use crate::reply::{Answer, Frame};
     use crate::shape::Frames;
@@ -47,7 +49,8 @@ mod tests {
     fn written(pretty: bool, frames: Vec<Frame>) -> String {
         let functions = Functions::Linkage;
         let (frames_shown, addresses, demangles, basenames) = (Frames::All, false, false, false);
-        let shape = Shape { functions, frames: frames_shown, addresses, pretty, demangles, basenames };
+        let style = CxxStyle::Gnu;
+        let shape = Shape { functions, frames: frames_shown, addresses, pretty, demangles, style, basenames };
         let reply = Reply { line: b"10", request: None, failure: None, answer: Answer::Frames(frames) };
         let mut out = Vec::new();
         write(&shape, &reply, &mut out);

@@ -1,8 +1,10 @@
 //! Names of functions as people read them.
 
+use std::collections::HashSet;
 use std::ffi::CString;
 use std::fmt::{self, Write};
 
+use a2l::CxxStyle;
 use cpp_demangle::{DemangleOptions, Symbol};
 use lru::LruCache;
 
@@ -25,6 +27,7 @@ pub enum Length {
 /// Readable names of functions. Those that were asked for last are kept, since the same functions
 /// are inlined everywhere.
 pub struct Names {
+    style: CxxStyle,
     length: Length,
     kept: LruCache<Vec<u8>, Option<Vec<u8>>>,
 }
@@ -34,8 +37,9 @@ impl Names {
     const KEPT: usize = 2048;
     const LONGEST_KEPT: usize = 4096;
 
-    pub fn new(length: Length) -> Names {
-        Names { length, kept: LruCache::new(Names::KEPT) }
+    /// Names in the style of LLVM's tools or of GNU's.
+    pub fn new(style: CxxStyle, length: Length) -> Names {
+        Names { style, length, kept: LruCache::new(Names::KEPT) }
     }
 
     /// The name that stands behind a mangled one; the name itself where there is none.
@@ -46,11 +50,23 @@ impl Names {
         if let Some(kept) = self.kept.get(name) {
             return kept.clone().unwrap_or_else(|| name.to_vec());
         }
-        let readable = demangled(name, self.length);
+        let readable = self.demangled(name);
         if name.len().max(readable.as_ref().map_or(0, Vec::len)) <= Names::LONGEST_KEPT {
             self.kept.put(name.to_vec(), readable.clone());
         }
         readable.unwrap_or_else(|| name.to_vec())
+    }
+
+    /// The name that stands behind a mangled one; none where it is of no scheme, or would be too
+    /// long.
+    fn demangled(&self, name: &[u8]) -> Option<Vec<u8>> {
+        if name.len() > LONGEST_MANGLED {
+            return None;
+        }
+        guarded(|| match self.length {
+            Length::Whole => rust(self.style, name).or_else(|| cxx(self.style, name)),
+            Length::Short => rust(CxxStyle::Gnu, name).or_else(|| short_cxx(name)).map(|name| without_scopes(&name)),
+        })?
     }
 }
 
@@ -59,54 +75,52 @@ pub fn is_mangled(name: &[u8]) -> bool {
     name.starts_with(b"_Z") || name.starts_with(b"_R")
 }
 
-/// The name that stands behind a mangled one; none where it is of no scheme, or would be too long.
-pub fn demangled(name: &[u8], length: Length) -> Option<Vec<u8>> {
-    if !is_mangled(name) || name.len() > LONGEST_MANGLED {
-        return None;
-    }
-    guarded(|| rust(name).map(String::into_bytes).or_else(|| cpp(name, length)))?
-}
-
-/// A name of either of Rust's schemes.
-fn rust(name: &[u8]) -> Option<String> {
-    if !name.starts_with(b"_R") && !has_rust_hash(name) {
-        return None;
-    }
-    let readable = rustc_demangle::try_demangle(std::str::from_utf8(name).ok()?).ok()?;
+/// A name of Rust. Of its older scheme LLVM's tools know nothing: they take the name for one of C++.
+/// What a compiler has appended (.llvm.123) they write behind the name, and GNU's leave it out.
+fn rust(style: CxxStyle, name: &[u8]) -> Option<Vec<u8>> {
+    let end = match (name, style) {
+        ([b'_', b'R', ..], _) => name.iter().position(|&byte| byte == b'.').unwrap_or(name.len()),
+        (_, CxxStyle::Gnu) => end_of_hash(name)?,
+        (_, CxxStyle::Llvm) => return None,
+    };
+    let (own, appended) = std::str::from_utf8(name).ok()?.split_at_checked(end)?;
+    let readable = rustc_demangle::try_demangle(own).ok()?;
     let mut bounded = Bounded::default();
     write!(bounded, "{readable:#}").ok()?;
-    Some(bounded.0)
-}
-
-/// A name of Rust's first scheme is one of C++ that ends in a hash: 17h, 16 digits and E, after which
-/// the compiler may have marked a copy (.llvm.123).
-fn has_rust_hash(name: &[u8]) -> bool {
-    let is_hash =
-        |part: &[u8]| part.starts_with(b"17h") && part[3..19].iter().all(u8::is_ascii_hexdigit) && part[19] == b'E';
-    let mut parts = name.windows(20).enumerate();
-    parts.any(|(at, part)| is_hash(part) && matches!(name.get(at + 20), None | Some(b'.')))
-}
-
-/// A name of C++. The C++ library writes the whole one, since the crate gets empty packs and
-/// templates of constructors wrong. The crate writes it into a bounded text first, unless the name
-/// is one of those that can't stand for a long text.
-fn cpp(name: &[u8], length: Length) -> Option<Vec<u8>> {
-    match length {
-        Length::Whole => {
-            if !is_surely_short(name) {
-                bounded_cpp(name, &DemangleOptions::new())?;
-            }
-            a2l::demangle_cxx(&CString::new(name).ok()?).filter(|readable| readable.len() <= LONGEST)
-        }
-        Length::Short => {
-            let readable = bounded_cpp(name, &DemangleOptions::new().no_params().no_return_type())?;
-            Some(without_scopes(readable.as_bytes()).to_vec())
-        }
+    if style == CxxStyle::Llvm && !appended.is_empty() {
+        write!(bounded, " ({appended})").ok()?;
     }
+    Some(bounded.0.into_bytes())
+}
+
+/// Where a name of Rust's older scheme ends: it is one of C++ that ends in a hash (17h, 16 digits, of
+/// which at least five are different, as GNU's tools want it, and E), after which a compiler may have
+/// appended something.
+fn end_of_hash(name: &[u8]) -> Option<usize> {
+    let is_hash = |part: &[u8]| {
+        let digits: HashSet<u8> = part[3..19].iter().copied().collect();
+        part.starts_with(b"17h") && part[19] == b'E' && digits.iter().all(u8::is_ascii_hexdigit) && digits.len() >= 5
+    };
+    let mut parts = name.windows(20).enumerate();
+    let (at, _) = parts.find(|&(at, part)| is_hash(part) && matches!(name.get(at + 20), None | Some(b'.')))?;
+    Some(at + 20)
+}
+
+/// A name of C++. The crate writes it into a bounded text first, unless the name is one of those that
+/// can't stand for a long text: it gets empty packs and conversions wrong.
+fn cxx(style: CxxStyle, name: &[u8]) -> Option<Vec<u8>> {
+    if !is_surely_short(name) {
+        bounded_cxx(name, &DemangleOptions::new())?;
+    }
+    a2l::demangle_cxx(style, &CString::new(name).ok()?).filter(|readable| readable.len() <= LONGEST)
+}
+
+fn short_cxx(name: &[u8]) -> Option<Vec<u8>> {
+    Some(bounded_cxx(name, &DemangleOptions::new().no_params().no_return_type())?.into_bytes())
 }
 
 /// What the crate makes of a name of C++, where it isn't longer than `LONGEST`.
-fn bounded_cpp(name: &[u8], options: &DemangleOptions) -> Option<String> {
+fn bounded_cxx(name: &[u8], options: &DemangleOptions) -> Option<String> {
     let mut bounded = Bounded::default();
     Symbol::new(name).ok()?.structured_demangle(&mut bounded, options).ok()?;
     Some(bounded.0)
@@ -148,7 +162,7 @@ impl Write for Bounded {
 }
 
 /// The last part of a name that isn't inside of parentheses or brackets.
-fn without_scopes(name: &[u8]) -> &[u8] {
+fn without_scopes(name: &[u8]) -> Vec<u8> {
     let (mut depth, mut begin) = (0_usize, 0);
     for (at, pair) in name.windows(2).enumerate() {
         match pair {
@@ -159,8 +173,8 @@ fn without_scopes(name: &[u8]) -> &[u8] {
         }
     }
     match &name[begin..] {
-        b"" => name,
-        last => last,
+        b"" => name.to_vec(),
+        last => last.to_vec(),
     }
 }
 
@@ -168,29 +182,42 @@ fn without_scopes(name: &[u8]) -> &[u8] {
 mod tests {
     use super::*;
 
-    fn readable(name: &str, length: Length) -> Option<String> {
-        demangled(name.as_bytes(), length).map(|name| String::from_utf8(name).expect("UTF-8"))
+    fn readable(style: CxxStyle, length: Length, name: &str) -> Option<String> {
+        let found = Names::new(style, length).demangled(name.as_bytes());
+        found.map(|name| String::from_utf8(name).expect("UTF-8"))
     }
 
+    /// What llvm-cxxfilt 19 and c++filt 2.40 write.
     #[test]
-    fn schemes() {
-        for (name, whole) in [
-            ("_ZN3lib4peekEPKii", "lib::peek(int const*, int)"),
-            ("_ZN3lib3sumIiEET_PKS1_i", "int lib::sum<int>(int const*, int)"),
-            ("_ZN4core3fmt5write17h0123456789abcdefE", "core::fmt::write"),
+    fn names_of_both_styles() {
+        for (name, llvm, gnu) in [
+            ("_ZN3lib4peekEPKii", "lib::peek(int const*, int)", "lib::peek(int const*, int)"),
+            ("_ZN1BC1IcEEmc", "B::B<char>(unsigned long, char)", "B::B<char>(unsigned long, char)"),
+            ("_ZN3foo3barE", "foo::bar", "foo::bar"),
+            ("_ZL4fillv.part.1.cold", "fill() (.part.1.cold)", "fill() [clone .part.1] [clone .cold]"),
+            ("_ZN4core3fmt5write17h0123456789abcdefE", "core::fmt::write::h0123456789abcdef", "core::fmt::write"),
+            (
+                "_ZN4core3fmt5write17h0123456789abcdefE.llvm.12",
+                "core::fmt::write::h0123456789abcdef (.llvm.12)",
+                "core::fmt::write",
+            ),
+            ("_ZN3foo17haaaaaaaaaaaaaaaaE", "foo::haaaaaaaaaaaaaaaa", "foo::haaaaaaaaaaaaaaaa"),
             (
                 "_ZN43_$LT$words..Big$u20$as$u20$words..Shape$GT$4size17h80d88d1f55a7463bE",
+                "_$LT$words..Big$u20$as$u20$words..Shape$GT$::size::h80d88d1f55a7463b",
                 "<words::Big as words::Shape>::size",
             ),
-            ("_ZN4core3fmt5write17h0123456789abcdefE.llvm.12", "core::fmt::write"),
-            ("_RNvC7mycrate4main", "mycrate::main"),
-            ("_ZN3foo3barE", "foo::bar"),
-            ("_ZN1AIiJEE1fEv", "A<int>::f()"),
-            ("_ZN1BC1IcEEmc", "B::B<char>(unsigned long, char)"),
+            ("_RNvC7mycrate4main", "mycrate::main", "mycrate::main"),
+            ("_RNvC7mycrate4main.cold.1", "mycrate::main (.cold.1)", "mycrate::main"),
         ] {
-            assert_eq!(readable(name, Length::Whole).as_deref(), Some(whole));
+            assert_eq!(readable(CxxStyle::Llvm, Length::Whole, name).as_deref(), Some(llvm));
+            assert_eq!(readable(CxxStyle::Gnu, Length::Whole, name).as_deref(), Some(gnu));
         }
-        assert!(["main", "_start", "_Z", "_ZN3foo", "_R"].iter().all(|name| readable(name, Length::Whole).is_none()));
+        for style in [CxxStyle::Llvm, CxxStyle::Gnu] {
+            assert!(["main", "_start", "_Z", "_ZN3foo", "_R"]
+                .iter()
+                .all(|name| Names::new(style, Length::Whole).readable(name.as_bytes()) == name.as_bytes()));
+        }
     }
 
     #[test]
@@ -200,14 +227,16 @@ mod tests {
             ("_ZN3lib3sumIiEET_PKS1_i", "sum<int>"),
             ("_ZN12_GLOBAL__N_14foldEv", "fold"),
             ("_ZN1AC2ERKS_", "A"),
+            ("_ZN4core3fmt5write17h0123456789abcdefE", "write"),
+            ("_RNvC7mycrate4main", "main"),
         ] {
-            assert_eq!(readable(name, Length::Short).as_deref(), Some(short));
+            assert_eq!(readable(CxxStyle::Llvm, Length::Short, name).as_deref(), Some(short));
         }
     }
 
     #[test]
     fn kept_names_are_the_same() {
-        let mut names = Names::new(Length::Whole);
+        let mut names = Names::new(CxxStyle::Llvm, Length::Whole);
         for _ in 0..2 {
             assert_eq!(names.readable(b"_Z1fi"), b"f(int)");
             assert_eq!(names.readable(b"_ZN3foo"), b"_ZN3foo");
@@ -220,6 +249,8 @@ mod tests {
         // Each of the parameters has twice the text of the one before.
         let parameters: String = (0..30).map(|n| format!("S{}_", char::from_digit(n, 36).expect("a digit"))).collect();
         let name = format!("_Z1f1AIS_S_E{}", parameters.to_uppercase());
-        assert!(readable(&name, Length::Whole).is_none_or(|text| text.len() <= LONGEST));
+        for style in [CxxStyle::Llvm, CxxStyle::Gnu] {
+            assert!(readable(style, Length::Whole, &name).is_none_or(|text| text.len() <= LONGEST));
+        }
     }
 }

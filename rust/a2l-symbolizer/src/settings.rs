@@ -2,6 +2,8 @@
 
 use std::path::PathBuf;
 
+use a2l::CxxStyle;
+
 use crate::arguments::{Arguments, BuildId, CacheSize, Functions, OutputStyle};
 use crate::conversation::{Conversation, Settings};
 use crate::debug_files::DebugFiles;
@@ -31,6 +33,7 @@ fn settings(identity: Identity, arguments: &Arguments) -> Settings {
         addresses: arguments.addresses,
         pretty: arguments.pretty_print,
         demangles: arguments.demangles(is_symbolizer),
+        style: if identity.is_llvm() { CxxStyle::Llvm } else { CxxStyle::Gnu },
         basenames: arguments.basenames,
     };
     Settings {

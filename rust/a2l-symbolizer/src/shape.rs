@@ -2,6 +2,8 @@
 
 use std::borrow::Cow;
 
+use a2l::CxxStyle;
+
 use crate::arguments::Functions;
 use crate::names::{Length, Names};
 use crate::plain::without_controls;
@@ -26,13 +28,15 @@ pub struct Shape {
     pub addresses: bool,
     pub pretty: bool,
     pub demangles: bool,
+    /// Whose style readable names are in.
+    pub style: CxxStyle,
     pub basenames: bool,
 }
 
 impl Shape {
     /// The names that are shown.
     pub fn names(&self) -> Names {
-        Names::new(if self.functions == Functions::Short { Length::Short } else { Length::Whole })
+        Names::new(self.style, if self.functions == Functions::Short { Length::Short } else { Length::Whole })
     }
 
     /// The answer as it is written: no name and no path has a control character but tab.
@@ -93,7 +97,8 @@ mod tests {
 
     fn shown(frames: Frames, basenames: bool) -> Vec<Frame> {
         let functions = Functions::Linkage;
-        let shape = Shape { functions, frames, addresses: false, pretty: false, demangles: true, basenames };
+        let style = CxxStyle::Llvm;
+        let shape = Shape { functions, frames, addresses: false, pretty: false, demangles: true, style, basenames };
         let answer = Answer::Frames(vec![frame("_Z1fi", "/a/b.c", 1), frame("two\nlines", "c\r\x1b/d", 2)]);
         match shape.shown(&mut shape.names(), answer) {
             Answer::Frames(frames) => frames,
