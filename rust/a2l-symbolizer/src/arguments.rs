@@ -102,6 +102,9 @@ pub struct Arguments {
     /// Has debug files by build id, and by path; may be given many times
     #[arg(long = "debug-file-directory", alias = "fallback-debug-path", value_name = "FOLDER")]
     pub debug_folders: Vec<PathBuf>,
+    /// Has the split units of programs, in place of the package beside each
+    #[arg(long, value_name = "FILE")]
+    pub dwp: Option<PathBuf>,
     /// Asks no debuginfod
     #[arg(long)]
     pub no_debuginfod: bool,

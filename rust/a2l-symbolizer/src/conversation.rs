@@ -132,7 +132,7 @@ impl Conversation {
     }
 
     fn answer(&mut self, request: &Request) -> Result<Answer, String> {
-        let found = match self.programs.get(&request.module) {
+        let mut found = match self.programs.get(&request.module) {
             Ok(found) => found,
             Err(why) => {
                 self.failed |= self.settings.module.is_some();
@@ -143,9 +143,11 @@ impl Conversation {
             }
         };
         let who = self.settings.verbose.then(|| answerer(&found));
-        let answer = answer(&self.settings, found, request);
-        if let Some(who) = who {
-            self.report(&request.module, &who);
+        let answer = answer(&self.settings, &mut found, request);
+        let unread =
+            found.program.unread_package().map(|(package, why)| (Module::Path(package.to_owned()), why.to_owned()));
+        for (module, what) in who.map(|who| (request.module.clone(), who)).into_iter().chain(unread) {
+            self.report(&module, &what);
         }
         Ok(answer)
     }
@@ -169,8 +171,8 @@ fn nothing(kind: Kind) -> Answer {
     }
 }
 
-fn answer(settings: &Settings, found: Found<'_>, request: &Request) -> Answer {
-    let Found { program, sources, .. } = found;
+fn answer(settings: &Settings, found: &mut Found<'_>, request: &Request) -> Answer {
+    let Found { program, sources } = found;
     let place = match &request.target {
         // The greatest number is what clients send where they want nothing to be found.
         Target::Address(u64::MAX) => None,

@@ -18,6 +18,8 @@ use crate::sections::has_debug_info;
 pub struct DebugFiles {
     /// Folders that have files by build id (.build-id) and by path.
     folders: Vec<PathBuf>,
+    /// The package of split units of all programs.
+    package: Option<PathBuf>,
     /// debuginfod may be asked.
     asks: bool,
     opener: Opener,
@@ -31,7 +33,17 @@ impl DebugFiles {
     pub fn new(folders: &[PathBuf], may_ask: bool, opener: Opener) -> DebugFiles {
         let folders = folders.iter().cloned().chain([PathBuf::from(USUAL_FOLDER)]).collect();
         let servers = std::env::var_os("DEBUGINFOD_URLS").is_some_and(|urls| !urls.is_empty());
-        DebugFiles { folders, asks: may_ask && servers, opener }
+        DebugFiles { folders, package: None, asks: may_ask && servers, opener }
+    }
+
+    /// The same, where split units of programs are in this package and not in one beside each.
+    pub fn with_package(self, package: Option<PathBuf>) -> DebugFiles {
+        DebugFiles { package, ..self }
+    }
+
+    /// The package that has the split units of programs, where it isn't beside each.
+    pub fn package(&self) -> Option<&Path> {
+        self.package.as_deref()
     }
 
     /// How these files are opened, and others that belong to a program.

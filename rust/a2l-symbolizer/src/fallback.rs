@@ -1,6 +1,8 @@
-//! Answers of the addr2line crate, for debug information that the library doesn't read.
+//! Answers for debug information that the library doesn't read: of units of DWARF 5 and of split
+//! units by the reader of this crate, of older ones by the addr2line crate.
 
 use std::cell::OnceCell;
+use std::path::Path;
 use std::sync::Arc;
 
 use a2l::{File, Part};
@@ -9,28 +11,31 @@ use gimli::{Dwarf, EndianReader, RunTimeEndian};
 use object::Object;
 
 use crate::debug_files::DebugFiles;
+use crate::dwarf::lines::folder;
+use crate::dwarf::owners::Owners;
+use crate::dwarf::split::SplitUnits;
+use crate::dwarf::{frames, Function, Reader, UnitRef, Units};
 use crate::guard::guarded;
 use crate::open_file::OpenFile;
 use crate::placement::{PlacedFile, Placement};
 use crate::relocated::relocated;
 use crate::reply::Frame;
 use crate::sections::{part, Error};
-use crate::split::SplitUnits;
 use crate::variables::{Declaration, Variables};
 
-/// The bytes of a section, as gimli reads them.
-pub type Reader = EndianReader<RunTimeEndian, Part>;
-
-/// A file that the addr2line crate has opened.
+/// A file of which debug information is read.
 pub struct Fallback {
-    context: Context<Reader>,
+    units: Units,
+    owners: Owners,
+    /// Answers for older units; none where there are none. It is made when it is first needed.
+    older: OnceCell<Option<Context<Reader>>>,
     split: SplitUnits,
     /// Made when it is first needed.
     variables: OnceCell<Option<Variables>>,
 }
 
 impl Fallback {
-    /// Opens a file; none where the crate can't read it.
+    /// Opens a file; none where it can't be read.
     pub fn open(file: &PlacedFile, debug_files: &DebugFiles) -> Option<Fallback> {
         guarded(|| {
             let OpenFile { path, file: bytes, .. } = &file.file;
@@ -40,20 +45,66 @@ impl Fallback {
                 let object = object::File::parse(&**other).ok()?;
                 dwarf.load_sup(|id| section_named(&other, &object, Some(id.name()))).ok()?;
             }
-            let split = SplitUnits::new(path, debug_files.opener());
-            let context = Context::from_dwarf(dwarf).ok()?;
-            Some(Fallback { context, split, variables: OnceCell::new() })
+            let units = Units::of(Arc::new(dwarf));
+            let owners = units.owners();
+            let split = SplitUnits::new(path, debug_files);
+            let (older, variables) = (OnceCell::new(), OnceCell::new());
+            Some(Fallback { units, owners, older, split, variables })
         })?
     }
 
     /// The functions at an address, innermost first; none where it isn't covered, or can't be
     /// answered.
     pub fn find_frames(&self, address: u64) -> Vec<Frame> {
-        guarded(|| self.frames(address)).flatten().unwrap_or_default()
+        let frames = || match self.unit(address) {
+            Some(unit) => Some(frames(self.functions(unit, address), unit.place(address)?)),
+            None => self.older_frames(address),
+        };
+        guarded(frames).flatten().unwrap_or_default()
     }
 
-    fn frames(&self, address: u64) -> Option<Vec<Frame>> {
-        let mut found = self.context.find_frames(address).ok()?;
+    /// The functions at an address of a split unit, innermost first, of which the place is known;
+    /// none where it is none.
+    pub fn find_split_frames(&self, address: u64, place: &Frame) -> Option<Vec<Frame>> {
+        guarded(|| {
+            let functions = self.split.functions(self.unit(address)?, address);
+            (!functions.is_empty()).then(|| frames(functions, place.clone()))
+        })?
+    }
+
+    /// The package of split units that can't be read, and why.
+    pub fn unread_package(&self) -> Option<(&Path, &str)> {
+        self.split.unread_package()
+    }
+
+    fn unit(&self, address: u64) -> Option<UnitRef<'_>> {
+        self.owners.find(address).map(|owner| self.units.get(owner))
+    }
+
+    /// The functions of the split unit, or of the one in the program where that isn't found.
+    fn functions(&self, unit: UnitRef<'_>, address: u64) -> Vec<Function> {
+        let functions = self.split.functions(unit, address);
+        if functions.is_empty() {
+            unit.functions(address, None)
+        } else {
+            functions
+        }
+    }
+
+    fn older(&self) -> Option<&Context<Reader>> {
+        let open = || {
+            let has_older = self.units.iter().any(UnitRef::is_older);
+            if has_older {
+                Context::from_dwarf(self.units.dwarf().borrow(Reader::clone)).ok()
+            } else {
+                None
+            }
+        };
+        self.older.get_or_init(open).as_ref()
+    }
+
+    fn older_frames(&self, address: u64) -> Option<Vec<Frame>> {
+        let mut found = self.older()?.find_frames(address).ok()?;
         let mut frames = Vec::new();
         while let Some(frame) = found.next().ok()? {
             let name = frame.function.as_ref().map(|function| function.name.bytes().to_vec());
@@ -66,38 +117,21 @@ impl Fallback {
                 start: None,
             });
         }
-        match frames.as_slice() {
-            [Frame { name: None, .. }] => self.split_frames(address, &frames[0]).or(Some(frames)),
-            _ => Some(frames),
-        }
-    }
-
-    /// The functions at an address of a split unit, innermost first, of which the place is known;
-    /// none where it is none.
-    pub fn find_split_frames(&self, address: u64, place: &Frame) -> Option<Vec<Frame>> {
-        guarded(|| self.split_frames(address, place))?
-    }
-
-    fn split_frames(&self, address: u64, place: &Frame) -> Option<Vec<Frame>> {
-        let unit = self.context.find_dwarf_unit(address)?;
-        self.split.find_frames(self.context.dwarf(), unit, address, place.clone())
+        Some(frames)
     }
 
     /// Where the variable is declared that begins at an address.
     pub fn declaration(&self, address: u64) -> Option<Declaration> {
-        let variables = self.variables.get_or_init(|| guarded(|| Variables::read(self.context.dwarf())));
+        let variables = self.variables.get_or_init(|| guarded(|| Variables::read(self.units.dwarf())));
         variables.as_ref()?.at(address).cloned()
     }
 
-    /// The folder in which the compiler ran that made the code at an address: an attribute of the
-    /// unit, else the first folder of its line table.
+    /// The folder in which the compiler ran that made the code at an address.
     pub fn folder(&self, address: u64) -> Option<Vec<u8>> {
-        let unit = self.context.find_dwarf_unit(address)?;
-        if let Some(folder) = &unit.comp_dir {
-            return Some(folder.bytes().to_vec());
+        match self.unit(address) {
+            Some(unit) => folder(self.units.dwarf(), unit.read()?),
+            None => folder(self.units.dwarf(), self.older()?.find_dwarf_unit(address)?),
         }
-        let first = unit.line_program.as_ref()?.header().directory(0)?;
-        Some(self.context.dwarf().attr_string(unit, first).ok()?.bytes().to_vec())
     }
 }
 

@@ -31,11 +31,10 @@ mod sections;
 mod symbols;
 
 // Debug information that the library doesn't read.
+mod dwarf;
 mod fallback;
 mod guard;
 mod relocated;
-mod source_paths;
-mod split;
 mod units;
 mod variables;
 

@@ -103,6 +103,11 @@ impl Program {
         &self.answerer
     }
 
+    /// The package of split units that can't be read, and why.
+    pub fn unread_package(&self) -> Option<(&Path, &str)> {
+        self.fallback.as_ref()?.as_ref()?.unread_package()
+    }
+
     /// The path of the file that has the debug information.
     pub fn debug_path(&self) -> &Path {
         &self.with_debug_info().file.path
@@ -294,7 +299,7 @@ fn open(file: &Arc<File>, placement: &Placement, most: u64) -> Result<a2l::Progr
 }
 
 /// The frames of the library, as they are written.
-fn frames(found: UnitFrames<'_>) -> Vec<Frame> {
+pub fn frames(found: UnitFrames<'_>) -> Vec<Frame> {
     let known = |bytes: &Vec<u8>| !bytes.is_empty();
     let frame = |frame: a2l::Frame<'_>| Frame {
         name: frame.function.map(<[u8]>::to_vec).filter(known),

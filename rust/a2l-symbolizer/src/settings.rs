@@ -58,7 +58,8 @@ fn programs(arguments: &Arguments) -> Programs {
     let size = arguments.cache_size.unwrap_or(CacheSize::USUAL);
     let opener = if arguments.no_mmap { Opener::Read } else { Opener::Map };
     let sources = Sources {
-        debug_files: DebugFiles::new(&arguments.debug_folders, !arguments.no_debuginfod, opener),
+        debug_files: DebugFiles::new(&arguments.debug_folders, !arguments.no_debuginfod, opener)
+            .with_package(arguments.dwp.clone()),
         symbols: arguments.symbols(),
         fallback: !arguments.proved,
         relative: arguments.relativenames,

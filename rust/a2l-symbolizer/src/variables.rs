@@ -5,8 +5,8 @@ use std::rc::Rc;
 
 use gimli::{AttributeValue, DebuggingInformationEntry, Dwarf, Operation, Unit};
 
-use crate::fallback::Reader;
-use crate::source_paths::path_of;
+use crate::dwarf::lines::path;
+use crate::dwarf::Reader;
 
 /// The declarations of the variables of a file that have an address of their own.
 pub struct Variables(HashMap<u64, Declaration>);
@@ -55,7 +55,7 @@ impl Variables {
             let Some((file, line)) = declared else {
                 continue;
             };
-            let path = paths.entry(file).or_insert_with(|| path_of(dwarf, unit, file).map(Rc::from)).clone();
+            let path = paths.entry(file).or_insert_with(|| path(dwarf, unit, file).map(Rc::from)).clone();
             self.0.extend(path.map(|path| (address, Declaration { path, line })));
         }
         Ok(())
