@@ -11,8 +11,8 @@ only=${1:-.}
 passed=0
 failures=0
 
-# Sources without headers, so that each compiler for another machine takes them.
-write_sources() {
+# Sources of C without headers, so that each compiler for another machine takes them.
+write_plain_sources() {
     cat > one.c <<'END_C'
 volatile int count;
 int two(int x);
@@ -67,21 +67,33 @@ build_object() {
     "$@" -c one.c -o "$name.o" && link_twin "$name"
 }
 
+build_cxx() {
+    local name=$1
+    shift
+    file=$name.o
+    "$@" -c -x c++ sizes.cc -o "$name.o" && link_twin "$name"
+}
+
 # Several objects in one, as a kernel module is.
 build_joined() {
     local name=$1
     shift
     file=$name.o
     "$@" -DSECTIONS -c one.c -o "$name-one.o" && "$@" -c two.c -o "$name-two.o" &&
-        "${tools}ld" ${emulation:+-m "$emulation"} -r "$name-one.o" "$name-two.o" -o "$name.o" && link_twin "$name"
+        "${linker[@]}" -r "$name-one.o" "$name-two.o" -o "$name.o" && link_twin "$name"
 }
 
-# Its debug information is in a file of its own.
+# The debug information of a joined one is in a file of its own.
 build_apart() {
-    build_joined "$@"
-    "${tools}objcopy" --only-keep-debug "$1.o" "$1.debug" && "${tools}strip" -g "$1.o" -o "$1-cut.o" &&
-        "${tools}objcopy" --add-gnu-debuglink="$1.debug" "$1-cut.o"
+    build_joined "$@" && "$objcopy" --only-keep-debug "$1.o" "$1.debug" && "$strip" -g "$1.o" -o "$1-cut.o" &&
+        "$objcopy" --add-gnu-debuglink="$1.debug" "$1-cut.o"
     file=$1-cut.o
+}
+
+# That file, which has no byte of code.
+build_kept() {
+    build_joined "$@" && "$objcopy" --only-keep-debug "$1.o" "$1.debug"
+    file=$1.debug
 }
 
 # The twin of an object: linked, with each section at addresses of its own.
@@ -90,25 +102,34 @@ link_twin() {
 import re, sys
 names = dict.fromkeys(re.findall(r"\] (\S+) +\w+ +\w+ \w+ \w+ \w\w +\w*A\w* ", sys.stdin.read()))
 print("SECTIONS {", *(f"{name} {0x10000 * (place + 1):#x} : {{ *({name}) }}" for place, name in enumerate(names)), "}")' > "$1.ld"
-    "${tools}ld" ${emulation:+-m "$emulation"} -T "$1.ld" -e 0 --no-relax --noinhibit-exec --unresolved-symbols=ignore-all \
-        "$1.o" -o "$1.twin" 2> "$1.log" || true
+    "${linker[@]}" -T "$1.ld" -e 0 --no-relax --noinhibit-exec --unresolved-symbols=ignore-all "$1.o" -o "$1.twin" || true
     options+=(--twin "$1.twin")
 }
 
-# The words that start a compiler for a machine, and the prefix of its tools; fails where they aren't here.
+# The words that start a compiler for a machine, and the tools for what it writes; fails where they aren't here. GNU's
+# older than 2.41 don't link what clang 19 writes for RISC-V.
 choose() {
-    local compiler=$1 machine=$2
-    tools='' emulation='' words=("$compiler")
+    local compiler=$1 machine=$2 tools=
+    words=("$compiler")
     case $machine in
     x86-64) ;;
-    narrow) words+=(-m32) emulation=elf_i386 ;;
+    narrow) words+=(-m32) ;;
     *)
         tools=$machine-linux-gnu-
         if [ "$compiler" = gcc ]; then words=("${tools}gcc"); else words+=(--target="$machine-linux-gnu"); fi
         ;;
     esac
-    has "$compiler for $machine" "${words[0]}" "${tools}ld" "${tools}addr2line" > missing ||
-        { grep -qxFf missing told || tee -a told < missing; return 1; }
+    linker=("${tools}ld") objcopy=${tools}objcopy strip=${tools}strip gnu=${tools}addr2line
+    case $compiler-$machine in
+    *-narrow) linker+=(-m elf_i386) ;;
+    clang-19-riscv64)
+        linker=(ld.lld-19 -m elf64lriscv) objcopy=llvm-objcopy-19 strip=llvm-strip-19
+        words+=(-fuse-ld=lld-19)
+        ;;
+    esac
+    has "$compiler for $machine" "${words[0]}" "${linker[0]}" "$objcopy" "$strip" "$gnu" > missing && return
+    grep -qxFf missing told || tee -a told < missing
+    return 1
 }
 
 # Builds one case and compares. The words: its name, how it is built, the compiler, the machine, and the flags.
@@ -118,7 +139,7 @@ try() {
     choose "$3" "$4" || return 0
     "build_$how" "$name" "${words[@]}" "${@:5}" > build.log 2>&1 ||
         { echo "skipped, not built here: $name"; tail -n 3 build.log; return 0; }
-    if python3 "$here/tests/clients/agreed.py" --tool "$symbolizer" --gnu "${tools}addr2line" \
+    if python3 "$here/tests/clients/agreed.py" --tool "$symbolizer" --gnu "$gnu" \
         ${options[0]+"${options[@]}"} "$name" "$file"; then
         passed=$((passed + 1))
     else
@@ -133,14 +154,18 @@ table() {
     cat << 'END'
 linked  linked  gcc,clang-14,clang-19  x86-64,narrow,aarch64,riscv64  -g -gdwarf-5 -O0,-g -gdwarf-5 -O2,-g -gdwarf-5 -O2 -flto
 object  object  gcc,clang-14,clang-19  x86-64,narrow,aarch64,riscv64  -g -gdwarf-5 -O0,-g -gdwarf-5 -O2,-g -gdwarf-5 -O2 -ffunction-sections
+fat     object  gcc                    x86-64                         -g -gdwarf-5 -O2 -flto -ffat-lto-objects
 joined  joined  gcc,clang-14,clang-19  x86-64,narrow,aarch64,riscv64  -g -gdwarf-5 -O0,-g -gdwarf-5 -O2,-g -gdwarf-5 -O2 -ffunction-sections
-older   joined  gcc,clang-14,clang-19  x86-64                         -g -gdwarf-4 -O2
-packed  joined  gcc,clang-14,clang-19  x86-64                         -g -gdwarf-5 -O2 -gz=zlib
-apart   apart   gcc,clang-14,clang-19  x86-64,narrow,aarch64,riscv64  -g -gdwarf-5 -O2
+older   joined  gcc,clang-14,clang-19  x86-64,aarch64,riscv64         -g -gdwarf-4 -O2
+packed  joined  gcc,clang-14,clang-19  x86-64,aarch64,riscv64         -g -gdwarf-5 -O2 -gz=zlib
+apart   apart   gcc,clang-14,clang-19  x86-64,narrow,aarch64,riscv64  -g -gdwarf-5 -O2,-g -gdwarf-5 -O2 -gz=zlib
+kept    kept    gcc,clang-14,clang-19  x86-64,narrow,aarch64,riscv64  -g -gdwarf-5 -O2
+classes cxx     gcc,clang-14,clang-19  x86-64                         -g -gdwarf-5 -O2,-g -gdwarf-5 -O2 -fdebug-types-section
 END
 }
 
 write_sources
+write_plain_sources
 : > told
 while read -r kind how compilers machines flags; do
     for compiler in ${compilers//,/ }; do

@@ -2,8 +2,8 @@
 
 All addresses of the code of a file are asked for in both protocols. Where both originals agree on a field of a frame
 (function, file, line) and ours is another one, that fails, but for one of the reasons below, which the file has to
-bear out. A relocatable file is asked by section and without one; llvm-symbolizer, which takes no section, is asked by
-section about the linked twin, in which each section has its own addresses. It prints a line a file.
+bear out. Each file is asked by addresses and by sections. llvm-symbolizer takes no section, and is asked about the
+linked twin of a relocatable file, in which each section has its own addresses. It prints a line a file.
 """
 
 import argparse
@@ -16,6 +16,7 @@ import sys
 
 # Why ours may be another one, beside which evidence.
 SAID = {
+    'linked': 'of the file linked, llvm-symbolizer says what ours says',
 }
 FIELDS = ('function', 'file', 'line')
 
@@ -72,56 +73,95 @@ def as_gnu(words, path, addresses, section=None):
     return [frames_of(reply.split('\n')[1:-1]) for reply in re.split(r'^(?=0x[0-9a-f]{8,16}$)', text, flags=re.MULTILINE)[1:]]
 
 
+def field_of(frames, index, field):
+    """A field of a frame; of a frame that isn't there it is another one than each that is."""
+    return frames[index][field] if index < len(frames) else 'no frame'
+
+
 class Tally:
     """What was seen of one file."""
 
     def __init__(self):
-        self.agreed, self.why, self.unlike = 0, collections.Counter(), []
+        self.asked, self.agreed, self.why, self.unlike = 0, 0, collections.Counter(), []
 
-    def add(self, where, llvm, gnu, ours):
-        """Compares the frames that ours has with those of both originals."""
-        count = len(llvm) if len(llvm) == len(gnu) else 1
-        if len(llvm) == len(gnu) != len(ours):
-            self.unlike.append(f'{where}: {count} frames by both, {len(ours)} by ours')
-            return
-        for index in range(count):
-            for field, theirs, other, own in zip(FIELDS, llvm[index], gnu[index], ours[index]):
-                if theirs != other:
+    def add(self, where, theirs, ours, linked):
+        """Compares the frames that ours has with those that both originals have, and with llvm-symbolizer's of the linked
+        twin."""
+        fewer, more = sorted(map(len, theirs))
+        # where they have not as many frames, they agree on the innermost one at most
+        for index in range(max(more, len(ours)) if fewer == more else 1):
+            for field, name in enumerate(FIELDS):
+                wanted, other = (field_of(frames, index, field) for frames in theirs)
+                if wanted != other:
                     continue
                 self.agreed += 1
-                if own != theirs:
-                    self.unlike.append(f'{where}: frame {index}, {field}: {theirs} by both, {own} by ours')
+                own = field_of(ours, index, field)
+                if own == wanted:
+                    continue
+                if linked and field_of(linked, index, field) == own:
+                    self.why['linked'] += 1
+                else:
+                    self.unlike.append(f'{where}: frame {index}, {name}: {wanted} by both, {own} by ours')
 
-    def add_all(self, where, addresses, llvm, gnu, ours):
-        if not len(addresses) == len(llvm) == len(gnu) == len(ours):
-            sys.exit(f'{where}: {len(addresses)} addresses, replies {len(llvm)}, {len(gnu)}, {len(ours)}')
-        for address, *replies in zip(addresses, llvm, gnu, ours):
-            self.add(f'{where} {address:#x}', *replies)
+    def add_all(self, where, addresses, theirs, ours, linked=None):
+        """The same of all addresses."""
+        for replies in (*theirs, ours):
+            if len(replies) != len(addresses):
+                sys.exit(f'{where}: {len(replies)} replies for {len(addresses)} addresses')
+        self.asked += len(addresses)
+        for place, address in enumerate(addresses):
+            self.add(f'{where} {address:#x}', [replies[place] for replies in theirs], ours[place], linked and linked[place])
 
 
-def compare(words):
-    """Asks for all addresses of a file."""
-    ours_llvm, ours_gnu = [words.tool, '--as=llvm-symbolizer'], [words.tool, '--as=addr2line']
-    llvm, gnu, path, tally, asked = [words.llvm], [words.gnu], words.file, Tally(), 0
-    sections = sections_of_code(path)
-    if not is_relocatable(path):
-        addresses = [address for _, begin, size in sections for address in range(begin, begin + size)]
-        theirs = of_llvm(llvm, path, addresses), as_gnu(gnu, path, addresses)
-        tally.add_all('LLVM', addresses, *theirs, as_llvm(ours_llvm, path, addresses))
-        tally.add_all('GNU', addresses, *theirs, as_gnu(ours_gnu, path, addresses))
-        return tally, len(addresses)
-    addresses = range(max(size for _, _, size in sections))
-    theirs = of_llvm(llvm, path, addresses), as_gnu(gnu, path, addresses)
-    tally.add_all('LLVM', addresses, *theirs, as_llvm(ours_llvm, path, addresses))
-    tally.add_all('GNU', addresses, *theirs, as_gnu(ours_gnu, path, addresses))
-    begins = {name: begin for name, begin, _ in sections_of_code(words.twin)} if words.twin else {}
-    for name, _, size in sections:
-        if name in begins:
-            asked += size
-            linked = [begins[name] + address for address in range(size)]
-            theirs = of_llvm(llvm, words.twin, linked), as_gnu(gnu, path, range(size), name)
-            tally.add_all(name, range(size), *theirs, as_gnu(ours_gnu, path, range(size), name))
-    return tally, len(addresses) + asked
+class Comparison:
+    """The tools, and the file of which they are asked."""
+
+    def __init__(self, words):
+        self.words, self.path, self.tally = words, words.file, Tally()
+        self.sections = sections_of_code(self.path)
+
+    def llvm(self, addresses, path=None):
+        return of_llvm([self.words.llvm], path or self.path, addresses)
+
+    def gnu(self, addresses, section=None, path=None):
+        return as_gnu([self.words.gnu], path or self.path, addresses, section)
+
+    def compare(self, where, addresses, theirs, linked=None):
+        """Both protocols, without a section."""
+        ours = as_llvm([self.words.tool, '--as=llvm-symbolizer'], self.path, addresses)
+        self.tally.add_all(f'{where}, LLVM', addresses, theirs, ours, linked)
+        ours = as_gnu([self.words.tool, '--as=addr2line'], self.path, addresses)
+        self.tally.add_all(f'{where}, GNU', addresses, theirs, ours, linked)
+
+    def compare_section(self, name, offsets, *several):
+        """By the section of a name, in GNU's protocol."""
+        ours = as_gnu([self.words.tool, '--as=addr2line'], self.path, offsets, name)
+        for theirs in several:
+            self.tally.add_all(name, offsets, theirs, ours)
+
+    def linked(self):
+        """A linked file: by addresses and by sections."""
+        for name, begin, size in self.sections:
+            addresses = range(begin, begin + size)
+            by_llvm = self.llvm(addresses)
+            self.compare(name, addresses, (by_llvm, self.gnu(addresses)))
+            self.compare_section(name, range(size), (by_llvm, self.gnu(range(size), name)))
+
+    def relocatable(self):
+        """A relocatable file: by sections, also as both originals answer for its linked twin, and by offsets alone, which
+        are in the first section that is so long. There llvm-symbolizer takes lines of one section and names of another
+        one, as what it says of the twin shows."""
+        begins, first = {name: begin for name, begin, _ in sections_of_code(self.words.twin)}, []
+        for name, _, size in self.sections:
+            if name not in begins:
+                sys.exit(f'{self.words.name}: no {name} in the linked twin')
+            addresses = range(begins[name], begins[name] + size)
+            by_llvm = self.llvm(addresses, self.words.twin)
+            theirs = (by_llvm, self.gnu(range(size), name)), (by_llvm, self.gnu(addresses, path=self.words.twin))
+            self.compare_section(name, range(size), *theirs)
+            first.extend(by_llvm[len(first):])
+        offsets = range(len(first))
+        self.compare('no section', offsets, (self.llvm(offsets), self.gnu(offsets)), first)
 
 
 def main():
@@ -133,10 +173,12 @@ def main():
     parser.add_argument('name')
     parser.add_argument('file')
     words = parser.parse_args()
-    tally, asked = compare(words)
+    comparison = Comparison(words)
+    (comparison.relocatable if is_relocatable(words.file) else comparison.linked)()
+    tally = comparison.tally
     told = ''.join(f', {count} {why}: {SAID[why]}' for why, count in tally.why.items())
     print('\n'.join(tally.unlike[:8] + [
-        f'{words.name}: {asked} addresses, {tally.agreed} fields that both originals agree on, {len(tally.unlike)} other ones'
+        f'{words.name}: {tally.asked} addresses, {tally.agreed} fields that both originals agree on, {len(tally.unlike)} other ones'
         f' by ours{told}']), flush=True)
     sys.exit(1 if tally.unlike or not tally.agreed else 0)
 

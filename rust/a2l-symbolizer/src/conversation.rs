@@ -27,7 +27,7 @@ pub struct Settings {
     /// Is subtracted from each address.
     pub adjust: u64,
     /// Addresses count from the begin of this section.
-    pub section: Option<String>,
+    pub section: Option<Vec<u8>>,
     pub verbose: bool,
 }
 
@@ -72,10 +72,16 @@ impl Conversation {
         };
         match self.programs.get(module) {
             Ok(found) if !found.program.has_section(name) => {
+                let name = String::from_utf8_lossy(name);
                 Err(format!("{}: cannot find section {name}", module_name(module)))
             }
             _ => Ok(()),
         }
+    }
+
+    /// Addresses count from now on from the begin of the section that has a name.
+    pub fn count_from(&mut self, section: Option<&[u8]>) {
+        self.settings.section = section.map(<[u8]>::to_vec);
     }
 
     /// Replies to each line until there is no more.
@@ -179,7 +185,7 @@ fn answer(settings: &Settings, found: &mut Found<'_>, request: &Request) -> Answ
         Target::Address(address) => {
             let address = address.wrapping_sub(settings.adjust);
             match &settings.section {
-                Some(name) => program.placement().in_section(name.as_bytes(), address),
+                Some(name) => program.placement().in_section(name, address),
                 None => program.placement().place(address, request.kind == Kind::Code),
             }
         }

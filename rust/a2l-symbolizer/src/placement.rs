@@ -1,7 +1,8 @@
 //! Where the sections of a file are: where it says or, in a relocatable file, one after the other,
 //! as a linker would put them.
 
-use std::collections::HashMap;
+use std::collections::{HashMap, HashSet};
+use std::ops::Range;
 
 use object::elf::{SHF_ALLOC, SHF_EXECINSTR};
 use object::{Object, ObjectKind, ObjectSection, Section, SectionFlags, SectionIndex};
@@ -29,14 +30,14 @@ pub struct PlacedFile {
 
 /// A section that is loaded.
 #[derive(Debug)]
-pub struct Placed {
-    pub name: Vec<u8>,
+struct Placed {
+    name: Vec<u8>,
     index: SectionIndex,
     /// The first address in the file, and where that is put.
     address: u64,
     begin: u64,
-    pub size: u64,
-    pub is_code: bool,
+    size: u64,
+    is_code: bool,
 }
 
 /// The first section of a relocatable file is put here, since code that a linker has dropped is at
@@ -123,11 +124,6 @@ impl Placement {
         self.begins.is_some()
     }
 
-    /// The sections that are loaded, in the order of the file.
-    pub fn loaded(&self) -> &[Placed] {
-        &self.loaded
-    }
-
     /// The place of an offset in the first section that has a name; none where it isn't so long or
     /// isn't loaded.
     pub fn in_section(&self, name: &[u8], offset: u64) -> Option<u64> {
@@ -150,14 +146,26 @@ impl Placement {
         }
     }
 
+    /// The places of each section of code of which `in_section` may find some.
+    pub fn code(&self) -> impl Iterator<Item = Range<u64>> + '_ {
+        let mut names = HashSet::new();
+        let sections = self.loaded.iter().filter(move |section| names.insert(&*section.name) && section.is_code);
+        sections.map(|section| section.begin..section.begin.saturating_add(section.size))
+    }
+
     /// The address in the file of a place.
     pub fn address(&self, place: u64) -> u64 {
-        if !self.is_relocatable() {
-            return place;
-        }
+        self.section_of(place).map_or(place, |section| place - section.begin + section.address)
+    }
+
+    /// The name of the section that has a place of a relocatable file; none of another one's.
+    pub fn name_of_section(&self, place: u64) -> Option<&[u8]> {
+        Some(&self.section_of(place)?.name)
+    }
+
+    fn section_of(&self, place: u64) -> Option<&Placed> {
         let after = self.loaded.partition_point(|section| section.begin <= place);
-        let section = after.checked_sub(1).map(|last| &self.loaded[last]);
-        section.map_or(place, |section| place - section.begin + section.address)
+        self.loaded[..after].last().filter(|_| self.is_relocatable())
     }
 
     /// The place of what has a value in the symbol table, in a section.

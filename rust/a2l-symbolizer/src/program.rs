@@ -1,9 +1,8 @@
 //! A file that is asked about: who answers for it, and the answers.
 
 use std::path::Path;
-use std::sync::Arc;
 
-use a2l::{File, UnitFrames};
+use a2l::UnitFrames;
 use object::Object;
 
 use crate::debug_files::DebugFiles;
@@ -82,8 +81,7 @@ impl Program {
     }
 
     fn open_library(&mut self, sources: &Sources) {
-        let PlacedFile { file, placement } = self.with_debug_info();
-        match open(&file.file, placement, sources.most) {
+        match open_library(self.with_debug_info(), sources.most) {
             Ok(library) => (self.library, self.answerer) = (Some(library), Answerer::Library),
             Err(why) => self.answerer = Answerer::Others(why),
         }
@@ -247,8 +245,8 @@ impl Program {
     }
 
     /// The file has a section of this name, loaded or not.
-    pub fn has_section(&self, name: &str) -> bool {
-        object::File::parse(&**self.file.file.file).is_ok_and(|object| object.section_by_name(name).is_some())
+    pub fn has_section(&self, name: &[u8]) -> bool {
+        object::File::parse(&**self.file.file.file).is_ok_and(|object| object.section_by_name_bytes(name).is_some())
     }
 
     /// The variable at an address, or the function there.
@@ -286,12 +284,12 @@ impl Program {
 }
 
 /// Opens the library over a file. Where that is relocatable or has compressed sections, it reads an
-/// image of them. The text of an error says why it reads neither.
-fn open(file: &Arc<File>, placement: &Placement, most: u64) -> Result<a2l::Program, String> {
+/// image of them, of at most so many bytes. The text of an error says why it reads neither.
+pub fn open_library(PlacedFile { file, placement }: &PlacedFile, most: u64) -> Result<a2l::Program, String> {
     let numbers = [a2l::RELOCATABLE, a2l::COMPRESSED];
-    match a2l::Program::open(file.clone(), CAPACITY) {
+    match a2l::Program::open(file.file.clone(), CAPACITY) {
         Err(why @ a2l::Error::Refused { number, .. }) if numbers.contains(&number) => {
-            let image = image(file, placement, most).map_err(|other| format!("{why}: {other}"))?;
+            let image = image(&file.file, placement, most).map_err(|other| format!("{why}: {other}"))?;
             a2l::Program::open(image.into(), CAPACITY).map_err(|why| why.to_string())
         }
         other => other.map_err(|why| why.to_string()),

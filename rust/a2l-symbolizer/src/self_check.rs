@@ -2,14 +2,17 @@
 //! the library's answers.
 
 use std::collections::BTreeMap;
+use std::ops::Range;
 use std::path::Path;
 
 use a2l::{Location, Program};
-use object::{Object, ObjectSection, SectionKind};
 
-use crate::arguments::Arguments;
+use crate::arguments::{Arguments, CacheSize};
+use crate::conversation::Conversation;
 use crate::identity::Identity;
 use crate::open_file::Opener;
+use crate::placement::{PlacedFile, Placement};
+use crate::program::open_library;
 use crate::settings;
 
 /// So many addresses are asked about.
@@ -20,19 +23,37 @@ const LOOKED_AT: usize = 32;
 /// What was compared, or the first difference.
 pub fn self_check(arguments: &Arguments) -> Result<String, String> {
     let path = arguments.object.as_deref().ok_or("--self-check needs -e FILE")?;
-    let file = Opener::Map.open(path).map_err(|why| why.to_string())?.file;
-    let mut library = Program::open(file, 1024).map_err(|why| why.to_string())?;
-    let (addresses, units) = spread(&mut library)?;
+    let file = PlacedFile::of_program(Opener::Map.open(path).map_err(|why| why.to_string())?);
+    let mut library = open_library(&file, CacheSize::USUAL.bytes)?;
+    let (places, units) = spread(&file.placement, &mut library)?;
+    let requests = requests(&file.placement, &places);
     for tool in [Tool::Llvm, Tool::Gnu] {
-        tool.compare(path, &addresses, &mut library)?;
+        let mut conversation = tool.conversation(path)?;
+        for (&section, asked) in &requests {
+            conversation.count_from(section);
+            tool.compare(&mut conversation, asked, &mut library)?;
+        }
     }
-    Ok(format!("{} addresses of {units} units agree in both protocols", addresses.len()))
+    Ok(format!("{} addresses of {units} units agree in both protocols", places.len()))
 }
 
-/// Addresses of code, as many of each unit as there are, and how many units have them.
-fn spread(library: &mut Program) -> Result<(Vec<u64>, usize), String> {
-    let mut by_unit = grouped(of_code(library.file())?, library)?;
-    if by_unit.is_empty() {
+/// An address that is asked for, and where that is.
+type Asked = (u64, u64);
+
+/// How places are asked for: in a relocatable file by the name of their section, of which that is
+/// the first one.
+fn requests<'p>(placement: &'p Placement, places: &[u64]) -> BTreeMap<Option<&'p [u8]>, Vec<Asked>> {
+    let mut requests = BTreeMap::<_, Vec<Asked>>::new();
+    for &place in places {
+        requests.entry(placement.name_of_section(place)).or_default().push((placement.address(place), place));
+    }
+    requests
+}
+
+/// Places of code, as many of each unit as there are, and how many units have them.
+fn spread(placement: &Placement, library: &mut Program) -> Result<(Vec<u64>, usize), String> {
+    let mut by_unit = grouped(of_code(placement), library)?;
+    if by_unit.is_empty() && !placement.is_relocatable() {
         by_unit = grouped(library.find_starts().map_err(|why| why.to_string())?, library)?;
     }
     let mut chosen = Vec::new();
@@ -61,13 +82,12 @@ fn grouped(addresses: Vec<u64>, library: &mut Program) -> Result<BTreeMap<u64, V
     Ok(found)
 }
 
-/// Addresses at equal distances in the sections of code.
-fn of_code(file: &a2l::File) -> Result<Vec<u64>, String> {
-    let object = object::File::parse(&**file).map_err(|why| why.to_string())?;
-    let sections = || object.sections().filter(|section| section.kind() == SectionKind::Text);
-    let size: u64 = sections().map(|section| section.size()).sum();
+/// Places at equal distances in the sections of code that can be asked for.
+fn of_code(placement: &Placement) -> Vec<u64> {
+    let sections: Vec<Range<u64>> = placement.code().collect();
+    let size: u64 = sections.iter().map(|section| section.end - section.start).sum();
     let distance = usize::try_from(size / (WANTED * LOOKED_AT) as u64).unwrap_or(usize::MAX).max(1);
-    Ok(sections().flat_map(|it| (it.address()..it.address().saturating_add(it.size())).step_by(distance)).collect())
+    sections.into_iter().flat_map(|section| section.step_by(distance)).collect()
 }
 
 /// A protocol that is spoken.
@@ -78,21 +98,25 @@ enum Tool {
 }
 
 impl Tool {
-    /// Asks about all addresses in one conversation.
-    fn compare(self, path: &Path, addresses: &[u64], library: &mut Program) -> Result<(), String> {
+    /// A conversation about a file.
+    fn conversation(self, path: &Path) -> Result<Conversation, String> {
         let (identity, words): (_, &[&str]) = match self {
             Tool::Llvm => (Identity::LlvmSymbolizer, &["--no-demangle", "--proved", "-e"]),
             Tool::Gnu => (Identity::Addr2line, &["-f", "-i", "--proved", "-e"]),
         };
         let words: Vec<_> = words.iter().map(Into::into).chain([path.as_os_str().to_owned()]).collect();
         let arguments = Arguments::parse_for(identity, &words).map_err(|why| why.to_string())?;
-        let mut conversation = settings::conversation(identity, &arguments);
+        Ok(settings::conversation(identity, &arguments))
+    }
+
+    /// Asks about all these addresses.
+    fn compare(self, conversation: &mut Conversation, asked: &[Asked], library: &mut Program) -> Result<(), String> {
         let mut found = Vec::new();
-        for &address in addresses {
+        for &(address, place) in asked {
             let line = format!("{address:#x}");
             found.clear();
             conversation.reply(line.as_bytes(), &mut found);
-            let (found, wanted) = (String::from_utf8_lossy(&found), self.wanted(address, library)?);
+            let (found, wanted) = (String::from_utf8_lossy(&found), self.wanted(place, library)?);
             if found != wanted {
                 return Err(format!("{self:?}: the reply to {line} is {found:?}, the library answers {wanted:?}"));
             }
@@ -101,8 +125,8 @@ impl Tool {
     }
 
     /// The reply that the library's answer makes.
-    fn wanted(self, address: u64, library: &mut Program) -> Result<String, String> {
-        let found = library.find_frames(address).map_err(|why| why.to_string())?;
+    fn wanted(self, place: u64, library: &mut Program) -> Result<String, String> {
+        let found = library.find_frames(place).map_err(|why| why.to_string())?;
         let frames = found.map(|found| found.frames).unwrap_or_default();
         let mut texts: Vec<[String; 2]> =
             frames.iter().map(|frame| [name(frame.function), self.place(&frame.location)]).collect();

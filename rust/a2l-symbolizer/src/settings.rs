@@ -42,7 +42,7 @@ fn settings(identity: Identity, arguments: &Arguments) -> Settings {
         shape,
         module: module(identity, arguments),
         adjust: arguments.adjust_vma.unwrap_or(0),
-        section: arguments.section.clone(),
+        section: arguments.section.clone().map(String::into_bytes),
         verbose: arguments.verbose,
     }
 }
