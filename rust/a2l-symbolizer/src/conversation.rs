@@ -11,10 +11,10 @@ use crate::json;
 use crate::llvm;
 use crate::names::Names;
 use crate::program::Answerer;
-use crate::programs::{Found, Programs};
+use crate::programs::{Opened, Programs};
 use crate::reply::{Answer, Reply};
 use crate::request::{Kind, Module, Request, Target};
-use crate::shape::Shape;
+use crate::shape::{compiled, Shape};
 
 /// What the command line says of a conversation.
 #[derive(Debug, Clone)]
@@ -127,19 +127,19 @@ impl Conversation {
             Protocol::Llvm(spelling) => llvm::parse(spelling, self.settings.module.as_ref(), line),
             Protocol::Gnu => gnu::parse(self.settings.module.as_ref(), line),
         };
-        let answered = request.as_ref().map_or(Ok(Answer::Frames(Vec::new())), |request| self.answer(request));
-        let (answer, failure) = match (answered, &request) {
-            (Ok(answer), _) => (answer, None),
-            (Err(why), Some(request)) => (nothing(request.kind), Some(why)),
-            (Err(why), None) => (Answer::Frames(Vec::new()), Some(why)),
+        let answered = request.as_ref().map_or(Ok(Found::nothing(Kind::Code)), |request| self.find(request));
+        let (found, failure) = match answered {
+            Ok(found) => (found, None),
+            Err(why) => (Found::nothing(request.as_ref().map_or(Kind::Code, |request| request.kind)), Some(why)),
         };
+        let Found { address, answer } = found;
         let answer = self.settings.shape.shown(&mut self.names, answer);
-        write(&self.settings, &Reply { line, request: request.as_ref(), failure, answer })
+        write(&self.settings, &Reply { line, request: request.as_ref(), address, failure, answer })
     }
 
-    fn answer(&mut self, request: &Request) -> Result<Answer, String> {
-        let mut found = match self.programs.get(&request.module) {
-            Ok(found) => found,
+    fn find(&mut self, request: &Request) -> Result<Found, String> {
+        let mut opened = match self.programs.get(&request.module) {
+            Ok(opened) => opened,
             Err(why) => {
                 self.failed |= self.settings.module.is_some();
                 if !matches!(self.settings.identity.protocol(), Protocol::Llvm(_)) || self.settings.verbose {
@@ -148,14 +148,14 @@ impl Conversation {
                 return Err(why);
             }
         };
-        let who = self.settings.verbose.then(|| answerer(&found));
-        let answer = answer(&self.settings, &mut found, request);
+        let who = self.settings.verbose.then(|| answerer(&opened));
+        let found = find(&self.settings, &mut opened, request);
         let unread =
-            found.program.unread_package().map(|(package, why)| (Module::Path(package.to_owned()), why.to_owned()));
+            opened.program.unread_package().map(|(package, why)| (Module::Path(package.to_owned()), why.to_owned()));
         for (module, what) in who.map(|who| (request.module.clone(), who)).into_iter().chain(unread) {
             self.report(&module, &what);
         }
-        Ok(answer)
+        Ok(found)
     }
 
     /// Writes a line to standard error, once for each file.
@@ -168,39 +168,68 @@ impl Conversation {
     }
 }
 
-/// What is answered where a file can't be asked.
-fn nothing(kind: Kind) -> Answer {
-    match kind {
-        Kind::Code => Answer::Frames(Vec::new()),
-        Kind::Data => Answer::Variable(None),
-        Kind::Frame => Answer::Locals,
+/// What a request finds.
+struct Found {
+    /// The address that was asked about, by its number or by a name.
+    address: Option<u64>,
+    answer: Answer,
+}
+
+impl Found {
+    /// What is answered where a file can't be asked.
+    fn nothing(kind: Kind) -> Found {
+        let answer = match kind {
+            Kind::Code => Answer::Frames(Vec::new()),
+            Kind::Data => Answer::Variable(None),
+            Kind::Frame => Answer::Locals,
+        };
+        Found { address: None, answer }
     }
 }
 
-fn answer(settings: &Settings, found: &mut Found<'_>, request: &Request) -> Answer {
-    let Found { program, sources } = found;
-    let place = match &request.target {
+fn find(settings: &Settings, opened: &mut Opened<'_>, request: &Request) -> Found {
+    match &request.target {
         // The greatest number is what clients send where they want nothing to be found.
-        Target::Address(u64::MAX) => None,
+        Target::Address(u64::MAX) => Found { address: Some(u64::MAX), ..Found::nothing(request.kind) },
         Target::Address(address) => {
-            let address = address.wrapping_sub(settings.adjust);
-            match &settings.section {
-                Some(name) => program.placement().in_section(name, address),
-                None => program.placement().place(address, request.kind == Kind::Code),
-            }
+            let answer = at_address(settings, opened, request.kind, *address);
+            Found { address: Some(*address), answer }
         }
-        Target::Symbol { name, offset } if request.kind == Kind::Code => program.find_symbol(name, *offset, sources),
-        Target::Symbol { .. } => None,
+        Target::Symbol { name, offset } if request.kind == Kind::Code => at_symbol(settings, opened, name, *offset),
+        Target::Symbol { .. } => Found::nothing(request.kind),
+    }
+}
+
+fn at_address(settings: &Settings, opened: &mut Opened<'_>, kind: Kind, address: u64) -> Answer {
+    let Opened { program, sources } = opened;
+    let address = address.wrapping_sub(settings.adjust);
+    let place = match &settings.section {
+        Some(name) => program.placement().in_section(name, address),
+        None => program.placement().place(address, kind == Kind::Code),
     };
-    match (request.kind, place) {
+    match (kind, place) {
         (Kind::Code, Some(place)) => Answer::Frames(program.find_frames(place, sources)),
         (Kind::Data, Some(place)) => Answer::Variable(program.find_variable(place, sources)),
-        (kind, _) => nothing(kind),
+        (kind, _) => Found::nothing(kind).answer,
     }
+}
+
+/// What is at a name of the symbol table: for LLVM's tools a place for each symbol that has it, for
+/// GNU's the frames of its address.
+fn at_symbol(settings: &Settings, opened: &mut Opened<'_>, name: &[u8], offset: u64) -> Found {
+    let Opened { program, sources } = opened;
+    let places = program.find_symbols(name, offset, sources);
+    if settings.identity.is_llvm() {
+        let of_place = |place| compiled(program.find_frames(place, sources)).filter(|frame| frame.path.is_some());
+        return Found { address: None, answer: Answer::Places(places.into_iter().filter_map(of_place).collect()) };
+    }
+    let frames = places.first().map_or_else(Vec::new, |&place| program.find_frames(place, sources));
+    let address = places.first().map(|&place| program.placement().address(place));
+    Found { address, answer: Answer::Frames(frames) }
 }
 
 /// Who answers for a file, as it is reported.
-fn answerer(found: &Found<'_>) -> String {
+fn answerer(found: &Opened<'_>) -> String {
     let path = found.program.debug_path().display();
     match found.program.answerer() {
         Answerer::Library => format!("answered by liba2l, of {path}"),

@@ -9,38 +9,80 @@ use crate::shape::Shape;
 use crate::writer::Writer;
 
 /// The request of a line without its end, about the module of the command line; none where it has
-/// no number.
+/// neither a number nor a name.
 pub fn parse(module: Option<&Module>, line: &[u8]) -> Option<Request> {
-    Some(Request { kind: Kind::Code, module: module?.clone(), target: Target::Address(number(line)?) })
+    Some(Request { kind: Kind::Code, module: module?.clone(), target: target(line.trim_ascii_start())? })
 }
 
-/// The number at the front of a line, in hexadecimal digits; none where there is no digit. A number
+/// What a text asks for: a number in hexadecimal digits, or a name, which no decimal digit begins. A
+/// name that a hexadecimal digit begins has to be followed by a plus and an offset, as any other may
+/// be. An offset without a name is a number in C's spelling.
+fn target(text: &[u8]) -> Option<Target> {
+    let first = *text.first()?;
+    let plus = text.iter().position(|&byte| byte == b'+');
+    if first.is_ascii_digit() || first == b'-' || (plus.is_none() && first.is_ascii_hexdigit()) {
+        return number(text).map(Target::Address);
+    }
+    let offset = plus.map_or(0, |plus| signed_number(&text[plus + 1..]));
+    let end = text.iter().position(|&byte| byte == b'+' || byte.is_ascii_whitespace()).unwrap_or(text.len());
+    match &text[..end] {
+        b"" => Some(Target::Address(offset)),
+        // What perf sends to find the end of a reply.
+        b"," => None,
+        name => Some(Target::Symbol { name: name.to_vec(), offset }),
+    }
+}
+
+/// The number at the front of a text, in hexadecimal digits; none where there is no digit. A number
 /// that doesn't fit is the greatest one.
-fn number(line: &[u8]) -> Option<u64> {
-    let digits = match line.trim_ascii_start() {
+fn number(text: &[u8]) -> Option<u64> {
+    let digits = match text {
         [b'0', b'x' | b'X', digits @ ..] => digits,
         digits => digits,
     };
-    let end = digits.iter().position(|byte| !byte.is_ascii_hexdigit()).unwrap_or(digits.len());
-    (end > 0).then(|| digits_of(&digits[..end], 16).unwrap_or(u64::MAX))
+    leading_digits(digits, 16)
+}
+
+/// The number at the front of a text in C's spelling, after a sign or without; 0 where there is none.
+fn signed_number(text: &[u8]) -> u64 {
+    let text = text.trim_ascii_start();
+    let (is_negative, text) = match text {
+        [b'-', rest @ ..] => (true, rest),
+        [b'+', rest @ ..] => (false, rest),
+        _ => (false, text),
+    };
+    let number = match text {
+        [b'0', b'x' | b'X', digits @ ..] => leading_digits(digits, 16),
+        [b'0', ..] => leading_digits(text, 8),
+        _ => leading_digits(text, 10),
+    };
+    let number = number.unwrap_or(0);
+    if is_negative {
+        number.wrapping_neg()
+    } else {
+        number
+    }
+}
+
+/// The number of the digits at the front of a text; none where there is no digit. A number that
+/// doesn't fit is the greatest one.
+fn leading_digits(text: &[u8], radix: u32) -> Option<u64> {
+    let end = text.iter().position(|&byte| !char::from(byte).is_digit(radix)).unwrap_or(text.len());
+    (end > 0).then(|| digits_of(&text[..end], radix).unwrap_or(u64::MAX))
 }
 
 /// Writes a reply, whose answer is as the shape shows it.
 pub fn write(shape: &Shape, reply: &Reply<'_>, out: &mut Vec<u8>) {
     let mut writer = Writer::new(shape, out);
-    // 0 where the line has no number.
-    let address = match reply.request.map(|request| &request.target) {
-        Some(Target::Address(address)) => *address,
-        _ => 0,
-    };
-    writer.address(format_args!("0x{address:016x}"));
+    // 0 where the line has neither a number nor a name that is known.
+    writer.address(format_args!("0x{:016x}", reply.address.unwrap_or(0)));
     writer.answer(&reply.answer, Writer::short_place, |writer| writer.unknown(" ", "??:0"));
 }
 
 #[cfg(test)]
 mod tests {
     use super::*;
-    use a2l::CxxStyle;
+    use a2l::Tools;
 
     use crate::arguments::Functions;
     use crate::reply::{Answer, Frame};
@@ -49,9 +91,9 @@ mod tests {
     fn written(pretty: bool, frames: Vec<Frame>) -> String {
         let functions = Functions::Linkage;
         let (frames_shown, addresses, demangles, basenames) = (Frames::All, false, false, false);
-        let style = CxxStyle::Gnu;
-        let shape = Shape { functions, frames: frames_shown, addresses, pretty, demangles, style, basenames };
-        let reply = Reply { line: b"10", request: None, failure: None, answer: Answer::Frames(frames) };
+        let tools = Tools::Gnu;
+        let shape = Shape { functions, frames: frames_shown, addresses, pretty, demangles, tools, basenames };
+        let reply = Reply { line: b"10", request: None, address: None, failure: None, answer: Answer::Frames(frames) };
         let mut out = Vec::new();
         write(&shape, &reply, &mut out);
         String::from_utf8(out).expect("UTF-8")
@@ -73,21 +115,36 @@ mod tests {
         assert_eq!(written(true, Vec::new()), "?? ??:0\n");
     }
 
+    /// What addr2line 2.40 asks for.
     #[test]
-    fn numbers_of_gnu() {
+    fn requests_of_gnu() {
+        let symbol = |name: &str, offset| Some(Target::Symbol { name: name.into(), offset });
         for (line, wanted) in [
-            ("0000000000001129", Some(0x1129)),
-            ("0x1129 trailing", Some(0x1129)),
-            ("  12zz", Some(0x12)),
+            ("0000000000001129", Some(Target::Address(0x1129))),
+            ("0x1129 trailing", Some(Target::Address(0x1129))),
+            ("  12zz", Some(Target::Address(0x12))),
+            ("1149+4", Some(Target::Address(0x1149))),
             ("-1", None),
-            ("ffffffffffffffff", Some(u64::MAX)),
-            ("fffffffffffffffff", Some(u64::MAX)),
-            (",", None),
+            ("ffffffffffffffff", Some(Target::Address(u64::MAX))),
+            ("fffffffffffffffff", Some(Target::Address(u64::MAX))),
             ("", None),
-            ("x", None),
             ("0x", None),
+            ("count", Some(Target::Address(0xc))),
+            ("count+0", symbol("count", 0)),
+            (",", None),
+            ("x", symbol("x", 0)),
+            (" main + 4 trailing", symbol("main", 4)),
+            ("main+010", symbol("main", 8)),
+            ("main+0x10+4", symbol("main", 16)),
+            ("main+-4", symbol("main", 4_u64.wrapping_neg())),
+            ("main+zz", symbol("main", 0)),
+            ("main+99999999999999999999999", symbol("main", u64::MAX)),
+            ("main\t+4", symbol("main", 4)),
+            ("+0x10", Some(Target::Address(16))),
+            ("+1149", Some(Target::Address(1149))),
+            ("+", Some(Target::Address(0))),
         ] {
-            assert_eq!(number(line.as_bytes()), wanted, "{line}");
+            assert_eq!(target(line.as_bytes().trim_ascii_start()), wanted, "{line}");
         }
     }
 }

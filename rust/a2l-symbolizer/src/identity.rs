@@ -4,6 +4,8 @@ use std::ffi::OsStr;
 use std::os::unix::ffi::OsStrExt;
 use std::path::Path;
 
+use a2l::Tools;
+
 use crate::numbers::Spelling;
 
 /// The tool that this program stands for.
@@ -46,6 +48,15 @@ impl Identity {
     /// One of LLVM's two tools.
     pub fn is_llvm(self) -> bool {
         self != Identity::Addr2line
+    }
+
+    /// Whose names are chosen and written.
+    pub fn tools(self) -> Tools {
+        if self.is_llvm() {
+            Tools::Llvm
+        } else {
+            Tools::Gnu
+        }
     }
 
     pub fn protocol(self) -> Protocol {

@@ -35,9 +35,7 @@ fn content(reply: &Reply<'_>) -> (&'static str, Value) {
     }
     match (&reply.answer, reply.request) {
         (_, None) => ("Loc", json!([])),
-        (Answer::Frames(frames), Some(request)) if matches!(request.target, Target::Symbol { .. }) => {
-            ("Loc", frames.iter().map(symbol).collect())
-        }
+        (Answer::Places(frames), _) => ("Loc", frames.iter().map(symbol).collect()),
         (Answer::Frames(frames), _) if frames.is_empty() => ("Symbol", json!([symbol(&Frame::default())])),
         (Answer::Frames(frames), _) => ("Symbol", frames.iter().map(symbol).collect()),
         (Answer::Variable(variable), _) => {

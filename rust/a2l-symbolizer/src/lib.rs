@@ -23,11 +23,13 @@ mod writer;
 // The files that are asked about, and where their debug information is.
 mod debug_files;
 mod image;
+mod name_index;
 mod open_file;
 mod placement;
 mod program;
 mod programs;
 mod sections;
+mod symbol_entries;
 mod symbols;
 
 // Debug information that the library doesn't read.
@@ -47,7 +49,7 @@ pub use names::{Length, Names};
 pub use open_file::{OpenFile, Opener};
 pub use plain::without_controls;
 pub use program::{Program, Sources};
-pub use programs::{Found, Programs};
+pub use programs::{Opened, Programs};
 pub use reply::{Frame, Variable};
 pub use request::Module;
 pub use self_check::self_check;

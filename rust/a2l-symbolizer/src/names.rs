@@ -4,7 +4,7 @@ use std::collections::HashSet;
 use std::ffi::CString;
 use std::fmt::{self, Write};
 
-use a2l::CxxStyle;
+use a2l::Tools;
 use cpp_demangle::{DemangleOptions, Symbol};
 use lru::LruCache;
 
@@ -27,7 +27,7 @@ pub enum Length {
 /// Readable names of functions. Those that were asked for last are kept, since the same functions
 /// are inlined everywhere.
 pub struct Names {
-    style: CxxStyle,
+    tools: Tools,
     length: Length,
     kept: LruCache<Vec<u8>, Option<Vec<u8>>>,
 }
@@ -38,8 +38,8 @@ impl Names {
     const LONGEST_KEPT: usize = 4096;
 
     /// Names in the style of LLVM's tools or of GNU's.
-    pub fn new(style: CxxStyle, length: Length) -> Names {
-        Names { style, length, kept: LruCache::new(Names::KEPT) }
+    pub fn new(tools: Tools, length: Length) -> Names {
+        Names { tools, length, kept: LruCache::new(Names::KEPT) }
     }
 
     /// The name that stands behind a mangled one; the name itself where there is none.
@@ -64,8 +64,8 @@ impl Names {
             return None;
         }
         guarded(|| match self.length {
-            Length::Whole => rust(self.style, name).or_else(|| cxx(self.style, name)),
-            Length::Short => rust(CxxStyle::Gnu, name).or_else(|| short_cxx(name)).map(|name| without_scopes(&name)),
+            Length::Whole => rust(self.tools, name).or_else(|| cxx(self.tools, name)),
+            Length::Short => rust(Tools::Gnu, name).or_else(|| short_cxx(name)).map(|name| without_scopes(&name)),
         })?
     }
 }
@@ -77,17 +77,17 @@ pub fn is_mangled(name: &[u8]) -> bool {
 
 /// A name of Rust. Of its older scheme LLVM's tools know nothing: they take the name for one of C++.
 /// What a compiler has appended (.llvm.123) they write behind the name, and GNU's leave it out.
-fn rust(style: CxxStyle, name: &[u8]) -> Option<Vec<u8>> {
-    let end = match (name, style) {
+fn rust(tools: Tools, name: &[u8]) -> Option<Vec<u8>> {
+    let end = match (name, tools) {
         ([b'_', b'R', ..], _) => name.iter().position(|&byte| byte == b'.').unwrap_or(name.len()),
-        (_, CxxStyle::Gnu) => end_of_hash(name)?,
-        (_, CxxStyle::Llvm) => return None,
+        (_, Tools::Gnu) => end_of_hash(name)?,
+        (_, Tools::Llvm) => return None,
     };
     let (own, appended) = std::str::from_utf8(name).ok()?.split_at_checked(end)?;
     let readable = rustc_demangle::try_demangle(own).ok()?;
     let mut bounded = Bounded::default();
     write!(bounded, "{readable:#}").ok()?;
-    if style == CxxStyle::Llvm && !appended.is_empty() {
+    if tools == Tools::Llvm && !appended.is_empty() {
         write!(bounded, " ({appended})").ok()?;
     }
     Some(bounded.0.into_bytes())
@@ -108,11 +108,11 @@ fn end_of_hash(name: &[u8]) -> Option<usize> {
 
 /// A name of C++. The crate writes it into a bounded text first, unless the name is one of those that
 /// can't stand for a long text: it gets empty packs and conversions wrong.
-fn cxx(style: CxxStyle, name: &[u8]) -> Option<Vec<u8>> {
+fn cxx(tools: Tools, name: &[u8]) -> Option<Vec<u8>> {
     if !is_surely_short(name) {
         bounded_cxx(name, &DemangleOptions::new())?;
     }
-    a2l::demangle_cxx(style, &CString::new(name).ok()?).filter(|readable| readable.len() <= LONGEST)
+    a2l::demangle_cxx(tools, &CString::new(name).ok()?).filter(|readable| readable.len() <= LONGEST)
 }
 
 fn short_cxx(name: &[u8]) -> Option<Vec<u8>> {
@@ -182,14 +182,14 @@ fn without_scopes(name: &[u8]) -> Vec<u8> {
 mod tests {
     use super::*;
 
-    fn readable(style: CxxStyle, length: Length, name: &str) -> Option<String> {
-        let found = Names::new(style, length).demangled(name.as_bytes());
+    fn readable(tools: Tools, length: Length, name: &str) -> Option<String> {
+        let found = Names::new(tools, length).demangled(name.as_bytes());
         found.map(|name| String::from_utf8(name).expect("UTF-8"))
     }
 
     /// What llvm-cxxfilt 19 and c++filt 2.40 write.
     #[test]
-    fn names_of_both_styles() {
+    fn names_of_both() {
         for (name, llvm, gnu) in [
             ("_ZN3lib4peekEPKii", "lib::peek(int const*, int)", "lib::peek(int const*, int)"),
             ("_ZN1BC1IcEEmc", "B::B<char>(unsigned long, char)", "B::B<char>(unsigned long, char)"),
@@ -210,13 +210,13 @@ mod tests {
             ("_RNvC7mycrate4main", "mycrate::main", "mycrate::main"),
             ("_RNvC7mycrate4main.cold.1", "mycrate::main (.cold.1)", "mycrate::main"),
         ] {
-            assert_eq!(readable(CxxStyle::Llvm, Length::Whole, name).as_deref(), Some(llvm));
-            assert_eq!(readable(CxxStyle::Gnu, Length::Whole, name).as_deref(), Some(gnu));
+            assert_eq!(readable(Tools::Llvm, Length::Whole, name).as_deref(), Some(llvm));
+            assert_eq!(readable(Tools::Gnu, Length::Whole, name).as_deref(), Some(gnu));
         }
-        for style in [CxxStyle::Llvm, CxxStyle::Gnu] {
+        for tools in [Tools::Llvm, Tools::Gnu] {
             assert!(["main", "_start", "_Z", "_ZN3foo", "_R"]
                 .iter()
-                .all(|name| Names::new(style, Length::Whole).readable(name.as_bytes()) == name.as_bytes()));
+                .all(|name| Names::new(tools, Length::Whole).readable(name.as_bytes()) == name.as_bytes()));
         }
     }
 
@@ -230,13 +230,13 @@ mod tests {
             ("_ZN4core3fmt5write17h0123456789abcdefE", "write"),
             ("_RNvC7mycrate4main", "main"),
         ] {
-            assert_eq!(readable(CxxStyle::Llvm, Length::Short, name).as_deref(), Some(short));
+            assert_eq!(readable(Tools::Llvm, Length::Short, name).as_deref(), Some(short));
         }
     }
 
     #[test]
     fn kept_names_are_the_same() {
-        let mut names = Names::new(CxxStyle::Llvm, Length::Whole);
+        let mut names = Names::new(Tools::Llvm, Length::Whole);
         for _ in 0..2 {
             assert_eq!(names.readable(b"_Z1fi"), b"f(int)");
             assert_eq!(names.readable(b"_ZN3foo"), b"_ZN3foo");
@@ -249,8 +249,8 @@ mod tests {
         // Each of the parameters has twice the text of the one before.
         let parameters: String = (0..30).map(|n| format!("S{}_", char::from_digit(n, 36).expect("a digit"))).collect();
         let name = format!("_Z1f1AIS_S_E{}", parameters.to_uppercase());
-        for style in [CxxStyle::Llvm, CxxStyle::Gnu] {
-            assert!(readable(style, Length::Whole, &name).is_none_or(|text| text.len() <= LONGEST));
+        for tools in [Tools::Llvm, Tools::Gnu] {
+            assert!(readable(tools, Length::Whole, &name).is_none_or(|text| text.len() <= LONGEST));
         }
     }
 }

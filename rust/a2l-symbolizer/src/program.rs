@@ -2,7 +2,7 @@
 
 use std::path::Path;
 
-use a2l::UnitFrames;
+use a2l::{Tools, UnitFrames};
 use object::Object;
 
 use crate::debug_files::DebugFiles;
@@ -13,7 +13,7 @@ use crate::open_file::OpenFile;
 use crate::placement::{PlacedFile, Placement};
 use crate::reply::{Frame, Variable};
 use crate::sections::{has_debug_info, has_supplement};
-use crate::symbols::{Kind, Symbols};
+use crate::symbols::{Kind, Symbol, Symbols};
 use crate::units::UnitKinds;
 
 /// So many units are kept by the library.
@@ -23,8 +23,8 @@ const CAPACITY: usize = 1024;
 #[derive(Debug, Clone)]
 pub struct Sources {
     pub debug_files: DebugFiles,
-    /// Names come from symbol tables too.
-    pub symbols: bool,
+    /// Names come from symbol tables too, as these tools choose them.
+    pub symbols: Option<Tools>,
     /// The addr2line crate answers where the library doesn't.
     pub fallback: bool,
     /// Paths are those from the folder on in which the compiler ran.
@@ -126,8 +126,8 @@ impl Program {
     /// The functions at an address, innermost first; none where nothing is known.
     pub fn find_frames(&mut self, address: u64, sources: &Sources) -> Vec<Frame> {
         let mut frames = self.frames_of_debug_info(address, sources);
-        if sources.symbols {
-            self.name_outermost(address, &mut frames);
+        if let Some(tools) = sources.symbols {
+            self.name_outermost(address, &mut frames, tools);
         }
         if sources.fallback && frames.iter().any(|frame| frame.name.is_none()) {
             self.name_by_supplement(address, &mut frames, sources);
@@ -216,32 +216,34 @@ impl Program {
         self.fallback.as_ref()?.as_deref()
     }
 
-    /// The outermost function has the name of its symbol where it has none, or a plain one and the
-    /// symbol's is mangled: compilers give functions of unnamed namespaces, local classes and
-    /// lambdas no linkage name.
-    fn name_outermost(&mut self, address: u64, frames: &mut Vec<Frame>) {
+    /// Gives the outermost function the name of its symbol where the tools do so: LLVM's wherever a
+    /// symbol of the file covers the address, GNU's where debug information has a plain name, since
+    /// compilers give functions of C, of unnamed namespaces and local classes no linkage name. So
+    /// what compilers append to names of symbols (.cold, .isra.0) is shown.
+    fn name_outermost(&mut self, address: u64, frames: &mut Vec<Frame>, tools: Tools) {
         let outermost = frames.last().and_then(|frame| frame.name.as_deref());
-        if outermost.is_some_and(is_mangled) {
-            return;
-        }
-        let Some(symbol) = self.symbols(Kind::Functions).find(address) else {
+        let symbols = self.symbols(Kind::Functions, tools);
+        let symbol = match (outermost, tools) {
+            (None, _) => symbols.find(address),
+            (Some(_), Tools::Llvm) => symbols.find_own(address),
+            (Some(name), Tools::Gnu) if is_mangled(name) => None,
+            (Some(_), Tools::Gnu) => symbols.find(address).filter(|symbol| symbol.size > 0),
+        };
+        let Some(symbol) = symbol else {
             return;
         };
-        if outermost.is_some() && !is_mangled(symbol.name) {
-            return;
-        }
         let (name, file, start) = (symbol.name.to_vec(), symbol.file.map(<[u8]>::to_vec), symbol.start);
         let start = Some(self.placement().address(start));
         let frame = frames.pop().unwrap_or_default();
         frames.push(Frame { name: Some(name), path: frame.path.clone().or(file), start, ..frame });
     }
 
-    fn symbols(&mut self, kind: Kind) -> &Symbols {
+    fn symbols(&mut self, kind: Kind, tools: Tools) -> &Symbols {
         let place = match kind {
             Kind::Functions => &mut self.functions,
             Kind::Variables => &mut self.variables,
         };
-        place.get_or_insert_with(|| Symbols::read(&self.file, self.debug.as_ref(), kind))
+        place.get_or_insert_with(|| Symbols::read(&self.file, self.debug.as_ref(), kind, tools))
     }
 
     /// The file has a section of this name, loaded or not.
@@ -251,12 +253,10 @@ impl Program {
 
     /// The variable at an address, or the function there.
     pub fn find_variable(&mut self, address: u64, sources: &Sources) -> Option<Variable> {
-        if !sources.symbols {
-            return None;
-        }
+        let tools = sources.symbols?;
         let kinds = [Kind::Variables, Kind::Functions];
         let mut variable = kinds.into_iter().find_map(|kind| {
-            let symbol = self.symbols(kind).find(address)?;
+            let symbol = self.symbols(kind, tools).find(address)?;
             let path = symbol.file.map(<[u8]>::to_vec);
             Some(Variable { name: symbol.name.to_vec(), start: symbol.start, size: symbol.size, path, line: 0 })
         })?;
@@ -269,17 +269,37 @@ impl Program {
         Some(variable)
     }
 
-    /// The address of what has a name in the symbol table, and so many bytes after it where it is
-    /// that long.
-    pub fn find_symbol(&mut self, name: &[u8], offset: u64, sources: &Sources) -> Option<u64> {
-        if !sources.symbols {
-            return None;
+    /// The addresses of what has a name in the symbol table, each so many bytes after its begin. For
+    /// LLVM's tools all that have the name count, and no offset outside of what has the name; for
+    /// GNU's the first in the table.
+    pub fn find_symbols(&mut self, name: &[u8], offset: u64, sources: &Sources) -> Vec<u64> {
+        let Some(tools) = sources.symbols else {
+            return Vec::new();
+        };
+        let mut found = self.addresses(tools, |symbols| symbols.named(name), offset);
+        if found.is_empty() && tools == Tools::Gnu {
+            found = self.addresses(tools, |symbols| symbols.named_readably(name), offset);
         }
-        let kinds = [Kind::Functions, Kind::Variables];
-        kinds.into_iter().find_map(|kind| {
-            let symbol = self.symbols(kind).named(name)?;
-            Some(if offset < symbol.size { symbol.start + offset } else { symbol.start })
-        })
+        match tools {
+            Tools::Llvm => found.sort_by_key(|&(_, address)| address),
+            Tools::Gnu => found = found.into_iter().min().into_iter().collect(),
+        }
+        found.into_iter().map(|(_, address)| address).collect()
+    }
+
+    /// The places in the table of the symbols that are chosen, and an address in each.
+    fn addresses<F>(&mut self, tools: Tools, choose: F, offset: u64) -> Vec<(u32, u64)>
+    where
+        F: Fn(&Symbols) -> Vec<Symbol<'_>>,
+    {
+        let mut found = Vec::new();
+        for kind in [Kind::Functions, Kind::Variables] {
+            found.extend(choose(self.symbols(kind, tools)).into_iter().map(|symbol| match tools {
+                Tools::Llvm if offset >= symbol.size => (symbol.index, symbol.start),
+                _ => (symbol.index, symbol.start.wrapping_add(offset)),
+            }));
+        }
+        found
     }
 }
 

@@ -23,7 +23,7 @@ impl Programs {
 
     /// A file that is open and still what it was; else it is opened. The text of an error says why
     /// it can't be.
-    pub fn get(&mut self, module: &Module) -> Result<Found<'_>, String> {
+    pub fn get(&mut self, module: &Module) -> Result<Opened<'_>, String> {
         if self.open.get(module).is_none_or(Program::has_changed) {
             self.open.pop(module);
             let program = Program::open(self.open_file(module)?, &self.sources);
@@ -31,7 +31,7 @@ impl Programs {
             self.open.put(module.clone(), program);
         }
         let program = self.open.get_mut(module).expect("it was opened just now");
-        Ok(Found { program, sources: &self.sources })
+        Ok(Opened { program, sources: &self.sources })
     }
 
     fn open_file(&self, module: &Module) -> Result<OpenFile, String> {
@@ -58,7 +58,7 @@ impl Programs {
 }
 
 /// A file that is open.
-pub struct Found<'p> {
+pub struct Opened<'p> {
     pub program: &'p mut Program,
     pub sources: &'p Sources,
 }

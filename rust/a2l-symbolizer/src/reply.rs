@@ -44,6 +44,8 @@ pub struct Variable {
 pub enum Answer {
     /// The functions, innermost first; none where nothing is known.
     Frames(Vec<Frame>),
+    /// A function at each of several addresses; none where nothing is known.
+    Places(Vec<Frame>),
     /// The variable.
     Variable(Option<Variable>),
     /// The variables of the stack frame, of which nothing is known.
@@ -57,6 +59,8 @@ pub struct Reply<'r> {
     pub line: &'r [u8],
     /// What it asks for; none where it has no number.
     pub request: Option<&'r Request>,
+    /// The address that was asked about, by its number or by a name.
+    pub address: Option<u64>,
     /// Why the file can't be asked.
     pub failure: Option<String>,
     pub answer: Answer,

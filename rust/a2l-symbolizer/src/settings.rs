@@ -2,8 +2,6 @@
 
 use std::path::PathBuf;
 
-use a2l::CxxStyle;
-
 use crate::arguments::{Arguments, BuildId, CacheSize, Functions, OutputStyle};
 use crate::conversation::{Conversation, Settings};
 use crate::debug_files::DebugFiles;
@@ -16,7 +14,7 @@ use crate::shape::{Frames, Shape};
 
 /// The conversation that a command line asks for.
 pub fn conversation(identity: Identity, arguments: &Arguments) -> Conversation {
-    Conversation::new(settings(identity, arguments), programs(arguments))
+    Conversation::new(settings(identity, arguments), programs(identity, arguments))
 }
 
 fn settings(identity: Identity, arguments: &Arguments) -> Settings {
@@ -33,7 +31,7 @@ fn settings(identity: Identity, arguments: &Arguments) -> Settings {
         addresses: arguments.addresses,
         pretty: arguments.pretty_print,
         demangles: arguments.demangles(is_symbolizer),
-        style: if identity.is_llvm() { CxxStyle::Llvm } else { CxxStyle::Gnu },
+        tools: identity.tools(),
         basenames: arguments.basenames,
     };
     Settings {
@@ -54,13 +52,13 @@ fn module(identity: Identity, arguments: &Arguments) -> Option<Module> {
     by_build_id.or_else(|| arguments.object.clone().or(usual).map(Module::Path))
 }
 
-fn programs(arguments: &Arguments) -> Programs {
+fn programs(identity: Identity, arguments: &Arguments) -> Programs {
     let size = arguments.cache_size.unwrap_or(CacheSize::USUAL);
     let opener = if arguments.no_mmap { Opener::Read } else { Opener::Map };
     let sources = Sources {
         debug_files: DebugFiles::new(&arguments.debug_folders, !arguments.no_debuginfod, opener)
             .with_package(arguments.dwp.clone()),
-        symbols: arguments.symbols(),
+        symbols: arguments.symbols().then_some(identity.tools()),
         fallback: !arguments.proved,
         relative: arguments.relativenames,
         most: size.bytes,

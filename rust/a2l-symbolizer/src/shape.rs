@@ -2,7 +2,7 @@
 
 use std::borrow::Cow;
 
-use a2l::CxxStyle;
+use a2l::Tools;
 
 use crate::arguments::Functions;
 use crate::names::{Length, Names};
@@ -28,15 +28,15 @@ pub struct Shape {
     pub addresses: bool,
     pub pretty: bool,
     pub demangles: bool,
-    /// Whose style readable names are in.
-    pub style: CxxStyle,
+    /// Whose readable names are shown.
+    pub tools: Tools,
     pub basenames: bool,
 }
 
 impl Shape {
     /// The names that are shown.
     pub fn names(&self) -> Names {
-        Names::new(self.style, if self.functions == Functions::Short { Length::Short } else { Length::Whole })
+        Names::new(self.tools, if self.functions == Functions::Short { Length::Short } else { Length::Whole })
     }
 
     /// The answer as it is written: no name and no path has a control character but tab.
@@ -44,6 +44,9 @@ impl Shape {
         match answer {
             Answer::Frames(frames) => {
                 Answer::Frames(self.chosen(frames).into_iter().map(|frame| self.frame(names, frame)).collect())
+            }
+            Answer::Places(places) => {
+                Answer::Places(places.into_iter().map(|frame| self.frame(names, frame)).collect())
             }
             Answer::Variable(Some(variable)) => {
                 let name = self.name(names, &variable.name);
@@ -55,16 +58,13 @@ impl Shape {
 
     fn chosen(&self, mut frames: Vec<Frame>) -> Vec<Frame> {
         match self.frames {
-            Frames::All => {}
-            Frames::Innermost => frames.truncate(1),
-            Frames::Compiled => {
-                if let Some(Frame { name, start, .. }) = frames.last().cloned() {
-                    frames.truncate(1);
-                    frames[0] = Frame { name, start, ..frames[0].clone() };
-                }
+            Frames::All => frames,
+            Frames::Innermost => {
+                frames.truncate(1);
+                frames
             }
+            Frames::Compiled => compiled(frames).into_iter().collect(),
         }
-        frames
     }
 
     fn frame(&self, names: &mut Names, frame: Frame) -> Frame {
@@ -82,6 +82,13 @@ impl Shape {
     }
 }
 
+/// The function that was compiled, at the place of the innermost one; none where there is none.
+pub fn compiled(frames: Vec<Frame>) -> Option<Frame> {
+    let Frame { name, start, .. } = frames.last().cloned()?;
+    let innermost = frames.into_iter().next()?;
+    Some(Frame { name, start, ..innermost })
+}
+
 /// The last part of a path; the path where it ends with a slash.
 fn basename(path: &[u8]) -> &[u8] {
     path.rsplit(|&byte| byte == b'/').next().filter(|last| !last.is_empty()).unwrap_or(path)
@@ -97,8 +104,8 @@ mod tests {
 
     fn shown(frames: Frames, basenames: bool) -> Vec<Frame> {
         let functions = Functions::Linkage;
-        let style = CxxStyle::Llvm;
-        let shape = Shape { functions, frames, addresses: false, pretty: false, demangles: true, style, basenames };
+        let tools = Tools::Llvm;
+        let shape = Shape { functions, frames, addresses: false, pretty: false, demangles: true, tools, basenames };
         let answer = Answer::Frames(vec![frame("_Z1fi", "/a/b.c", 1), frame("two\nlines", "c\r\x1b/d", 2)]);
         match shape.shown(&mut shape.names(), answer) {
             Answer::Frames(frames) => frames,

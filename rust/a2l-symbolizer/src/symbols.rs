@@ -1,15 +1,14 @@
 //! Names from symbol tables: which function or variable has an address.
 
-use a2l::Part;
-use object::elf::{
-    FileHeader32, FileHeader64, SHF_EXECINSTR, SHT_DYNSYM, SHT_SYMTAB, STB_GLOBAL, STB_LOCAL, STB_WEAK, STT_FILE,
-    STT_FUNC, STT_GNU_IFUNC, STT_NOTYPE, STT_OBJECT,
-};
-use object::read::elf::{FileHeader, SectionHeader, SectionTable, Sym, SymbolTable};
-use object::read::{Error, FileKind};
-use object::Endianness;
+use std::cell::OnceCell;
 
-use crate::placement::{PlacedFile, Placement};
+use a2l::{Part, Tools};
+use object::elf::{SHT_DYNSYM, SHT_SYMTAB};
+
+use crate::name_index::{may_stand_for, without_version, NameIndex};
+use crate::names::{Length, Names};
+use crate::placement::PlacedFile;
+use crate::symbol_entries::{read, Entry};
 
 /// What symbols are looked for.
 #[derive(Debug, Clone, Copy, PartialEq, Eq)]
@@ -19,14 +18,22 @@ pub enum Kind {
 }
 
 /// The symbols of one kind of a program.
-#[derive(Debug)]
-pub struct Symbols(Vec<Table>);
+#[derive(Debug, Default)]
+pub struct Symbols {
+    /// Those of .symtab of the file, else of its .dynsym.
+    own: Option<Table>,
+    /// Those of .symtab of its debug file, where the file has none. That may lack symbols of
+    /// .dynsym.
+    of_debug_file: Option<Table>,
+}
 
 /// The symbols of one table, in order of address.
 #[derive(Debug)]
 struct Table {
     entries: Vec<Entry>,
     names: Option<Part>,
+    /// Made when a name is first looked for.
+    by_name: OnceCell<NameIndex>,
 }
 
 /// A symbol that is found.
@@ -38,72 +45,60 @@ pub struct Symbol<'s> {
     pub start: u64,
     /// The size that the table has; 0 where it has none.
     pub size: u64,
-}
-
-#[derive(Debug)]
-struct Entry {
-    start: u64,
-    /// The address after the last one; until all are known, the end of the section where the symbol
-    /// has no size.
-    end: u64,
-    /// The greatest end of this entry and those before it.
-    reach: u64,
-    /// Where the name begins in the string table, and that of the source file, or 0.
-    name: u32,
-    file: u32,
-    rank: Rank,
-}
-
-/// Of symbols that begin at one address the last one in this order is taken.
-#[derive(Debug, Clone, Copy, PartialEq, Eq, PartialOrd, Ord)]
-struct Rank {
-    typed: bool,
-    sized: bool,
-    binding: Binding,
-}
-
-/// Who sees a symbol, from the fewest on.
-#[derive(Debug, Clone, Copy, PartialEq, Eq, PartialOrd, Ord)]
-enum Binding {
-    Local,
-    Weak,
-    Global,
-}
-
-impl Binding {
-    fn of(number: u8) -> Binding {
-        match number {
-            STB_GLOBAL => Binding::Global,
-            STB_WEAK => Binding::Weak,
-            _ => Binding::Local,
-        }
-    }
+    /// Where in the table it stands.
+    pub index: u32,
 }
 
 impl Symbols {
-    /// Those of .symtab of a file. Where that has none, those of .dynsym and after these those of
-    /// .symtab of its debug file, which may have no symbols that are in .dynsym.
-    pub fn read(file: &PlacedFile, debug: Option<&PlacedFile>, kind: Kind) -> Symbols {
-        let table = |file, table| of_file(file, table, kind).ok().filter(|table| !table.entries.is_empty());
-        if let Some(own) = table(file, SHT_SYMTAB) {
-            return Symbols(vec![own]);
+    /// Those of a file, and of its debug file where it has one, as these tools choose among them.
+    pub fn read(file: &PlacedFile, debug: Option<&PlacedFile>, kind: Kind, tools: Tools) -> Symbols {
+        let table = |file, table| Table::read(file, table, kind, tools).filter(|table| !table.entries.is_empty());
+        match table(file, SHT_SYMTAB) {
+            Some(own) => Symbols { own: Some(own), of_debug_file: None },
+            None => Symbols {
+                own: table(file, SHT_DYNSYM),
+                of_debug_file: debug.and_then(|debug| table(debug, SHT_SYMTAB)),
+            },
         }
-        let dynamic = table(file, SHT_DYNSYM);
-        Symbols(dynamic.into_iter().chain(debug.and_then(|debug| table(debug, SHT_SYMTAB))).collect())
+    }
+
+    fn tables(&self) -> impl Iterator<Item = &Table> {
+        self.own.iter().chain(&self.of_debug_file)
     }
 
     /// The symbol that has an address: of those that hold it, the one that begins last.
     pub fn find(&self, address: u64) -> Option<Symbol<'_>> {
-        self.0.iter().find_map(|table| table.find(address))
+        self.tables().find_map(|table| table.find(address))
     }
 
-    /// The first symbol, by address, that has a name.
-    pub fn named(&self, name: &[u8]) -> Option<Symbol<'_>> {
-        self.0.iter().find_map(|table| table.named(name))
+    /// The symbol in the file's own table that has an address by its size, and begins last of all
+    /// that begin no later.
+    pub fn find_own(&self, address: u64) -> Option<Symbol<'_>> {
+        let own = self.own.as_ref()?;
+        let last = own.entries[..own.entries.partition_point(|entry| entry.start <= address)].last()?;
+        own.symbol(last).filter(|symbol| address - symbol.start < symbol.size)
+    }
+
+    /// All symbols that have a name, in order of address.
+    pub fn named(&self, name: &[u8]) -> Vec<Symbol<'_>> {
+        let mut found = self.tables().map(|table| table.named(name));
+        found.find(|found| !found.is_empty()).unwrap_or_default()
+    }
+
+    /// All symbols whose readable name this is, as GNU's tools write it, in order of address.
+    pub fn named_readably(&self, name: &[u8]) -> Vec<Symbol<'_>> {
+        let mut names = Names::new(Tools::Gnu, Length::Whole);
+        let symbols = self.tables().flat_map(|table| table.entries.iter().filter_map(|entry| table.symbol(entry)));
+        symbols.filter(|symbol| may_stand_for(symbol.name, name) && names.readable(symbol.name) == name).collect()
     }
 }
 
 impl Table {
+    fn read(file: &PlacedFile, table: u32, kind: Kind, tools: Tools) -> Option<Table> {
+        let (entries, names) = read(file, table, kind, tools).ok()?;
+        Some(Table { entries, names, by_name: OnceCell::new() })
+    }
+
     fn find(&self, address: u64) -> Option<Symbol<'_>> {
         let after = self.entries.partition_point(|entry| entry.start <= address);
         let entry = self.entries[..after]
@@ -114,15 +109,20 @@ impl Table {
         self.symbol(entry)
     }
 
-    fn named(&self, name: &[u8]) -> Option<Symbol<'_>> {
-        let entry = self.entries.iter().find(|entry| self.text(entry.name).map(without_version) == Some(name))?;
-        self.symbol(entry)
+    fn named(&self, name: &[u8]) -> Vec<Symbol<'_>> {
+        let Some(names) = &self.names else {
+            return Vec::new();
+        };
+        let index = self.by_name.get_or_init(|| NameIndex::new(names, self.entries.iter().map(|entry| entry.name)));
+        let mut places = index.find(names, name).to_vec();
+        places.sort_unstable();
+        places.iter().filter_map(|&place| self.symbol(&self.entries[place as usize])).collect()
     }
 
     fn symbol(&self, entry: &Entry) -> Option<Symbol<'_>> {
         let (name, file) = (without_version(self.text(entry.name)?), self.text(entry.file));
-        let size = if entry.rank.sized { entry.end - entry.start } else { 0 };
-        Some(Symbol { name, file, start: entry.start, size })
+        let size = if entry.sized { entry.end.saturating_sub(entry.start) } else { 0 };
+        Some(Symbol { name, file, start: entry.start, size, index: entry.index })
     }
 
     /// The text at an offset of the string table; none where it is empty, as it is at offset 0.
@@ -132,144 +132,22 @@ impl Table {
     }
 }
 
-/// A name without the version that linkers append to those of a shared library (name@VERSION,
-/// name@@VERSION).
-fn without_version(name: &[u8]) -> &[u8] {
-    match name.iter().position(|&byte| byte == b'@') {
-        Some(end) if end > 0 => &name[..end],
-        _ => name,
-    }
-}
-
-fn of_file(file: &PlacedFile, table: u32, kind: Kind) -> Result<Table, Error> {
-    match FileKind::parse(&**file.file.file)? {
-        FileKind::Elf32 => of_elf::<FileHeader32<Endianness>>(file, table, kind),
-        FileKind::Elf64 => of_elf::<FileHeader64<Endianness>>(file, table, kind),
-        _ => Ok(Table { entries: Vec::new(), names: None }),
-    }
-}
-
-fn of_elf<Elf: FileHeader<Endian = Endianness>>(file: &PlacedFile, table: u32, kind: Kind) -> Result<Table, Error> {
-    let (placement, file) = (&file.placement, &file.file.file);
-    let data: &[u8] = file;
-    let header = Elf::parse(data)?;
-    let endian = header.endian()?;
-    let sections = header.sections(endian, data)?;
-    let symbols = sections.symbols(endian, data, table)?;
-    let of_kind = OfKind { endian, sections: &sections, symbols: &symbols, placement, kind };
-    let mut entries = of_kind.entries();
-    entries.sort_by_key(|entry| (entry.start, entry.rank, entry.end));
-    end_unsized(&mut entries);
-    set_reach(&mut entries);
-    let names = sections.section(symbols.string_section()).ok().and_then(|section| section.file_range(endian));
-    let names = names.and_then(|(offset, size)| {
-        Part::new(file, usize::try_from(offset).ok()?..usize::try_from(offset.checked_add(size)?).ok()?)
-    });
-    Ok(Table { entries, names })
-}
-
-/// Where the symbols of one kind stand.
-struct OfKind<'s, 'data, Elf: FileHeader> {
-    endian: Endianness,
-    sections: &'s SectionTable<'data, Elf>,
-    symbols: &'s SymbolTable<'data, Elf>,
-    placement: &'s Placement,
-    kind: Kind,
-}
-
-impl<Elf: FileHeader<Endian = Endianness>> OfKind<'_, '_, Elf> {
-    /// The entries of all symbols. The symbols that are local to a source file stand after its
-    /// name.
-    fn entries(&self) -> Vec<Entry> {
-        let (mut entries, mut file) = (Vec::new(), 0);
-        for (index, symbol) in self.symbols.iter().enumerate() {
-            if symbol.st_type() == STT_FILE {
-                file = symbol.st_name(self.endian);
-            }
-            let own_file = if symbol.st_bind() == STB_LOCAL { file } else { 0 };
-            entries.extend(self.entry(index, symbol).map(|entry| Entry { file: own_file, ..entry }));
-        }
-        entries
-    }
-
-    /// The entry of a symbol, where it is of the kind and stands in a section.
-    fn entry(&self, index: usize, symbol: &Elf::Sym) -> Option<Entry> {
-        let typed = match (self.kind, symbol.st_type()) {
-            (Kind::Functions, STT_FUNC | STT_GNU_IFUNC) | (Kind::Variables, STT_OBJECT) => true,
-            (Kind::Functions, STT_NOTYPE) => false,
-            _ => return None,
-        };
-        let index = self.symbols.symbol_section(self.endian, symbol, index).ok()??;
-        let section = self.sections.section(index).ok()?;
-        if !typed && !self.may_be_function(symbol, section) {
-            return None;
-        }
-        let section_size: u64 = section.sh_size(self.endian).into();
-        let section_end = match self.placement.is_relocatable() {
-            true => self.placement.of_symbol(Some(index), section_size),
-            false => section.sh_addr(self.endian).into().saturating_add(section_size),
-        };
-        let start = self.placement.of_symbol(Some(index), symbol.st_value(self.endian).into());
-        let size: u64 = symbol.st_size(self.endian).into();
-        let end = if size > 0 { start.saturating_add(size) } else { section_end };
-        let end = if self.placement.is_relocatable() { end.min(section_end) } else { end };
-        let rank = Rank { typed, sized: size > 0, binding: Binding::of(symbol.st_bind()) };
-        Some(Entry { start, end, reach: end, name: symbol.st_name(self.endian), file: 0, rank })
-    }
-
-    /// A symbol without a type is a label of assembly, if it stands among instructions and marks no
-    /// kind of bytes there ($x, $d) and no place of debug information (.L0).
-    fn may_be_function(&self, symbol: &Elf::Sym, section: &Elf::SectionHeader) -> bool {
-        let flags: u64 = section.sh_flags(self.endian).into();
-        let named = symbol.name(self.endian, self.symbols.strings());
-        flags & u64::from(SHF_EXECINSTR) != 0
-            && named.is_ok_and(|name| !name.is_empty() && name[0] != b'$' && !name.starts_with(b".L"))
-    }
-}
-
-/// A symbol without a size ends where the next one begins, or with its section.
-fn end_unsized(entries: &mut [Entry]) {
-    let (mut start, mut next) = (u64::MAX, u64::MAX);
-    for entry in entries.iter_mut().rev() {
-        if entry.start != start {
-            (start, next) = (entry.start, start);
-        }
-        if !entry.rank.sized {
-            entry.end = entry.end.min(next).max(entry.start);
-        }
-    }
-}
-
-fn set_reach(entries: &mut [Entry]) {
-    let mut reach = 0;
-    for entry in entries {
-        reach = entry.end.max(reach);
-        entry.reach = reach;
-    }
-}
-
 #[cfg(test)]
 mod tests {
     use super::*;
+    use crate::symbol_entries::put_in_order;
 
     use a2l::File;
 
     fn entry(start: u64, size: u64, end: u64, name: u32) -> Entry {
-        bound(STB_GLOBAL, start, size, end, name)
-    }
-
-    fn bound(binding: u8, start: u64, size: u64, end: u64, name: u32) -> Entry {
-        let binding = Binding::of(binding);
         let end = if size > 0 { start + size } else { end };
-        Entry { start, end, reach: end, name, file: 0, rank: Rank { typed: true, sized: size > 0, binding } }
+        Entry { start, end, reach: end, index: name, name, file: 0, typed: true, sized: size > 0 }
     }
 
-    fn symbols(mut entries: Vec<Entry>) -> Symbols {
-        entries.sort_by_key(|entry| (entry.start, entry.rank, entry.end));
-        end_unsized(&mut entries);
-        set_reach(&mut entries);
-        let names = b"\0a\0b\0c\0d\0".to_vec();
-        Symbols(vec![Table { entries, names: Some(Part::whole(File::from(names))) }])
+    fn symbols(tools: Tools, mut entries: Vec<Entry>) -> Symbols {
+        put_in_order(&mut entries, tools);
+        let names = Some(Part::whole(File::from(b"\0a\0b\0c\0d\0".to_vec())));
+        Symbols { own: Some(Table { entries, names, by_name: OnceCell::new() }), of_debug_file: None }
     }
 
     fn name_at(symbols: &Symbols, address: u64) -> Option<&str> {
@@ -277,33 +155,38 @@ mod tests {
     }
 
     #[test]
-    fn the_global_one_is_taken() {
-        let found = symbols(vec![
-            bound(STB_GLOBAL, 16, 8, 99, 1),
-            bound(STB_LOCAL, 16, 8, 99, 3),
-            bound(STB_WEAK, 16, 8, 99, 5),
-        ]);
-        assert_eq!(name_at(&found, 16), Some("a"));
-        assert_eq!((name_at(&found, 15), name_at(&found, 24)), (None, None));
+    fn aliases_are_chosen() {
+        let table = || vec![entry(16, 8, 99, 1), entry(16, 4, 99, 3), entry(16, 8, 99, 5), entry(16, 0, 99, 7)];
+        let (llvm, gnu) = (symbols(Tools::Llvm, table()), symbols(Tools::Gnu, table()));
+        assert_eq!(
+            [15, 16, 19, 20, 24].map(|address| name_at(&llvm, address)),
+            [None, Some("c"), Some("c"), Some("c"), Some("d")]
+        );
+        assert_eq!(
+            [15, 16, 19, 20, 24].map(|address| name_at(&gnu, address)),
+            [None, Some("b"), Some("b"), Some("a"), Some("d")]
+        );
+        assert_eq!(llvm.find_own(24), None);
     }
 
     #[test]
-    fn versions_are_no_part_of_a_name() {
-        for (name, wanted) in [("qsort@@GLIBC_2.2.5", "qsort"), ("a@b", "a"), ("main", "main"), ("@x", "@x")] {
-            assert_eq!(without_version(name.as_bytes()), wanted.as_bytes());
-        }
+    fn names_are_found() {
+        let found = symbols(Tools::Llvm, vec![entry(32, 4, 99, 1), entry(16, 4, 99, 1), entry(48, 4, 99, 3)]);
+        let starts = |name: &[u8]| found.named(name).iter().map(|symbol| symbol.start).collect::<Vec<_>>();
+        assert_eq!((starts(b"a"), starts(b"b"), starts(b"c"), starts(b"")), (vec![16, 32], vec![48], vec![], vec![]));
     }
 
     #[test]
     fn what_has_no_size_ends_with_the_next_one_or_its_section() {
-        let found = symbols(vec![entry(16, 0, 99, 1), entry(32, 0, 99, 3)]);
+        let found = symbols(Tools::Gnu, vec![entry(16, 0, 99, 1), entry(32, 0, 99, 3)]);
         assert_eq!((name_at(&found, 31), name_at(&found, 32)), (Some("a"), Some("b")));
         assert_eq!((name_at(&found, 98), name_at(&found, 99)), (Some("b"), None));
     }
 
     #[test]
     fn the_one_around_is_found() {
-        let found = symbols(vec![entry(0, 100, 0, 1), entry(10, 5, 0, 3), entry(20, 5, 0, 5), entry(200, 8, 0, 7)]);
+        let found =
+            symbols(Tools::Gnu, vec![entry(0, 100, 0, 1), entry(10, 5, 0, 3), entry(20, 5, 0, 5), entry(200, 8, 0, 7)]);
         let names = [5, 12, 17, 22, 99, 100, 201].map(|address| name_at(&found, address));
         assert_eq!(names, [Some("a"), Some("b"), Some("a"), Some("c"), Some("a"), None, Some("d")]);
     }

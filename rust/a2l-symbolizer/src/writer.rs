@@ -30,10 +30,11 @@ impl<'w> Writer<'w> {
     /// nothing.
     pub fn answer(&mut self, answer: &Answer, place: fn(&mut Self, &Frame), unknown: fn(&mut Self)) {
         match answer {
-            Answer::Frames(frames) if frames.is_empty() => unknown(self),
-            Answer::Frames(frames) => {
+            Answer::Frames(frames) | Answer::Places(frames) if frames.is_empty() => unknown(self),
+            Answer::Frames(frames) | Answer::Places(frames) => {
+                let are_inlined = matches!(answer, Answer::Frames(_));
                 for (index, frame) in frames.iter().enumerate() {
-                    self.name(frame, index > 0);
+                    self.name(frame, are_inlined && index > 0);
                     place(self, frame);
                 }
             }

@@ -4,12 +4,12 @@
 use std::ffi::{c_char, c_int, c_void, CStr};
 use std::ptr::null_mut;
 
-/// Whose style a name is written in.
+/// Whose tools are followed, where they differ.
 #[derive(Debug, Clone, Copy, PartialEq, Eq)]
-pub enum CxxStyle {
-    /// `void f<A<int>>()`, `main::'lambda'()`.
+pub enum Tools {
+    /// Their names are like `void f<A<int>>()` and `main::'lambda'()`.
     Llvm,
-    /// `void f<A<int> >()`, `main::{lambda()#1}`.
+    /// Their names are like `void f<A<int> >()` and `main::{lambda()#1}`.
     Gnu,
 }
 
@@ -37,10 +37,10 @@ unsafe extern "C" {
 /// A short name can stand for one that is longer than all memory, and a nested one takes as much
 /// stack: whoever reads names of strangers bounds both first. Where memory runs out, the process
 /// ends.
-pub fn demangle_cxx(style: CxxStyle, name: &CStr) -> Option<Vec<u8>> {
-    match style {
-        CxxStyle::Llvm => of_llvm(name),
-        CxxStyle::Gnu => of_gnu(name),
+pub fn demangle_cxx(tools: Tools, name: &CStr) -> Option<Vec<u8>> {
+    match tools {
+        Tools::Llvm => of_llvm(name),
+        Tools::Gnu => of_gnu(name),
     }
 }
 
@@ -91,20 +91,16 @@ mod tests {
             (c"_ZZ4mainENKUlvE_clEv", "main::'lambda'()::operator()() const", "main::{lambda()#1}::operator()() const"),
             (c"_ZL4fillv.isra.0", "fill() (.isra.0)", "fill() [clone .isra.0]"),
         ] {
-            let found = |style| demangle_cxx(style, name).map(|text| String::from_utf8(text).expect("UTF-8"));
-            assert_eq!(found(CxxStyle::Llvm).as_deref(), Some(llvm), "{name:?}");
-            assert_eq!(found(CxxStyle::Gnu).as_deref(), Some(gnu), "{name:?}");
+            let found = |tools| demangle_cxx(tools, name).map(|text| String::from_utf8(text).expect("UTF-8"));
+            assert_eq!(found(Tools::Llvm).as_deref(), Some(llvm), "{name:?}");
+            assert_eq!(found(Tools::Gnu).as_deref(), Some(gnu), "{name:?}");
         }
     }
 
     #[test]
     fn what_is_no_name_of_cxx() {
         for name in [c"main", c"_ZN3foo", c"_Z", c""] {
-            assert_eq!(
-                (demangle_cxx(CxxStyle::Llvm, name), demangle_cxx(CxxStyle::Gnu, name)),
-                (None, None),
-                "{name:?}"
-            );
+            assert_eq!((demangle_cxx(Tools::Llvm, name), demangle_cxx(Tools::Gnu, name)), (None, None), "{name:?}");
         }
     }
 }

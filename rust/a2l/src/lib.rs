@@ -18,7 +18,7 @@ mod program;
 
 pub use cut_off::end_where_cut_off;
 #[cfg(feature = "cxx-names")]
-pub use cxx_name::{demangle_cxx, CxxStyle};
+pub use cxx_name::{demangle_cxx, Tools};
 pub use file::{File, Part};
 pub use program::{Program, UnitFrames};
 
