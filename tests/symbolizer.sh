@@ -5,7 +5,7 @@
 # says (100,000 without), in lockstep, of which each reply is framed as its kind demands and, where
 # llvm-symbolizer 19 is here, each of 10,000 is its reply to the byte, or differs for a reason that the
 # file bears out (tests/clients/noise.py). The second word is the seed of the lines, a new one without;
-# it is printed. Then what `make install` puts in place, and its removal.
+# it is printed. Then 2,000 damaged relocatable files in both protocols (tests/clients/damaged.py). Then what `make install` puts in place, and its removal.
 . "$(dirname "$0")/programs.sh"
 need_symbolizer
 count=${1:-100000} seed=${2:-$RANDOM}
@@ -27,6 +27,22 @@ if has "the same lines beside llvm-symbolizer" llvm-symbolizer-19; then
         llvm-symbolizer-19 --demangle --inlines > peer.log || { cat peer.log; exit 1; }
     tail -n 1 peer.log
 fi
+
+# Damaged relocatable files, with relocations among what is damaged.
+objects=()
+for flags in "-gdwarf-5 -O2 -ffunction-sections" "-gdwarf-4 -O2" "-m32 -gdwarf-5 -O2" "-gdwarf-5 -O0 -gz=zlib"; do
+    # shellcheck disable=SC2086
+    if gcc -g $flags -c calls.c -o "object${#objects[@]}.o" 2> log; then objects+=("$work/object${#objects[@]}.o"); fi
+done
+if has "damaged objects of RISC-V" clang-19; then
+    clang-19 --target=riscv64-linux-gnu -g -gdwarf-5 -O2 -c other.c -o riscv.o
+    objects+=("$work/riscv.o")
+fi
+python3 "$here/tests/clients/damaged.py" 2000 "$seed" "$symbolizer" "${objects[@]}" > damaged.log || {
+    cat damaged.log
+    exit 1
+}
+tail -n 1 damaged.log
 
 # What is installed speaks as its names say, and its removal leaves nothing.
 make -s -C "$here" install-symbolizer DESTDIR="$work/root" PREFIX=/opt/a2l SYMBOLIZER="$symbolizer" > make.log 2>&1 || {
