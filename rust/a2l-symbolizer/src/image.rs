@@ -2,16 +2,16 @@
 //! it.
 
 use a2l::File;
-use flate2::{Decompress, FlushDecompress, Status};
 use object::elf::{FileHeader64, SectionHeader64, ET_DYN, ET_REL, SHT_PROGBITS, SHT_STRTAB};
 use object::endian::{LittleEndian, U16, U32, U64};
 use object::pod::bytes_of;
 use object::read::elf::FileHeader;
-use object::{CompressedData, CompressionFormat, Object, ObjectSection, Section};
+use object::{Object, ObjectSection, Section};
 
+use crate::compression::{size_of, Packed};
 use crate::placement::Placement;
 use crate::relocated::relocate;
-use crate::sections::{compressed, name_of_debug_section, Error};
+use crate::sections::{name_of_debug_section, Error};
 
 /// The sections that the library reads, without what is before each name.
 const READ: [&[u8]; 8] = [b"info", b"abbrev", b"line", b"line_str", b"str", b"str_offsets", b"addr", b"rnglists"];
@@ -22,12 +22,12 @@ pub fn image(file: &File, placement: &Placement, most: u64) -> Result<File, Erro
     let (header, object) = (FileHeader64::<LittleEndian>::parse(&**file)?, object::File::parse(&**file)?);
     header.endian()?;
     let found = sections_read(&object, placement)?;
-    let size = found.iter().try_fold(0_u64, |size, (_, _, data)| size.checked_add(data.uncompressed_size));
-    let size = size.filter(|&size| size <= most).and_then(|size| usize::try_from(size).ok()).ok_or(Error::TooMany)?;
-    let mut image = Image::new(size)?;
-    for (name, section, data) in &found {
+    let size = size_of(found.iter().map(|&(.., packed)| packed))?;
+    let size = Some(size).filter(|&size| size <= most).and_then(|size| usize::try_from(size).ok());
+    let mut image = Image::new(size.ok_or(Error::TooMany)?)?;
+    for (name, section, packed) in &found {
         let begin = image.bytes.len();
-        image.add(name, data)?;
+        image.add(name, packed)?;
         if placement.is_relocatable() {
             relocate(&object, placement, section, &mut image.bytes[begin..])?;
         }
@@ -36,7 +36,7 @@ pub fn image(file: &File, placement: &Placement, most: u64) -> Result<File, Erro
 }
 
 /// A section that the library reads: what follows `.debug_` in its name, and its bytes.
-type Found<'data, 'file> = (&'static [u8], Section<'data, 'file>, CompressedData<'data>);
+type Found<'data, 'file> = (&'static [u8], Section<'data, 'file>, Packed<'data>);
 
 /// The sections that the library reads, those of one name together.
 fn sections_read<'data, 'file>(
@@ -48,8 +48,8 @@ fn sections_read<'data, 'file>(
         let name = name_of_debug_section(section.name_bytes()?);
         let read = name.and_then(|name| READ.into_iter().find(|&read| read == name));
         if let Some(name) = read {
-            let data = compressed(&section)?;
-            found.push((name, section, data));
+            let packed = Packed::of(object, &section)?;
+            found.push((name, section, packed));
         }
     }
     found.sort_by_key(|&(name, ..)| name);
@@ -82,23 +82,10 @@ impl Image {
     }
 
     /// Adds bytes to the last section where that has this name, else begins the next one.
-    fn add(&mut self, name: &'static [u8], data: &CompressedData<'_>) -> Result<(), Error> {
+    fn add(&mut self, name: &'static [u8], packed: &Packed<'_>) -> Result<(), Error> {
         let begin = self.bytes.len();
-        match data.format {
-            CompressionFormat::None => self.bytes.extend_from_slice(data.data),
-            CompressionFormat::Zlib => {
-                let mut stream = Decompress::new(true);
-                let ended = stream.decompress_vec(data.data, &mut self.bytes, FlushDecompress::Finish);
-                if !matches!(ended, Ok(Status::StreamEnd)) {
-                    return Err(Error::Damaged);
-                }
-            }
-            _ => return Err(Error::Damaged),
-        }
+        packed.append_to(&mut self.bytes)?;
         let size = self.bytes.len() - begin;
-        if size as u64 != data.uncompressed_size {
-            return Err(Error::Damaged);
-        }
         match self.sections.last_mut() {
             Some(section) if self.last == name => {
                 let all = section.sh_size.get(LittleEndian) + size as u64;
@@ -180,19 +167,6 @@ mod tests {
         assert!(matches!(image(&sample(), &Placement::default(), 100), Err(Error::TooMany)));
     }
 
-    #[test]
-    fn claims_are_what_comes_out() {
-        let mut packed = Vec::with_capacity(100);
-        let mut stream = flate2::Compress::new(flate2::Compression::fast(), true);
-        stream.compress_vec(&[7; 50], &mut packed, flate2::FlushCompress::Finish).expect("zlib");
-        for size in 49..52 {
-            let data = CompressedData { format: CompressionFormat::Zlib, data: &packed, uncompressed_size: size };
-            let mut image = Image::new(100).expect("memory");
-            let added = image.add(b"str", &data);
-            assert_eq!(added.is_ok(), size == 50, "{size}: {added:?}");
-        }
-    }
-
     /// A file whose one section claims so many bytes, of 16 that are no zlib.
     fn claiming(size: u64) -> File {
         let claim = CompressionHeader64 {
@@ -203,7 +177,7 @@ mod tests {
         };
         let bytes = [bytes_of(&claim), &[0; 16][..]].concat();
         let mut image = Image::new(bytes.len()).expect("memory");
-        image.add(b"info", &CompressedData::none(&bytes)).expect("bytes that aren't compressed");
+        image.add(b"info", &Packed::whole(&bytes)).expect("bytes that aren't compressed");
         image.sections[1].sh_flags = U64::new(LittleEndian, SHF_COMPRESSED.into());
         let sample = sample();
         image.finish(FileHeader64::<LittleEndian>::parse(&*sample).expect("the sample"))

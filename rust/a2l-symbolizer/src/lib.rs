@@ -21,6 +21,7 @@ mod shape;
 mod writer;
 
 // The files that are asked about, and where their debug information is.
+mod compression;
 mod debug_files;
 mod image;
 mod name_index;

@@ -7,8 +7,9 @@ use std::ops::Range;
 use object::elf::{SHF_ALLOC, SHF_EXECINSTR};
 use object::{Object, ObjectKind, ObjectSection, Section, SectionFlags, SectionIndex};
 
+use crate::compression::Packed;
 use crate::open_file::OpenFile;
-use crate::sections::{compressed, name_of_debug_section};
+use crate::sections::name_of_debug_section;
 
 /// The sections of a file that are loaded. Those of a relocatable file, which all begin at 0 there,
 /// have no address in common.
@@ -111,10 +112,10 @@ impl Placement {
         let sections: Vec<_> = object.sections().collect();
         for section in &sections {
             let name = section.name_bytes().ok().and_then(name_of_debug_section);
-            if let (Some(name), Ok(data)) = (name, compressed(section)) {
+            if let (Some(name), Ok(packed)) = (name, Packed::of(object, section)) {
                 let size = sizes.entry(name).or_default();
                 set(section.index(), *size);
-                *size = size.saturating_add(data.uncompressed_size);
+                *size = size.saturating_add(packed.size);
             }
         }
         Placement { loaded, begins: Some(begins) }

@@ -10,8 +10,9 @@ use object::{
     Architecture, Object, ObjectSection, ObjectSymbol, Relocation, RelocationKind, RelocationTarget, Section,
 };
 
+use crate::compression::{size_of, Packed};
 use crate::placement::Placement;
-use crate::sections::{decompressed, name_of_debug_section, Error};
+use crate::sections::{name_of_debug_section, Error};
 
 /// What a relocation does with the number in its place.
 #[derive(Debug, Clone, Copy, PartialEq, Eq)]
@@ -35,14 +36,20 @@ const R_RISCV_SUB_ULEB128: u32 = 61;
 /// The sections of a relocatable file that have a name, one after the other, as a linker would make
 /// one of them; empty where the file has none.
 pub fn relocated(object: &object::File<'_>, placement: &Placement, name: &str) -> Result<Part, Error> {
-    let mut bytes = Vec::new();
+    let mut found = Vec::new();
     let wanted = name_of_debug_section(name.as_bytes());
     for section in object.sections() {
         if wanted.is_some() && name_of_debug_section(section.name_bytes()?) == wanted {
-            let begin = bytes.len();
-            bytes.extend_from_slice(&decompressed(&section)?);
-            relocate(object, placement, &section, &mut bytes[begin..])?;
+            let packed = Packed::of(object, &section)?;
+            found.push((section, packed));
         }
+    }
+    size_of(found.iter().map(|&(_, packed)| packed))?;
+    let mut bytes = Vec::new();
+    for (section, packed) in &found {
+        let begin = bytes.len();
+        packed.append_to(&mut bytes)?;
+        relocate(object, placement, section, &mut bytes[begin..])?;
     }
     Ok(Part::whole(File::from(bytes)))
 }
