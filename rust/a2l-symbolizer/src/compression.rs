@@ -1,5 +1,6 @@
 //! Sections as they stand in a file: whole, or compressed by zlib or zstd.
 
+use a2l::File;
 use flate2::{Decompress, FlushDecompress, Status};
 use object::elf::{CompressionHeader32, CompressionHeader64, ELFCOMPRESS_ZLIB, SHF_COMPRESSED};
 use object::pod::{from_bytes, Pod};
@@ -104,8 +105,9 @@ impl<'data> Packed<'data> {
     }
 }
 
-/// How many bytes sections have when they are unpacked, where they claim no more than they may.
-pub fn size_of<'data>(sections: impl IntoIterator<Item = Packed<'data>>) -> Result<u64, Error> {
+/// How many bytes sections of a file have when they are unpacked, where they claim no more than they
+/// may, and have no more than the file has.
+pub fn size_of<'data>(file: &File, sections: impl IntoIterator<Item = Packed<'data>>) -> Result<u64, Error> {
     let (mut size, mut bytes) = (0_u64, 0_u64);
     for section in sections {
         size = size.checked_add(section.size).ok_or(Error::TooLong)?;
@@ -113,6 +115,8 @@ pub fn size_of<'data>(sections: impl IntoIterator<Item = Packed<'data>>) -> Resu
     }
     if size.saturating_sub(FREE) / MOST > bytes {
         Err(Error::TooLong)
+    } else if bytes > file.len() as u64 {
+        Err(Error::TooMany)
     } else {
         Ok(size)
     }
@@ -160,9 +164,11 @@ mod tests {
     fn claims_are_bounded() {
         let claiming = |size| Packed { form: Form::Zstd, bytes: &[0; 1000], size };
         let most = FREE + 1000 * MOST;
-        assert_eq!(size_of([claiming(most)]).ok(), Some(most));
+        let file = File::from(vec![0; 2000]);
+        assert_eq!(size_of(&file, [claiming(most)]).ok(), Some(most));
+        assert!(matches!(size_of(&file, [claiming(1000); 3]), Err(Error::TooMany)));
         for sections in [&[claiming(most + MOST)][..], &[claiming(most); 2], &[claiming(u64::MAX); 2]] {
-            assert!(matches!(size_of(sections.iter().copied()), Err(Error::TooLong)));
+            assert!(matches!(size_of(&file, sections.iter().copied()), Err(Error::TooLong)));
         }
     }
 }

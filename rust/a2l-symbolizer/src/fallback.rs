@@ -138,7 +138,7 @@ impl Fallback {
 /// The sections of a file, as gimli takes them.
 fn dwarf(file: &Arc<File>, object: &object::File<'_>, placement: &Placement) -> Result<Dwarf<Reader>, Error> {
     Dwarf::load(|id| match placement.is_relocatable() {
-        true => Ok(reader(object, relocated(object, placement, id.name())?)),
+        true => Ok(reader(object, relocated(file, object, placement, id.name())?)),
         false => section_named(file, object, Some(id.name())),
     })
 }

@@ -10,7 +10,7 @@ use object::{Object, ObjectSection, Section};
 
 use crate::compression::{size_of, Packed};
 use crate::placement::Placement;
-use crate::relocated::relocate;
+use crate::relocated::Relocations;
 use crate::sections::{name_of_debug_section, Error};
 
 /// The sections that the library reads, without what is before each name.
@@ -22,14 +22,15 @@ pub fn image(file: &File, placement: &Placement, most: u64) -> Result<File, Erro
     let (header, object) = (FileHeader64::<LittleEndian>::parse(&**file)?, object::File::parse(&**file)?);
     header.endian()?;
     let found = sections_read(&object, placement)?;
-    let size = size_of(found.iter().map(|&(.., packed)| packed))?;
+    let size = size_of(file, found.iter().map(|&(.., packed)| packed))?;
     let size = Some(size).filter(|&size| size <= most).and_then(|size| usize::try_from(size).ok());
     let mut image = Image::new(size.ok_or(Error::TooMany)?)?;
+    let mut relocations = Relocations::new(file, &object, placement);
     for (name, section, packed) in &found {
         let begin = image.bytes.len();
         image.add(name, packed)?;
         if placement.is_relocatable() {
-            relocate(&object, placement, section, &mut image.bytes[begin..])?;
+            relocations.apply(section, &mut image.bytes[begin..])?;
         }
     }
     Ok(image.finish(header))

@@ -33,9 +33,21 @@ enum Form {
 const R_RISCV_SET_ULEB128: u32 = 60;
 const R_RISCV_SUB_ULEB128: u32 = 61;
 
+/// The relocations of a file.
+pub struct Relocations<'f, 'data> {
+    object: &'f object::File<'data>,
+    placement: &'f Placement,
+    /// So many of them may still come: sections of relocations may have their bytes in common, and a
+    /// file isn't read a thousand times.
+    left: usize,
+}
+
+/// A relocation takes at least so many bytes.
+const SHORTEST: usize = 8;
+
 /// The sections of a relocatable file that have a name, one after the other, as a linker would make
 /// one of them; empty where the file has none.
-pub fn relocated(object: &object::File<'_>, placement: &Placement, name: &str) -> Result<Part, Error> {
+pub fn relocated(file: &File, object: &object::File<'_>, placement: &Placement, name: &str) -> Result<Part, Error> {
     let mut found = Vec::new();
     let wanted = name_of_debug_section(name.as_bytes());
     for section in object.sections() {
@@ -44,44 +56,49 @@ pub fn relocated(object: &object::File<'_>, placement: &Placement, name: &str) -
             found.push((section, packed));
         }
     }
-    size_of(found.iter().map(|&(_, packed)| packed))?;
-    let mut bytes = Vec::new();
+    let size = size_of(file, found.iter().map(|&(_, packed)| packed))?;
+    let (mut bytes, mut relocations) = (Vec::new(), Relocations::new(file, object, placement));
+    bytes.try_reserve_exact(size as usize).map_err(|_| Error::TooMany)?;
     for (section, packed) in &found {
         let begin = bytes.len();
         packed.append_to(&mut bytes)?;
-        relocate(object, placement, section, &mut bytes[begin..])?;
+        relocations.apply(section, &mut bytes[begin..])?;
     }
     Ok(Part::whole(File::from(bytes)))
 }
 
-/// Changes the bytes of a section as its relocations say. One outside of the section changes
-/// nothing.
-pub fn relocate(
-    object: &object::File<'_>,
-    placement: &Placement,
-    section: &Section<'_, '_>,
-    bytes: &mut [u8],
-) -> Result<(), Error> {
-    let (architecture, is_little) = (object.architecture(), object.is_little_endian());
-    for (offset, relocation) in section.relocations() {
-        let Some((change, form)) = meaning(architecture, &relocation)? else {
-            continue;
-        };
-        let value = target(object, placement, &relocation).wrapping_add(relocation.addend() as u64);
-        let place = usize::try_from(offset).ok().and_then(|offset| bytes.get_mut(offset..));
-        place.and_then(|place| apply(place, change, form, value, is_little));
+impl<'f, 'data> Relocations<'f, 'data> {
+    /// Those of a relocatable file.
+    pub fn new(file: &File, object: &'f object::File<'data>, placement: &'f Placement) -> Relocations<'f, 'data> {
+        Relocations { object, placement, left: file.len() / SHORTEST }
     }
-    Ok(())
-}
 
-/// The place of the symbol of a relocation.
-fn target(object: &object::File<'_>, placement: &Placement, relocation: &Relocation) -> u64 {
-    match relocation.target() {
-        RelocationTarget::Symbol(index) => object
-            .symbol_by_index(index)
-            .map_or(0, |symbol| placement.of_symbol(symbol.section_index(), symbol.address())),
-        RelocationTarget::Section(index) => placement.of_symbol(Some(index), 0),
-        _ => 0,
+    /// Changes the bytes of a section as its relocations say. One outside of the section changes
+    /// nothing.
+    pub fn apply(&mut self, section: &Section<'_, '_>, bytes: &mut [u8]) -> Result<(), Error> {
+        let (architecture, is_little) = (self.object.architecture(), self.object.is_little_endian());
+        for (offset, relocation) in section.relocations() {
+            self.left = self.left.checked_sub(1).ok_or(Error::TooMany)?;
+            let Some((change, form)) = meaning(architecture, &relocation)? else {
+                continue;
+            };
+            let value = self.target(&relocation).wrapping_add(relocation.addend() as u64);
+            let place = usize::try_from(offset).ok().and_then(|offset| bytes.get_mut(offset..));
+            place.and_then(|place| apply(place, change, form, value, is_little));
+        }
+        Ok(())
+    }
+
+    /// The place of the symbol of a relocation.
+    fn target(&self, relocation: &Relocation) -> u64 {
+        match relocation.target() {
+            RelocationTarget::Symbol(index) => self
+                .object
+                .symbol_by_index(index)
+                .map_or(0, |symbol| self.placement.of_symbol(symbol.section_index(), symbol.address())),
+            RelocationTarget::Section(index) => self.placement.of_symbol(Some(index), 0),
+            _ => 0,
+        }
     }
 }
 
@@ -166,38 +183,4 @@ fn apply_leb128(bytes: &mut [u8], changed: impl FnOnce(u64) -> u64) -> Option<()
 }
 
 #[cfg(test)]
-mod tests {
-    use super::*;
-
-    fn changed(bytes: &[u8], change: Change, form: Form, value: u64, is_little: bool) -> Vec<u8> {
-        let mut bytes = bytes.to_vec();
-        apply(&mut bytes, change, form, value, is_little).expect("a number that is all there");
-        bytes
-    }
-
-    #[test]
-    fn numbers_of_bytes() {
-        assert_eq!(changed(&[9; 5], Change::Set, Form::Bytes(4), 0x0102_0304, true), [4, 3, 2, 1, 9]);
-        assert_eq!(changed(&[9; 5], Change::Set, Form::Bytes(4), 0x0102_0304, false), [1, 2, 3, 4, 9]);
-        assert_eq!(changed(&[0, 1], Change::Add, Form::Bytes(2), 0xff, false), [1, 0]);
-        assert_eq!(changed(&[0, 1], Change::Subtract, Form::Bytes(2), 1, true), [0xff, 0]);
-        assert_eq!(changed(&[2], Change::Subtract, Form::Bytes(1), 3, true), [0xff]);
-    }
-
-    #[test]
-    fn leb128_keeps_its_length() {
-        assert_eq!(changed(&[0x80, 0x80, 0, 7], Change::Set, Form::Leb128, 300, true), [0xac, 0x82, 0, 7]);
-        assert_eq!(changed(&[0xac, 0x82, 0], Change::Subtract, Form::Leb128, 299, true), [0x81, 0x80, 0]);
-    }
-
-    #[test]
-    fn numbers_that_are_cut_off_stay() {
-        for (bytes, form) in
-            [(&[1, 2, 3][..], Form::Bytes(4)), (&[0x80, 0x81], Form::Leb128), (&[0xff; 12], Form::Leb128)]
-        {
-            let mut left = bytes.to_vec();
-            assert_eq!(apply(&mut left, Change::Add, form, 5, true), None);
-            assert_eq!(left, bytes);
-        }
-    }
-}
+mod tests;

@@ -15,7 +15,7 @@ pub enum Error {
     Dwarf(gimli::Error),
     /// Compressed sections claim far more bytes than they have.
     TooLong,
-    /// The sections take more bytes than are allowed.
+    /// The sections take more bytes than are allowed or, with their relocations, than the file has.
     TooMany,
     /// A relocation of debug information is of a kind that isn't known.
     Relocation,
@@ -31,7 +31,7 @@ impl fmt::Display for Error {
             Error::TooLong => write!(f, "a compressed section claims far more bytes than it has"),
             Error::Relocation => write!(f, "a relocation of debug information is of a kind that isn't known"),
             Error::Damaged => write!(f, "a compressed section is damaged, or neither of zlib nor of zstd"),
-            Error::TooMany => write!(f, "the sections take more memory than is allowed"),
+            Error::TooMany => write!(f, "the sections take more memory than is allowed, or than the file has bytes"),
         }
     }
 }
@@ -76,7 +76,7 @@ pub fn part(file: &Arc<File>, object: &object::File<'_>, name: &str) -> Result<P
     if let Some(part) = range.and_then(|range| Part::new(file, range)) {
         return Ok(part);
     }
-    size_of([packed])?;
+    size_of(file, [packed])?;
     let mut bytes = Vec::new();
     packed.append_to(&mut bytes)?;
     Ok(Part::whole(File::from(bytes)))
