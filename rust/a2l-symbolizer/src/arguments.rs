@@ -31,17 +31,6 @@ pub enum OutputStyle {
     Json,
 }
 
-/// How much of files stays open.
-#[derive(Debug, Clone, Copy, PartialEq, Eq)]
-pub struct CacheSize {
-    pub files: usize,
-    pub bytes: u64,
-}
-
-impl CacheSize {
-    pub const USUAL: CacheSize = CacheSize { files: 16, bytes: 4 << 30 };
-}
-
 /// How a value is shown that may be left out.
 const OPTIONAL: &str = "WHICH";
 
@@ -93,6 +82,9 @@ pub struct Arguments {
     /// Addresses count from the begin of this section
     #[arg(short = 'j', long, value_name = "NAME")]
     pub section: Option<String>,
+    /// The format of the file, by its name in GNU's tools
+    #[arg(short = 'b', long, value_name = "FORMAT")]
+    pub target: Option<String>,
     /// How replies are written
     #[arg(long, value_name = "STYLE", ignore_case = true)]
     pub output_style: Option<OutputStyle>,
@@ -119,12 +111,24 @@ pub struct Arguments {
     /// Reads files, and doesn't map them
     #[arg(long)]
     pub no_mmap: bool,
-    /// Keeps so many files open, of so many bytes together: FILES or FILES,BYTES
-    #[arg(long, value_name = "SIZE", value_parser = cache_size)]
-    pub cache_size: Option<CacheSize>,
-    /// Reports on standard error who answers for each file, and why one can't be read
+    /// Keeps files open of so many bytes together, which may end in K, M or G
+    #[arg(long, value_name = "BYTES", default_value = "4G", value_parser = bytes_of)]
+    pub cache_size: u64,
+    /// Keeps so many files open
+    #[arg(long, value_name = "FILES", default_value_t = 16)]
+    pub cache_files: usize,
+    /// Shows what is known of each frame on lines of their own
     #[arg(long)]
     pub verbose: bool,
+    /// Shows so many lines of the source around each place
+    #[arg(long, value_name = "LINES", default_value_t = 0)]
+    pub print_source_context_lines: usize,
+    /// Shows the line before, where an address has none
+    #[arg(long)]
+    pub skip_line_zero: bool,
+    /// Reports on standard error who answers for each file, and why one can't be read
+    #[arg(long)]
+    pub explain: bool,
     /// Asks 1,000 addresses of the file through both protocols, and compares with the library's
     /// answers
     #[arg(long)]
@@ -163,8 +167,6 @@ struct Ignored {
     debuginfod: bool,
     #[arg(long, hide = true)]
     disable_gsym: bool,
-    #[arg(short = 'b', long, hide = true)]
-    target: Option<String>,
     #[arg(short = 'R', long, hide = true)]
     recurse_limit: bool,
     #[arg(short = 'r', long, hide = true)]
@@ -181,13 +183,6 @@ fn build_id(word: &str) -> Result<BuildId, String> {
 
 fn number_of_c(word: &str) -> Result<u64, String> {
     number(Spelling::OfC, word.as_bytes()).ok_or_else(|| "no number of 64 bits".to_owned())
-}
-
-fn cache_size(word: &str) -> Result<CacheSize, String> {
-    let (files, bytes) = word.split_once(',').map_or((word, None), |(files, bytes)| (files, Some(bytes)));
-    let files = files.parse::<usize>().map_err(|why| why.to_string())?.max(1);
-    let bytes = bytes.map_or(Ok(CacheSize::USUAL.bytes), bytes_of)?;
-    Ok(CacheSize { files, bytes })
 }
 
 /// A number of bytes, which may end in K, M or G.
@@ -210,11 +205,15 @@ impl Arguments {
         Arguments::try_parse_from(std::iter::once(name).chain(spelled))
     }
 
-    /// The line of an error of the command line, in the words of LLVM's tools.
-    pub fn refusal(why: &clap::Error) -> String {
+    /// The line of an error of the command line, in the words of the tool.
+    pub fn refusal(identity: Identity, why: &clap::Error) -> String {
         match (why.kind(), why.context().next()) {
             (ErrorKind::UnknownArgument, Some((_, ContextValue::String(word)))) => {
-                format!("unknown argument '{word}'")
+                match word.strip_prefix('-').filter(|_| !identity.is_llvm()) {
+                    Some(long) if long.starts_with('-') => format!("unrecognized option '{word}'"),
+                    Some(letter) => format!("invalid option -- '{letter}'"),
+                    None => format!("unknown argument '{word}'"),
+                }
             }
             _ => why.to_string().lines().next().unwrap_or_default().trim_start_matches("error: ").to_owned(),
         }
@@ -282,9 +281,9 @@ mod tests {
         Arguments::parse_for(identity, &words).expect("arguments that are accepted")
     }
 
-    fn refused(words: &[&str]) -> String {
+    fn refused(identity: Identity, words: &[&str]) -> String {
         let words: Vec<OsString> = words.iter().map(OsString::from).collect();
-        Arguments::refusal(&Arguments::parse_for(Identity::LlvmSymbolizer, &words).expect_err("a refusal"))
+        Arguments::refusal(identity, &Arguments::parse_for(identity, &words).expect_err("a refusal"))
     }
 
     #[test]
@@ -347,16 +346,19 @@ mod tests {
 
     #[test]
     fn refusals_name_what_is_refused() {
-        assert_eq!(refused(&["--badflag"]), "unknown argument '--badflag'");
-        assert_eq!(refused(&["-Z"]), "unknown argument '-Z'");
-        assert!(refused(&["--output-style=XML"]).contains("XML"));
-        assert!(refused(&["--adjust-vma=x"]).contains("--adjust-vma"));
+        let llvm = |word| refused(Identity::LlvmSymbolizer, &[word]);
+        assert_eq!(llvm("--badflag"), "unknown argument '--badflag'");
+        assert_eq!(llvm("-Z"), "unknown argument '-Z'");
+        assert!(llvm("--output-style=XML").contains("XML") && llvm("--adjust-vma=x").contains("--adjust-vma"));
+        assert_eq!(refused(Identity::Addr2line, &["--badflag"]), "unrecognized option '--badflag'");
+        assert_eq!(refused(Identity::Addr2line, &["-Z"]), "invalid option -- 'Z'");
     }
 
     #[test]
     fn sizes_of_the_cache() {
-        assert_eq!(cache_size("3"), Ok(CacheSize { files: 3, bytes: 4 << 30 }));
-        assert_eq!(cache_size("0,2M"), Ok(CacheSize { files: 1, bytes: 2 << 20 }));
-        assert!(cache_size("3,").is_err() && cache_size("x").is_err() && cache_size("1,99999999999G").is_err());
+        for (word, bytes) in [("0", 0), ("1024", 1024), ("2M", 2 << 20), ("4g", 4 << 30)] {
+            assert_eq!(bytes_of(word), Ok(bytes));
+        }
+        assert!(["", "K", "x", "-1", "99999999999G"].iter().all(|word| bytes_of(word).is_err()));
     }
 }

@@ -28,7 +28,17 @@ pub struct Settings {
     pub adjust: u64,
     /// Addresses count from the begin of this section.
     pub section: Option<Vec<u8>>,
-    pub verbose: bool,
+    /// Who answers for each file is reported.
+    pub explains: bool,
+}
+
+/// Why the file of the command line can't be opened.
+#[derive(Debug, Clone, PartialEq, Eq)]
+pub enum Unopened {
+    /// A line for standard error.
+    Line(String),
+    /// An object for the output.
+    Object(String),
 }
 
 /// A conversation with its open files.
@@ -56,12 +66,17 @@ impl Conversation {
         self.failed
     }
 
-    /// Opens the file of the command line, where it has one. The text of an error says why it can't be.
-    pub fn open_module(&mut self) -> Result<(), String> {
+    /// Opens the file of the command line, where it has one. The text of an error says why it can't
+    /// be, in JSON's style as an object.
+    pub fn open_module(&mut self) -> Result<(), Unopened> {
         let Some(module) = &self.settings.module else {
             return Ok(());
         };
-        self.programs.get(module).map(drop).map_err(|why| format!("'{}': {why}", module_name(module)))
+        let opened = self.programs.get(module).map(drop);
+        opened.map_err(|why| match self.settings.style {
+            OutputStyle::Json => Unopened::Object(json::unopened(module, &why).to_string()),
+            _ => Unopened::Line(format!("'{}': {why}", module_name(module))),
+        })
     }
 
     /// Looks for the section of the command line, where it has one and the file can be opened. The
@@ -102,8 +117,10 @@ impl Conversation {
     pub fn reply_to_all(&mut self, lines: &[&[u8]], mut output: impl Write) -> io::Result<()> {
         let mut replies = Vec::new();
         if self.settings.style == OutputStyle::Json {
-            let objects: Vec<_> =
-                lines.iter().map(|line| self.with_reply(line, |_, reply| json::object(reply))).collect();
+            let objects: Vec<_> = lines
+                .iter()
+                .map(|line| self.with_reply(line, |settings, reply| json::object(&settings.shape, reply)))
+                .collect();
             json::write(&serde_json::Value::from(objects), &mut replies);
         } else {
             lines.iter().for_each(|line| self.reply(line, &mut replies));
@@ -118,7 +135,7 @@ impl Conversation {
             (OutputStyle::Llvm, _) => llvm::write(&settings.shape, reply, out),
             (OutputStyle::Gnu, Identity::Addr2line) => gnu::write(&settings.shape, reply, out),
             (OutputStyle::Gnu, _) => llvm::write_short(&settings.shape, reply, out),
-            (OutputStyle::Json, _) => json::write(&json::object(reply), out),
+            (OutputStyle::Json, _) => json::write(&json::object(&settings.shape, reply), out),
         });
     }
 
@@ -142,13 +159,13 @@ impl Conversation {
             Ok(opened) => opened,
             Err(why) => {
                 self.failed |= self.settings.module.is_some();
-                if !matches!(self.settings.identity.protocol(), Protocol::Llvm(_)) || self.settings.verbose {
+                if !matches!(self.settings.identity.protocol(), Protocol::Llvm(_)) || self.settings.explains {
                     self.report(&request.module, &why);
                 }
                 return Err(why);
             }
         };
-        let who = self.settings.verbose.then(|| answerer(&opened));
+        let who = self.settings.explains.then(|| answerer(&opened));
         let found = find(&self.settings, &mut opened, request);
         let unread =
             opened.program.unread_package().map(|(package, why)| (Module::Path(package.to_owned()), why.to_owned()));

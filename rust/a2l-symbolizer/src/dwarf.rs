@@ -19,9 +19,9 @@ use gimli::{
     Unit, UnitHeader, UnitOffset, UnitType,
 };
 
-use crate::reply::Frame;
+use crate::reply::{Frame, Start};
 use functions::Functions;
-use lines::{place, Lines};
+use lines::{path, place, Lines};
 use owners::{Claim, Owner, Owners};
 use ranges::{Bounds, Lists};
 
@@ -153,17 +153,34 @@ impl<'u> UnitRef<'u> {
 
     /// Where the code at an address comes from, without a function.
     pub fn place(self, address: u64) -> Option<Frame> {
+        self.lines()?.place(self.dwarf(), self.read()?, address)
+    }
+
+    /// What tells code of one place apart at an address.
+    pub fn discriminator(self, address: u64) -> Option<u64> {
+        self.lines()?.discriminator(address)
+    }
+
+    /// The last place before an address that has a line, in the address's sequence of rows.
+    pub fn place_before(self, address: u64) -> Option<Frame> {
+        self.lines()?.place_before(self.dwarf(), self.read()?, address)
+    }
+
+    fn lines(self) -> Option<&'u Lines> {
         let read = self.read()?;
-        let lines = self.unit.lines.get_or_init(|| Lines::read(read).ok());
-        lines.as_ref()?.place(self.dwarf(), read, address)
+        self.unit.lines.get_or_init(|| Lines::read(read).ok()).as_ref()
     }
 
     /// The functions at an address, the outermost one first. A split unit has the addresses and the
     /// line table of its skeleton.
     pub fn functions(self, address: u64, skeleton: Option<UnitRef<'_>>) -> Vec<Function> {
-        let functions = self.unit.functions.get_or_init(|| self.read_functions(skeleton));
-        let entries = functions.iter().flat_map(|functions| functions.at(address));
+        let entries = self.entries(address, skeleton);
         entries.map(|entry| self.function(entry, skeleton.unwrap_or(self)).unwrap_or_default()).collect()
+    }
+
+    fn entries(self, address: u64, skeleton: Option<UnitRef<'_>>) -> impl Iterator<Item = UnitOffset> + 'u {
+        let functions = self.unit.functions.get_or_init(|| self.read_functions(skeleton));
+        functions.iter().flat_map(move |functions| functions.at(address))
     }
 
     fn read_functions(self, skeleton: Option<UnitRef<'_>>) -> Option<Functions> {
@@ -187,14 +204,40 @@ impl<'u> UnitRef<'u> {
         Some(Function { name, call })
     }
 
+    /// Where the functions at an address begin, the outermost one first. A split unit has the
+    /// addresses and the line table of its skeleton.
+    pub fn starts(self, address: u64, skeleton: Option<UnitRef<'_>>) -> Vec<Start> {
+        let entries = self.entries(address, skeleton);
+        entries.map(|entry| self.start(entry, skeleton.unwrap_or(self)).unwrap_or_default()).collect()
+    }
+
+    /// Where a function begins: the first address of its range, and its declaration.
+    fn start(self, entry: UnitOffset, lines: UnitRef<'_>) -> Option<Start> {
+        let low = self.read()?.entry(entry).ok()?.attr_value(gimli::DW_AT_low_pc).ok()?;
+        let address = low.and_then(|low| lines.dwarf().attr_address(lines.read()?, low).ok()?);
+        let number = |name| self.first(entry, |_, _, entry| entry.attr(name).ok()??.udata_value());
+        let file = number(gimli::DW_AT_decl_file);
+        let path = file.and_then(|file| path(lines.dwarf(), lines.read()?, file));
+        Some(Start { address, path, line: number(gimli::DW_AT_decl_line).unwrap_or(0) })
+    }
+
     /// The first name among those of an entry and of the entries to which references lead from it.
     fn name(self, entry: UnitOffset) -> Option<Vec<u8>> {
+        self.first(entry, own_name)
+    }
+
+    /// The first thing that is found in an entry or in those to which references lead from it.
+    fn first<T>(
+        self,
+        entry: UnitOffset,
+        find: impl Fn(&Dwarf<Reader>, &Unit<Reader>, &Entry<'_>) -> Option<T>,
+    ) -> Option<T> {
         let (mut unit, mut entry) = (self, entry);
         for _ in 0..=MOST_REFERENCES {
             let read = unit.read()?;
             let found = read.entry(entry).ok()?;
-            if let Some(name) = own_name(unit.dwarf(), read, &found) {
-                return Some(name);
+            if let Some(found) = find(unit.dwarf(), read, &found) {
+                return Some(found);
             }
             (unit, entry) = match reference(&found)? {
                 AttributeValue::UnitRef(entry) => (unit, entry),

@@ -19,7 +19,7 @@ use crate::guard::guarded;
 use crate::open_file::OpenFile;
 use crate::placement::{PlacedFile, Placement};
 use crate::relocated::relocated;
-use crate::reply::Frame;
+use crate::reply::{Frame, Start};
 use crate::sections::{part, Error};
 use crate::variables::{Declaration, Variables};
 
@@ -72,6 +72,25 @@ impl Fallback {
         })?
     }
 
+    /// Where the functions at an address begin, innermost first, and what tells code of one place
+    /// apart there.
+    pub fn find_starts(&self, address: u64) -> Option<(Vec<Start>, u64)> {
+        guarded(|| {
+            let unit = self.unit(address)?;
+            let mut starts = self.split.starts(unit, address);
+            if starts.is_empty() {
+                starts = unit.starts(address, None);
+            }
+            starts.reverse();
+            Some((starts, unit.discriminator(address).unwrap_or(0)))
+        })?
+    }
+
+    /// The last place before an address that has a line, where the address has none.
+    pub fn place_before(&self, address: u64) -> Option<Frame> {
+        guarded(|| self.unit(address)?.place_before(address))?
+    }
+
     /// The package of split units that can't be read, and why.
     pub fn unread_package(&self) -> Option<(&Path, &str)> {
         self.split.unread_package()
@@ -114,7 +133,7 @@ impl Fallback {
                 path: location.and_then(|location| location.file).map(|path| path.as_bytes().to_vec()),
                 line: location.and_then(|location| location.line).unwrap_or(0).into(),
                 column: location.and_then(|location| location.column).unwrap_or(0).into(),
-                start: None,
+                ..Frame::default()
             });
         }
         Some(frames)

@@ -2,11 +2,62 @@
 //! for each name and each place. `??` with `??:0` is a whole reply alone, by which clients find its
 //! end, and never a part of another one.
 
+use std::path::Path;
+
+use crate::arguments::Arguments;
+use crate::identity::Identity;
 use crate::numbers::digits_of;
 use crate::reply::Reply;
 use crate::request::{Kind, Module, Request, Target};
 use crate::shape::Shape;
 use crate::writer::Writer;
+
+/// The formats of ELF files in GNU's tools, and those without a machine.
+const TARGETS: [&str; 32] = [
+    "default",
+    "elf32-bigarm",
+    "elf32-bigriscv",
+    "elf32-i386",
+    "elf32-iamcu",
+    "elf32-littlearm",
+    "elf32-littleriscv",
+    "elf32-powerpc",
+    "elf32-powerpcle",
+    "elf32-s390",
+    "elf32-x86-64",
+    "elf32-big",
+    "elf32-little",
+    "elf64-big",
+    "elf64-bigaarch64",
+    "elf64-bigriscv",
+    "elf64-little",
+    "elf64-littleaarch64",
+    "elf64-littleriscv",
+    "elf64-loongarch",
+    "elf64-powerpc",
+    "elf64-powerpcle",
+    "elf64-s390",
+    "elf64-x86-64",
+    "binary",
+    "ihex",
+    "plugin",
+    "srec",
+    "symbolsrec",
+    "tekhex",
+    "verilog",
+    "pei-x86-64",
+];
+
+/// Refuses a format that isn't there, as GNU's addr2line does. One that is there changes nothing.
+pub fn check_target(identity: Identity, arguments: &Arguments) -> Result<(), String> {
+    match &arguments.target {
+        Some(target) if identity == Identity::Addr2line && !TARGETS.contains(&target.as_str()) => {
+            let file = arguments.object.as_deref().unwrap_or(Path::new("a.out"));
+            Err(format!("{}: invalid bfd target", file.display()))
+        }
+        _ => Ok(()),
+    }
+}
 
 /// The request of a line without its end, about the module of the command line; none where it has
 /// neither a number nor a name.
@@ -92,7 +143,17 @@ mod tests {
         let functions = Functions::Linkage;
         let (frames_shown, addresses, demangles, basenames) = (Frames::All, false, false, false);
         let tools = Tools::Gnu;
-        let shape = Shape { functions, frames: frames_shown, addresses, pretty, demangles, tools, basenames };
+        let shape = Shape {
+            functions,
+            frames: frames_shown,
+            addresses,
+            pretty,
+            demangles,
+            tools,
+            basenames,
+            verbose: false,
+            context: 0,
+        };
         let reply = Reply { line: b"10", request: None, address: None, failure: None, answer: Answer::Frames(frames) };
         let mut out = Vec::new();
         write(&shape, &reply, &mut out);

@@ -15,9 +15,11 @@ mod numbers;
 mod plain;
 mod reply;
 mod request;
+mod response_files;
 mod self_check;
 mod settings;
 mod shape;
+mod source_lines;
 mod writer;
 
 // The files that are asked about, and where their debug information is.
@@ -41,17 +43,19 @@ mod relocated;
 mod units;
 mod variables;
 
-pub use arguments::{identity_of, Arguments, CacheSize};
-pub use conversation::Conversation;
+pub use arguments::{identity_of, Arguments};
+pub use conversation::{Conversation, Unopened};
 pub use debug_files::DebugFiles;
+pub use gnu::check_target;
 pub use guard::silence_panics;
 pub use identity::Identity;
 pub use names::{Length, Names};
 pub use open_file::{OpenFile, Opener};
 pub use plain::without_controls;
 pub use program::{Program, Sources};
-pub use programs::{Opened, Programs};
+pub use programs::{CacheSize, Opened, Programs};
 pub use reply::{Frame, Variable};
 pub use request::Module;
+pub use response_files::with_response_files;
 pub use self_check::self_check;
 pub use settings::conversation;

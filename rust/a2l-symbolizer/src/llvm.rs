@@ -15,7 +15,7 @@ use crate::writer::Writer;
 pub fn write(shape: &Shape, reply: &Reply<'_>, out: &mut Vec<u8>) {
     let mut writer = Writer::new(shape, out);
     address(&mut writer, reply);
-    writer.answer(&reply.answer, place, |writer| writer.unknown(" at ", "??:0:0"));
+    writer.answer(&reply.answer, place, |writer| unknown(writer, "??:0:0"));
     writer.bytes(b"\n");
 }
 
@@ -23,7 +23,12 @@ pub fn write(shape: &Shape, reply: &Reply<'_>, out: &mut Vec<u8>) {
 pub fn write_short(shape: &Shape, reply: &Reply<'_>, out: &mut Vec<u8>) {
     let mut writer = Writer::new(shape, out);
     address(&mut writer, reply);
-    writer.answer(&reply.answer, Writer::short_place, |writer| writer.unknown(" at ", "??:0"));
+    writer.answer(&reply.answer, short_place, |writer| unknown(writer, "??:0"));
+}
+
+fn unknown(writer: &mut Writer<'_>, place: &str) {
+    let details = "  Filename: ??\n  Line: 0\n  Column: 0";
+    writer.unknown(" at ", if writer.is_verbose() { details } else { place });
 }
 
 /// The address of a request, which isn't padded; nothing where the line has none.
@@ -34,9 +39,47 @@ fn address(writer: &mut Writer<'_>, reply: &Reply<'_>) {
 }
 
 fn place(writer: &mut Writer<'_>, frame: &Frame) {
+    if writer.is_verbose() {
+        return details(writer, frame, frame.start.address);
+    }
     writer.bytes(frame.path.as_deref().unwrap_or(b"??"));
     let (line, column) = if frame.path.is_some() { (frame.line, frame.column) } else { (0, 0) };
-    writer.text(format_args!(":{line}:{column}\n"));
+    let mark = if frame.is_approximate { " (approximate)" } else { "" };
+    writer.text(format_args!(":{line}:{column}{mark}\n"));
+    writer.context(frame);
+}
+
+fn short_place(writer: &mut Writer<'_>, frame: &Frame) {
+    if writer.is_verbose() {
+        return details(writer, frame, None);
+    }
+    writer.short_place(frame);
+    writer.context(frame);
+}
+
+/// All that is known of a place, a line each.
+fn details(writer: &mut Writer<'_>, frame: &Frame, begin: Option<u64>) {
+    let mut line = |name: &str, value: &[u8]| {
+        writer.text(format_args!("  {name}: "));
+        writer.bytes(value);
+        writer.bytes(b"\n");
+    };
+    line("Filename", frame.path.as_deref().unwrap_or(b"??"));
+    if frame.start.line > 0 {
+        line("Function start filename", frame.start.path.as_deref().unwrap_or_default());
+        line("Function start line", frame.start.line.to_string().as_bytes());
+    }
+    if let Some(begin) = begin {
+        line("Function start address", format!("{begin:#x}").as_bytes());
+    }
+    line("Line", frame.line.to_string().as_bytes());
+    line("Column", frame.column.to_string().as_bytes());
+    if frame.discriminator > 0 {
+        line("Discriminator", frame.discriminator.to_string().as_bytes());
+    }
+    if frame.is_approximate {
+        line("Approximate", b"true");
+    }
 }
 
 /// The request of a line without its end; none where it has no number that fits into 64 bits, or no

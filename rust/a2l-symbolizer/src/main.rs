@@ -6,7 +6,10 @@ use std::io::{self, ErrorKind, Write};
 use std::os::unix::ffi::OsStrExt;
 use std::process::ExitCode;
 
-use a2l_symbolizer::{conversation, identity_of, self_check, silence_panics, Arguments, Identity};
+use a2l_symbolizer::{
+    check_target, conversation, identity_of, self_check, silence_panics, with_response_files, Arguments, Identity,
+    Unopened,
+};
 
 /// The status of all failures, as the tools have it for which this one stands.
 const FAILED: u8 = 1;
@@ -16,11 +19,11 @@ fn main() -> ExitCode {
     let (program, words) =
         words.split_first().map_or((OsStr::new(""), &[][..]), |(name, rest)| (name.as_os_str(), rest));
     let identity = identity_of(words).unwrap_or_else(|| Identity::of_path(program));
-    match Arguments::parse_for(identity, words) {
+    match Arguments::parse_for(identity, &with_response_files(identity, words)) {
         Ok(arguments) if arguments.version => version(identity),
         Ok(arguments) => start(identity, &arguments),
         Err(why) if !why.use_stderr() => finish(identity, write!(io::stdout(), "{why}")),
-        Err(why) => fail(identity, &Arguments::refusal(&why)),
+        Err(why) => fail(identity, &Arguments::refusal(identity, &why)),
     }
 }
 
@@ -41,6 +44,9 @@ fn start(identity: Identity, arguments: &Arguments) -> ExitCode {
             Err(why) => fail(identity, &why),
         };
     }
+    if let Err(why) = check_target(identity, arguments) {
+        return fail(identity, &why);
+    }
     let mut conversation = conversation(identity, arguments);
     if let Err(why) = conversation.find_section() {
         return end(identity, &why);
@@ -52,8 +58,13 @@ fn start(identity: Identity, arguments: &Arguments) -> ExitCode {
             status => status,
         };
     }
-    if let Err(why) = conversation.open_module() {
-        return fail(identity, &why);
+    match conversation.open_module() {
+        Ok(()) => {}
+        Err(Unopened::Line(why)) => return fail(identity, &why),
+        Err(Unopened::Object(object)) => {
+            finish(identity, writeln!(io::stdout(), "{object}"));
+            return ExitCode::from(FAILED);
+        }
     }
     let lines: Vec<&[u8]> = arguments.requests.iter().map(|word| word.as_bytes()).collect();
     finish(identity, conversation.reply_to_all(&lines, io::stdout().lock()))
@@ -67,8 +78,13 @@ fn finish(identity: Identity, ended: io::Result<()>) -> ExitCode {
     }
 }
 
+/// LLVM's tools call an error one, and GNU's don't.
 fn fail(identity: Identity, why: &str) -> ExitCode {
-    end(identity, &format!("error: {why}"))
+    if identity.is_llvm() {
+        end(identity, &format!("error: {why}"))
+    } else {
+        end(identity, why)
+    }
 }
 
 fn end(identity: Identity, why: &str) -> ExitCode {

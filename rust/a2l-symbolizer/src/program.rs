@@ -11,7 +11,7 @@ use crate::image::image;
 use crate::names::is_mangled;
 use crate::open_file::OpenFile;
 use crate::placement::{PlacedFile, Placement};
-use crate::reply::{Frame, Variable};
+use crate::reply::{Frame, Start, Variable};
 use crate::sections::{has_debug_info, has_supplement};
 use crate::symbols::{Kind, Symbol, Symbols};
 use crate::units::UnitKinds;
@@ -29,6 +29,10 @@ pub struct Sources {
     pub fallback: bool,
     /// Paths are those from the folder on in which the compiler ran.
     pub relative: bool,
+    /// Where functions begin is looked for.
+    pub starts: bool,
+    /// The line of the row before is taken where an address has none.
+    pub skips_line_zero: bool,
     /// An image of decompressed sections takes at most so many bytes.
     pub most: u64,
 }
@@ -126,6 +130,9 @@ impl Program {
     /// The functions at an address, innermost first; none where nothing is known.
     pub fn find_frames(&mut self, address: u64, sources: &Sources) -> Vec<Frame> {
         let mut frames = self.frames_of_debug_info(address, sources);
+        if sources.fallback {
+            self.add_details(address, &mut frames, sources);
+        }
         if let Some(tools) = sources.symbols {
             self.name_outermost(address, &mut frames, tools);
         }
@@ -137,6 +144,25 @@ impl Program {
         }
         frames.retain(|frame| !frame.is_unknown());
         frames
+    }
+
+    /// Adds what is asked for beside names and places.
+    fn add_details(&mut self, address: u64, frames: &mut [Frame], sources: &Sources) {
+        let Some(innermost) = frames.first_mut() else {
+            return;
+        };
+        if sources.skips_line_zero && innermost.line == 0 {
+            if let Some(place) = self.fallback(sources).and_then(|fallback| fallback.place_before(address)) {
+                *innermost = Frame { name: innermost.name.take(), ..place };
+            }
+        }
+        let found = if sources.starts { self.fallback(sources) } else { None };
+        if let Some((starts, discriminator)) = found.and_then(|fallback| fallback.find_starts(address)) {
+            frames[0].discriminator = discriminator;
+            if starts.len() == frames.len() {
+                frames.iter_mut().zip(starts).for_each(|(frame, start)| frame.start = start);
+            }
+        }
     }
 
     /// Names functions whose names dwz has put into a file of its own, which the library doesn't
@@ -233,9 +259,10 @@ impl Program {
             return;
         };
         let (name, file, start) = (symbol.name.to_vec(), symbol.file.map(<[u8]>::to_vec), symbol.start);
-        let start = Some(self.placement().address(start));
+        let address = Some(self.placement().address(start));
         let frame = frames.pop().unwrap_or_default();
-        frames.push(Frame { name: Some(name), path: frame.path.clone().or(file), start, ..frame });
+        let (path, start) = (frame.path.or(file), Start { address, ..frame.start });
+        frames.push(Frame { name: Some(name), path, start, ..frame });
     }
 
     fn symbols(&mut self, kind: Kind, tools: Tools) -> &Symbols {
@@ -324,7 +351,7 @@ pub fn frames(found: UnitFrames<'_>) -> Vec<Frame> {
         path: frame.location.file.filter(known),
         line: frame.location.line.unwrap_or(0),
         column: frame.location.column.unwrap_or(0),
-        start: None,
+        ..Frame::default()
     };
     found.frames.into_iter().map(frame).collect()
 }

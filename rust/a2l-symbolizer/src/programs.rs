@@ -2,10 +2,16 @@
 
 use lru::LruCache;
 
-use crate::arguments::CacheSize;
 use crate::open_file::{OpenFile, Opener};
 use crate::program::{Program, Sources};
 use crate::request::Module;
+
+/// How much of files stays open.
+#[derive(Debug, Clone, Copy, PartialEq, Eq)]
+pub struct CacheSize {
+    pub files: usize,
+    pub bytes: u64,
+}
 
 /// Open files.
 pub struct Programs {

@@ -13,8 +13,21 @@ pub struct Frame {
     pub line: u64,
     /// The column, counted from 1; 0 where it isn't known.
     pub column: u64,
-    /// The address at which the function begins, where its symbol was asked.
-    pub start: Option<u64>,
+    /// The line is that of the row before, since the address has none.
+    pub is_approximate: bool,
+    /// Tells code of one place apart; 0 where there is nothing to tell.
+    pub discriminator: u64,
+    pub start: Start,
+}
+
+/// Where a function begins, as far as it was asked for.
+#[derive(Debug, Clone, Default, PartialEq, Eq)]
+pub struct Start {
+    pub address: Option<u64>,
+    /// The path of the source file that declares the function, by its bytes; never empty.
+    pub path: Option<Vec<u8>>,
+    /// The line of the declaration, counted from 1; 0 where it isn't known.
+    pub line: u64,
 }
 
 impl Frame {

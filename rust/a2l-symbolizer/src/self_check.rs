@@ -7,7 +7,7 @@ use std::path::Path;
 
 use a2l::{Location, Program};
 
-use crate::arguments::{Arguments, CacheSize};
+use crate::arguments::Arguments;
 use crate::conversation::Conversation;
 use crate::identity::Identity;
 use crate::open_file::Opener;
@@ -24,7 +24,7 @@ const LOOKED_AT: usize = 32;
 pub fn self_check(arguments: &Arguments) -> Result<String, String> {
     let path = arguments.object.as_deref().ok_or("--self-check needs -e FILE")?;
     let file = PlacedFile::of_program(Opener::Map.open(path).map_err(|why| why.to_string())?);
-    let mut library = open_library(&file, CacheSize::USUAL.bytes)?;
+    let mut library = open_library(&file, arguments.cache_size)?;
     let (places, units) = spread(&file.placement, &mut library)?;
     let requests = requests(&file.placement, &places);
     for tool in [Tool::Llvm, Tool::Gnu] {

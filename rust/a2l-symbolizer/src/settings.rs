@@ -2,13 +2,13 @@
 
 use std::path::PathBuf;
 
-use crate::arguments::{Arguments, BuildId, CacheSize, Functions, OutputStyle};
+use crate::arguments::{Arguments, BuildId, Functions, OutputStyle};
 use crate::conversation::{Conversation, Settings};
 use crate::debug_files::DebugFiles;
 use crate::identity::Identity;
 use crate::open_file::Opener;
 use crate::program::Sources;
-use crate::programs::Programs;
+use crate::programs::{CacheSize, Programs};
 use crate::request::Module;
 use crate::shape::{Frames, Shape};
 
@@ -33,6 +33,8 @@ fn settings(identity: Identity, arguments: &Arguments) -> Settings {
         demangles: arguments.demangles(is_symbolizer),
         tools: identity.tools(),
         basenames: arguments.basenames,
+        verbose: arguments.verbose,
+        context: arguments.print_source_context_lines,
     };
     Settings {
         identity,
@@ -41,7 +43,7 @@ fn settings(identity: Identity, arguments: &Arguments) -> Settings {
         module: module(identity, arguments),
         adjust: arguments.adjust_vma.unwrap_or(0),
         section: arguments.section.clone().map(String::into_bytes),
-        verbose: arguments.verbose,
+        explains: arguments.explain,
     }
 }
 
@@ -53,7 +55,7 @@ fn module(identity: Identity, arguments: &Arguments) -> Option<Module> {
 }
 
 fn programs(identity: Identity, arguments: &Arguments) -> Programs {
-    let size = arguments.cache_size.unwrap_or(CacheSize::USUAL);
+    let size = CacheSize { files: arguments.cache_files, bytes: arguments.cache_size };
     let opener = if arguments.no_mmap { Opener::Read } else { Opener::Map };
     let sources = Sources {
         debug_files: DebugFiles::new(&arguments.debug_folders, !arguments.no_debuginfod, opener)
@@ -61,6 +63,8 @@ fn programs(identity: Identity, arguments: &Arguments) -> Programs {
         symbols: arguments.symbols().then_some(identity.tools()),
         fallback: !arguments.proved,
         relative: arguments.relativenames,
+        starts: arguments.verbose || arguments.output_style == Some(OutputStyle::Json),
+        skips_line_zero: arguments.skip_line_zero,
         most: size.bytes,
     };
     Programs::new(sources, opener, size)

@@ -7,7 +7,7 @@ use a2l::Tools;
 use crate::arguments::Functions;
 use crate::names::{Length, Names};
 use crate::plain::without_controls;
-use crate::reply::{Answer, Frame, Variable};
+use crate::reply::{Answer, Frame, Start, Variable};
 
 /// Which of the frames are shown.
 #[derive(Debug, Clone, Copy, PartialEq, Eq)]
@@ -31,6 +31,10 @@ pub struct Shape {
     /// Whose readable names are shown.
     pub tools: Tools,
     pub basenames: bool,
+    /// What is known of a frame stands on lines of its own, as LLVM's tools write it.
+    pub verbose: bool,
+    /// So many lines of the source are shown around each place.
+    pub context: usize,
 }
 
 impl Shape {
@@ -69,7 +73,9 @@ impl Shape {
 
     fn frame(&self, names: &mut Names, frame: Frame) -> Frame {
         let name = frame.name.map(|name| self.name(names, &name));
-        Frame { name, path: frame.path.map(|path| self.path(&path)), ..frame }
+        let path = frame.path.map(|path| self.path(&path));
+        let start = Start { path: frame.start.path.map(|path| self.path(&path)), ..frame.start };
+        Frame { name, path, start, ..frame }
     }
 
     fn path(&self, path: &[u8]) -> Vec<u8> {
@@ -85,8 +91,7 @@ impl Shape {
 /// The function that was compiled, at the place of the innermost one; none where there is none.
 pub fn compiled(frames: Vec<Frame>) -> Option<Frame> {
     let Frame { name, start, .. } = frames.last().cloned()?;
-    let innermost = frames.into_iter().next()?;
-    Some(Frame { name, start, ..innermost })
+    Some(Frame { name, start, ..frames.into_iter().next()? })
 }
 
 /// The last part of a path; the path where it ends with a slash.
@@ -105,7 +110,17 @@ mod tests {
     fn shown(frames: Frames, basenames: bool) -> Vec<Frame> {
         let functions = Functions::Linkage;
         let tools = Tools::Llvm;
-        let shape = Shape { functions, frames, addresses: false, pretty: false, demangles: true, tools, basenames };
+        let shape = Shape {
+            functions,
+            frames,
+            addresses: false,
+            pretty: false,
+            demangles: true,
+            tools,
+            basenames,
+            verbose: false,
+            context: 0,
+        };
         let answer = Answer::Frames(vec![frame("_Z1fi", "/a/b.c", 1), frame("two\nlines", "c\r\x1b/d", 2)]);
         match shape.shown(&mut shape.names(), answer) {
             Answer::Frames(frames) => frames,

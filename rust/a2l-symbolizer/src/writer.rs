@@ -6,6 +6,7 @@ use std::io::Write;
 use crate::arguments::Functions;
 use crate::reply::{Answer, Frame, Variable};
 use crate::shape::Shape;
+use crate::source_lines::around;
 
 /// Writes a reply to the end of some bytes.
 pub struct Writer<'w> {
@@ -59,6 +60,18 @@ impl<'w> Writer<'w> {
             self.text(format_args!("??{between}"));
         }
         self.text(format_args!("{place}\n"));
+    }
+
+    /// The source around a place, where it is shown and can be read.
+    pub fn context(&mut self, frame: &Frame) {
+        let context = self.shape.context;
+        let lines = frame.path.as_ref().filter(|_| context > 0).and_then(|path| around(path, frame.line, context));
+        lines.into_iter().for_each(|lines| self.bytes(&lines));
+    }
+
+    /// Whether what is known of a frame stands on lines of its own.
+    pub fn is_verbose(&self) -> bool {
+        self.shape.verbose
     }
 
     /// The path and the line of a frame, as GNU's style has them, and `?` where the line isn't known.

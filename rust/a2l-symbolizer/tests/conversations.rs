@@ -149,12 +149,50 @@ fn replies_of_json() {
     let line = told(&["--output-style=JSON", "-e", SAMPLE, "--no-inlines"], "0x401004\n");
     let wanted = format!(
         "{{\"Address\":\"0x401004\",\"ModuleName\":\"{SAMPLE}\",\"Symbol\":[{{\"Column\":0,\"Discriminator\":0,\
-         \"FileName\":\"/w/a.c\",\"FunctionName\":\"main\",\"Line\":4,\"StartAddress\":\"\",\"StartFileName\":\"\",\
+         \"FileName\":\"/w/a.c\",\"FunctionName\":\"main\",\"Line\":4,\"StartAddress\":\"0x401000\",\"StartFileName\":\"\",\
          \"StartLine\":0}}]}}\n"
     );
     assert_eq!(line, wanted);
     let list = told(&["--output-style=JSON", "-e", SAMPLE, "0x1", "garbage"], "");
     assert!(list.starts_with("[{\"Address\":\"0x1\"") && list.ends_with("\"SymName\":\"garbage\"}]\n"), "{list}");
+}
+
+/// What llvm-symbolizer 19 writes of the sample.
+#[test]
+fn details_of_llvm() {
+    let begun = |address, place: &str| format!("  Function start address: {address}\n{place}");
+    let leaf = begun("0x401004", "  Line: 4\n  Column: 0\n");
+    let mid = begun("0x401002", "  Line: 30\n  Column: 0\n");
+    let main = begun("0x401000", "  Line: 20\n  Column: 7\n");
+    let all =
+        format!("leaf\n  Filename: /w/a.c\n{leaf}mid\n  Filename: /w/a.c\n{mid}main\n  Filename: /w/z.c\n{main}\n");
+    assert_eq!(told(&["--verbose", "-e", SAMPLE, "0x401004"], ""), all);
+    let unknown = "??\n  Filename: ??\n  Line: 0\n  Column: 0\n\n";
+    assert_eq!(told(&["--verbose", "-e", SAMPLE, "0x1"], ""), unknown);
+}
+
+#[test]
+fn a_file_that_is_missing_in_json() {
+    let output = run(TOOL, &["--output-style=JSON", "--obj=/no/such", "0x10"], "");
+    let wanted =
+        "{\"Address\":\"0x0\",\"Error\":{\"Message\":\"No such file or directory\"},\"ModuleName\":\"/no/such\"}\n";
+    assert_eq!(String::from_utf8_lossy(&output.stdout), wanted);
+    assert_eq!((output.status.code(), &*output.stderr), (Some(1), &b""[..]));
+    let line = told(&["--output-style=JSON"], "/no/such 0x10\n");
+    assert_eq!(line, wanted.replace("0x0", "0x10"));
+}
+
+#[test]
+fn requests_that_stand_elsewhere() {
+    let folder = Folder::new("response");
+    let words = folder.path("words");
+    std::fs::write(&words, format!("-f -e '{SAMPLE}' +0x401004 401004")).expect("a file");
+    let both = "leaf\n/w/a.c:4\n".repeat(2);
+    assert_eq!(told(&["--as=addr2line", &format!("@{words}")], ""), both);
+    assert_eq!(told(&["--as=addr2line", "-f", "-e", SAMPLE, "@/no/such"], ""), "??\n??:0\n");
+    let mut command = Command::new(TOOL);
+    let output = command.env("LLVM_SYMBOLIZER_OPTS", format!("-e '{SAMPLE}' -a")).arg("0x401004").output();
+    assert_eq!(String::from_utf8_lossy(&output.expect("the tool runs").stdout), format!("0x401004\n{LEAF}"));
 }
 
 #[test]
@@ -177,7 +215,8 @@ fn names_of_the_program() {
 fn what_is_refused() {
     for (words, wanted) in [
         (&["--badflag"][..], "llvm-symbolizer: error: unknown argument '--badflag'\n"),
-        (&["--as=addr2line", "-Z"], "addr2line: error: unknown argument '-Z'\n"),
+        (&["--as=addr2line", "-Z"], "addr2line: invalid option -- 'Z'\n"),
+        (&["--as=addr2line", "-b", "elf99", "-e", "x"], "addr2line: x: invalid bfd target\n"),
         (&["-e", "/no/such", "0x10"], "llvm-symbolizer: error: '/no/such': No such file or directory\n"),
         (
             &["-e", "/etc/passwd", "0x10"],
@@ -221,14 +260,20 @@ fn few_files_stay_open() {
     for path in &paths {
         std::fs::copy(SAMPLE, path).expect("a copy");
     }
-    for (size, most) in [("2", 2), ("1,1", 1), ("16,4G", 5), ("16,1K", 1)] {
-        let mut talk = Talk::new(&["--cache-size", size]);
+    for (words, most) in [
+        (&["--cache-files=2"][..], 2),
+        (&["--cache-files=1", "--cache-size=1"], 1),
+        (&["--cache-size=4G"], 5),
+        (&["--cache-size=1024"], 1),
+        (&[], 5),
+    ] {
+        let mut talk = Talk::new(words);
         for path in paths.iter().cycle().take(12) {
             assert_eq!(talk.ask(&format!("CODE \"{path}\" 0x401004")), LEAF);
         }
         let maps = std::fs::read_to_string(format!("/proc/{}/maps", talk.child.id())).expect("its maps");
         let open = paths.iter().filter(|path| maps.contains(*path)).count();
-        assert_eq!(open, most, "{size}");
+        assert_eq!(open, most, "{words:?}");
         assert_eq!(talk.end(), Some(0));
     }
 }
@@ -246,11 +291,11 @@ fn a_client_that_ends() {
 #[test]
 fn who_answers_is_told_once() {
     let line = format!("CODE \"{SAMPLE}\" 0x401004\n");
-    let output = run(TOOL, &["--verbose", "--no-mmap"], &line.repeat(3));
+    let output = run(TOOL, &["--explain", "--no-mmap"], &line.repeat(3));
     assert_eq!(String::from_utf8_lossy(&output.stdout), LEAF.repeat(3));
     let wanted = format!("llvm-symbolizer: '{SAMPLE}': answered by liba2l, of {SAMPLE}\n");
     assert_eq!(String::from_utf8_lossy(&output.stderr), wanted);
-    let output = run(TOOL, &["--verbose", "-e", SAMPLE, "0x401004", "0x1"], "");
+    let output = run(TOOL, &["--explain", "-e", SAMPLE, "0x401004", "0x1"], "");
     assert_eq!(String::from_utf8_lossy(&output.stderr), wanted);
 }
 

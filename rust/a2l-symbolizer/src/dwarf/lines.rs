@@ -26,6 +26,7 @@ struct Row {
     file: u64,
     line: u64,
     column: u64,
+    discriminator: u64,
 }
 
 impl Lines {
@@ -67,9 +68,24 @@ impl Lines {
     /// The place in the source of the code at an address, without a function; none where no row has
     /// it.
     pub fn place(&self, dwarf: &Dwarf<Reader>, unit: &Unit<Reader>, address: u64) -> Option<Frame> {
+        Some(self.rows_up_to(address)?.last()?.place(dwarf, unit))
+    }
+
+    /// The place of the last row up to an address that has a line.
+    pub fn place_before(&self, dwarf: &Dwarf<Reader>, unit: &Unit<Reader>, address: u64) -> Option<Frame> {
+        let row = self.rows_up_to(address)?.iter().rfind(|row| row.line > 0)?;
+        Some(Frame { is_approximate: true, ..row.place(dwarf, unit) })
+    }
+
+    /// The discriminator of the row that has an address.
+    pub fn discriminator(&self, address: u64) -> Option<u64> {
+        Some(self.rows_up_to(address)?.last()?.discriminator)
+    }
+
+    /// The rows of the sequence that has an address, up to that.
+    fn rows_up_to(&self, address: u64) -> Option<&[Row]> {
         let rows = &self.rows[self.parts[self.sequences.find(address)? as usize].clone()];
-        let row = rows[..rows.partition_point(|row| row.address <= address)].last()?;
-        Some(place(dwarf, unit, Some(row.file), row.line, row.column))
+        Some(&rows[..rows.partition_point(|row| row.address <= address)])
     }
 }
 
@@ -79,7 +95,12 @@ impl Row {
             ColumnType::LeftEdge => 0,
             ColumnType::Column(column) => column.get(),
         };
-        Row { address: row.address(), file: row.file_index(), line: row.line().map_or(0, |line| line.get()), column }
+        let (line, discriminator) = (row.line().map_or(0, |line| line.get()), row.discriminator());
+        Row { address: row.address(), file: row.file_index(), line, column, discriminator }
+    }
+
+    fn place(&self, dwarf: &Dwarf<Reader>, unit: &Unit<Reader>) -> Frame {
+        place(dwarf, unit, Some(self.file), self.line, self.column)
     }
 }
 

@@ -17,6 +17,7 @@ use super::{Function, Reader, UnitRef, Units};
 use crate::debug_files::DebugFiles;
 use crate::fallback::section_named;
 use crate::open_file::Opener;
+use crate::reply::Start;
 use crate::sections::Error;
 
 /// The split units of a program.
@@ -51,14 +52,19 @@ impl SplitUnits {
     /// The functions at an address of a unit of the program, the outermost one first; none where the
     /// unit isn't split or its file isn't found.
     pub fn functions(&self, skeleton: UnitRef<'_>, address: u64) -> Vec<Function> {
-        let find = || {
-            let unit = skeleton.read()?;
-            let id = unit.dwo_id?;
-            let file = self.file_of(skeleton.dwarf(), unit, id)?;
-            let split = file.units.get(*file.by_id.get(&id.0)?);
-            Some(split.functions(address, Some(skeleton)))
-        };
-        find().unwrap_or_default()
+        self.with_unit(skeleton, |split| split.functions(address, Some(skeleton))).unwrap_or_default()
+    }
+
+    /// Where these functions begin.
+    pub fn starts(&self, skeleton: UnitRef<'_>, address: u64) -> Vec<Start> {
+        self.with_unit(skeleton, |split| split.starts(address, Some(skeleton))).unwrap_or_default()
+    }
+
+    fn with_unit<T>(&self, skeleton: UnitRef<'_>, ask: impl FnOnce(UnitRef<'_>) -> T) -> Option<T> {
+        let unit = skeleton.read()?;
+        let id = unit.dwo_id?;
+        let file = self.file_of(skeleton.dwarf(), unit, id)?;
+        Some(ask(file.units.get(*file.by_id.get(&id.0)?)))
     }
 
     /// The package of the program that can't be read, and why.
