@@ -1,6 +1,6 @@
 -- What the structs of the header report.
-use Rattle.std.specs.Prelude.{◌≡◌, ℕ, List, [], Bool, true, Option, Some, None, if◌then◌else◌, length, take, ◌<◌}
-use Rattle.std.specs.Prelude.{MatchOption}
+use Rattle.std.specs.Prelude.{◌≡◌, ℕ, List, [], ◌++◌, length, drop, ◌≤◌, ◌<◌, is_some}
+use Rattle.std.specs.Option.{unwrap_or}
 use Rattle.dw_model.specs.Answer.{Answer, Location, Frame, Piece, Code, tree_fault, line_fault, not_covered, fault}
 use Rattle.dw_model.specs.Answer.{found, located}
 use Rattle.dw_model.specs.Faults.{entry_fault, depth_fault, ranges_fault}
@@ -51,41 +51,39 @@ pub record IsReason (fault : OpenFault) (told : CRefusal) : Type 0 where
   pub section : told.section.now ≡ section_in fault
   pub offset : told.offset ≡ offset_in fault
 
--- what may be known
-abbrev pub if_known : {A : Type 0} → Bool → A → Option A
-if_known known value = if known then Some value else None
+-- the bytes of a location's path, of which there are none if it isn't known
+abbrev pub path_of : Location → List ℕ
+path_of location = unwrap_or location.path []
 
--- the location of a struct, with the path at the front of a buffer
-abbrev pub location_told : CLocation → List ℕ → Location
-location_told told buffer = record {
-  path = if_known told.path_known (take told.path_length buffer);
-  line = if_known told.line_known told.line;
-  column = if_known told.column_known told.column;
+-- A path was copied to the front of a buffer, where it fits; what stands behind it is as before.
+pub record IsCopied (old new path : List ℕ) : Type 0 where
+  pub fits : length path ≤ length old
+  pub bytes : new ≡ path ++ drop (length path) old
+
+-- a path doesn't fit into a buffer
+abbrev pub IsTooLong : (buffer path : List ℕ) → Type 0
+IsTooLong buffer path = length buffer < length path
+
+-- what a struct reports of a location: 0 for what isn't known
+abbrev pub location_told : Location → CLocation
+location_told location = record {
+  path_length = length (path_of location);
+  line = unwrap_or location.line 0;
+  column = unwrap_or location.column 0;
+  path_known = is_some location.path;
+  line_known = is_some location.line;
+  column_known = is_some location.column;
 }
 
-abbrev pub frame_told : CFrame → List ℕ → Frame
-frame_told told buffer = record {
-  name = if_known told.name_known told.name.now;
-  location = location_told told.location buffer;
-}
+-- a struct reports a frame
+pub record IsFrame (frame : Frame) (told : CFrame) : Type 0 where
+  pub name : told.name.now ≡ unwrap_or frame.name []
+  pub name_known : told.name_known ≡ is_some frame.name
+  pub location : told.location ≡ location_told frame.location
 
-abbrev pub piece_told : CPiece → List ℕ → Piece
-piece_told told buffer = record { begin = told.begin; end = told.end; location = location_told told.location buffer }
-
--- all of a location is filled in but its path, which is longer than a buffer
-abbrev pub TellsLength : CLocation → Location → (size : ℕ) → Type 0
-TellsLength told location size =
-    (if_known told.line_known told.line ≡ location.line) × (if_known told.column_known told.column ≡ location.column)
-    × (told.path_known ≡ true)
-    × MatchOption location.path ⊥ (λ path. (told.path_length ≡ length path) × (size < length path))
-
-abbrev pub TellsFrameLength : CFrame → Frame → (size : ℕ) → Type 0
-TellsFrameLength told frame size =
-    (if_known told.name_known told.name.now ≡ frame.name) × TellsLength told.location frame.location size
-
-abbrev pub TellsPieceLength : CPiece → Piece → (size : ℕ) → Type 0
-TellsPieceLength told piece size =
-    (told.begin ≡ piece.begin) × (told.end ≡ piece.end) × TellsLength told.location piece.location size
+-- what a struct reports of a piece
+abbrev pub piece_told : Piece → CPiece
+piece_told piece = record { begin = piece.begin; end = piece.end; location = location_told piece.location }
 
 -- the numbers of the faults of units
 abbrev pub code_number : Code → ℕ

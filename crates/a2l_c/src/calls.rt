@@ -5,14 +5,15 @@
 //! bytes of a file stay until the last handle over it is closed. Numbers of `Status` are what the
 //! calls return.
 
-ghost use Rattle.std.specs.Prelude.{◌≡◌, ◌⊎◌, ◌≢◌, [], ◌∷◌, true, false, None, length, map};
+ghost use Rattle.std.specs.Prelude.{◌≡◌, ◌⊎◌, ◌≢◌, ◌↔◌, [], ◌∷◌, true, false, None, map};
 ghost use Rattle.dw_model.specs.Answer.{answer, location};
 ghost use Rattle.dw_model.specs.Pieces.{pieces};
 ghost use Rattle.dw_model.specs.Refusal.{refusal};
 ghost use Rattle.a2l_c.specs.Question.{answers_to};
-ghost use Rattle.a2l_c.specs.Calls.{IsValid, Holds, HoldsSuch, MayOpenBeside, Stays, Answers, answering, Exactly};
-ghost use Rattle.a2l_c.specs.Calls.{TellsRefusal, ReportsAnswer, LacksAnswer, ReportsFrame, LacksFrame};
-ghost use Rattle.a2l_c.specs.Calls.{ReportsLongFrame, ReportsPiece, LacksPiece, ReportsLongPiece};
+ghost use Rattle.a2l_c.specs.Structs.{IsCopied, IsTooLong};
+ghost use Rattle.a2l_c.specs.Answers.{ReportsAnswer, LacksAnswer, ReportsFrame, LacksFrame, ReportsPiece, LacksPiece};
+ghost use Rattle.a2l_c.specs.Calls.{IsValid, Holds, HoldsSuch, HasAnswers, MayOpenBeside, Stays, Answers, answering};
+ghost use Rattle.a2l_c.specs.Calls.{TellsRefusal};
 
 use crate::handle::Handle;
 use crate::lookup::{answer_at, frame_at, piece_at};
@@ -52,6 +53,7 @@ fn open(
     ensures opened { result ≡ Status.Done → Holds handle.new (record { file = file.now; answers = [] }) }
     ensures accepted { result ≡ Status.Done → refusal file.now ≡ None }
     ensures refused { result ≡ Status.Refused → TellsRefusal (refusal file.now) why.new }
+    ensures unfilled { result ≢ Status.Refused → why.new ≡ why.old }
     ensures stays { result ≢ Status.Done → handle.new ≡ handle.old }
     ensures ends { (result ≡ Status.Done) ⊎ ((result ≡ Status.Memory) ⊎ (result ≡ Status.Refused)) }
 {
@@ -79,8 +81,9 @@ pub extern "C" fn a2l_open(
     ensures opened { result ≡ 0 → Holds handle.new (record { file = file.now; answers = [] }) }
     ensures accepted { result ≡ 0 → refusal file.now ≡ None }
     ensures refused { result ≡ 2 → TellsRefusal (refusal file.now) why.new }
-    ensures capacity { Exactly (result ≡ 3) ((handle.old.open ≡ false) × (capacity ≡ 0)) }
-    ensures open { Exactly (result ≡ 5) (handle.old.open ≡ true) }
+    ensures unfilled { result ≢ 2 → why.new ≡ why.old }
+    ensures capacity { (result ≡ 3) ↔ ((handle.old.open ≡ false) × (capacity ≡ 0)) }
+    ensures open { (result ≡ 5) ↔ (handle.old.open ≡ true) }
     ensures stays { result ≢ 0 → handle.new ≡ handle.old }
     ensures ends { (result ≡ 0) ⊎ ((result ≡ 1) ⊎ ((result ≡ 2) ⊎ ((result ≡ 3) ⊎ (result ≡ 5)))) }
 {
@@ -108,9 +111,9 @@ pub extern "C" fn a2l_beside(
     ensures opened { result ≡ 0 → HoldsSuch handle.old (λ session. Holds other.new (answering (λ _. []) session)) }
     ensures stays { Stays handle.old handle.new }
     ensures unopened { result ≢ 0 → other.new ≡ other.old }
-    ensures closed { Exactly (result ≡ 4) (handle.old.open ≡ false) }
-    ensures open { Exactly (result ≡ 5) ((handle.old.open ≡ true) × (other.old.open ≡ true)) }
-    ensures capacity { Exactly (result ≡ 3) (MayOpenBeside handle.old other.old × (capacity ≡ 0)) }
+    ensures closed { (result ≡ 4) ↔ (handle.old.open ≡ false) }
+    ensures open { (result ≡ 5) ↔ ((handle.old.open ≡ true) × (other.old.open ≡ true)) }
+    ensures capacity { (result ≡ 3) ↔ (MayOpenBeside handle.old other.old × (capacity ≡ 0)) }
     ensures ends { (result ≡ 0) ⊎ ((result ≡ 1) ⊎ ((result ≡ 3) ⊎ ((result ≡ 4) ⊎ (result ≡ 5)))) }
 {
     if !handle.open {
@@ -136,7 +139,9 @@ pub extern "C" fn a2l_beside(
 pub extern "C" fn a2l_close(alloc: Global, handle: &mut CHandle) -> u32
     requires valid { IsValid handle.old }
     ensures closed { handle.new.open ≡ false }
-    ensures done { Exactly (result ≡ 0) (handle.old.open ≡ true) }
+    ensures empty { result ≡ 0 → handle.new.handle.session ≡ None }
+    ensures stays { result ≡ 4 → handle.new ≡ handle.old }
+    ensures done { (result ≡ 0) ↔ (handle.old.open ≡ true) }
     ensures ends { (result ≡ 0) ⊎ (result ≡ 4) }
 {
     if !handle.open {
@@ -153,7 +158,7 @@ fn ask(alloc: Global, handle: &mut CHandle, question: Question<'_>) -> Status
     ensures valid { IsValid handle.new }
     ensures found { result ≡ Status.Done → Answers (answers_to question.entry) handle.old handle.new }
     ensures stays { result ≢ Status.Done → Stays handle.old handle.new }
-    ensures closed { Exactly (result ≡ Status.Closed) (handle.old.open ≡ false) }
+    ensures closed { (result ≡ Status.Closed) ↔ (handle.old.open ≡ false) }
     ensures ends { (result ≡ Status.Done) ⊎ ((result ≡ Status.Memory) ⊎ (result ≡ Status.Closed)) }
 {
     if !handle.open {
@@ -175,7 +180,7 @@ pub extern "C" fn a2l_find_frames(alloc: Global, handle: &mut CHandle, addresses
     ensures valid { IsValid handle.new }
     ensures found { result ≡ 0 → Answers (λ file. map (answer file) addresses.now) handle.old handle.new }
     ensures stays { result ≢ 0 → Stays handle.old handle.new }
-    ensures closed { Exactly (result ≡ 4) (handle.old.open ≡ false) }
+    ensures closed { (result ≡ 4) ↔ (handle.old.open ≡ false) }
     ensures ends { (result ≡ 0) ⊎ ((result ≡ 1) ⊎ (result ≡ 4)) }
 {
     ask(alloc, handle, Question::Frames(addresses)).number()
@@ -188,7 +193,7 @@ pub extern "C" fn a2l_find_locations(alloc: Global, handle: &mut CHandle, addres
     ensures valid { IsValid handle.new }
     ensures found { result ≡ 0 → Answers (λ file. map (location file) addresses.now) handle.old handle.new }
     ensures stays { result ≢ 0 → Stays handle.old handle.new }
-    ensures closed { Exactly (result ≡ 4) (handle.old.open ≡ false) }
+    ensures closed { (result ≡ 4) ↔ (handle.old.open ≡ false) }
     ensures ends { (result ≡ 0) ⊎ ((result ≡ 1) ⊎ (result ≡ 4)) }
 {
     ask(alloc, handle, Question::Locations(addresses)).number()
@@ -201,7 +206,7 @@ pub extern "C" fn a2l_find_pieces(alloc: Global, handle: &mut CHandle, low: u64,
     ensures valid { IsValid handle.new }
     ensures found { result ≡ 0 → Answers (λ file. pieces file low high ∷ []) handle.old handle.new }
     ensures stays { result ≢ 0 → Stays handle.old handle.new }
-    ensures closed { Exactly (result ≡ 4) (handle.old.open ≡ false) }
+    ensures closed { (result ≡ 4) ↔ (handle.old.open ≡ false) }
     ensures ends { (result ≡ 0) ⊎ ((result ≡ 1) ⊎ (result ≡ 4)) }
 {
     ask(alloc, handle, Question::Pieces { low, high }).number()
@@ -217,10 +222,11 @@ pub extern "C" fn a2l_answer_at(
 ) -> u32
     requires valid { IsValid handle.old }
     ensures valid { IsValid handle.new }
-    ensures told { result ≡ 0 → HoldsSuch handle.old (ReportsAnswer i told.new) }
-    ensures outside { result ≡ 6 → HoldsSuch handle.old (LacksAnswer i) }
+    ensures told { result ≡ 0 → HasAnswers handle.old (ReportsAnswer i told.new) }
+    ensures outside { result ≡ 6 → HasAnswers handle.old (LacksAnswer i) }
+    ensures unfilled { result ≢ 0 → told.new ≡ told.old }
     ensures stays { Stays handle.old handle.new }
-    ensures closed { Exactly (result ≡ 4) (handle.old.open ≡ false) }
+    ensures closed { (result ≡ 4) ↔ (handle.old.open ≡ false) }
     ensures ends { (result ≡ 0) ⊎ ((result ≡ 4) ⊎ (result ≡ 6)) }
 {
     if !handle.open {
@@ -239,23 +245,25 @@ pub extern "C" fn a2l_frame_at(
     handle: &mut CHandle,
     i: usize,
     j: usize,
-    path: &mut [u8],
+    buffer: &mut [u8],
     told: &mut CFrame<'static>,
 ) -> u32
     requires valid { IsValid handle.old }
     ensures valid { IsValid handle.new }
-    ensures told { result ≡ 0 → HoldsSuch handle.old (ReportsFrame i j told.new path.new) }
-    ensures outside { result ≡ 6 → HoldsSuch handle.old (LacksFrame i j) }
-    ensures short { result ≡ 7 → HoldsSuch handle.old (ReportsLongFrame i j told.new (length path.old)) }
+    ensures told { result ≡ 0 → HasAnswers handle.old (ReportsFrame i j told.new (IsCopied buffer.old buffer.new)) }
+    ensures short { result ≡ 7 → HasAnswers handle.old (ReportsFrame i j told.new (IsTooLong buffer.old)) }
+    ensures outside { result ≡ 6 → HasAnswers handle.old (LacksFrame i j) }
+    ensures unfilled { (result ≡ 4) ⊎ (result ≡ 6) → told.new ≡ told.old }
+    ensures uncopied { result ≢ 0 → buffer.new ≡ buffer.old }
     ensures stays { Stays handle.old handle.new }
-    ensures closed { Exactly (result ≡ 4) (handle.old.open ≡ false) }
+    ensures closed { (result ≡ 4) ↔ (handle.old.open ≡ false) }
     ensures ends { (result ≡ 0) ⊎ ((result ≡ 4) ⊎ ((result ≡ 6) ⊎ (result ≡ 7))) }
 {
     if !handle.open {
         return Status::Closed.number();
     }
     let session = handle.handle.take(alloc);
-    let status = frame_at(session.answers(), i, j, path, told);
+    let status = frame_at(session.answers(), i, j, buffer, told);
     handle.handle.put(session);
     status.number()
 }
@@ -266,23 +274,25 @@ pub extern "C" fn a2l_piece_at(
     alloc: Global,
     handle: &mut CHandle,
     j: usize,
-    path: &mut [u8],
+    buffer: &mut [u8],
     told: &mut CPiece,
 ) -> u32
     requires valid { IsValid handle.old }
     ensures valid { IsValid handle.new }
-    ensures told { result ≡ 0 → HoldsSuch handle.old (ReportsPiece j told.new path.new) }
-    ensures outside { result ≡ 6 → HoldsSuch handle.old (LacksPiece j) }
-    ensures short { result ≡ 7 → HoldsSuch handle.old (ReportsLongPiece j told.new (length path.old)) }
+    ensures told { result ≡ 0 → HasAnswers handle.old (ReportsPiece j told.new (IsCopied buffer.old buffer.new)) }
+    ensures short { result ≡ 7 → HasAnswers handle.old (ReportsPiece j told.new (IsTooLong buffer.old)) }
+    ensures outside { result ≡ 6 → HasAnswers handle.old (LacksPiece j) }
+    ensures unfilled { (result ≡ 4) ⊎ (result ≡ 6) → told.new ≡ told.old }
+    ensures uncopied { result ≢ 0 → buffer.new ≡ buffer.old }
     ensures stays { Stays handle.old handle.new }
-    ensures closed { Exactly (result ≡ 4) (handle.old.open ≡ false) }
+    ensures closed { (result ≡ 4) ↔ (handle.old.open ≡ false) }
     ensures ends { (result ≡ 0) ⊎ ((result ≡ 4) ⊎ ((result ≡ 6) ⊎ (result ≡ 7))) }
 {
     if !handle.open {
         return Status::Closed.number();
     }
     let session = handle.handle.take(alloc);
-    let status = piece_at(session.answers(), j, path, told);
+    let status = piece_at(session.answers(), j, buffer, told);
     handle.handle.put(session);
     status.number()
 }

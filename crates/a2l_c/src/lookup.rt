@@ -1,9 +1,10 @@
 //! The parts of answers by their indexes.
 
-ghost use Rattle.std.specs.Prelude.{◌≡◌, ◌<◌, ◌⊎◌, None, Some, length, map, option_map, slice_get, MatchOption};
+ghost use Rattle.std.specs.Prelude.{◌≡◌, ◌≢◌, ◌⊎◌, map, option_map};
 ghost use Rattle.dw_symbols.specs.Answer.{answer_shown, frame_shown, piece_shown};
 ghost use Rattle.a2l_c.specs.Answers as model;
-ghost use Rattle.a2l_c.specs.Structs.{TellsFrameLength, TellsPieceLength, answer_told, frame_told, piece_told};
+ghost use Rattle.a2l_c.specs.Answers.{ReportsAnswer, LacksAnswer, ReportsFrame, LacksFrame, ReportsPiece, LacksPiece};
+ghost use Rattle.a2l_c.specs.Structs.{IsCopied, IsTooLong};
 
 use crate::status::Status;
 use crate::structs::{CAnswer, CFrame, CPiece, tell_answer, tell_frame, tell_piece};
@@ -31,9 +32,9 @@ fn piece_of<'b>(answer: &'b Answer<'static>, j: usize) -> Option<&'b Piece>
 
 /// Fills in what the answer at an index is.
 pub(crate) fn answer_at(answers: &[Answer<'static>], i: usize, told: &mut CAnswer) -> Status
-    ensures told { result ≡ Status.Done → option_map answer_told (slice_get (map answer_shown answers.now) i)
-        ≡ Some told.new }
-    ensures outside { result ≡ Status.Outside → slice_get (map answer_shown answers.now) i ≡ None }
+    ensures told { result ≡ Status.Done → ReportsAnswer i told.new (map answer_shown answers.now) }
+    ensures outside { result ≡ Status.Outside → LacksAnswer i (map answer_shown answers.now) }
+    ensures unfilled { result ≢ Status.Done → told.new ≡ told.old }
     ensures ends { (result ≡ Status.Done) ⊎ (result ≡ Status.Outside) }
 {
     let Some(answer) = answers.get(i) else {
@@ -67,12 +68,13 @@ pub(crate) fn frame_at(
     buffer: &mut [u8],
     told: &mut CFrame<'static>,
 ) -> Status
-    ensures told { result ≡ Status.Done → model.frame_in (map answer_shown answers.now) i j
-        ≡ Some (frame_told told.new buffer.new) }
-    ensures outside { result ≡ Status.Outside → model.frame_in (map answer_shown answers.now) i j ≡ None }
+    ensures told { result ≡ Status.Done
+        → ReportsFrame i j told.new (IsCopied buffer.old buffer.new) (map answer_shown answers.now) }
     ensures short { result ≡ Status.Short
-        → MatchOption (model.frame_in (map answer_shown answers.now) i j) ⊥
-        (λ frame. TellsFrameLength told.new frame (length buffer.old)) }
+        → ReportsFrame i j told.new (IsTooLong buffer.old) (map answer_shown answers.now) }
+    ensures outside { result ≡ Status.Outside → LacksFrame i j (map answer_shown answers.now) }
+    ensures unfilled { result ≡ Status.Outside → told.new ≡ told.old }
+    ensures uncopied { result ≢ Status.Done → buffer.new ≡ buffer.old }
     ensures ends { (result ≡ Status.Done) ⊎ ((result ≡ Status.Outside) ⊎ (result ≡ Status.Short)) }
 {
     let Some(frame) = frame_in(answers, i, j) else {
@@ -88,12 +90,13 @@ pub(crate) fn piece_at(
     buffer: &mut [u8],
     told: &mut CPiece,
 ) -> Status
-    ensures told { result ≡ Status.Done → model.piece_in (map answer_shown answers.now) j
-        ≡ Some (piece_told told.new buffer.new) }
-    ensures outside { result ≡ Status.Outside → model.piece_in (map answer_shown answers.now) j ≡ None }
+    ensures told { result ≡ Status.Done
+        → ReportsPiece j told.new (IsCopied buffer.old buffer.new) (map answer_shown answers.now) }
     ensures short { result ≡ Status.Short
-        → MatchOption (model.piece_in (map answer_shown answers.now) j) ⊥
-        (λ piece. TellsPieceLength told.new piece (length buffer.old)) }
+        → ReportsPiece j told.new (IsTooLong buffer.old) (map answer_shown answers.now) }
+    ensures outside { result ≡ Status.Outside → LacksPiece j (map answer_shown answers.now) }
+    ensures unfilled { result ≡ Status.Outside → told.new ≡ told.old }
+    ensures uncopied { result ≢ Status.Done → buffer.new ≡ buffer.old }
     ensures ends { (result ≡ Status.Done) ⊎ ((result ≡ Status.Outside) ⊎ (result ≡ Status.Short)) }
 {
     let Some(piece) = piece_in(answers, j) else {

@@ -108,8 +108,9 @@ fn answers_of(
 }
 
 impl Session {
-    /// Opens a file, of which the functions of so many units are kept, and as many line tables.
-    /// Nothing was asked yet.
+    /// Opens a file. It keeps the functions of as many units as the capacity says, and line tables
+    /// that together are no longer than .debug_line: those that were asked for last. Nothing was
+    /// asked yet.
     pub(crate) fn open(
         alloc: Global,
         file: &'static [u8],

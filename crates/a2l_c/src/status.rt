@@ -20,7 +20,7 @@ pub(crate) enum Status {
     Open,
     /// There is no such answer, frame or piece.
     Outside,
-    /// The path is longer than the buffer. All else is filled in.
+    /// The path is longer than the buffer, which stays as it is. The struct is filled.
     Short,
 }
 

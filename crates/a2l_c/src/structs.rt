@@ -1,9 +1,9 @@
 //! The structs of the header, and how they are filled.
 
-ghost use Rattle.std.specs.Prelude.{◌≡◌, ◌<◌, ◌⊎◌, length, take};
+ghost use Rattle.std.specs.Prelude.{◌≡◌, ◌≢◌, ◌⊎◌};
 ghost use Rattle.dw_symbols.specs.Answer.{answer_shown, frame_shown, location_shown, piece_shown};
-ghost use Rattle.a2l_c.specs.Structs.{IsReason, TellsLength, TellsFrameLength, TellsPieceLength, answer_told};
-ghost use Rattle.a2l_c.specs.Structs.{location_told, frame_told, piece_told};
+ghost use Rattle.a2l_c.specs.Structs as model;
+ghost use Rattle.a2l_c.specs.Structs.{IsReason, IsFrame, IsCopied, IsTooLong, answer_told, location_told, piece_told};
 
 use crate::handle::Handle;
 use crate::status::Status;
@@ -47,6 +47,7 @@ pub struct CAnswer {
 
 /// Where in the source an address comes from. The path is in a buffer of the caller's.
 #[repr(C)]
+#[derive(Drop)]
 pub struct CLocation {
     pub path_length: usize,
     pub line: u64,
@@ -123,10 +124,21 @@ pub(crate) fn tell_answer(answer: &Answer<'static>, told: &mut CAnswer)
     };
 }
 
-/// Copies a path to the front of a buffer, where it fits.
+/// The bytes of a location's path, of which there are none if it isn't known.
+fn path_of(location: &Location) -> &[u8]
+    ensures { result.now ≡ model.path_of (location_shown location.now) }
+{
+    match &location.path {
+        Some(path) => path,
+        None => b"",
+    }
+}
+
+/// Copies a path to the front of a buffer if it fits, and changes nothing behind it.
 fn copy_path(path: &[u8], buffer: &mut [u8]) -> Status
-    ensures copied { result ≡ Status.Done → take (length path.now) buffer.new ≡ path.now }
-    ensures short { result ≡ Status.Short → length buffer.old < length path.now }
+    ensures copied { result ≡ Status.Done → IsCopied buffer.old buffer.new path.now }
+    ensures short { result ≡ Status.Short → IsTooLong buffer.old path.now }
+    ensures uncopied { result ≢ Status.Done → buffer.new ≡ buffer.old }
     ensures ends { (result ≡ Status.Done) ⊎ (result ≡ Status.Short) }
 {
     let n = path.len();
@@ -137,57 +149,52 @@ fn copy_path(path: &[u8], buffer: &mut [u8]) -> Status
     Status::Done
 }
 
-/// Fills in a location, of which the path goes into a buffer.
-pub(crate) fn tell_location(location: &Location, buffer: &mut [u8], told: &mut CLocation) -> Status
-    ensures told { result ≡ Status.Done → location_told told.new buffer.new ≡ location_shown location.now }
-    ensures short { result ≡ Status.Short → TellsLength told.new (location_shown location.now) (length buffer.old) }
+/// Fills in a location, and copies its path to a buffer if it fits.
+fn tell_location(location: &Location, buffer: &mut [u8], told: &mut CLocation) -> Status
+    ensures told { told.new ≡ location_told (location_shown location.now) }
+    ensures copied { result ≡ Status.Done
+        → IsCopied buffer.old buffer.new (model.path_of (location_shown location.now)) }
+    ensures short { result ≡ Status.Short → IsTooLong buffer.old (model.path_of (location_shown location.now)) }
+    ensures uncopied { result ≢ Status.Done → buffer.new ≡ buffer.old }
     ensures ends { (result ≡ Status.Done) ⊎ (result ≡ Status.Short) }
 {
-    told.line = location.line.unwrap_or(0);
-    told.line_known = location.line.is_some();
-    told.column = location.column.unwrap_or(0);
-    told.column_known = location.column.is_some();
-    match &location.path {
-        None => {
-            told.path_known = false;
-            told.path_length = 0;
-            Status::Done
-        }
-        Some(path) => {
-            told.path_known = true;
-            told.path_length = path.len();
-            copy_path(path, buffer)
-        }
-    }
+    let path = path_of(location);
+    *told = CLocation {
+        path_length: path.len(),
+        line: location.line.unwrap_or(0),
+        column: location.column.unwrap_or(0),
+        path_known: location.path.is_some(),
+        line_known: location.line.is_some(),
+        column_known: location.column.is_some(),
+    };
+    copy_path(path, buffer)
 }
 
-/// Fills in a frame, of which the path goes into a buffer.
+/// Fills in a frame, and copies its path to a buffer if it fits.
 pub(crate) fn tell_frame(
     frame: &Frame<'static>,
     buffer: &mut [u8],
     told: &mut CFrame<'static>,
 ) -> Status
-    ensures told { result ≡ Status.Done → frame_told told.new buffer.new ≡ frame_shown frame.now }
-    ensures short { result ≡ Status.Short → TellsFrameLength told.new (frame_shown frame.now) (length buffer.old) }
+    ensures told { IsFrame (frame_shown frame.now) told.new }
+    ensures copied { result ≡ Status.Done
+        → IsCopied buffer.old buffer.new (model.path_of (frame_shown frame.now).location) }
+    ensures short { result ≡ Status.Short → IsTooLong buffer.old (model.path_of (frame_shown frame.now).location) }
+    ensures uncopied { result ≢ Status.Done → buffer.new ≡ buffer.old }
     ensures ends { (result ≡ Status.Done) ⊎ (result ≡ Status.Short) }
 {
-    match frame.name {
-        None => {
-            told.name_known = false;
-            told.name = b"";
-        }
-        Some(name) => {
-            told.name_known = true;
-            told.name = name;
-        }
-    }
+    told.name = frame.name.unwrap_or(b"");
+    told.name_known = frame.name.is_some();
     tell_location(&frame.location, buffer, &mut told.location)
 }
 
-/// Fills in a piece, of which the path goes into a buffer.
+/// Fills in a piece, and copies its path to a buffer if it fits.
 pub(crate) fn tell_piece(piece: &Piece, buffer: &mut [u8], told: &mut CPiece) -> Status
-    ensures told { result ≡ Status.Done → piece_told told.new buffer.new ≡ piece_shown piece.now }
-    ensures short { result ≡ Status.Short → TellsPieceLength told.new (piece_shown piece.now) (length buffer.old) }
+    ensures told { told.new ≡ piece_told (piece_shown piece.now) }
+    ensures copied { result ≡ Status.Done
+        → IsCopied buffer.old buffer.new (model.path_of (piece_shown piece.now).location) }
+    ensures short { result ≡ Status.Short → IsTooLong buffer.old (model.path_of (piece_shown piece.now).location) }
+    ensures uncopied { result ≢ Status.Done → buffer.new ≡ buffer.old }
     ensures ends { (result ≡ Status.Done) ⊎ (result ≡ Status.Short) }
 {
     told.begin = piece.begin;
