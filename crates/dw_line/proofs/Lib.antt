@@ -2,6 +2,7 @@ pub mod CountLemmas
 pub mod EntryLemmas
 pub mod OperandLemmas
 pub mod MachineLemmas
+pub mod EndLemmas
 pub mod KeptLemmas
 pub mod RecorderLemmas
 pub mod ProgramLemmas

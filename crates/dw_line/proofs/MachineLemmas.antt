@@ -1,5 +1,5 @@
 -- One instruction more, or none: the rows that the machine appends from there on.
-use Rattle.std.proofs.Common.{◌≡◌, ℕ, ◌<◌, Bool, true, false, List, [], ◌∷◌, ◌++◌, length, Option, Some, None, Result, Ok, Err, refl, sym, ap, ◌∙◌, append_assoc, length-append, arith}
+use Rattle.std.proofs.Common.{◌≡◌, ℕ, ◌+◌, ◌<◌, ◌≤◌, Bool, true, false, List, [], ◌∷◌, ◌++◌, length, Option, Some, None, Result, Ok, Err, refl, sym, ap, ◌∙◌, append_assoc, length-append, arith}
 use Rattle.std.specs.Prelude.{option_map}
 use Rattle.dw_model.specs.Results.{◌>>=◌}
 use Rattle.dw_model.specs.Reading.{Place, start, items, onto, Spans}
@@ -17,7 +17,7 @@ use Rattle.dw_line.specs.declared.instruction.Instruction.{Instruction as CodeIn
 use Rattle.dw_line.specs.Instruction.{instruction_shown}
 use Rattle.dw_line.specs.declared.machine.Appended.{Appended}
 use Rattle.dw_line.specs.Registers.{registers_shown}
-use Rattle.dw_line.specs.Machine.{State, beginning, rows_on, row_before, registers_behind, IsNext}
+use Rattle.dw_line.specs.Machine.{State, beginning, rows_on, row_before, registers_behind, least_bytes, IsNext}
 
 pub read_one : (header : LineHeader) (found : Option CodeInstruction) (i : CodeInstruction) (p q : Place) → found ≡ Some i → next_instruction header p ≡ Ok (option_map instruction_shown found, q) → next_instruction header p ≡ Ok (Some (instruction_shown i), q)
 read_one header found i p q is e = e ∙ ap (λ (o : Option CodeInstruction). Ok (option_map instruction_shown o, q)) is
@@ -111,8 +111,8 @@ program_bad header e = grind (arith, bind_err, ok-err)
 -- ---- the next row
 
 pub next_is : (header : LineHeader) (old : State) (new : Place) (r : Registers) (ends : Bool) (next : Appended) → registers_shown next.registers ≡ r → next.ends ≡ ends
-    → rows_on header old ≡ row_before (row r ends) (rows_on header (record { registers = registers_behind r ends; place = new })) → Advances old.place new → IsNext header old next new
-next_is header old new r ends next same last rows spans = grind arith
+    → rows_on header old ≡ row_before (row r ends) (rows_on header (record { registers = registers_behind r ends; place = new })) → Advances old.place new → old.place.at + least_bytes ends ≤ new.at → IsNext header old next new
+next_is header old new r ends next same last rows spans size = grind arith
 
 pub same_on : (header : LineHeader) (p : Place) (r s : Registers) → r ≡ s → rows_on header (record { registers = r; place = p }) ≡ rows_on header (record { registers = s; place = p })
 same_on header p r s e = ap (λ (r : Registers). rows_on header (record { registers = r; place = p })) e

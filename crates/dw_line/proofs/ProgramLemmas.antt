@@ -1,5 +1,6 @@
 -- Running a program for the first time: what is recorded, and which rows are still appended.
-use Rattle.std.proofs.Common.{◌≡◌, ℕ, ◌+◌, ◌≤◌, Bool, true, false, List, [], ◌∷◌, length, drop, Option, Some, None, Ok, Err, sym, subst, ap, ◌∙◌, length-append, arith}
+use Rattle.std.proofs.Common.{◌≡◌, ℕ, ◌+◌, ◌*◌, ◌≤◌, Bool, true, false, List, [], ◌∷◌, length, drop, Option, Some, None, Ok, Err, sym, subst, ap, ◌∙◌, length-append, arith}
+use Rattle.std.specs.Prelude.{◌==◌}
 use Rattle.std.proofs.lemmas.List.{length-take}
 use Rattle.std.proofs.Math.Seq.{drop-append_seam}
 use Rattle.dw_model.specs.Reading.{Place, start}
@@ -11,10 +12,10 @@ use Rattle.dw_model.specs.Registers as model
 use Rattle.dw_line.specs.declared.registers.Registers.{Registers}
 use Rattle.dw_line.specs.declared.machine.Appended.{Appended}
 use Rattle.dw_line.specs.Registers.{registers_shown}
-use Rattle.dw_line.specs.Machine.{State, beginning, rows_on, row_before, registers_behind, appended_row, IsNext, RunsToNext}
+use Rattle.dw_line.specs.Machine.{State, beginning, rows_on, row_before, registers_behind, appended_row, least_bytes, IsNext, RunsToNext}
 use Rattle.dw_line.specs.Sequences.{used_sequences, AreKept}
 use Rattle.dw_line.specs.Program.{IsRecorded}
-use Rattle.dw_line.specs.Recorder.{Recorder, recorder_shown, empty, pushed_by, closed_from, recorded, finished}
+use Rattle.dw_line.specs.Recorder.{Recorder, recorder_shown, empty, pushed_by, used_from, closed_from, recorded, finished}
 use Rattle.dw_line.specs.declared.checkpoints.Checkpoints.{Checkpoints}
 use Rattle.dw_line.proofs.MachineLemmas.{Passes, passes, passes_more, passes_none}
 use Rattle.dw_line.proofs.RecorderLemmas as records
@@ -26,12 +27,12 @@ pub record Whole (header : LineHeader) (r : Recorder) (rows : List Row) : Type 0
   pub run : rows_on header (beginning header) ≡ Ok all
   pub records : Records header r all rows
 
--- how many things are kept so far
+-- how many bytes what is kept so far takes at least
 abbrev pub size_of : Recorder → ℕ
-size_of r = length r.checkpoints + length r.sequences
+size_of r = length r.checkpoints + 3 * length r.sequences
 
 -- A fault on the way from here is the program's, and where the rows from here on can be read, so
--- can all. No more is kept than one thing for each byte that was passed.
+-- can all. What is kept takes no more bytes than were passed.
 pub record Recording (header : LineHeader) (r : Recorder) (state : State) : Type 0 where
   pub bad : rows_on header state ≡ Err bad → rows_on header (beginning header) ≡ Err bad
   pub good : (rows : List Row) → rows_on header state ≡ Ok rows → Whole header r rows
@@ -62,15 +63,16 @@ one_recorded header r registers true place all rows is later within =
 one_recorded header r registers false place all rows is later within =
     records.push header r.checkpoints r.sequences r.pending.first_checkpoint r.pending.last_address r.pending.rises r.pending.room registers place all rows is later within
 
--- a row makes one thing more at most
+-- what a row makes takes no more bytes than it
 pushed_size : (due : Bool) (registers : Registers) (place : ℕ) (r : Recorder) → size_of (pushed_by due registers place r) ≤ size_of r + 1
 pushed_size due registers place r = grind (arith, length-append)
 
-closed_size : (begin : Option ℕ) (end : ℕ) (r : Recorder) → size_of (closed_from begin end r) ≤ size_of r + 1
+closed_size : (begin : Option ℕ) (end : ℕ) (r : Recorder) → size_of (closed_from begin end r) ≤ size_of r + 3
 closed_size begin end r = grind (arith, length-take, length-append)
 
-recorded_size : (ends : Bool) (registers : Registers) (place : ℕ) (r : Recorder) → size_of (recorded (record { registers = registers; ends = ends }) place r) ≤ size_of r + 1
-recorded_size ends registers place r = grind (arith, closed_size, pushed_size)
+recorded_size : (ends : Bool) (registers : Registers) (place : ℕ) (r : Recorder) → size_of (recorded (record { registers = registers; ends = ends }) place r) ≤ size_of r + least_bytes ends
+recorded_size true registers place r = closed_size (used_from registers.address r) registers.address r
+recorded_size false registers place r = pushed_size (r.pending.room == 0) registers place r
 
 pub goes_on : (header : LineHeader) (r : Recorder) (state : State) (next : Appended) (new : Place) (behind : State) → behind ≡ record { registers = registers_behind (registers_shown next.registers) next.ends; place = new } → IsNext header state next new → Recording header r state → Recording header (recorded next new.at r) behind
 goes_on header r state next new behind same is so_far =
@@ -82,7 +84,7 @@ goes_on header r state next new behind same is so_far =
           let later = ap (λ (p : Place). rows_on header (record { registers = registers_behind (registers_shown next.registers) next.ends; place = p })) at.0 ∙ e in
           record { all = whole.all; run = whole.run; records = one_recorded header r next.registers next.ends new.at whole.all rows whole.records later at.1 };
       place = place;
-      fits = omega (arith, recorded_size next.ends next.registers new.at r, so_far.fits, is.spans.1.1, is.spans.2);
+      fits = omega (arith, recorded_size next.ends next.registers new.at r, so_far.fits, is.size);
     })
   where
     place : Passes (start header.program) new

@@ -1,7 +1,6 @@
 -- What is recorded of a program is of the rows that the machine has appended so far.
-use Rattle.std.proofs.Common.{◌≡◌, ℕ, zero, suc, ◌+◌, ◌*◌, ◌<◌, ◌≤◌, Bool, true, false, cond, List, [], ◌∷◌, ◌++◌, length, take, drop, filter, reverse, Option, Some, None, Ok, inl, inr, refl, sym, subst, ap, ◌∙◌, append_assoc, length-append, arith}
+use Rattle.std.proofs.Common.{◌≡◌, ℕ, zero, suc, ◌+◌, ◌*◌, ◌/◌, ◌<◌, ◌≤◌, Bool, true, false, cond, List, [], ◌∷◌, ◌++◌, length, take, drop, filter, reverse, Option, Some, None, Ok, inl, inr, refl, sym, subst, ap, ◌∙◌, append_assoc, length-append, arith}
 use Rattle.std.specs.Prelude.{◌&&◌, nat_le, nat_lt, slice_get, option_and_then}
-use Rattle.std.specs.List.{sum_by}
 use Rattle.std.proofs.Math.Seq.{take-length, drop-length}
 use Rattle.std.proofs.lemmas.List.{append-nil, reverse-append, reverse-reverse, drop-append-le, drop_all, drop_at, length-take-le, length-drop, nil_from_length}
 use Rattle.std.proofs.lemmas.List.Elements.{filter-append}
@@ -16,7 +15,7 @@ use Rattle.dw_line.specs.declared.checkpoints.Checkpoint.{Checkpoint}
 use Rattle.dw_line.specs.declared.checkpoints.Sequence.{Sequence}
 use Rattle.dw_line.specs.Registers.{registers_shown}
 use Rattle.dw_line.specs.Machine.{rows_on}
-use Rattle.dw_line.specs.Sequences.{used_sequences, up_to_end, state_of, IsCheckpoint, AreCheckpoints, HasCheckpoints, checkpoints_in, IsSequence, AreSequences, AreKept}
+use Rattle.dw_line.specs.Sequences.{used_sequences, checkpoints_of, checkpoint_count, up_to_end, state_of, IsCheckpoint, AreCheckpoints, HasCheckpoints, checkpoints_in, IsSequence, AreSequences, AreKept}
 use Rattle.dw_line.specs.Recorder.{Recorder, empty, pushed_by, pushed, used_from, closed_from, closed}
 use Rattle.dw_line.proofs.KeptLemmas.{behind, cut, each_kept, each_pushed, checkpoint_pushed}
 
@@ -33,8 +32,7 @@ pub record Records (header : LineHeader) (r : Recorder) (all rows : List Row) : 
   pub room : r.pending.room < 64
   pub rises : r.pending.rises ≡ never_falls pending
   pub last : r.pending.last_address ≡ last_address pending
-  pub few : 64 * r.pending.first_checkpoint ≤ sum_by length (filter is_used ended) + 64 * length (filter is_used ended)
-  pub enough : sum_by length (filter is_used ended) ≤ 64 * r.pending.first_checkpoint + length (filter is_used ended)
+  pub made : r.pending.first_checkpoint ≡ checkpoint_count (filter is_used ended)
 
 abbrev pub recorder : List Checkpoint → List Sequence → (first_checkpoint last_address : ℕ) → Bool → ℕ → Recorder
 recorder checkpoints kept first_checkpoint last_address rises room = record {
@@ -55,8 +53,7 @@ begins header all = record {
   room = omega arith;
   rises = refl;
   last = refl;
-  few = omega arith;
-  enough = omega arith;
+  made = refl;
 }
 
 -- ---- rows one after the other
@@ -107,8 +104,7 @@ push_due header checkpoints kept first last rises room registers place all rows 
       room = omega arith;
       rises = ap (λ (b : Bool). b && nat_le last registers.address) is.rises ∙ ap (λ (n : ℕ). never_falls is.pending && nat_le n registers.address) is.last ∙ sym (falls_push is.pending next);
       last = sym (last_push is.pending next);
-      few = is.few;
-      enough = is.enough;
+      made = is.made;
     }
 
 push_between : (header : LineHeader) (checkpoints : List Checkpoint) (kept : List Sequence) (first last : ℕ) (rises : Bool) (room : ℕ) (registers : Registers) (place : ℕ) (all rows : List Row)
@@ -127,8 +123,7 @@ push_between header checkpoints kept first last rises room registers place all r
       room = omega (arith, is.room);
       rises = ap (λ (b : Bool). b && nat_le last registers.address) is.rises ∙ ap (λ (n : ℕ). never_falls is.pending && nat_le n registers.address) is.last ∙ sym (falls_push is.pending next);
       last = sym (last_push is.pending next);
-      few = is.few;
-      enough = is.enough;
+      made = is.made;
     }
 
 -- the place is so many bytes after the program's beginning
@@ -160,6 +155,10 @@ used_is header (first ∷ own) pending end room last rises each count small rise
 parts_closed : (all pending rows : List Row) (ended : List (List Row)) (registers : Registers) → sequences all ≡ ended ++ sequences_from (reverse pending) (row (registers_shown registers) true ∷ rows) → sequences all ≡ (ended ++ (pending ++ row (registers_shown registers) true ∷ []) ∷ []) ++ sequences_from (reverse []) rows
 unfolding sequences_from
 parts_closed all pending rows ended registers e = grind (arith, turned_back, append_assoc)
+
+-- so many checkpoints are those of a sequence with so many rows before its end row
+own_count : (pending own room : ℕ) → pending + room ≡ 64 * own → room < 64 → (pending + 1 + 62) / 64 ≡ own
+own_count pending own room count small = omega (arith, count, small)
 
 -- an ended sequence that is used, and one that isn't
 one_used : (ended : List (List Row)) (s : List Row) → is_used s ≡ true → filter is_used (ended ++ s ∷ []) ≡ filter is_used ended ++ s ∷ []
@@ -207,8 +206,7 @@ close header checkpoints kept first last rises room registers all rows is =
           room = omega arith;
           rises = refl;
           last = refl;
-          few = rw more (omega (arith, sum_by_push length (filter is_used is.ended) s, length-append (filter is_used is.ended) (s ∷ []), length-append is.pending (end ∷ []), length-drop first checkpoints, is.few, is.count, is.room, is.within));
-          enough = rw more (omega (arith, sum_by_push length (filter is_used is.ended) s, length-append (filter is_used is.ended) (s ∷ []), length-append is.pending (end ∷ []), length-drop first checkpoints, is.enough, is.count, is.room, is.within));
+          made = rw more (omega (arith, sum_by_push checkpoints_of (filter is_used is.ended) s, own_count (length is.pending) (length (drop first checkpoints)) room is.count is.room, length-append is.pending (end ∷ []), length-drop first checkpoints, is.made, is.within));
         }
     by false e =
         let end = row (registers_shown registers) true in
@@ -226,8 +224,7 @@ close header checkpoints kept first last rises room registers all rows is =
           room = omega arith;
           rises = refl;
           last = refl;
-          few = rw more is.few;
-          enough = rw more is.enough;
+          made = rw more is.made;
         }
 
 -- ---- the end of the program

@@ -1,5 +1,5 @@
 -- What a line table that was read is seen as.
-use Rattle.std.specs.Prelude.{◌≡◌, ◌≤◌, ◌+◌, ℕ, List, length, Option, Ok, option_map}
+use Rattle.std.specs.Prelude.{◌≡◌, ◌≤◌, ◌+◌, ◌*◌, ℕ, List, length, Option, Ok, option_map}
 use Rattle.dw_model.specs.Matrix.{Row}
 use Rattle.dw_model.specs.Text.{Tables, Bases}
 use Rattle.dw_index.specs.Segments.{owner_at}
@@ -31,13 +31,14 @@ abbrev pub used_in : Inside → List (List Row)
 used_in lines = used_sequences (matrix_of (header_shown lines.header))
 
 -- Each unit sees the table at its offset so. What is kept is of the used sequences of the header's
--- program, no more things than it has bytes; the index finds the first of them that holds an
--- address, and the row that was found last is one of theirs.
+-- program, no more checkpoints than it has bytes, with three for each sequence; the index finds the
+-- first of them that holds an address, and the row that was found last is one of theirs.
 pub record AreRead (lines : Inside) : Type 0 where
   pub each : (tables : Tables) (bases : Bases) (comp_dir : Option (List ℕ))
       → lines_of tables bases lines.section.now comp_dir lines.offset ≡ Ok (table_in lines tables bases comp_dir)
   pub kept : AreKept (header_shown lines.header) lines.checkpoints.items lines.sequences.items (used_in lines)
-  pub fits : length lines.checkpoints.items + length lines.sequences.items ≤ length lines.header.program.now
+  pub fits : length lines.checkpoints.items + 3 * length lines.sequences.items ≤ length lines.header.program.now
   pub leaps : FewLeaps (header_shown lines.header) (length lines.header.program.now) lines.leaps.items
+  pub indexed : length lines.index ≤ 2 * length lines.sequences.items
   pub found : (a : ℕ) → owner_at lines.index a ≡ number_among (used_in lines) a
   pub last : IsLast (header_shown lines.header) (used_in lines) lines.last

@@ -1,5 +1,5 @@
 -- The machine that runs a line program, from any of its states on (DWARF 5, section 6.2.2).
-use Rattle.std.specs.Prelude.{◌≡◌, ◌<◌, ◌≤◌, Bool, if◌then◌else◌}
+use Rattle.std.specs.Prelude.{◌≡◌, ◌<◌, ◌≤◌, ◌+◌, ℕ, Bool, if◌then◌else◌}
 use Rattle.std.specs.Prelude.{List, [], ◌∷◌, length, drop, Option, Some, None, Result, Ok, Err}
 use Rattle.dw_model.specs.Results.{◌>>=◌}
 use Rattle.dw_model.specs.Reading.{Place, start, items, Spans}
@@ -53,10 +53,16 @@ abbrev pub state_behind : Appended → Place → State
 state_behind next place =
     record { registers = registers_behind (registers_shown next.registers) next.ends; place = place }
 
+-- how many bytes an instruction takes at least that appends a row, one that ends its sequence or
+-- another
+abbrev pub least_bytes : Bool → ℕ
+least_bytes ends = if ends then 3 else 1
+
 -- The machine appends this row on its way from a state to a place, and no other.
 pub record IsNext (header : LineHeader) (old : State) (next : Appended) (new : Place) : Type 0 where
   pub rows : rows_on header old ≡ row_before (appended_row next) (rows_on header (state_behind next new))
   pub spans : Spans (λ piece. 0 < length piece) old.place new
+  pub size : old.place.at + least_bytes next.ends ≤ new.at
 
 -- what a call returns that runs the machine to its next row
 abbrev pub RunsToNext : LineHeader → State → Result (Option Appended) LineFault → Place → Type 0

@@ -15,7 +15,15 @@ use Rattle.dw_line.specs.Registers.{registers_shown}
 abbrev pub used_sequences : List Row → List (List Row)
 used_sequences rows = filter is_used (sequences rows)
 
--- how many checkpoints they have at most
+-- how many checkpoints a used sequence has: one for 64 rows, but for its end row
+abbrev pub checkpoints_of : List Row → ℕ
+checkpoints_of rows = (length rows + 62) / 64
+
+-- how many its used sequences have together
+abbrev pub checkpoint_count : List (List Row) → ℕ
+checkpoint_count used = sum_by checkpoints_of used
+
+-- they have at most as many
 abbrev pub most_checkpoints : List (List Row) → ℕ
 most_checkpoints used = sum_by length used / 64 + length used
 
@@ -99,8 +107,7 @@ AreSequences header checkpoints end _ _ = ⊥
 pub record AreKept (header : LineHeader) (checkpoints : List Checkpoint) (kept : List Sequence)
     (used : List (List Row)) : Type 0 where
   pub each : AreSequences header checkpoints (length checkpoints) kept used
-  pub few : length checkpoints ≤ most_checkpoints used
-  pub enough : sum_by length used ≤ 64 * length checkpoints + length used
+  pub count : length checkpoints ≡ checkpoint_count used
 
 -- each sequence's range with its number, counted from a first one
 abbrev pub pairs_from : ℕ → List Sequence → List (Range × ℕ)

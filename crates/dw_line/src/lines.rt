@@ -11,10 +11,10 @@ ghost use Rattle.dw_line.specs.Border.{OwnerEnds};
 ghost use Rattle.dw_line.specs.Fault.{line_fault};
 ghost use Rattle.dw_line.specs.Header.{without_lists};
 ghost use Rattle.dw_line.specs.Lines.{lines_of, TellsEach};
-ghost use Rattle.dw_line.specs.Kept.{most_kept, spelled};
+ghost use Rattle.dw_line.specs.Kept.{least_held, most_held};
 ghost use Rattle.dw_line.specs.Reached.{IsLast, FindsRow, IsRowOf};
 ghost use Rattle.dw_line.specs.Search.{row_told, told_at};
-ghost use Rattle.dw_line.specs.Sequences.{used_sequences, number_among, IsOwner};
+ghost use Rattle.dw_line.specs.Sequences.{used_sequences, checkpoint_count, most_checkpoints, number_among, IsOwner};
 ghost use Rattle.dw_line.specs.TableAt.{table_size};
 
 use crate::checkpoints::{Checkpoint, Checkpoints, Sequence};
@@ -309,18 +309,28 @@ impl<'a> Lines<'a> {
         }
     }
 
-    /// How many things are kept: the checkpoints of rows, at most one for 64 rows of used sequences
-    /// and one for each of these sequences; the sequences, the directories and the files; and the
-    /// ways of more than 64 bytes without a row. These are at most twice the bytes of the table,
-    /// and one at least for 64 rows, directories and files. Nothing else is kept that grows with
-    /// the table.
+    /// How many checkpoints are kept, each with a row's registers: of each used sequence one at its
+    /// first row and at each 64th row after it. So they are at most one for 64 rows of used
+    /// sequences, and one for each of these.
     pub fn kept(&self) -> usize
-        ensures bound { result ≤ most_kept self.now }
-        ensures bytes { result ≤ 2 * table_size self.now.section self.now.offset }
-        ensures least { spelled self.now ≤ 64 * result }
+        ensures exact { result ≡ checkpoint_count (used_sequences self.now.rows) }
+        ensures bound { result ≤ most_checkpoints (used_sequences self.now.rows) }
     {
         self.checkpoints.len()
-            + self.sequences.len()
+    }
+
+    /// How many other things are kept: the used sequences and the segments of their index, the ways
+    /// of more than 64 bytes without a row, the directories and the files. With the checkpoints
+    /// these are at most twice the bytes of the table, and nothing else grows with it but the
+    /// formats of a long list, at most 255.
+    pub fn held(&self) -> usize
+        ensures bound { result ≤ most_held self.now }
+        ensures bytes { checkpoint_count (used_sequences self.now.rows) + result
+            ≤ 2 * table_size self.now.section self.now.offset }
+        ensures least { least_held self.now ≤ result }
+    {
+        self.sequences.len()
+            + self.index.segment_count()
             + self.leaps.len()
             + self.header.directories.len()
             + self.header.files.len()

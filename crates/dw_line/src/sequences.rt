@@ -1,6 +1,6 @@
 //! Finding the used sequence of an address, and its checkpoints.
 
-ghost use Rattle.std.specs.Prelude.{◌≡◌, ◌≤◌, ℕ, length, map, IfOk};
+ghost use Rattle.std.specs.Prelude.{◌≡◌, ◌≤◌, ◌*◌, ℕ, length, map, IfOk};
 ghost use Rattle.dw_index.specs.Range.{pair_shown};
 ghost use Rattle.dw_index.specs.Segments.{owner_at};
 ghost use Rattle.dw_line.specs.Sequences.{pairs_from, number_of, checkpoints_in};
@@ -30,7 +30,8 @@ fn sequence_pairs(alloc: Global, sequences: &[Sequence]) -> Result<Vec<(Range, u
 
 /// An index of sequences, which finds the number of the first one that holds an address.
 pub(crate) fn index_of(alloc: Global, sequences: &[Sequence]) -> Result<Index, AllocError>
-    ensures { IfOk result (λ index. (a : ℕ) → owner_at index a ≡ number_of sequences.now a) }
+    ensures owners { IfOk result (λ index. (a : ℕ) → owner_at index a ≡ number_of sequences.now a) }
+    ensures size { IfOk result (λ index. length index ≤ 2 * length sequences.now) }
 {
     let pairs = sequence_pairs(alloc, sequences)?;
     Index::build(alloc, &pairs)

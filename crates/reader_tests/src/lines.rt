@@ -125,6 +125,42 @@ const MANY_ROWS: &[u8] = &[
     0x21, 0x21, 2, 1, 0, 1, 1,
 ];
 
+/// A table of 200 rows: the k-th is at 0x1000 + k, and line k + 1.
+fn table_of_many_rows(alloc: Global) -> Result<Vec<u8>, AllocError> {
+    let mut program = Vec::new(alloc);
+    program.extend_from_slice(&[0, 9, 2, 0, 0x10, 0, 0, 0, 0, 0, 0])?;
+    for _ in 0..200 {
+        program.push(0x21)?;
+    }
+    program.extend_from_slice(&[2, 1, 0, 1, 1])?;
+    line_table(alloc, HEADER, &program)
+}
+
+/// How many checkpoints and other things are kept, in the same way.
+fn kept_in(lines: &Lines<'_>) -> (usize, usize) {
+    (lines.kept(), lines.held())
+}
+
+/// Checkpoints are kept of the rows 1, 65, 129 and 193. Besides, one sequence is held, two segments
+/// of its index, one directory and two files.
+#[test]
+fn rows_that_are_kept(rt: HostRuntime) -> Result<(), Fail> {
+    let section = table_of_many_rows(rt.alloc())?;
+    let lines = read(rt.alloc(), &section)?;
+    for (address, line) in [
+        (0x1000, None),
+        (0x1001, Some(2)),
+        (0x1040, Some(65)),
+        (0x1041, Some(66)),
+        (0x10c8, Some(201)),
+        (0x10c9, None),
+    ] {
+        expect(&rt, address, &line_at(&lines, address), &line);
+    }
+    expect(&rt, "kept", &kept_in(&lines), &(4, 6));
+    Ok(())
+}
+
 /// A header whose directories are texts in .debug_line_str and whose files have a name, the number
 /// of a directory, 16 bytes and a size.
 const PATHS: &[u8] = &[

@@ -10,6 +10,7 @@ use Rattle.dw_line.specs.Machine.{rows_on}
 use Rattle.dw_line.specs.Registers.{registers_shown}
 use Rattle.dw_line.proofs.CountLemmas.{still_tells}
 use Rattle.dw_line.proofs.MachineLemmas.{read_one, read_none, passes_none, passes_one, passes_more, passes, shorter, goes_on, appends_row, ends, stops, next_is, same_on}
+use Rattle.dw_line.proofs.EndLemmas.{row_size}
 use Rattle.dw_line.proofs.machine.next_row.Goals as goal
 
 pub loop-instruction-init : goal.loop-instruction-init
@@ -46,6 +47,7 @@ returns-then-appends c =
     next_is header (record { registers = registers_shown c.args.registers; place = c.args.cursor.now }) q (step header i r) (is_end i) (record { registers = c.step-registers.result; ends = c.is_end-ends.result }) c.step-registers.ensures c.is_end-ends.ensures
     (c.loop-instruction.invariant.0 ∙ appends_row header r i p q read (sym c.if-appends.ensures))
     (passes_more c.args.cursor.now p q c.loop-instruction.invariant.1 (passes_one header i p q read))
+    (row_size header i c.args.cursor.now p q c.loop-instruction.invariant.1 read)
 
 pub loop-instruction-preserved : goal.loop-instruction-preserved
 loop-instruction-preserved c =

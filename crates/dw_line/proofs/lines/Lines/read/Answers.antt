@@ -1,4 +1,4 @@
-use Rattle.std.proofs.Common.{◌∙◌, ℕ, List, Bor, ap, option_map}
+use Rattle.std.proofs.Common.{◌∙◌, ℕ, ◌*◌, ◌≤◌, List, length, subst, Bor, ap, option_map}
 use Rattle.std.proofs.lemmas.Result.{err_from_is_err_and}
 use Rattle.dw_model.specs.LineHeader.{line_header}
 use Rattle.dw_forms.specs.Tables.{tables_shown, bases_shown}
@@ -56,7 +56,8 @@ invariant_of-result c =
       kept = kept;
       leaps = c.in_ok-leaps.ensures;
       fits = c.in_ok-recorded.ensures.fits;
-      found = λ a. c.in_ok-index.ensures a ∙ ap (λ (sequences : List Sequence). number_of sequences a) c.deref-2.ensures.value ∙ number_is header recorded.checkpoints.items recorded.sequences.items (used_sequences (matrix_of header)) a kept;
+      indexed = subst (λ (sequences : List Sequence). length c.in_ok-index.index ≤ 2 * length sequences) c.deref-2.ensures.value c.in_ok-index.ensures.size;
+      found = λ a. c.in_ok-index.ensures.owners a ∙ ap (λ (sequences : List Sequence). number_of sequences a) c.deref-2.ensures.value ∙ number_is header recorded.checkpoints.items recorded.sequences.items (used_sequences (matrix_of header)) a kept;
       last = tt;
     }
 

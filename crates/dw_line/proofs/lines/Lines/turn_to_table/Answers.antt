@@ -1,4 +1,4 @@
-use Rattle.std.proofs.Common.{◌≡◌, ◌≤◌, ◌+◌, None, length, subst, ap, ◌∙◌}
+use Rattle.std.proofs.Common.{◌≡◌, ◌≤◌, ◌+◌, ◌*◌, None, length, subst, ap, ◌∙◌}
 use Rattle.dw_model.specs.LineHeader.{LineHeader}
 use Rattle.dw_model.specs.Text.{Tables, Bases}
 use Rattle.dw_line.specs.Header.{header_in, header_shown}
@@ -20,8 +20,9 @@ invariant_of-self c =
     record {
       each = λ tables bases comp_dir. lines_alike tables bases old.section.now comp_dir c.args.offset (header_in tables bases old.header) (header_in tables bases new) (read tables bases).1 (read tables bases).2 same (c.in-Ok.ensures tables bases);
       kept = subst (λ (header : LineHeader). AreKept header old.checkpoints.items old.sequences.items (used_sequences (matrix_of header))) same are.kept;
-      fits = subst (λ (header : LineHeader). length old.checkpoints.items + length old.sequences.items ≤ length header.program) same are.fits;
+      fits = subst (λ (header : LineHeader). length old.checkpoints.items + 3 * length old.sequences.items ≤ length header.program) same are.fits;
       leaps = subst (λ (header : LineHeader). FewLeaps header (length header.program) old.leaps.items) same are.leaps;
+      indexed = are.indexed;
       found = λ a. are.found a ∙ ap (λ (header : LineHeader). number_among (used_sequences (matrix_of header)) a) same;
       last = subst (λ (header : LineHeader). IsLast header (used_sequences (matrix_of header)) old.last) same are.last;
     }
