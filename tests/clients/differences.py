@@ -15,8 +15,22 @@ SAID = {
     'variable': 'llvm-symbolizer has the place of a variable from its debug information, which a2l doesn\'t read',
     'told': 'llvm-symbolizer writes of a file that it can\'t open into the report',
 }
+# Names in GNU's style as LLVM's tools write them: lambdas, empty packs, pointers to members, closing brackets.
+STYLE = [(re.compile(r'\{lambda(\([^{}]*\))?#(\d+)\}'), lambda found: f"'lambda{_number(found[2])}'{found[1] or ''}"),
+         (re.compile(r'<, '), '<'), (re.compile(r', (?=, |>)'), ''), (re.compile(r'::\* \('), '::*('), (re.compile(r'> +(?=>)'), '>')]
 VARIABLE = re.compile(r"( defined in '[^':]*)[:\d]*'")
 FRAME = re.compile(r'^( *#\d+ +0x[0-9a-f]+) ')
+
+
+def _number(of_gnu):
+    return '' if of_gnu == '1' else int(of_gnu) - 2
+
+
+def of_llvm(text):
+    """Names in GNU's style as LLVM's tools write them."""
+    for pattern, instead in STYLE:
+        text = pattern.sub(instead, text)
+    return text
 
 
 @functools.cache

@@ -1,8 +1,9 @@
-"""lines.py [--any-order] OURS THEIRS..: compares what a client wrote with a2l-symbolizer and with others.
+"""lines.py [--any-order] [--gnu] OURS THEIRS..: compares what a client wrote with a2l-symbolizer and with others.
 
 Each line of ours has to be the one at its place in one of theirs that has as many lines, or to differ
 from it for a reason of differences.py. With --any-order the place means nothing, since lines in the order
-of names have another one where a name differs. It says how many lines there are.
+of names have another one where a name differs. With --gnu ours has names in GNU's style, and theirs may have them in
+LLVM's. It says how many lines there are.
 """
 
 import collections
@@ -25,10 +26,11 @@ def aligned(ours, theirs):
 
 
 def main(*words):
-    paths = [path for path in words if path != '--any-order']
-    ours, *theirs = (pathlib.Path(path).read_text(errors='backslashreplace').splitlines() for path in paths)
+    paths = [word for word in words if not word.startswith('--')]
+    style = differences.of_llvm if '--gnu' in words else str
+    ours, *theirs = (style(pathlib.Path(path).read_text(errors='backslashreplace')).splitlines() for path in paths)
     of_one_length = [lines for lines in theirs if len(lines) == len(ours)]
-    if len(paths) < len(words):
+    if '--any-order' in words:
         of_one_length = [aligned(ours, lines) for lines in of_one_length]
     if not of_one_length:
         sys.exit(f'{len(ours)} lines, where the others have {", ".join(str(len(lines)) for lines in theirs)}')

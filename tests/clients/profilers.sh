@@ -64,7 +64,7 @@ pprof_by_addr2line() {
 # and stubs of .plt, as above.
 pprof_of_gperftools() {
     profile_sorts || return 0
-    same --any-order 'sorts\.cc:[0-9]+' bash -c '
+    same --any-order --gnu 'sorts\.cc:[0-9]+' bash -c '
         for tool in addr2line nm objdump c++filt; do tools+=,$tool:$(command -v $tool); done
         google-pprof --tools="${tools#,}" --lines --text ./sorts sorts.prof | grep -v " \./" |
             sed -E "s/^( *[0-9.]+%?){5} +//" | grep -vx "_init ??:0"'

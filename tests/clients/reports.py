@@ -21,15 +21,6 @@ NOT_OF_GNU = [(re.compile(r'(:\d+):\d+(?=[ \n]|$)'), r'\1'), (re.compile(r' (\?\
               (re.compile(r"(defined in '[^':]*)[:\d]*'"), r"\1'"), (re.compile(r':\?(?=\s)'), ''),
               (re.compile(r'  Location is global [^\n]*\n\n?'), '')]
 
-
-def of_llvm(lambda_of_gnu):
-    number = int(lambda_of_gnu[2])
-    return f"'lambda{'' if number == 1 else number - 2}'{lambda_of_gnu[1] or ''}"
-
-
-# Names in GNU's style as LLVM's tools write them: lambdas, empty packs, pointers to members, closing brackets.
-STYLE = [(re.compile(r'\{lambda(\([^{}]*\))?#(\d+)\}'), of_llvm), (re.compile(r'<, '), '<'), (re.compile(r', (?=, |>)'), ''),
-         (re.compile(r'::\* \('), '::*('), (re.compile(r'> +(?=>)'), '>')]
 # llvm-symbolizer writes to standard error, and so into the report, what it can't open.
 OF_THE_TOOL = re.compile(r'^\S*llvm-symbolizer\S*: error: .*$\n', re.MULTILINE)
 
@@ -61,7 +52,7 @@ def compare(name, theirs, ours, counts):
 
 
 def main(*words):
-    patterns = VARYING + (STYLE + NOT_OF_GNU if words[0] == '--gnu' else [])
+    patterns = VARYING + (differences.STYLE + NOT_OF_GNU if words[0] == '--gnu' else [])
     theirs, ours = map(pathlib.Path, words[-2:])
     counts, failures, frames = collections.Counter(), 0, 0
     for path in sorted(theirs.iterdir()):

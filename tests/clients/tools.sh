@@ -58,11 +58,11 @@ client() {
 # What a client writes with each folder first in PATH: with ours the same as with theirs or, since
 # GNU addr2line and llvm-addr2line know different things of a library, as with the other, but for the
 # reasons of differences.py. One line has to be as the first word describes, which only a symbolizer
-# that answered can bring about; and ours has to have been started. With --any-order before that word
-# the order of lines means nothing.
+# that answered can bring about; and ours has to have been started. Words with dashes before that one
+# are those of lines.py.
 same() {
-    local order=() wanted begun folder
-    [ "$1" != --any-order ] || { order=("$1"); shift; }
+    local how=() wanted begun folder
+    while [[ $1 == --* ]]; do how+=("$1"); shift; done
     wanted=$1
     shift
     for folder in theirs other ours; do
@@ -74,7 +74,7 @@ same() {
     [ "$(wc -l < started)" -gt "$begun" ] || { echo "a2l-symbolizer wasn't started: $*"; return 1; }
     grep -qE -- "$wanted" ours.lines || { echo "nothing like '$wanted' in"; cat ours.lines; return 1; }
     diff theirs.err ours.err || { echo "other errors: $*"; return 1; }
-    python3 "$clients/lines.py" ${order[0]+"${order[@]}"} ours.lines theirs.lines other.lines
+    python3 "$clients/lines.py" ${how[0]+"${how[@]}"} ours.lines theirs.lines other.lines
 }
 
 # The symbol tables of the libraries that programs here have, for differences.py.
