@@ -74,6 +74,23 @@ build_cxx() {
     "$@" -c -x c++ sizes.cc -o "$name.o" && link_twin "$name"
 }
 
+# Names of C++, in a program without a library.
+build_names() {
+    local name=$1
+    shift
+    file=$name
+    "$@" -fno-rtti -fno-exceptions -nostdlib -static -Wl,-e,main -x c++ "$here/tests/clients/names.cc" -o "$name"
+}
+
+# Names of Rust, in a program and in an object; the last flag is the scheme of names.
+build_rust() {
+    local name=$1 scheme="symbol-mangling-version=${*: -1}"
+    file=$name
+    RUSTC_BOOTSTRAP=1 rustc "${@:3:$#-3}" -C panic=abort -Z unstable-options -C "$scheme" --emit=obj \
+        "$here/tests/clients/names.rs" -o "$name.o" &&
+        "${linker[@]}" -e run --gc-sections --noinhibit-exec --unresolved-symbols=ignore-all "$name.o" -o "$name"
+}
+
 # Several objects in one, as a kernel module is.
 build_joined() {
     local name=$1
@@ -161,6 +178,9 @@ packed  joined  gcc,clang-14,clang-19  x86-64,aarch64,riscv64         -g -gdwarf
 apart   apart   gcc,clang-14,clang-19  x86-64,narrow,aarch64,riscv64  -g -gdwarf-5 -O2,-g -gdwarf-5 -O2 -gz=zlib
 kept    kept    gcc,clang-14,clang-19  x86-64,narrow,aarch64,riscv64  -g -gdwarf-5 -O2
 classes cxx     gcc,clang-14,clang-19  x86-64                         -g -gdwarf-5 -O2,-g -gdwarf-5 -O2 -fdebug-types-section
+names   names   gcc                    x86-64                         -g -gdwarf-5 -O0,-g -gdwarf-5 -O2,-g -gdwarf-5 -O2 -flto
+names   names   clang-14,clang-19      x86-64,aarch64                 -g -gdwarf-5 -O0,-g -gdwarf-5 -O2,-g -gdwarf-5 -O2 -flto
+rust    rust    rustc                  x86-64                         -g -C dwarf-version=5 legacy,-g -O -C dwarf-version=5 v0
 END
 }
 

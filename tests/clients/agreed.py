@@ -3,7 +3,8 @@
 All addresses of the code of a file are asked for in both protocols. Where both originals agree on a field of a frame
 (function, file, line) and ours is another one, that fails, but for one of the reasons below, which the file has to
 bear out. Each file is asked by addresses and by sections. llvm-symbolizer takes no section, and is asked about the
-linked twin of a relocatable file, in which each section has its own addresses. It prints a line a file.
+linked twin of a relocatable file, in which each section has its own addresses. Readable names of all functions at an
+address of a linked file are those of llvm-symbolizer, in its protocol. It prints a line a file.
 """
 
 import argparse
@@ -52,17 +53,17 @@ def run(words, addresses):
     return subprocess.run(words, input=asked, check=True, capture_output=True, text=True, errors='replace').stdout
 
 
-def of_llvm(words, path, addresses):
+def of_llvm(words, path, addresses, names='--no-demangle'):
     """The frames of each address, by llvm-symbolizer: in JSON, since names that it writes may be empty."""
-    text = run([*words, '--no-demangle', '--inlines', '--output-style=JSON', f'--obj={path}'], addresses)
+    text = run([*words, names, '--inlines', '--output-style=JSON', f'--obj={path}'], addresses)
     replies = [json.loads(line).get('Symbol', []) for line in text.splitlines()]
     return [[frame(one['FunctionName'] or '??', f'{one["FileName"] or "??"}:{one["Line"]}') for one in reply]
             or [frame('??', '??:0')] for reply in replies]
 
 
-def as_llvm(words, path, addresses):
+def as_llvm(words, path, addresses, names='--no-demangle'):
     """The same by ours, in LLVM's protocol."""
-    replies = run([*words, '--no-demangle', '--inlines', f'--obj={path}'], addresses).split('\n\n')[:-1]
+    replies = run([*words, names, '--inlines', f'--obj={path}'], addresses).split('\n\n')[:-1]
     return [frames_of(reply.split('\n')) for reply in replies]
 
 
@@ -82,7 +83,7 @@ class Tally:
     """What was seen of one file."""
 
     def __init__(self):
-        self.asked, self.agreed, self.why, self.unlike = 0, 0, collections.Counter(), []
+        self.asked, self.agreed, self.readable, self.why, self.unlike = 0, 0, 0, collections.Counter(), []
 
     def add(self, where, theirs, ours, linked):
         """Compares the frames that ours has with those that both originals have, and with llvm-symbolizer's of the linked
@@ -111,6 +112,15 @@ class Tally:
         self.asked += len(addresses)
         for place, address in enumerate(addresses):
             self.add(f'{where} {address:#x}', [replies[place] for replies in theirs], ours[place], linked and linked[place])
+
+
+    def add_names(self, where, theirs, ours):
+        """Compares the readable names of the functions at an address."""
+        theirs, ours = ([name for name, *_ in frames] for frames in (theirs, ours))
+        if theirs == ours:
+            self.readable += 1
+        else:
+            self.unlike.append(f'{where}: names {theirs} by llvm-symbolizer, {ours} by ours')
 
 
 class Comparison:
@@ -145,6 +155,10 @@ class Comparison:
             addresses = range(begin, begin + size)
             by_llvm = self.llvm(addresses)
             self.compare(name, addresses, (by_llvm, self.gnu(addresses)))
+            readable = (of_llvm([self.words.llvm], self.path, addresses, '--demangle'),
+                        as_llvm([self.words.tool, '--as=llvm-symbolizer'], self.path, addresses, '--demangle'))
+            for address, theirs, ours in zip(addresses, *readable, strict=True):
+                self.tally.add_names(f'{name} {address:#x}', theirs, ours)
             self.compare_section(name, range(size), (by_llvm, self.gnu(range(size), name)))
 
     def relocatable(self):
@@ -179,7 +193,7 @@ def main():
     told = ''.join(f', {count} {why}: {SAID[why]}' for why, count in tally.why.items())
     print('\n'.join(tally.unlike[:8] + [
         f'{words.name}: {tally.asked} addresses, {tally.agreed} fields that both originals agree on, {len(tally.unlike)} other ones'
-        f' by ours{told}']), flush=True)
+        f' by ours{told}' + (f', {tally.readable} addresses with readable names' if tally.readable else '')]), flush=True)
     sys.exit(1 if tally.unlike or not tally.agreed else 0)
 
 
