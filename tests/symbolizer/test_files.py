@@ -119,7 +119,7 @@ class Files(Case):
         self.assertLess(len((of_process / 'maps').read_text().splitlines()), 400)
 
     def test_quiet_of_what_cannot_be_opened(self):
-        for flags, times in (([], 0), (['--verbose'], 1)):
+        for flags, times in (([], 0), (['--explain'], 1)):
             text = (code('missing') + b'\n') * 3
             done = subprocess.run([*AS_LLVM, *flags], input=text, capture_output=True, check=True, timeout=20)
             self.assertEqual(done.stdout, UNKNOWN * 3)
