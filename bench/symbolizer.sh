@@ -1,8 +1,9 @@
 #!/usr/bin/env bash
 # How long a2l-symbolizer takes in a conversation, and how much memory, beside llvm-symbolizer and GNU
 # addr2line, all in one run: from its start to the first answer, 2,000 random addresses one by one, the
-# processor time of all, and the memory that is its own in the end. The words are programs, or how many
-# units of templates are to be built into one (36 and 60 without, about 60 and 100 MB). Each is run nine
+# processor time of all, and the memory that is its own in the end. The words are programs or relocatable
+# files, or how many units of templates are to be built into one (36 and 60 without, about 60 and 100 MB),
+# or `joined`: a relocatable file of some 10 MB, of two such units in a static library. Each is run nine
 # times, in turn, and once where it takes more than 10 seconds; the medians count. Then the median of 21
 # reports of AddressSanitizer with either, of a program by clang 19. It prints ratios, and tests nothing.
 . "$(dirname "$0")/../tests/programs.sh"
@@ -80,9 +81,20 @@ if has "GNU addr2line" addr2line; then
     tools+=("a2l as addr2line=$symbolizer --as=addr2line -f -i" "addr2line=$(command -v addr2line) -f -i")
 fi
 for word in "$@"; do
-    need_large "$word"
+    asked=("${tools[@]}")
+    if [ "$word" = joined ]; then
+        # GNU's addr2line takes a line without a number for address 0, which is code there: no reply has an end
+        asked=("${tools[@]:0:2}")
+        write_large 2
+        g++ -std=c++17 -g -gdwarf-5 -O1 -c unit1.cc unit2.cc
+        ar rcs joined.a unit1.o unit2.o
+        ld -r --whole-archive joined.a -o large
+        program=$work/large
+    else
+        need_large "$word"
+    fi
     echo "a program of $(($(stat -Lc %s "$program") / 1000000)) MB, at a load of $(cut -d ' ' -f 1 /proc/loadavg)"
-    python3 conversing.py "$program" "${tools[@]}"
+    python3 conversing.py "$program" "${asked[@]}"
     rm -f large unit*.cc* main.cc* objects
 done
 

@@ -75,6 +75,11 @@ readable_names() {
 
 self_checks() {
     build_sorts
-    "$symbolizer" --self-check -e sorts > checked || { cat checked; return 1; }
-    grep -E '[0-9]' checked
+    g++ $five -gz=zlib sizes.cc -o packed
+    g++ $five -ffunction-sections -c sizes.cc -o sizes.o
+    local file
+    for file in sorts packed sizes.o; do
+        "$symbolizer" --self-check -e $file > checked || { cat checked; return 1; }
+        grep -E '[0-9]' checked
+    done
 }

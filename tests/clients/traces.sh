@@ -6,6 +6,7 @@ traces() {
     client "mtrace" mtrace gcc -- leaks_of_mtrace
     client "decode_stacktrace.sh" nm xz -- stack_of_kernel
     client "faddr2line" nm xz -- places_of_kernel
+    client "faddr2line of a module" nm xz gcc ld -- places_of_module
 }
 
 # It starts the addr2line of the path that it was built with.
@@ -51,4 +52,24 @@ stack_of_kernel() {
 places_of_kernel() {
     kernel_scripts || return 0
     same 'lose at .*leaks\.c:[0-9]+' bash scripts/faddr2line ./leaks lose+0x8 lose+0x4
+}
+
+# Functions of a module in several sections, of which the script names each.
+places_of_module() {
+    kernel_scripts || return 0
+    cat > module.c << 'END_C'
+volatile int count;
+static inline __attribute__((always_inline)) int inner(int x) { count = x; return count + 1; }
+int run(int x) { return inner(x) * count; }
+__attribute__((section(".init.text"))) int begin(int x) {
+    return inner(x) + count;
+}
+__attribute__((section(".exit.text"))) int end(int x) {
+    return inner(x) * 2;
+}
+END_C
+    gcc $five -c module.c -o module.o
+    ld -r module.o -o module.ko
+    same 'begin at .*module\.c:[45]' bash scripts/faddr2line ./module.ko run+0x4 begin+0x8 end+0x8
+    same 'end at .*module\.c:[78]' bash scripts/faddr2line ./module.ko end+0x4
 }
