@@ -1,5 +1,6 @@
 pub mod ViewLemmas
 pub mod OpeningLemmas
+pub mod EndLemmas
 pub mod PoolLemmas
 pub mod RingPlaces
 pub mod RingViews
@@ -11,6 +12,7 @@ pub mod RingOpening
 pub mod RingHomes
 pub mod RingMissed
 pub mod RingAsker
+pub mod RingTaker
 pub mod RingMoves
 pub mod RingRuns
 pub mod RingMisses

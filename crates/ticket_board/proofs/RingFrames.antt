@@ -50,7 +50,7 @@ module _ (meaning : Meaning) (shape : Shape) (key : List ℕ) (board : Board) (s
       pub asking-here : asking_at views_sent s ≡ asking'
       asking-here = grind (arith, asker-seated, view-here, asker-there)
 
-      working-same : (w : ℕ) → working_at shape views_sent w ≡ working_at shape board.views w
+      pub working-same : (w : ℕ) → working_at shape views_sent w ≡ working_at shape board.views w
       working-same w = grind (arith, view-else, asker-seated)
 
       pub asker-frame : new.shape ≡ shape → new.key ≡ key → IsSound meaning new → length words ≡ words_in shape → length homes ≡ cells_in shape
@@ -116,10 +116,10 @@ module _ (meaning : Meaning) (shape : Shape) (key : List ℕ) (board : Board) (s
       pub asking-same : (t : ℕ) → t < shape.senders → asking_at views_worked t ≡ asking_at board.views t
       asking-same t h = grind (arith, view-else, worker-seated)
 
-      working-else : (v : ℕ) → v ≢ w → working_at shape views_worked v ≡ working_at shape board.views v
+      pub working-else : (v : ℕ) → v ≢ w → working_at shape views_worked v ≡ working_at shape board.views v
       working-else v ne = grind (arith, view-else, worker-seated)
 
-      working-here : working_at shape views_worked w ≡ working'
+      pub working-here : working_at shape views_worked w ≡ working'
       working-here = grind (arith, worker-seated, view-here, worker-there)
 
       pub worker-frame : new.shape ≡ shape → new.key ≡ key → IsSound meaning new → length words ≡ words_in shape → length homes ≡ cells_in shape

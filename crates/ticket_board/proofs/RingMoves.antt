@@ -8,7 +8,6 @@ use Rattle.ticket_core.specs.State.{Meaning, State, opening}
 use Rattle.ticket_core.specs.Events.{Event, after}
 use Rattle.ticket_core.specs.Runs.{Run, Reaches}
 use Rattle.ticket_board.specs.Ring.Views.{Role, View, opener, sender_seat, worker_seat, seat_of}
-use Rattle.ticket_board.specs.Ring.Views as Views
 use Rattle.ticket_board.specs.Ring.Shows.{Board, StandsAt, Sits, Shows}
 use Rattle.ticket_board.specs.Ring.Steps.{WritesFirst, WritesSecond, Publishes, LooksNext, BringsOut, Receives, LooksAt, Takes, ReadsFirst, ReadsSecond, Answers, GivesBack}
 use Rattle.ticket_board.specs.Ring.Opening.{next_seat}

@@ -109,8 +109,8 @@ module _ (meaning : Meaning) (shape : Shape) (key : List ℕ) (board : Board) (s
   pub asking-cut : (s : ℕ) → asking_at views_cut s ≡ asking_at board.views s
   asking-cut s = same_view asking_of (next-new shape cut (ltb cut shape.senders) (next_seat shape key cut).role refl).0 s
 
-  working-same : (w : ℕ) → working_at shape views_cut w ≡ working_at shape board.views w
-  working-same w = same_view working_of (next-new shape cut (ltb cut shape.senders) (next_seat shape key cut).role refl).1 (shape.senders + w)
+  pub working-cut : (w : ℕ) → working_at shape views_cut w ≡ working_at shape board.views w
+  working-cut w = same_view working_of (next-new shape cut (ltb cut shape.senders) (next_seat shape key cut).role refl).1 (shape.senders + w)
 
   size : length views_cut ≡ suc (suc cut)
   size = omega (arith, length-append told (next_seat shape key cut ∷ []), length-set board.views seat (opener shape key (suc cut)), opens-at.1)
@@ -140,4 +140,4 @@ module _ (meaning : Meaning) (shape : Shape) (key : List ℕ) (board : Board) (s
       omega arith
 
   pub cuts : Shows meaning shape key (cut_off shape key seat cut board) state
-  cuts = grind (arith, cut-seated, asking-cut, working-same, times-cut)
+  cuts = grind (arith, cut-seated, asking-cut, working-cut, times-cut)

@@ -17,14 +17,15 @@ use Rattle.ticket_board.specs.Ring.Views.{FirstWord, Whole, Working, Role, Works
 use Rattle.ticket_board.specs.Ring.Shows.{Board, CellShows, Seated, Sits, Shows}
 use Rattle.ticket_board.specs.Ring.Steps.{WorkerStep, MayWork, word_worked, words_worked, homes_worked, LooksAt, Takes, ReadsFirst, ReadsSecond, Answers, GivesBack, working_after}
 use Rattle.ticket_board.specs.Ring.Moves as Moves
+use Rattle.ticket_board.specs.Ring.Moves.{Occurs}
 use Rattle.ticket_board.specs.Ring.Rule.{home_shown, board_shown, views_of, lasts_of, Holds, worker_of, IsWorker, IsOfCell, KnowsWorked, KnowsLooked, KnowsTried, KnowsSecond}
 use Rattle.ticket_board.proofs.RingPlaces.{standing}
 use Rattle.ticket_board.proofs.RingWorkerSteps.{are-words, slot-waits}
 use Rattle.ticket_board.proofs.RingMoves.{made-on}
-use Rattle.ticket_board.proofs.RingSeat.{core, seated, known, MadeWith, Ends, put-back, sits-as, sits-there, made-with}
+use Rattle.ticket_board.proofs.RingSeat.{core, seated, known, MadeWith, Ends, put-back, sits-as, sits-there, made-with, occurs}
 use Rattle.ticket_board.proofs.RingHomes.{set-same, home-empty}
 
-is-worker : (role : Role) → IsWorker role → role ≡ Works (worker_of role) (working_of role)
+pub is-worker : (role : Role) → IsWorker role → role ≡ Works (worker_of role) (working_of role)
 is-worker role h = grind arith
 
 -- ---- the number in a state word
@@ -84,38 +85,44 @@ module _ {A : Type 0} (shown : A → Shown) (meaning : Meaning) (shape : Shape) 
         → set state.words place word ≡ words_worked shape step (get_or state.words place 0) state.words
         → map (home_shown shown) (table.homes_after state.homes me.1 act) ≡ homes_worked shape step (get_or state.words place 0) (map (home_shown shown) state.homes)
         → table.carried_after me.1 act ≡ carried
-        → Ends shown meaning shape key id me state holds sits place word (KnowsWorked step (get_or state.words place 0) carried me)
-    works-on place word step act carried at may valid words homes slots_are = (
-      known shown meaning shape key id me state holds sits (Works w (working_after shape working step (get_or state.words place 0))),
-      act,
-      valid,
-      subst (λ (x : List ℕ × List Home). Made x.0 x.1 (working_after shape working step (get_or state.words place 0))) (λ i. (sym words i, sym homes i))
-          (subst (λ (x : ℕ). Made (words_worked shape step (get_or state.words x 0) state.words) (homes_worked shape step (get_or state.words x 0) (map (home_shown shown) state.homes))
-          (working_after shape working step (get_or state.words x 0))) (sym (place-is place step at))
-          (made-with shown meaning shape key id me state holds sits (Works w working) role-is _ _ _
-          (made-on meaning shape key (board_shown shown state) (lasts_of state.views) holds (Moves.Works w working step)
-          (sits-there shown meaning shape key id me state holds sits (Works w working) role-is, may)))),
-      ((λ i. worker (sym mine.shape_is i) (sym mine.key_is i) w (working_after (sym mine.shape_is i) working step (get_or state.words place 0))), slots_are),
-    )
+        → Ends shown meaning shape key id me state holds sits place word (λ new. KnowsWorked step (get_or state.words place 0) carried me new × Occurs meaning new.0.view)
+    works-on place word step act carried at may valid words homes slots_are =
+        let new : Working = working_after shape working step (get_or state.words place 0) in
+        let made : Made (set state.words place word) (map (home_shown shown) (table.homes_after state.homes me.1 act)) (working_after shape working step (get_or state.words place 0)) =
+        subst (λ (x : List ℕ × List Home). Made x.0 x.1 (working_after shape working step (get_or state.words place 0))) (λ i. (sym words i, sym homes i))
+        (subst (λ (x : ℕ). Made (words_worked shape step (get_or state.words x 0) state.words) (homes_worked shape step (get_or state.words x 0) (map (home_shown shown) state.homes))
+        (working_after shape working step (get_or state.words x 0))) (sym (place-is place step at))
+        (made-with shown meaning shape key id me state holds sits (Works w working) role-is _ _ _
+        (made-on meaning shape key (board_shown shown state) (lasts_of state.views) holds (Moves.Works w working step)
+        (sits-there shown meaning shape key id me state holds sits (Works w working) role-is, may)))) in (
+          known shown meaning shape key id me state holds sits (Works w new),
+          act,
+          valid,
+          made,
+          (
+            ((λ i. worker (sym mine.shape_is i) (sym mine.key_is i) w (working_after (sym mine.shape_is i) working step (get_or state.words place 0))), slots_are),
+            occurs shown meaning shape key id me state holds sits (Works w working) role-is _ _ (Works w new) refl made,
+          ),
+        )
 
   -- ---- a cell is looked at
 
   pub looks-allowed : (place cell : ℕ) → working.hand ≡ None → cell < cells_in me.0.view.shape → place ≡ word_of cell state_field
-      → Allowed place (λ word. word) (λ word. KnowsLooked cell word me)
+      → Allowed place (λ word. word) (λ word new. KnowsLooked cell word me new × Occurs meaning new.0.view)
   looks-allowed place cell empty within at state holds deep sits fits =
       let shape_is : me.0.view.shape ≡ shape = (mine state holds sits).shape_is in
       let within' : cell < cells_in shape = subst (λ (x : Shape). cell < cells_in x) shape_is within in
       let of : IsOfCell shape cell (get_or state.words (word_of cell state_field) 0) =
       of-cell meaning shape key (board_shown shown state) (now state holds sits).0 (now state holds sits).1 cell within' in
       let it = works-on state holds sits place (get_or state.words place 0) (LooksAt cell) table.keeps me.1 at (empty, within') tt (set-same state.words place) refl refl in
-      (it.0, it.1, it.2, it.3, (it.4, subst (λ (x : Shape × ℕ). IsOfCell x.0 cell (get_or state.words x.1 0)) (λ i. (sym shape_is i, sym at i)) of))
+      (it.0, it.1, it.2, it.3, ((it.4.0, subst (λ (x : Shape × ℕ). IsOfCell x.0 cell (get_or state.words x.1 0)) (λ i. (sym shape_is i, sym at i)) of), it.4.1))
 
   -- the cell is told by the word's place
   cell-of-word : (place cell : ℕ) → place ≡ word_of cell state_field → place / cell_words ≡ cell
   cell-of-word place cell at = omega arith
 
   pub looks-at-word : (place cell : ℕ) → working.hand ≡ None → cell < cells_in me.0.view.shape → place ≡ word_of cell state_field
-      → Allowed place (λ word. word) (λ word. KnowsLooked (place / cell_words) word me)
+      → Allowed place (λ word. word) (λ word new. KnowsLooked (place / cell_words) word me new × Occurs meaning new.0.view)
   looks-at-word place cell empty within at = grind (arith, cell-of-word, looks-allowed)
 
   -- ---- a number is tried
@@ -128,7 +135,7 @@ module _ {A : Type 0} (shown : A → Shown) (meaning : Meaning) (shape : Shape) 
     -- a step that keeps the rule, where it hits and where it misses
     abbrev Tries : Bool → Type 0
     Tries hit = Ends shown meaning shape key id me state holds sits place (either hit (taken_word n) word)
-        (KnowsWorked (Takes s n) word (if hit then (cell_of me.0.view.shape s n, None) ∷ me.1 else me.1) me)
+        (λ new. KnowsWorked (Takes s n) word (if hit then (cell_of me.0.view.shape s n, None) ∷ me.1 else me.1) me new × Occurs meaning new.0.view)
 
     at' : place ≡ state_place shape s n
     at' = place-is state holds sits place (Takes s n) at
@@ -152,30 +159,30 @@ module _ {A : Type 0} (shown : A → Shown) (meaning : Meaning) (shape : Shape) 
 
   pub tries-allowed : (place asked taken s n : ℕ) → working.hand ≡ None → working.seen ≡ Some (s, n) → place ≡ state_place me.0.view.shape s n
       → asked ≡ asked_word n → taken ≡ taken_word n
-      → Allowed place (λ word. either (eqb word asked) taken word) (λ word. KnowsTried (s, n) word me)
+      → Allowed place (λ word. either (eqb word asked) taken word) (λ word new. KnowsTried (s, n) word me new × Occurs meaning new.0.view)
   tries-allowed place asked taken s n empty saw at is is' =
-      subst (λ (x : ℕ × ℕ). Allowed place (λ word. either (eqb word x.0) x.1 word) (λ word. KnowsTried (s, n) word me))
+      subst (λ (x : ℕ × ℕ). Allowed place (λ word. either (eqb word x.0) x.1 word) (λ word new. KnowsTried (s, n) word me new × Occurs meaning new.0.view))
       (λ i. (sym is i, sym is' i)) (λ state holds deep sits fits. tries place s n empty saw at state holds sits)
 
   -- ---- the query of the number in its hand
 
   pub first-allowed : (place s n : ℕ) → working.hand ≡ Some (s, n) → place ≡ first_place me.0.view.shape s n
-      → Allowed place (λ word. word) (λ word. KnowsWorked (ReadsFirst s n) word me.1 me)
+      → Allowed place (λ word. word) (λ word new. KnowsWorked (ReadsFirst s n) word me.1 me new × Occurs meaning new.0.view)
   first-allowed place s n holding at state holds deep sits fits =
       works-on state holds sits place (get_or state.words place 0) (ReadsFirst s n) table.keeps me.1 at holding tt (set-same state.words place) refl refl
 
   pub second-allowed : (place s n first : ℕ) → working.hand ≡ Some (s, n) → working.read ≡ FirstWord first → place ≡ second_place me.0.view.shape s n
-      → Allowed place (λ word. word) (λ word. KnowsSecond (s, n) first word me)
+      → Allowed place (λ word. word) (λ word new. KnowsSecond (s, n) first word me new × Occurs meaning new.0.view)
   second-allowed place s n first holding read at state holds deep sits fits =
       let both = are-words meaning shape key (board_shown shown state) (now state holds sits).0 (now state holds sits).1 id w working (mine-sits state holds sits) s n first holding read in
       let it = works-on state holds sits place (get_or state.words place 0) (ReadsSecond s n first) table.keeps me.1 at (holding, read) tt (set-same state.words place) refl refl in
-      (it.0, it.1, it.2, it.3, (it.4, subst (λ (x : ℕ). AreWords first (get_or state.words x 0)) (sym (place-is state holds sits place (ReadsSecond s n first) at)) both))
+      (it.0, it.1, it.2, it.3, ((it.4.0, subst (λ (x : ℕ). AreWords first (get_or state.words x 0)) (sym (place-is state holds sits place (ReadsSecond s n first) at)) both), it.4.1))
 
   -- ---- the number in its hand is put down
 
   pub answers-allowed : (place word s n : ℕ) (query : Query) (answer : A) → working.hand ≡ Some (s, n) → working.read ≡ Whole query → shown answer ≡ meaning me.0.view.key query
       → me.1 ≡ (cell_of me.0.view.shape s n, Some answer) ∷ table.rest me.1 → place ≡ state_place me.0.view.shape s n → word ≡ answered_word n
-      → Allowed place (λ _. word) (λ _. KnowsWorked (Answers s n query (shown answer)) 0 (table.rest me.1) me)
+      → Allowed place (λ _. word) (λ _ new. KnowsWorked (Answers s n query (shown answer)) 0 (table.rest me.1) me new × Occurs meaning new.0.view)
   answers-allowed place word s n query answer holding read right carries at is state holds deep sits fits =
       let right' : shown answer ≡ meaning key query = right ∙ ap (λ (x : List ℕ). meaning x query) (mine state holds sits).key_is in
       let at' : place ≡ state_place shape s n = place-is state holds sits place (GivesBack s n) at in
@@ -184,7 +191,7 @@ module _ {A : Type 0} (shown : A → Shown) (meaning : Meaning) (shape : Shape) 
 
   pub gives-allowed : (place word s n : ℕ) → working.hand ≡ Some (s, n)
       → me.1 ≡ (cell_of me.0.view.shape s n, None) ∷ table.rest me.1 → place ≡ state_place me.0.view.shape s n → word ≡ asked_word n
-      → Allowed place (λ _. word) (λ _. KnowsWorked (GivesBack s n) 0 (table.rest me.1) me)
+      → Allowed place (λ _. word) (λ _ new. KnowsWorked (GivesBack s n) 0 (table.rest me.1) me new × Occurs meaning new.0.view)
   gives-allowed place word s n holding carries at is state holds deep sits fits =
       let at' : place ≡ state_place shape s n = place-is state holds sits place (GivesBack s n) at in
       works-on state holds sits place word (GivesBack s n) table.gives (table.rest me.1) at holding tt

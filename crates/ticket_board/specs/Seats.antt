@@ -7,8 +7,9 @@ use Rattle.ticket_core.specs.declared.shape.Shape.{Shape}
 use Rattle.ticket_core.specs.State.{Shown, Meaning, Ticket}
 use Rattle.ticket_board.specs.declared.fault.AskFault.{AskFault}
 use Rattle.ticket_board.specs.declared.fault.AskFault.TheVariants.{Full, Closed, Exhausted}
-use Rattle.ticket_board.specs.Ring.Views.{Asking, asker}
+use Rattle.ticket_board.specs.Ring.Views.{Asking, Working, asker}
 use Rattle.ticket_board.specs.Ring.Moves.{Occurs}
+use Rattle.ticket_board.specs.Ring.Laws.{WorkOccurs}
 use Rattle.ticket_board.specs.Ring.Ends.{RingState, AskerState}
 use Rattle.ticket_board.specs.Ring.Takers.{TakerState}
 use Rattle.ticket_board.specs.Ring.Opened.{new_askers, new_takers}
@@ -129,6 +130,14 @@ worker_shown taker = record {
   done = taker.working.done;
   returned = taker.working.returned;
 }
+
+-- some moves make a ring on which a worker knows what it knows, and what it has done is what its own
+-- of them answered
+abbrev pub WorkerOccurs : Meaning → WorkerState → Type 0
+WorkerOccurs meaning worker =
+    (working : Working) × WorkOccurs meaning worker.seat.shape worker.seat.key worker.seat.worker working
+    × (working.hand ≡ worker.hand) × (working.missed ≡ worker.missed)
+    × (working.done ≡ worker.done) × (working.returned ≡ worker.returned)
 
 -- the workers of a board that was just opened, in order: their hands are empty, and nothing is done
 abbrev pub new_workers : RingState → List WorkerState

@@ -5,6 +5,7 @@ ghost use Rattle.ticket_board.specs.Ring.Laws.{IsServed};
 ghost use Rattle.ticket_board.specs.Seats.{IsClientOf, ClientOccurs, HasEnded, asks, closes, finds, receives};
 ghost use Rattle.ticket_board.specs.Seats.{ask_refusal};
 ghost use Rattle.ticket_board.specs.Outcome.{query_of, IsEnded, IfEnded, IfPending, OnAnswer};
+ghost use Rattle.ticket_board.specs.Calls.{Ask, Ready, Close, IsCall, EndIsFinal, next_call};
 
 use crate::board::Board;
 use crate::fault::AskFault;
@@ -43,6 +44,8 @@ impl<S: Solver> Client<S> {
         ensures refused { OnErr result (self.new ≡ self.old) }
         ensures refusal { MatchResult result (λ _. ask_refusal self.old ≡ None)
             (λ fault. ask_refusal self.old ≡ Some fault) }
+        ensures call { MatchResult result (λ _. IsCall (Ask query None) self.old self.new)
+            (λ fault. IsCall (Ask query (Some fault)) self.old self.new) }
     {
         if self.closed {
             return Err(AskFault::Closed);
@@ -57,6 +60,7 @@ impl<S: Solver> Client<S> {
         ensures found { self.old.found ≡ true → result ≡ true }
         ensures outstanding { result ≡ true → length self.old.received < length self.old.asked }
         ensures looked { self.new ≡ finds result self.old }
+        ensures call { IsCall (Ready result) self.old self.new }
     {
         self.asker.ready(&board.ring)
     }
@@ -74,6 +78,7 @@ impl<S: Solver> Client<S> {
         ensures received { OnAnswer result (λ n answer. self.new ≡ receives (S.shown answer) self.old) }
         ensures pending { IfPending result ((self.old.found ≡ false) × (self.new ≡ finds false self.old)) }
         ensures stays { IfEnded result (self.new ≡ self.old) }
+        ensures call { IsCall (next_call S.shown result) self.old self.new }
     {
         if self.closed && self.asker.has_all() {
             return Next::Ended;
@@ -100,7 +105,16 @@ impl<S: Solver> Client<S> {
     pub fn close(&mut self)
         ensures seat { self.new.seat ≡ self.old.seat }
         ensures closed { self.new ≡ closes self.old }
+        ensures call { IsCall Close self.old self.new }
     {
         self.closed = true;
     }
 }
+
+#[tactic(auto, using(crate::proofs::EndLemmas::end_is_final))]
+/// The end is final: whatever is called of a client that is closed and received everything, each
+/// query is refused as `Closed`, `ready` finds nothing, `next` returns the end, and what the client
+/// asked and received stays as it is.
+pub fn law_of_end()
+    ensures end { EndIsFinal }
+{}

@@ -13,7 +13,7 @@ pub mod ring;
 mod worker;
 
 pub use board::Board;
-pub use client::Client;
+pub use client::{Client, law_of_end};
 pub use fault::{AskFault, BoardFault};
 pub use gate::Gate;
 pub use new_board::open;

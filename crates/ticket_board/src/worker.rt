@@ -2,7 +2,7 @@
 
 ghost use Rattle.std.specs.Prelude.{◌≡◌, ◌+◌, ◌*◌, ◌≤◌, ◌<◌};
 ghost use Rattle.ticket_board.specs.Ring.Layout.{cells_in};
-ghost use Rattle.ticket_board.specs.Seats.{IsWorkerOf};
+ghost use Rattle.ticket_board.specs.Seats.{IsWorkerOf, WorkerOccurs};
 ghost use Rattle.ticket_board.specs.Outcome.{HasTurned, refused_after};
 
 use crate::board::Board;
@@ -58,6 +58,15 @@ impl<S: Solver> Worker<S> {
         ensures refused { S.refused solver.new ≡ refused_after result (S.refused solver.old) }
     {
         self.turn_uncounted::<G, Brand>(board, solver, gate, Blank::new(1))
+    }
+
+    /// Whatever was called before, some moves make a board on which a worker's lists are those of
+    /// this one; and by `law_of_board`, what it has done is what its own moves answered, in their
+    /// order, and each of these numbers was answered by just one of all the moves. It does nothing.
+    pub fn law_of_worker(&self)
+        ensures occurs { WorkerOccurs S.meaning self.now }
+    {
+        self.taker.law_of_taker();
     }
 
     /// The same as `turn`, with a counter of its own.

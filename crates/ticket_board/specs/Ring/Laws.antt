@@ -1,14 +1,16 @@
 -- What each move of the ring keeps, and what holds of a ring after any moves.
 use Rattle.std.specs.Prelude.{◌≡◌, ℕ, ◌+◌, ◌-◌, ◌<◌, ◌≤◌, Bool, false, List, [], ◌∷◌, ◌++◌, length, map, take, Option}
-use Rattle.std.specs.Prelude.{Some, None, if◌then◌else◌}
+use Rattle.std.specs.Prelude.{Some, None, nat_eq, if◌then◌else◌}
+use Rattle.std.specs.List.{Contains}
 use Rattle.ticket_core.specs.declared.query.Query.{Query}
 use Rattle.ticket_core.specs.declared.shape.Shape.{Shape}
-use Rattle.ticket_core.specs.State.{Shown, Meaning, State, sender_at, place_of, opening}
+use Rattle.ticket_core.specs.State.{Shown, Meaning, State, Ticket, sender_at, place_of, opening}
 use Rattle.ticket_core.specs.Shape.{Fits}
 use Rattle.ticket_core.specs.Events.{Event, Step}
 use Rattle.ticket_core.specs.Runs.{Reaches, once_finished}
-use Rattle.ticket_board.specs.Ring.Views.{Asking, asking_at, next_asked, next_received}
-use Rattle.ticket_board.specs.Ring.Shows.{Board, is_same, Shows}
+use Rattle.ticket_board.specs.Ring.Views.{Asking, Working, worker, worker_seat, asking_at, working_at, next_asked}
+use Rattle.ticket_board.specs.Ring.Views.{next_received}
+use Rattle.ticket_board.specs.Ring.Shows.{Board, Sits, is_same, Shows}
 use Rattle.ticket_board.specs.Ring.Steps.{Answers}
 use Rattle.ticket_board.specs.Ring.Opening.{AreFree, opened}
 use Rattle.ticket_board.specs.Ring.Moves.{Move, Works, MayMove, moved, event_of, board_after, MayBeMade, events_of}
@@ -83,6 +85,33 @@ abbrev pub AnsweredOnce : Meaning → Shape → List ℕ → List ℕ → List M
 AnsweredOnce meaning shape key words moves =
     (core : State) → Shows meaning shape key (board_after shape key words moves) core
     → (s n : ℕ) → times_answered s n moves ≡ once_finished (place_of (sender_at core s) n)
+
+-- what a move answers as one of this worker's, and what all of these moves do, in their order
+abbrev pub done_by : ℕ → Move → List Ticket
+done_by w (Works v working (Answers s n query answer)) = if nat_eq v w then (s, n) ∷ [] else []
+done_by w _ = []
+
+abbrev pub all_done_by : ℕ → List Move → List Ticket
+all_done_by w [] = []
+all_done_by w (move ∷ moves) = all_done_by w moves ++ done_by w move
+
+-- what a worker has done is what its own moves answered, in their order; and each of these numbers
+-- was answered by just one of all the moves
+pub record IsDone (w : ℕ) (moves : List Move) (done : List Ticket) : Type 0 where
+  pub own : done ≡ all_done_by w moves
+  pub once : (s n : ℕ) → Contains done (s, n) → times_answered s n moves ≡ 1
+
+-- so it is of each worker
+abbrev pub AreDone : Shape → List ℕ → List ℕ → List Move → Type 0
+AreDone shape key words moves =
+    (w : ℕ) → IsDone w moves (working_at shape (board_after shape key words moves).views w).done
+
+-- some moves make a ring on which a worker knows this, and what it has done is so by these moves
+abbrev pub WorkOccurs : Meaning → Shape → List ℕ → ℕ → Working → Type 0
+WorkOccurs meaning shape key w working =
+    (words : List ℕ) × (moves : List Move) × MayBeMade meaning shape key words moves
+    × Sits (board_after shape key words moves) (worker_seat shape w) (worker shape key w working)
+    × IsDone w moves working.done
 
 -- it received all answers, and later its lists are as they were
 pub record IsAtEnd (meaning : Meaning) (key : List ℕ) (now later : Asking) : Type 0 where

@@ -10,6 +10,8 @@ use Rattle.ticket_core.specs.Shape.{Fits}
 use Rattle.ticket_core.specs.State.{Shown, Meaning, Ticket}
 use Rattle.ticket_board.specs.Ring.Layout.{cell_of, cells_in}
 use Rattle.ticket_board.specs.Ring.Views.{Nothing, Whole, Working, Stamped, working_of}
+use Rattle.ticket_board.specs.Ring.Moves.{Occurs}
+use Rattle.ticket_board.specs.Ring.Laws.{WorkOccurs}
 use Rattle.ticket_board.specs.Ring.Rule.{IsWorker, worker_of}
 use Rattle.ticket_board.specs.Ring.Ends.{RingState}
 
@@ -26,6 +28,11 @@ pub record IsTakerOf (ring : RingState) (taker : TakerState) : Type 0 where
   pub shape_is : taker.shape ≡ ring.shape
   pub key_is : taker.key ≡ ring.key
   pub table_is : taker.table ≡ ring.table
+
+-- some moves make a ring on which it knows this, and what it has done is what its own of them
+-- answered
+abbrev pub TakerOccurs : Meaning → TakerState → Type 0
+TakerOccurs meaning it = WorkOccurs meaning it.shape it.key it.worker it.working
 
 -- it holds no number
 abbrev pub HasEmptyHand : TakerState → Type 0
@@ -104,10 +111,12 @@ module _ {A : Type 0} where
   }
 
   -- its fields are what its seat knows
-  pub record IsTaker (hand : Option Ticket) (shape : Shape) (me : table.Me (Option A) Stamped) : Type 0 where
+  pub record IsTaker (meaning : Meaning) (hand : Option Ticket) (shape : Shape) (me : table.Me (Option A) Stamped)
+      : Type 0 where
     pub works : IsWorker me.0.view.role
     pub shape_is : me.0.view.shape ≡ shape
     pub fits : Fits shape
     pub hand_is : (working_of me.0.view.role).hand ≡ hand
     pub ticket : IsTicketOf shape hand
     pub carries : me.1 ≡ slots_of shape hand
+    pub occurs : Occurs meaning me.0.view

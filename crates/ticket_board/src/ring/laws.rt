@@ -16,7 +16,7 @@ ghost use Rattle.ticket_board.specs.Ring.Steps.{GivesBack};
 ghost use Rattle.ticket_board.specs.Ring.Moves.{Move, Cuts, Sends, Works};
 ghost use Rattle.ticket_board.specs.Ring.Misses.{MayMiss};
 ghost use Rattle.ticket_board.specs.Ring.Laws.{OpeningLaw, MoveLaw, OfAllMoves, ShowsReached, AreServed};
-ghost use Rattle.ticket_board.specs.Ring.Laws.{AnsweredOnce, EndStays};
+ghost use Rattle.ticket_board.specs.Ring.Laws.{AnsweredOnce, AreDone, EndStays};
 
 use ticket_core::law_of_runs;
 
@@ -112,6 +112,8 @@ pub fn law_of_looks()
 ///   order, and it keeps its limits;
 /// - `once`: each number that is answered or received was answered by just one of the moves, every
 ///   other by none;
+/// - `done`: what each worker has done is what its own moves answered, in their order, and each of
+///   these numbers was answered by just one of all the moves;
 /// - `ended`: a sender that received as much as it asked received the meanings of all of it, and
 ///   later moves leave both its lists, until it asks more.
 ///
@@ -120,6 +122,7 @@ pub fn law_of_board()
     ensures shows { (meaning : Meaning) → OfAllMoves meaning (ShowsReached meaning) }
     ensures served { (meaning : Meaning) → OfAllMoves meaning (AreServed meaning) }
     ensures once { (meaning : Meaning) → OfAllMoves meaning (AnsweredOnce meaning) }
+    ensures done { (meaning : Meaning) → OfAllMoves meaning AreDone }
     ensures ended { (meaning : Meaning) → OfAllMoves meaning (EndStays meaning) }
 {
     law_of_runs();

@@ -79,44 +79,61 @@ impl<S: Solver> Play<Option<S::Answer>, Knowledge> for Receive<S> {
 }
 
 /// A worker looks at a cell.
-pub struct LookAt;
+pub struct LookAt<S> {
+    solved_by: PhantomData<S>,
+}
 
-impl<T> Play<Option<T>, Knowledge> for LookAt {
-    ghost then = { λ step old word new. KnowsLooked (step.word / cell_words) word old new };
+impl<S: Solver> Play<Option<S::Answer>, Knowledge> for LookAt<S> {
+    ghost then = { λ step old word new. KnowsLooked (step.word / cell_words) word old new
+        × Occurs S.meaning new.0.view };
 }
 
 /// A worker tries to take the number that it saw.
-pub struct Take;
+pub struct Take<S> {
+    solved_by: PhantomData<S>,
+}
 
-impl<T> Play<Option<T>, Knowledge> for Take {
-    ghost then = { λ step old word new. KnowsTried (seen_of old.0.view.role) word old new };
+impl<S: Solver> Play<Option<S::Answer>, Knowledge> for Take<S> {
+    ghost then = { λ step old word new. KnowsTried (seen_of old.0.view.role) word old new
+        × Occurs S.meaning new.0.view };
 }
 
 /// A worker reads the first word of the query of the number in its hand.
-pub struct ReadFirst;
+pub struct ReadFirst<S> {
+    solved_by: PhantomData<S>,
+}
 
-impl<T> Play<Option<T>, Knowledge> for ReadFirst {
-    ghost then = { λ step old word new. KnowsFirst (hand_of old.0.view.role) word old new };
+impl<S: Solver> Play<Option<S::Answer>, Knowledge> for ReadFirst<S> {
+    ghost then = { λ step old word new. KnowsFirst (hand_of old.0.view.role) word old new
+        × Occurs S.meaning new.0.view };
 }
 
 /// A worker reads the second word, after the first.
-pub struct ReadSecond;
+pub struct ReadSecond<S> {
+    solved_by: PhantomData<S>,
+}
 
-impl<T> Play<Option<T>, Knowledge> for ReadSecond {
+impl<S: Solver> Play<Option<S::Answer>, Knowledge> for ReadSecond<S> {
     ghost then = { λ step old word new. KnowsSecond
-        (hand_of old.0.view.role) (first_read_of old.0.view.role) word old new };
+        (hand_of old.0.view.role) (first_read_of old.0.view.role) word old new × Occurs S.meaning new.0.view };
 }
 
 /// A worker answers the number in its hand.
-pub struct Finish;
+pub struct Finish<S> {
+    solved_by: PhantomData<S>,
+}
 
-impl<T> Play<Option<T>, Knowledge> for Finish {
-    ghost then = { λ step old word new. KnowsAnswered (hand_of old.0.view.role) (rest old.1) old new };
+impl<S: Solver> Play<Option<S::Answer>, Knowledge> for Finish<S> {
+    ghost then = { λ step old word new. KnowsAnswered (hand_of old.0.view.role) (rest old.1) old new
+        × Occurs S.meaning new.0.view };
 }
 
 /// A worker gives the number in its hand back.
-pub struct GiveBack;
+pub struct GiveBack<S> {
+    solved_by: PhantomData<S>,
+}
 
-impl<T> Play<Option<T>, Knowledge> for GiveBack {
-    ghost then = { λ step old word new. KnowsGivenBack (hand_of old.0.view.role) (rest old.1) old new };
+impl<S: Solver> Play<Option<S::Answer>, Knowledge> for GiveBack<S> {
+    ghost then = { λ step old word new. KnowsGivenBack (hand_of old.0.view.role) (rest old.1) old new
+        × Occurs S.meaning new.0.view };
 }

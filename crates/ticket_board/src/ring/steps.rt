@@ -130,10 +130,11 @@ pub fn look_at<'a, S: Solver, L: Ledger>(
     requires empty { (working_in seat.old.me).hand ≡ None }
     ensures same { (seat.new.table_id ≡ seat.old.table_id) × (seat.new.id ≡ seat.old.id) }
     ensures told { KnowsLooked cell result seat.old.me seat.new.me }
+    ensures occurs { Occurs S.meaning seat.new.me.0.view }
     ensures counted { steps.new ≡ steps.old + 1 }
 {
     steps.tick();
-    shelf.load::<LookAt>(seat, cell * CELL_WORDS + STATE)
+    shelf.load::<LookAt<S>>(seat, cell * CELL_WORDS + STATE)
 }
 
 /// Exchanges the word of the number that a worker saw for one that says that it is taken, in one
@@ -157,10 +158,11 @@ pub fn try_take<'a, S: Solver, L: Ledger>(
     requires taken { taken ≡ taken_word (seen_of seat.old.me.0.view.role).1 }
     ensures same { (seat.new.table_id ≡ seat.old.table_id) × (seat.new.id ≡ seat.old.id) }
     ensures told { KnowsTried (seen_of seat.old.me.0.view.role) result seat.old.me seat.new.me }
+    ensures occurs { Occurs S.meaning seat.new.me.0.view }
     ensures counted { steps.new ≡ steps.old + 1 }
 {
     steps.tick();
-    shelf.compare_exchange::<Take>(seat, word, asked, taken)
+    shelf.compare_exchange::<Take<S>>(seat, word, asked, taken)
 }
 
 /// Loads the first word of the query of the number in a worker's hand.
@@ -174,10 +176,11 @@ pub fn read_first<'a, S: Solver, L: Ledger>(
     requires held { HoldsAt first_place word seat.old.me }
     ensures same { (seat.new.table_id ≡ seat.old.table_id) × (seat.new.id ≡ seat.old.id) }
     ensures told { KnowsFirst (hand_of seat.old.me.0.view.role) result seat.old.me seat.new.me }
+    ensures occurs { Occurs S.meaning seat.new.me.0.view }
     ensures counted { steps.new ≡ steps.old + 1 }
 {
     steps.tick();
-    shelf.load::<ReadFirst>(seat, word)
+    shelf.load::<ReadFirst<S>>(seat, word)
 }
 
 /// Loads the second word of the query of the number in a worker's hand, whose first word it read.
@@ -193,10 +196,11 @@ pub fn read_second<'a, S: Solver, L: Ledger>(
     ensures same { (seat.new.table_id ≡ seat.old.table_id) × (seat.new.id ≡ seat.old.id) }
     ensures told { KnowsSecond (hand_of seat.old.me.0.view.role)
         (first_read_of seat.old.me.0.view.role) result seat.old.me seat.new.me }
+    ensures occurs { Occurs S.meaning seat.new.me.0.view }
     ensures counted { steps.new ≡ steps.old + 1 }
 {
     steps.tick();
-    shelf.load::<ReadSecond>(seat, word)
+    shelf.load::<ReadSecond<S>>(seat, word)
 }
 
 /// Stores that the number in a worker's hand is answered, and gives the slot back, in which the
@@ -215,10 +219,11 @@ pub fn finish<'a, S: Solver, L: Ledger>(
     requires answered { answered ≡ answered_word (hand_of seat.old.me.0.view.role).1 }
     ensures same { (seat.new.table_id ≡ seat.old.table_id) × (seat.new.id ≡ seat.old.id) }
     ensures told { KnowsAnswered (hand_of seat.old.me.0.view.role) (rest seat.old.me.1) seat.old.me seat.new.me }
+    ensures occurs { Occurs S.meaning seat.new.me.0.view }
     ensures counted { steps.new ≡ steps.old + 1 }
 {
     steps.tick();
-    shelf.store::<Finish>(seat, word, answered);
+    shelf.store::<Finish<S>>(seat, word, answered);
 }
 
 /// Stores that the number in a worker's hand waits again, and gives the slot back, which is empty.
@@ -236,8 +241,9 @@ pub fn give_back<'a, S: Solver, L: Ledger>(
     requires asked { asked ≡ asked_word (hand_of seat.old.me.0.view.role).1 }
     ensures same { (seat.new.table_id ≡ seat.old.table_id) × (seat.new.id ≡ seat.old.id) }
     ensures told { KnowsGivenBack (hand_of seat.old.me.0.view.role) (rest seat.old.me.1) seat.old.me seat.new.me }
+    ensures occurs { Occurs S.meaning seat.new.me.0.view }
     ensures counted { steps.new ≡ steps.old + 1 }
 {
     steps.tick();
-    shelf.store::<GiveBack>(seat, word, asked);
+    shelf.store::<GiveBack<S>>(seat, word, asked);
 }

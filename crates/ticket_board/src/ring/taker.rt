@@ -3,11 +3,12 @@
 ghost use Rattle.std.specs.Prelude.{◌≡◌, ◌+◌, ◌-◌, ◌*◌, ◌≤◌, ◌<◌, None, Some, IsSome, IsTrue, IfSome};
 ghost use Rattle.std.specs.Prelude.{MatchBool};
 ghost use Rattle.ticket_board.specs.Ring.Layout.{cells_in};
-ghost use Rattle.ticket_board.specs.Ring.Takers.{IsTakerOf, HasSought, HoldsRead, IsMeaning, MissedEach, MissedAll};
-ghost use Rattle.ticket_board.specs.Ring.Takers.{Between};
+ghost use Rattle.ticket_board.specs.Ring.Takers.{IsTakerOf, TakerOccurs, HasSought, HoldsRead, IsMeaning};
+ghost use Rattle.ticket_board.specs.Ring.Takers.{MissedEach, MissedAll, Between};
 ghost use Rattle.ticket_board.specs.Ring.Takers.{knowing, answers_one, gives_one};
 
 use crate::ring::board::Ring;
+use crate::ring::laws::law_of_board;
 use crate::ring::layout::{CELL_WORDS, FIRST, SECOND, STATE, cell_at};
 use crate::ring::rule::Place;
 use crate::ring::slots::put_in;
@@ -33,7 +34,7 @@ impl<S: Solver> Model for Taker<S> {
 
     ghost view = { λ taker. taker_shown taker.seat.table_id taker.seat.me };
 
-    ghost invariant = { λ taker. IsTaker taker.hand taker.shape taker.seat.me };
+    ghost invariant = { λ taker. IsTaker S.meaning taker.hand taker.shape taker.seat.me };
 }
 
 impl<S: Solver> Taker<S> {
@@ -212,6 +213,16 @@ impl<S: Solver> Taker<S> {
         );
         self.hand = None;
         (sender, number)
+    }
+
+    /// Whatever was called before, some moves make a ring on which a worker knows what this one
+    /// knows; and by `law_of_board`, what it has done is what its own moves answered, in their
+    /// order, and each of these numbers was answered by just one of all the moves. It does nothing.
+    pub fn law_of_taker(&self)
+        ensures occurs { TakerOccurs S.meaning self.now }
+    {
+        let _ = &self.begin;
+        law_of_board();
     }
 
     /// Has `take` begin at this cell, and go round from there. It makes no step.

@@ -3,7 +3,7 @@ use Rattle.ticket_board.specs.Ring.Views.{asking_at}
 use Rattle.ticket_board.specs.Ring.Moves.{board_after, events_of}
 use Rattle.ticket_board.specs.Ring.Laws.{AreServed, OfAllMoves}
 use Rattle.ticket_board.proofs.RingMoves.{moves-show}
-use Rattle.ticket_board.proofs.RingRuns.{answered-done, grows-all, served, at-end}
+use Rattle.ticket_board.proofs.RingRuns.{answered-done, done-once, grows-all, served, at-end}
 use Rattle.ticket_board.proofs.ring.laws.law_of_board.Goals as goal
 
 pub returns : goal.returns
@@ -19,6 +19,7 @@ returns c =
       shows = λ meaning shape key words moves may. moves-show meaning shape key words moves may;
       served = all-served;
       once = λ meaning shape key words moves may core shows s n. answered-done meaning shape key words moves may s n ∙ shows.done s n;
+      done = λ meaning shape key words moves may w. done-once meaning shape key words moves may w;
       ended = λ meaning shape key words moves may more may' s below all same.
           at-end meaning shape key (asking_at (board_after shape key words moves).views s) (asking_at (board_after shape key words (more ++ moves)).views s)
           (grows-all meaning shape key words more moves may' s below)
