@@ -9,3 +9,4 @@ pub mod Pieces
 pub mod Order
 pub mod Symbolize
 pub mod Pool
+pub mod Answers
