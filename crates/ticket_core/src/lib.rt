@@ -1,8 +1,10 @@
-//! Queries in order, each answered once: the core of a symbolizer's pool as a state machine,
-//! without threads.
+//! Queries in order, each answered once: what a symbolizer's pool may do, as a state machine without
+//! threads.
 //!
-//! Senders ask and collect, workers take, finish and give back. Each call is one event of the state
-//! machine that `specs/` defines, and `law_of_runs` says what holds after every list of events.
+//! Senders ask and collect, workers take, finish and give back. Each call of `Core` is one event of
+//! the state machine that `specs/` defines, and `law_of_runs` says what holds after every list of
+//! events. No program runs a `Core`: the pool runs the board of `ticket_board`, which is proved
+//! against these definitions.
 #![tactic(auto)]
 
 mod fault;
