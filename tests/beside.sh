@@ -107,6 +107,12 @@ build_apart() {
     file=$1-cut.o
 }
 
+# The same as Fedora has it: relocations between sections of debug information are applied, and taken away.
+build_resolved() {
+    build_joined "$@" && eu-strip --strip-debug --reloc-debug-sections -f "$1.debug" -o "$1-cut.o" "$1.o"
+    file=$1-cut.o
+}
+
 # That file, which has no byte of code.
 build_kept() {
     build_joined "$@" && "$objcopy" --only-keep-debug "$1.o" "$1.debug"
@@ -176,6 +182,8 @@ joined  joined  gcc,clang-14,clang-19  x86-64,narrow,aarch64,riscv64  -g -gdwarf
 older   joined  gcc,clang-14,clang-19  x86-64,aarch64,riscv64         -g -gdwarf-4 -O2
 packed  joined  gcc,clang-14,clang-19  x86-64,aarch64,riscv64         -g -gdwarf-5 -O2 -gz=zlib
 apart   apart   gcc,clang-14,clang-19  x86-64,narrow,aarch64,riscv64  -g -gdwarf-5 -O2,-g -gdwarf-5 -O2 -gz=zlib
+fedora  resolved gcc,clang-14,clang-19 x86-64                         -g -gdwarf-5 -O2
+divided joined  gcc,clang-14,clang-19  x86-64                         -g -gdwarf-5 -O2 -gsplit-dwarf
 kept    kept    gcc,clang-14,clang-19  x86-64,narrow,aarch64,riscv64  -g -gdwarf-5 -O2
 classes cxx     gcc,clang-14,clang-19  x86-64                         -g -gdwarf-5 -O2,-g -gdwarf-5 -O2 -fdebug-types-section
 names   names   gcc                    x86-64                         -g -gdwarf-5 -O0,-g -gdwarf-5 -O2,-g -gdwarf-5 -O2 -flto
