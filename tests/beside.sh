@@ -119,6 +119,25 @@ build_kept() {
     file=$1.debug
 }
 
+# Its units are split; those of its twin, which has the same code, are not.
+build_split() {
+    local name=$1 source
+    shift
+    for source in one two; do "$@" -gsplit-dwarf -c $source.c -o "$name-$source.o"; done
+    "$@" -nostdlib -static -Wl,-e,main "$name-one.o" "$name-two.o" -o "$name" && ls "$name-one.dwo" "$name-two.dwo" &&
+        build_linked "$name.whole" "$@" && "$objcopy" -O binary -j .text "$name" "$name.code" &&
+        "$objcopy" -O binary -j .text "$name.whole" "$name.whole.code" && cmp "$name.code" "$name.whole.code"
+    file=$name options+=(--twin "$name.whole")
+}
+
+# The split units are in a package alone, by binutils or by LLVM. That of version 19 doesn't end for some files of gcc.
+build_dwp() { build_split "$@" && dwp -e "$1" -o "$1.dwp" && rm "$1"-*.dwo; }
+build_llvm_dwp() { build_split "$@" && timeout 20 llvm-dwp-19 -e "$1" -o "$1.dwp" && rm "$1"-*.dwo; }
+
+# Sections are compressed by zstd, of which not all compilers know.
+build_zstd() { build_linked "$@" && "$objcopy" --compress-debug-sections=zstd "$1"; }
+build_joined_zstd() { build_joined "$@" && "$objcopy" --compress-debug-sections=zstd "$1.o"; }
+
 # The twin of an object: linked, with each section at addresses of its own.
 link_twin() {
     readelf -SW "$1.o" | python3 -c '
@@ -181,6 +200,11 @@ fat     object  gcc                    x86-64                         -g -gdwarf
 joined  joined  gcc,clang-14,clang-19  x86-64,narrow,aarch64,riscv64  -g -gdwarf-5 -O0,-g -gdwarf-5 -O2,-g -gdwarf-5 -O2 -ffunction-sections
 older   joined  gcc,clang-14,clang-19  x86-64,aarch64,riscv64         -g -gdwarf-4 -O2
 packed  joined  gcc,clang-14,clang-19  x86-64,aarch64,riscv64         -g -gdwarf-5 -O2 -gz=zlib
+zstd    zstd    gcc,clang-14,clang-19  x86-64,narrow,aarch64,riscv64  -g -gdwarf-5 -O2
+zstd-r  joined_zstd  gcc,clang-14,clang-19  x86-64,narrow             -g -gdwarf-5 -O2
+split   split   gcc,clang-14,clang-19  x86-64,narrow,aarch64          -g -gdwarf-4 -O0,-g -gdwarf-4 -O2,-g -gdwarf-5 -O0,-g -gdwarf-5 -O2
+dwp     dwp     gcc,clang-14,clang-19  x86-64,narrow                  -g -gdwarf-4 -O2
+llvmdwp llvm_dwp  gcc,clang-14,clang-19  x86-64,narrow                -g -gdwarf-4 -O2,-g -gdwarf-5 -O2
 apart   apart   gcc,clang-14,clang-19  x86-64,narrow,aarch64,riscv64  -g -gdwarf-5 -O2,-g -gdwarf-5 -O2 -gz=zlib
 fedora  resolved gcc,clang-14,clang-19 x86-64                         -g -gdwarf-5 -O2
 divided joined  gcc,clang-14,clang-19  x86-64                         -g -gdwarf-5 -O2 -gsplit-dwarf

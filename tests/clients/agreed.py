@@ -150,16 +150,17 @@ class Comparison:
             self.tally.add_all(name, offsets, theirs, ours)
 
     def linked(self):
-        """A linked file: by addresses and by sections."""
+        """A linked file: by addresses and by sections. Where it is split, its twin is not, of which GNU's is asked: that
+        doesn't read split units."""
         for name, begin, size in self.sections:
-            addresses = range(begin, begin + size)
+            addresses, twin = range(begin, begin + size), self.words.twin
             by_llvm = self.llvm(addresses)
-            self.compare(name, addresses, (by_llvm, self.gnu(addresses)))
+            self.compare(name, addresses, (by_llvm, self.gnu(addresses, path=twin)))
             readable = (of_llvm([self.words.llvm], self.path, addresses, '--demangle'),
                         as_llvm([self.words.tool, '--as=llvm-symbolizer'], self.path, addresses, '--demangle'))
             for address, theirs, ours in zip(addresses, *readable, strict=True):
                 self.tally.add_names(f'{name} {address:#x}', theirs, ours)
-            self.compare_section(name, range(size), (by_llvm, self.gnu(range(size), name)))
+            self.compare_section(name, range(size), (by_llvm, self.gnu(range(size), name, path=twin)))
 
     def relocatable(self):
         """A relocatable file: by sections, also as both originals answer for its linked twin, and by offsets alone, which
@@ -183,7 +184,8 @@ def main():
     parser.add_argument('--tool', required=True)
     parser.add_argument('--llvm', default='llvm-symbolizer-19')
     parser.add_argument('--gnu', default='addr2line')
-    parser.add_argument('--twin', help='a relocatable file, linked so that no two sections have an address in common')
+    parser.add_argument('--twin', help='a relocatable file, linked so that no two sections have an address in common;'
+                        ' a split program that is built whole')
     parser.add_argument('name')
     parser.add_argument('file')
     words = parser.parse_args()
