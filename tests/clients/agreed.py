@@ -18,6 +18,7 @@ import sys
 # Why ours may be another one, beside which evidence.
 SAID = {
     'linked': 'of the file linked, llvm-symbolizer says what ours says',
+    'suffix': "as GNU's addr2line elsewhere, ours has the name of debug information, without a suffix that the symbol has",
 }
 FIELDS = ('function', 'file', 'line')
 
@@ -82,10 +83,12 @@ def field_of(frames, index, field):
 class Tally:
     """What was seen of one file."""
 
-    def __init__(self):
+    def __init__(self, path):
+        with open(path, 'rb') as file:
+            self.bytes = file.read()
         self.asked, self.agreed, self.readable, self.why, self.unlike = 0, 0, 0, collections.Counter(), []
 
-    def add(self, where, theirs, ours, linked):
+    def add(self, where, theirs, ours, linked, in_gnu):
         """Compares the frames that ours has with those that both originals have, and with llvm-symbolizer's of the linked
         twin."""
         fewer, more = sorted(map(len, theirs))
@@ -99,19 +102,28 @@ class Tally:
                 own = field_of(ours, index, field)
                 if own == wanted:
                     continue
-                if linked and field_of(linked, index, field) == own:
+                may_be_shorter = in_gnu and name == 'function'
+                if linked and self.is_as(own, field_of(linked, index, field), may_be_shorter):
                     self.why['linked'] += 1
+                elif self.is_as(own, wanted, may_be_shorter):
+                    self.why['suffix'] += 1
                 else:
                     self.unlike.append(f'{where}: frame {index}, {name}: {wanted} by both, {own} by ours')
 
-    def add_all(self, where, addresses, theirs, ours, linked=None):
+    def is_as(self, own, wanted, may_be_shorter):
+        """Whether a field is the other one, or a name is it without what compilers append, and stands so in the file."""
+        is_shorter = may_be_shorter and own and wanted and re.fullmatch(re.escape(own) + r'(\.[a-z]+(\.\d+)?)+', wanted)
+        return own == wanted or bool(is_shorter) and b'\0%s\0' % own.encode() in self.bytes
+
+    def add_all(self, where, addresses, theirs, ours, linked=None, in_gnu=True):
         """The same of all addresses."""
         for replies in (*theirs, ours):
             if len(replies) != len(addresses):
                 sys.exit(f'{where}: {len(replies)} replies for {len(addresses)} addresses')
         self.asked += len(addresses)
         for place, address in enumerate(addresses):
-            self.add(f'{where} {address:#x}', [replies[place] for replies in theirs], ours[place], linked and linked[place])
+            of_address = [replies[place] for replies in theirs], ours[place], linked and linked[place]
+            self.add(f'{where} {address:#x}', *of_address, in_gnu)
 
 
     def add_names(self, where, theirs, ours):
@@ -127,7 +139,7 @@ class Comparison:
     """The tools, and the file of which they are asked."""
 
     def __init__(self, words):
-        self.words, self.path, self.tally = words, words.file, Tally()
+        self.words, self.path, self.tally = words, words.file, Tally(words.file)
         self.sections = sections_of_code(self.path)
 
     def llvm(self, addresses, path=None):
@@ -139,7 +151,7 @@ class Comparison:
     def compare(self, where, addresses, theirs, linked=None):
         """Both protocols, without a section."""
         ours = as_llvm([self.words.tool, '--as=llvm-symbolizer'], self.path, addresses)
-        self.tally.add_all(f'{where}, LLVM', addresses, theirs, ours, linked)
+        self.tally.add_all(f'{where}, LLVM', addresses, theirs, ours, linked, in_gnu=False)
         ours = as_gnu([self.words.tool, '--as=addr2line'], self.path, addresses)
         self.tally.add_all(f'{where}, GNU', addresses, theirs, ours, linked)
 
