@@ -56,7 +56,7 @@ fn place_of(image: &Image<'_>, a: u64) -> Option<usize> {
     image.unit_place(a).map(|found| found.place)
 }
 
-/// How many ranges are kept, in the same way.
+/// How many ranges are kept and lists are held, in the same way.
 fn kept_in(image: &Image<'_>) -> usize {
     image.kept()
 }
@@ -72,8 +72,8 @@ fn expect_places<A: Abort>(rt: &A, image: &Image<'_>, places: &[Place]) {
 /// end. So two ranges of lists are kept.
 const FEW: &[u8] = &[4, 0x10, 0x20, 4, 0x30, 0x40, 0, 5];
 
-/// The ranges of unit 0 are kept, and the one of unit 3, 0x118 to 0x150. The units 1, 2 and 4 are
-/// held by the list at 0, which counts from 0x100, 0x108 and 0x10.
+/// The two ranges of unit 0 are kept, and the one of unit 3, 0x118 to 0x150. The units 1, 2 and 4
+/// are held by the list at 0, which counts from 0x100, 0x108 and 0x10.
 const HELD: &[&[u8]] = &[
     &[1, 0, 0, 0, 0],
     &[2, 0, 0, 0, 0, 0, 1, 0, 0, 0, 0, 0, 0],
@@ -113,7 +113,7 @@ static HELD_PLACES: [Place; 25] = [
 
 /// The units are held, and answer addresses.
 fn expect_held<A: Abort>(rt: &A, image: &Image<'_>) {
-    expect(rt, "ranges", &kept_in(image), &3);
+    expect(rt, "kept", &kept_in(image), &6);
     expect_places(rt, image, &HELD_PLACES);
 }
 
@@ -209,7 +209,7 @@ static ALIKE_PLACES: [Place; 12] = [
 fn lists_that_end_alike(rt: HostRuntime) -> Result<(), Fail> {
     let file = file_of(rt.alloc(), ALIKE, TAILS)?;
     let image = image_of(rt.alloc(), &file)?;
-    expect(&rt, "ranges", &kept_in(&image), &4);
+    expect(&rt, "kept", &kept_in(&image), &5);
     expect_places(&rt, &image, &ALIKE_PLACES);
     Ok(())
 }

@@ -16,7 +16,7 @@ use Rattle.dw_frames.specs.declared.chains.Chains.{Chains}
 use Rattle.dw_frames.specs.Drafts.{Drafts, inside, outermost, is_kept}
 use Rattle.dw_frames.specs.Kept.{most_listed}
 use Rattle.dw_frames.specs.Placed.{Placed, placed, offset_of, Falls, Follows}
-use Rattle.dw_frames.specs.Tree.{id_of, inwards, chain_at, function_at, most_ranges, nodes_of, IsTreeOf}
+use Rattle.dw_frames.specs.Tree.{id_of, inwards, chain_at, function_at, most_kept, nodes_of, IsTreeOf}
 use Rattle.dw_frames.specs.UnitIn.{UnitIn}
 use Rattle.dw_ranges.proofs.GetLemmas.{get-mapped, get-pushed, map-reverse, reverse-cons}
 use Rattle.dw_frames.proofs.ChainLemmas.{IsIdle, Found, climb, chain-climbs}
@@ -62,7 +62,7 @@ idle-holds (range ∷ ranges) a e = let no : suc (length ranges) ≡ 0 = eqb-tru
 
 module _ (of : UnitIn) (after : List Node) (drafts : Drafts) (bound : ℕ) (found : Chains)
     (whole : model.tree of.sections of.unit ≡ Ok (reverse after)) (follows : Follows of.sections of.unit after drafts bound) (unit : found.unit ≡ of.index) (within : of.index < length (cut.units of.sections.info)) (kept : found.functions.items ≡ drafts.functions) (owners : (group a : ℕ) → owner_of of.sections.tables found.owners group a ≡ owner_in drafts.claims group a)
-    (room : found.owners.ranges ≤ most_listed of.unit + length drafts.functions) where
+    (room : found.owners.size ≤ most_listed of.unit + length drafts.functions) where
   abbrev keep : Entry → Bool
   keep = is_kept of.sections of.unit
 
@@ -113,7 +113,7 @@ module _ (of : UnitIn) (after : List Node) (drafts : Drafts) (bound : ℕ) (foun
         ∙ ap (map Some) (sym (chain-climbs keep holds idle after (owner_of of.sections.tables found.owners outermost a) inner steps))
         ∙ ap (λ (nodes : List Node). map Some (chain_in holds nodes)) (sym nodes-are)
 
-  few-kept : found.owners.ranges ≤ most_ranges of
+  few-kept : found.owners.size ≤ most_kept of
   few-kept = grind (arith, length-map, count-placed, nodes-are)
 
   pub is-tree : IsTreeOf of found

@@ -71,25 +71,24 @@ told_at of id = option_map_or (told_of of.sections of.unit) (function_of of id) 
 abbrev pub ranged_in : UnitIn → List Node
 ranged_in of = filter (λ node. is_kept of.sections of.unit node.entry) (nodes_of of.sections of.unit)
 
--- The most ranges that are kept of the functions of a unit: those of lists up to a quarter of the
--- unit's bytes, and one of each function that has ranges.
-abbrev pub most_ranges : UnitIn → ℕ
-most_ranges of = most_listed of.unit + length (ranged_in of)
+-- The most ranges and lists that are kept of the functions of a unit: ranges of lists up to a
+-- quarter of the unit's bytes, and a range or a list of each function that has ranges.
+abbrev pub most_kept : UnitIn → ℕ
+most_kept of = most_listed of.unit + length (ranged_in of)
 
 -- chains find the functions of a unit at each address
 abbrev pub FindsFunctions : UnitIn → Chains → Type 0
 FindsFunctions of found =
     (a : ℕ) → map (function_at of) (reverse (chain_at of.sections.tables found a)) ≡ map Some (chain_in of a)
 
--- So many ranges are enough: the functions at each address are found by them, and else by lists
--- that are held by name.
+-- So many ranges and lists are enough: the functions at each address are found by them.
 abbrev pub AreEnough : UnitIn → ℕ → Type 0
-AreEnough of ranges = (found : Chains) × FindsFunctions of found × AreCounted found.owners ranges
+AreEnough of size = (found : Chains) × FindsFunctions of found × AreCounted found.owners size
 
 -- Chains are those of a unit of the file: its entries can be read, the functions at each address
--- are found, and few ranges are kept.
+-- are found, and few ranges and lists are kept.
 pub record IsTreeOf (of : UnitIn) (found : Chains) : Type 0 where
   pub within : found.unit < length (cut.units of.sections.info)
   pub read : model.tree of.sections of.unit ≡ Ok (nodes_of of.sections of.unit)
   pub chains : FindsFunctions of found
-  pub few : found.owners.ranges ≤ most_ranges of
+  pub few : found.owners.size ≤ most_kept of

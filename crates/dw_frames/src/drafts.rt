@@ -173,7 +173,7 @@ impl<'b, 'a> Drafts<'b, 'a> {
         ensures functions { IfOk result (λ chains. chains.functions.items ≡ self.entry.functions) }
         ensures owners { IfOk result (λ chains. (group a : ℕ)
             → owner_of self.entry.of.sections.tables chains.owners group a ≡ owner_in self.entry.claims group a) }
-        ensures few { IfOk result (λ chains. chains.owners.ranges
+        ensures few { IfOk result (λ chains. chains.owners.size
             ≤ most_listed self.entry.of.unit + length self.entry.functions) }
     {
         let Drafts {

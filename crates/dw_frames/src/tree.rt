@@ -15,7 +15,7 @@ ghost use Rattle.dw_frames.specs.Fault.{tree_fault};
 ghost use Rattle.dw_frames.specs.Kept.{most_listed};
 ghost use Rattle.dw_frames.specs.Name.{unit_entry};
 ghost use Rattle.dw_frames.specs.Told.{described_shown, told_of};
-ghost use Rattle.dw_frames.specs.Tree.{chain_in, function_at, function_of, most_ranges, told_at, nodes_of};
+ghost use Rattle.dw_frames.specs.Tree.{chain_in, function_at, function_of, most_kept, told_at, nodes_of};
 ghost use Rattle.dw_frames.specs.Tree.{AreEnough};
 
 use crate::chains::Chains;
@@ -108,16 +108,16 @@ impl<'a> Tree<'a> {
         })
     }
 
-    /// How many ranges of functions are kept: of range lists at most a quarter of the bytes of the
-    /// unit, and one for each function that has ranges, of which there are at most as many as the
-    /// unit's entries have bytes. So memory stays in proportion to the unit, however many functions
-    /// name one long list.
+    /// How many ranges of functions are kept, and lists of ranges are held: ranges of lists at most
+    /// a quarter of the bytes of the unit, and a range or a list for each function that has ranges,
+    /// of which there are at most as many as the unit's entries have bytes. So memory stays in
+    /// proportion to the unit, however many functions name one long list.
     pub fn kept(&self) -> usize
-        ensures functions { result ≤ most_ranges self.now }
+        ensures functions { result ≤ most_kept self.now }
         ensures bytes { result ≤ most_listed self.now.unit + (self.now.unit.end - self.now.unit.first_entry) }
         ensures enough { AreEnough self.now result }
     {
-        self.chains.owners.ranges()
+        self.chains.owners.size()
     }
 
     /// The functions at an address, innermost first: the outermost is the first subprogram with a

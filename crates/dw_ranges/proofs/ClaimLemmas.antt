@@ -58,7 +58,7 @@ adds_other group below ranges owner front others new next e = grind (arith, map-
 
 module _ (pairs : List (Range × ℕ)) (owners : OwnersState) (index : (a : ℕ) → owner_at owners.index a ≡ least_owner pairs a) where
   abbrev kept : List Claim
-  kept = claims_in 0 pairs ++ raised owners.others
+  kept = claims_in 0 pairs ++ raised owners.others.claims
 
   pub all-owners : (tables : Tables) (group a : ℕ) → owner_of tables owners group a ≡ owner_in (kept ++ held_claims tables owners.held) group a
   all-owners tables group a = grind (arith, owner-append, group-append, raised-first, all-here, append-nil, all-elsewhere, raised-next)

@@ -13,5 +13,6 @@ pub mod GetLemmas
 pub mod GroupLemmas
 pub mod LinkLemmas
 pub mod ClaimLemmas
+pub mod IndexedLemmas
 pub mod WindowLemmas
 pub mod TailLemmas

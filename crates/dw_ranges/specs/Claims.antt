@@ -64,6 +64,10 @@ pub record ClaimsState : Type 0 where
   pub held : List (Grouped HeldList)
   pub room : ℕ
 
+-- how many ranges are kept, and lists are held
+abbrev pub size_of : ClaimsState → ℕ
+size_of claims = length claims.kept + length claims.held
+
 abbrev pub all_claims : Tables → ClaimsState → List Claim
 all_claims tables claims = claims.kept ++ held_claims tables claims.held
 
@@ -77,24 +81,30 @@ AddsListed tables group ranges owner list old new =
 
 -- ---- when they are asked
 
+-- ranges in groups, and how many segments the indexes of groups have
+pub record LinkedState : Type 0 where
+  pub claims : List Claim
+  pub segments : ℕ
+
 -- the index of the ranges in group 0, those in groups from 1 on, of which the first is 0 here, the
--- lists that are held by name, and how many ranges are kept
+-- lists that are held by name, and how many ranges are kept and lists are held
 pub record OwnersState : Type 0 where
   pub index : List Segment
-  pub others : List Claim
+  pub others : LinkedState
   pub held : List (Grouped HeldList)
-  pub ranges : ℕ
+  pub size : ℕ
 
 -- the least owner in a group by the ranges that are kept
 abbrev pub kept_owner : OwnersState → (group a : ℕ) → Option ℕ
 kept_owner owners zero a = owner_at owners.index a
-kept_owner owners (suc group) a = owner_in owners.others group a
+kept_owner owners (suc group) a = owner_in owners.others.claims group a
 
 -- the least owner in a group of all ranges that hold an address
 abbrev pub owner_of : Tables → OwnersState → (group a : ℕ) → Option ℕ
 owner_of tables owners group a = least (kept_owner owners group a) (owner_in (held_claims tables owners.held) group a)
 
--- So many ranges are all that are kept: each gives two segments at most to the index, or is one of
--- another group.
-abbrev pub AreCounted : OwnersState → ℕ → Type 0
-AreCounted owners ranges = length owners.index + 2 * length owners.others ≤ 2 * ranges
+-- So many ranges and lists are all that are kept: each range gives two segments at most to the
+-- index of its group.
+pub record AreCounted (owners : OwnersState) (size : ℕ) : Type 0 where
+  pub few : length owners.index + 2 * length owners.others.claims + 2 * length owners.held ≤ 2 * size
+  pub indexes : owners.others.segments ≤ 2 * length owners.others.claims

@@ -18,8 +18,8 @@ owners_of owners = record {
   index = owners.index;
   others = owners.others;
   held = reverse owners.held;
-  ranges = owners.ranges;
+  size = owners.size;
 }
 
 abbrev pub IsCounted : owners.Inside → Type 0
-IsCounted owners = AreCounted (owners_of owners) owners.ranges
+IsCounted owners = AreCounted (owners_of owners) owners.size

@@ -1,9 +1,9 @@
 //! Ranges that owners claim, while they are gathered, under a bound.
 
-ghost use Rattle.std.specs.Prelude.{◌≡◌, ◌≤◌, ◌+◌, ◌++◌, [], None, OnOk, length, map};
+ghost use Rattle.std.specs.Prelude.{◌≡◌, ◌≤◌, ◌+◌, ◌++◌, [], None, IfSome, OnOk, length, map};
 ghost use Rattle.dw_model.specs.Text.{Tables as ModelTables};
 ghost use Rattle.dw_index.specs.Range.{pair_shown, range_shown};
-ghost use Rattle.dw_ranges.specs.Claims.{Adds, AddsListed, all_claims, claims_in, held_ranges};
+ghost use Rattle.dw_ranges.specs.Claims.{Adds, AddsListed, all_claims, claims_in, held_ranges, size_of};
 ghost use Rattle.dw_ranges.specs.Owned.{owned};
 
 use crate::held::{HeldList, Listed};
@@ -90,6 +90,7 @@ impl<'a> Claims<'a> {
     pub fn hold(&mut self, group: usize, list: Listed<'a>, owner: usize) -> Result<(), AllocError>
         ensures kept { self.new.kept ≡ self.old.kept }
         ensures room { self.new.room ≡ self.old.room }
+        ensures few { length self.new.held ≤ length self.old.held + 1 }
         ensures claims { OnOk result ((tables : ModelTables) → all_claims tables self.new
             ≡ all_claims tables self.old ++ claims_in group (owned (held_ranges tables list.entry) owner)) }
     {
@@ -113,7 +114,7 @@ impl<'a> Claims<'a> {
     ) -> Result<(), AllocError>
         requires one { list ≡ None → length ranges.now ≤ 1 }
         ensures tables { indexes.new ≡ indexes.old }
-        ensures few { length self.new.kept + self.new.room ≤ length self.old.kept + self.old.room + 1 }
+        ensures few { size_of self.new + self.new.room ≤ size_of self.old + self.old.room + 1 }
         ensures claims { OnOk result
             (AddsListed indexes.old group (map range_shown ranges.now) owner list self.old self.new) }
     {
@@ -130,10 +131,12 @@ impl<'a> Claims<'a> {
         self.keep(group, ranges, owner)
     }
 
-    /// How many ranges are kept.
-    pub(crate) fn len(&self) -> usize
-        ensures { result ≡ length self.now.kept }
+    /// How many ranges are kept, and lists are held; `None` where there are more than a `usize`
+    /// counts, which no memory holds.
+    pub(crate) fn size(&self) -> Option<usize>
+        ensures { IfSome result (λ size. size ≡ size_of self.now) }
     {
-        self.first.len() + self.others.len()
+        let ranges = self.first.len() + self.others.len();
+        ranges.checked_add(self.held.len())
     }
 }

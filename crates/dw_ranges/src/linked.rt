@@ -1,11 +1,11 @@
 //! Who owns an address in a group, by ranges that are linked.
 
-ghost use Rattle.std.specs.Prelude.{◌≡◌, ◌≤◌, ◌+◌, ◌++◌, OnOk, IfOk, length, map};
+ghost use Rattle.std.specs.Prelude.{◌≡◌, ◌≤◌, ◌+◌, ◌*◌, ◌++◌, OnOk, IfOk, length, map};
 ghost use Rattle.dw_index.specs.Owners.{least, least_owner, owner_in};
 ghost use Rattle.dw_index.specs.Range.{pair_shown, range_shown};
 ghost use Rattle.dw_ranges.specs.Owned.{owned};
 ghost use Rattle.dw_ranges.specs.Claims.{claims_in, in_group};
-ghost use Rattle.dw_ranges.specs.LinkedInside.{AreIndexed, claims_linked};
+ghost use Rattle.dw_ranges.specs.LinkedInside.{AreIndexes, claims_linked, segments_in};
 
 use crate::links::{Grouped, Links};
 use crate::owners::least;
@@ -16,7 +16,8 @@ use std::marker::Model;
 /// In a group with more ranges than these, the one that holds an address is found by an index.
 const FEW: usize = 8;
 
-/// Ranges that owners claim in groups. Contracts see them as a list.
+/// Ranges that owners claim in groups. Contracts see them as a list, and how many segments their
+/// indexes have.
 #[derive(Drop)]
 pub(crate) struct Linked {
     links: Links<(Range, usize)>,
@@ -25,11 +26,10 @@ pub(crate) struct Linked {
 }
 
 impl Model for Linked {
-    ghost use Rattle.std.specs.Prelude.{List};
-    ghost use Rattle.dw_ranges.specs.Claims.{Claim};
+    ghost use Rattle.dw_ranges.specs.Claims.{LinkedState};
     ghost use Rattle.dw_ranges.specs.LinkedInside.{linked_of, IsIndexed};
 
-    ghost Value = { List Claim };
+    ghost Value = { LinkedState };
 
     ghost view = { linked_of };
 
@@ -96,18 +96,22 @@ fn pairs_of(
 }
 
 /// The indexes of the groups with many ranges.
+#[tactic(auto, using(crate::proofs::IndexedLemmas::index_steps))]
 fn indexes_of(
     alloc: Global,
     links: &Links<(Range, usize)>,
 ) -> Result<Vec<(usize, Index)>, AllocError>
-    ensures { IfOk result (λ indexes. AreIndexed (claims_linked links.now) indexes.items) }
+    ensures each { IfOk result (λ indexes. AreIndexes (claims_linked links.now) indexes.items) }
+    ensures few { IfOk result (λ indexes. segments_in indexes.items ≤ 2 * length (claims_linked links.now)) }
 {
     let mut indexes = Vec::new(alloc);
     for group in 0..links.count() {
-        if links.is_more(group, FEW) {
-            let pairs = pairs_of(alloc, links, group)?;
-            indexes.push((group, Index::build(alloc, &pairs)?))?;
+        if !links.is_more(group, FEW) {
+            continue;
         }
+        let pairs = pairs_of(alloc, links, group)?;
+        let index = Index::build(alloc, &pairs)?;
+        indexes.push((group, index))?;
     }
     Ok(indexes)
 }
@@ -115,7 +119,8 @@ fn indexes_of(
 impl Linked {
     /// Of all ranges that were linked.
     pub(crate) fn new(alloc: Global, links: Links<(Range, usize)>) -> Result<Self, AllocError>
-        ensures { IfOk result (λ linked. linked ≡ claims_linked links) }
+        ensures claims { IfOk result (λ linked. linked.claims ≡ claims_linked links) }
+        ensures segments { IfOk result (λ linked. linked.segments ≤ 2 * length linked.claims) }
     {
         let indexes = indexes_of(alloc, &links)?;
         Ok(Linked { links, indexes })
@@ -123,7 +128,7 @@ impl Linked {
 
     /// The least owner in a group of the ranges that hold an address.
     pub(crate) fn find(&self, group: usize, a: u64) -> Option<usize>
-        ensures { result ≡ least_owner (in_group group self.now) a }
+        ensures { result ≡ least_owner (in_group group self.now.claims) a }
     {
         let place = self.indexes.partition_point(|(number, _)| *number < group);
         if let Some((number, index)) = self.indexes.get(place) {

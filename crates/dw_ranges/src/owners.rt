@@ -1,12 +1,12 @@
 //! Who owns an address, of the ranges that owners claim: by an index of the ranges that are kept,
 //! and by lists that are read anew.
 
-ghost use Rattle.std.specs.Prelude.{◌≡◌, ◌≤◌, ◌<◌, ℕ, IfOk, length};
+ghost use Rattle.std.specs.Prelude.{◌≡◌, ◌≤◌, ◌<◌, ℕ, IfOk};
 ghost use Rattle.dw_model.specs.Steady.{last_address};
 ghost use Rattle.dw_model.specs.Text.{Tables as ModelTables};
 ghost use Rattle.dw_forms.specs.Tables.{tables_shown};
 ghost use Rattle.dw_index.specs.Owners.{least};
-ghost use Rattle.dw_ranges.specs.Claims.{AreCounted, all_claims, kept_owner, owner_in, owner_of};
+ghost use Rattle.dw_ranges.specs.Claims.{AreCounted, all_claims, kept_owner, owner_in, owner_of, size_of};
 ghost use Rattle.dw_ranges.specs.Window.{IsWindow};
 
 use crate::claims::Claims;
@@ -41,8 +41,8 @@ pub struct Owners<'a> {
     others: Linked,
     /// The last one first, so that they are gone through in order.
     held: Links<HeldList<'a>>,
-    /// How many ranges are kept.
-    ranges: usize,
+    /// How many ranges are kept, and lists are held.
+    size: usize,
 }
 
 impl<'a> Model for Owners<'a> {
@@ -61,9 +61,9 @@ impl<'a> Owners<'a> {
     pub fn build(alloc: Global, claims: Claims<'a>) -> Result<Self, AllocError>
         ensures owners { IfOk result (λ owners. (tables : ModelTables) (group a : ℕ)
             → owner_of tables owners group a ≡ owner_in (all_claims tables claims.entry) group a) }
-        ensures ranges { IfOk result (λ owners. owners.ranges ≡ length claims.entry.kept) }
+        ensures size { IfOk result (λ owners. owners.size ≡ size_of claims.entry) }
     {
-        let ranges = claims.len();
+        let size = claims.size().ok_or(AllocError)?;
         let Claims {
             first,
             others,
@@ -77,7 +77,7 @@ impl<'a> Owners<'a> {
             index,
             others,
             held,
-            ranges,
+            size,
         })
     }
 
@@ -123,11 +123,11 @@ impl<'a> Owners<'a> {
         })
     }
 
-    /// How many ranges are kept.
-    pub fn ranges(&self) -> usize
-        ensures ranges { result ≡ self.now.ranges }
+    /// How many ranges are kept, and lists are held.
+    pub fn size(&self) -> usize
+        ensures size { result ≡ self.now.size }
         ensures counted { AreCounted self.now result }
     {
-        self.ranges
+        self.size
     }
 }

@@ -23,7 +23,7 @@ use Rattle.dw_index.specs.Range.{range_shown}
 use Rattle.dw_index.specs.Owners.{least_owner}
 use Rattle.dw_ranges.specs.declared.held.Listed.{Listed}
 use Rattle.dw_ranges.specs.declared.range_list.RangeList.{RangeList}
-use Rattle.dw_ranges.specs.Claims.{Adds, AddsListed, Claim, ClaimsState, OwnersState, all_claims, claims_in, held_claims, held_ranges, in_group, owner_in}
+use Rattle.dw_ranges.specs.Claims.{Adds, AddsListed, Claim, ClaimsState, OwnersState, all_claims, claims_in, held_claims, held_ranges, in_group, owner_in, size_of}
 use Rattle.dw_ranges.specs.Held.{listed}
 use Rattle.dw_ranges.specs.Lists.{ranges_of_list}
 use Rattle.dw_ranges.specs.Owned.{AreOwned, owned}
@@ -98,7 +98,7 @@ pub record Gathered (s : Sections) (most : ℕ) (claims : ClaimsState) (read : L
   pub units_are : AreGood s i
   pub owns : Owns s (take i (model.units s.info)) (all_claims s.tables claims)
   pub lists : (known : RangeList × ℕ) → Has read known → IsRead s (all_claims s.tables claims) i known.0
-  pub few : length claims.kept + claims.room ≤ most + i
+  pub few : size_of claims + claims.room ≤ most + i
 
 pub none-gathered : (s : Sections) (most room : ℕ) (claims : ClaimsState) (read : List (RangeList × ℕ)) → claims ≡ record { kept = []; held = []; room = room } → room ≡ most → read ≡ [] → Gathered s most claims read 0
 unfolding least_owner held_claims first
@@ -144,7 +144,7 @@ module _ (s : Sections) (most : ℕ) (old : ClaimsState) (read : List (RangeList
 
   -- its ranges are claimed
   module _ (new : ClaimsState) (after : List (RangeList × ℕ)) (noted : (known : RangeList × ℕ) → Has after known → Has (map (λ list. (list, 0)) (option_to_list list) ++ read) known) where
-    claimed-on : (ranges : List Range) → ranges_in s unit ≡ Ok ranges → Adds 0 ranges i (all_claims s.tables old) (all_claims s.tables new) → length new.kept + new.room ≤ length old.kept + old.room + 1 → Gathered s most new after (i + 1)
+    claimed-on : (ranges : List Range) → ranges_in s unit ≡ Ok ranges → Adds 0 ranges i (all_claims s.tables old) (all_claims s.tables new) → size_of new + new.room ≤ size_of old + old.room + 1 → Gathered s most new after (i + 1)
     claimed-on ranges is adds few = record {
       units_are = good-on s i unit at was.units_are ranges is;
       owns = λ a. now a ∙ owns-more s i unit at (all_claims s.tables old) was.owns ranges is a;
@@ -169,7 +169,7 @@ module _ (s : Sections) (most : ℕ) (old : ClaimsState) (read : List (RangeList
             rw (← same) (ranges, sym (of one refl) ∙ is, seen ranges (now-owned (in_group 0 (all_claims s.tables old)) ranges i (i + 1) (omega arith)))
         by_list known (Some one) of (inr has) = still known has
 
-    pub read-on : (ranges : List Range) → checked_ranges (opened.sections_of here) unit ≡ Ok ranges → AddsListed s.tables 0 ranges i list old new → length new.kept + new.room ≤ length old.kept + old.room + 1 → Gathered s most new after (i + 1)
+    pub read-on : (ranges : List Range) → checked_ranges (opened.sections_of here) unit ≡ Ok ranges → AddsListed s.tables 0 ranges i list old new → size_of new + new.room ≤ size_of old + old.room + 1 → Gathered s most new after (i + 1)
     read-on ranges checked adds few =
         claimed-on ranges is (elim adds [
           | inl read ↦ read
@@ -182,7 +182,7 @@ module _ (s : Sections) (most : ℕ) (old : ClaimsState) (read : List (RangeList
         is = or_fault-ok (root_ranges unit.offset) (ranges_in s unit) ranges (subst (λ (s : Sections). checked_ranges s unit ≡ Ok ranges) file checked)
 
     -- its list was read up to where it goes on as one whose addresses earlier units own
-    front-claimed : (one : RangeList) (front rest : List Range) → list ≡ Some one → ranges_of_list s.tables one ≡ Ok (front ++ rest) → AreOwned (in_group 0 (all_claims s.tables old)) i rest → AddsListed s.tables 0 front i list old new → length new.kept + new.room ≤ length old.kept + old.room + 1 → Gathered s most new after (i + 1)
+    front-claimed : (one : RangeList) (front rest : List Range) → list ≡ Some one → ranges_of_list s.tables one ≡ Ok (front ++ rest) → AreOwned (in_group 0 (all_claims s.tables old)) i rest → AddsListed s.tables 0 front i list old new → size_of new + new.room ≤ size_of old + old.room + 1 → Gathered s most new after (i + 1)
     front-claimed one front rest is e owns adds few =
         claimed-on (front ++ rest) (of-list one is ∙ e) (elim adds [
           | inl read ↦ λ k a. read k a ∙ front-owners (all_claims s.tables old) 0 front rest i k a owns
@@ -191,7 +191,7 @@ module _ (s : Sections) (most : ℕ) (old : ClaimsState) (read : List (RangeList
               subst (λ (ranges : List Range). Adds 0 ranges i (all_claims s.tables old) (all_claims s.tables new)) ranges_are held.2
         ]) few
 
-    pub front-on : (one : RangeList) (tail : Option RangeList) (front : List Range) → list ≡ Some one → ReadsNew s.tables read (one, 0) (Ok tail) front → AddsListed s.tables 0 front i list old new → length new.kept + new.room ≤ length old.kept + old.room + 1 → Gathered s most new after (i + 1)
+    pub front-on : (one : RangeList) (tail : Option RangeList) (front : List Range) → list ≡ Some one → ReadsNew s.tables read (one, 0) (Ok tail) front → AddsListed s.tables 0 front i list old new → size_of new + new.room ≤ size_of old + old.room + 1 → Gathered s most new after (i + 1)
     front-on one None front is e adds few =
         front-claimed one front [] is (rw (append-nil front) e) (λ a held. absurd cc) adds few
     front-on one (Some other) front is told adds few =
@@ -199,11 +199,11 @@ module _ (s : Sections) (most : ℕ) (old : ClaimsState) (read : List (RangeList
         front-claimed one front known.0 is (told.1 ∙ ap (onto_front front) known.1) known.2 adds few
 
     -- its list is held by an index
-    pub held-on : (held : Listed) → Holds s.tables list held → new.kept ≡ old.kept → new.room ≡ old.room → all_claims s.tables new ≡ all_claims s.tables old ++ claims_in 0 (owned (held_ranges s.tables held) i) → Gathered s most new after (i + 1)
-    held-on held holds kept room claims =
+    pub held-on : (held : Listed) → Holds s.tables list held → new.kept ≡ old.kept → new.room ≡ old.room → length new.held ≤ length old.held + 1 → all_claims s.tables new ≡ all_claims s.tables old ++ claims_in 0 (owned (held_ranges s.tables held) i) → Gathered s most new after (i + 1)
+    held-on held holds kept room more claims =
         let same : held_ranges s.tables held ≡ holds.ranges = holds.same ∙ ap (λ (read : Result (List Range) Bad). result_unwrap_or read []) holds.read in
         claimed-on holds.ranges (of-list holds.named holds.is ∙ holds.read) (adds-same 0 holds.ranges i (all_claims s.tables old) (all_claims s.tables new) (claims ∙ ap (λ (ranges : List Range). all_claims s.tables old ++ claims_in 0 (owned ranges i)) same))
-        (let size : length new.kept ≡ length old.kept = ap (λ (kept : List Claim). length kept) kept in omega (arith, size, room))
+        (let size : length new.kept ≡ length old.kept = ap (λ (kept : List Claim). length kept) kept in omega (arith, size, room, more))
 
 -- ---- tails that are noted
 

@@ -66,13 +66,12 @@ abbrev pub FindsUnits : Sections → OwnersState → Type 0
 FindsUnits sections owners =
     (a : ℕ) → option_map (unit_at sections) (first_unit sections.tables owners a) ≡ unit_of sections a
 
--- So many ranges are enough: the unit of each address is found by an index of them, or else by a
--- list that is held.
+-- So many ranges and lists are enough: the unit of each address is found by them.
 abbrev pub AreEnough : Sections → ℕ → Type 0
-AreEnough sections ranges = (owners : OwnersState) × FindsUnits sections owners × AreCounted owners ranges
+AreEnough sections size = (owners : OwnersState) × FindsUnits sections owners × AreCounted owners size
 
--- The most ranges that are kept for units: those of lists up to a third of the bytes of
--- .debug_rnglists, since an entry that makes a range takes three bytes at least, and one for each
--- unit.
-abbrev pub most_ranges : Sections → ℕ
-most_ranges sections = length sections.tables.rnglists / 3 + length (units sections.info)
+-- The most ranges and lists that are kept for units: ranges of lists up to a third of the bytes of
+-- .debug_rnglists, since an entry that makes a range takes three bytes at least, and a range or a
+-- list for each unit.
+abbrev pub most_kept : Sections → ℕ
+most_kept sections = length sections.tables.rnglists / 3 + length (units sections.info)

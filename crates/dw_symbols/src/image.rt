@@ -3,7 +3,7 @@
 ghost use Rattle.std.specs.Prelude.{◌≡◌, ◌≤◌, None, OnOk, IfOk, IfErr, IfSome, option_map};
 ghost use Rattle.dw_model.specs.Section.{sections, elf_refusal};
 ghost use Rattle.dw_model.specs.Answer.{unit_of};
-ghost use Rattle.dw_symbols.specs.Owners.{AreEnough, most_ranges};
+ghost use Rattle.dw_symbols.specs.Owners.{AreEnough, most_kept};
 ghost use Rattle.dw_model.specs.Refusal.{refusal};
 ghost use Rattle.dw_elf.specs.OpenFault.{RefusesUnlessMemory, HidesNoRefusal};
 
@@ -108,15 +108,15 @@ impl<'a> Image<'a> {
         UnitWalk::new(alloc, self, &self.cover)
     }
 
-    /// How many ranges are kept to find the unit of an address: of lists at most a third of the
-    /// bytes of .debug_rnglists, and one of each other unit. So memory stays in proportion to the
-    /// file, however many units name one list. They are enough to find each unit that no list that
-    /// is held leads to.
+    /// How many ranges are kept, and lists of ranges are held, to find the unit of an address:
+    /// ranges of lists at most a third of the bytes of .debug_rnglists, and a range or a list of
+    /// each other unit. So memory stays in proportion to the file, however many units name one
+    /// list.
     pub fn kept(&self) -> usize
-        ensures few { result ≤ most_ranges (sections self.now) }
+        ensures few { result ≤ most_kept (sections self.now) }
         ensures enough { AreEnough (sections self.now) result }
     {
-        self.cover.ranges()
+        self.cover.size()
     }
 
     /// The bytes of the file.

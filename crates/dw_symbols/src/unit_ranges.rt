@@ -1,6 +1,6 @@
 //! The ranges of all units that answer addresses.
 
-ghost use Rattle.std.specs.Prelude.{◌≡◌, ◌≤◌, ◌+◌, ◌++◌, ℕ, true, None, Some, Ok, Err, map, length};
+ghost use Rattle.std.specs.Prelude.{◌≡◌, ◌≤◌, ◌+◌, ◌++◌, ℕ, true, None, Some, Ok, Err, map};
 ghost use Rattle.std.specs.Prelude.{OnOk, IfOk, IfErr, IfSome, MatchOption};
 ghost use Rattle.std.specs.Prelude.{option_to_list};
 ghost use Rattle.dw_model.specs.Unit as model;
@@ -8,11 +8,11 @@ ghost use Rattle.dw_model.specs.Answers.{GivesUnlessMemory};
 ghost use Rattle.dw_model.specs.Refusal.{ranges_refusal};
 ghost use Rattle.dw_elf.specs.OpenFault.{refusal_of};
 ghost use Rattle.dw_units.specs.OpenUnit.{sections_of, unit_of};
-ghost use Rattle.dw_ranges.specs.Claims.{AddsListed, all_claims};
+ghost use Rattle.dw_ranges.specs.Claims.{AddsListed, all_claims, size_of};
 ghost use Rattle.dw_ranges.specs.ReadLists.{Has};
 ghost use Rattle.dw_ranges.specs.Tails.{EndsAs, ReadsNew, tail_at};
 ghost use Rattle.dw_index.specs.Range.{range_shown};
-ghost use Rattle.dw_symbols.specs.Owners.{Holds, IsNamed, Owns, Refuses, checked_ranges, most_ranges};
+ghost use Rattle.dw_symbols.specs.Owners.{Holds, IsNamed, Owns, Refuses, checked_ranges, most_kept};
 
 use dw_elf::OpenFault;
 use dw_ranges::{
@@ -159,7 +159,7 @@ fn add<'a>(
     to_its_end: bool,
 ) -> Result<(), AllocError>
     ensures tables { indexes.new ≡ indexes.old }
-    ensures few { length claims.new.kept + claims.new.room ≤ length claims.old.kept + claims.old.room + 1 }
+    ensures few { size_of claims.new + claims.new.room ≤ size_of claims.old + claims.old.room + 1 }
     ensures claims { OnOk result
         (AddsListed indexes.old 0 (map range_shown ranges.now) unit (Some list) claims.old claims.new) }
 {
@@ -191,7 +191,7 @@ pub(crate) fn unit_ranges<'a>(alloc: Global, units: &Units<'a>) -> Result<Claims
     ensures owns { IfOk result (λ claims. Owns units.now (model.units units.now.info)
         (all_claims units.now.tables claims)) }
     ensures accepted { OnOk result (ranges_refusal units.now ≡ None) }
-    ensures few { IfOk result (λ claims. length claims.kept ≤ most_ranges units.now) }
+    ensures few { IfOk result (λ claims. size_of claims ≤ most_kept units.now) }
     ensures refused { IfErr result (λ fault. Refuses (refusal_of fault) units.now) }
 {
     let tables = units.tables();

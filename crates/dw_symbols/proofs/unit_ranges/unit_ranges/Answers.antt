@@ -29,7 +29,7 @@ pub loop-i-preserved-in-Some : goal.loop-i-preserved-in-Some
 loop-i-preserved-in-Some c =
     let found = rw (c.in-Some.is) at c.in_ok-held.ensures in (
       c.loop-i.invariant.0,
-      held-on c.args.units.now _ c.loop-i.claims c.loop-i.read c.loop-i.i c.at-unit.result c.at-unit.ensures.sections c.at-unit.ensures.unit (omega (arith, c.loop-i-test.true, c.len-i-end.ensures)) c.loop-i.invariant.1 c.answering_list-list.result c.answering_list-list.ensures c.hold.new.self c.note.new.read c.in_ok-note.ensures c.in-Some.held (rw (c.loop-i.invariant.0) at found) c.in_ok-hold.ensures.kept c.in_ok-hold.ensures.room (c.in_ok-hold.ensures.claims c.args.units.now.tables),
+      held-on c.args.units.now _ c.loop-i.claims c.loop-i.read c.loop-i.i c.at-unit.result c.at-unit.ensures.sections c.at-unit.ensures.unit (omega (arith, c.loop-i-test.true, c.len-i-end.ensures)) c.loop-i.invariant.1 c.answering_list-list.result c.answering_list-list.ensures c.hold.new.self c.note.new.read c.in_ok-note.ensures c.in-Some.held (rw (c.loop-i.invariant.0) at found) c.in_ok-hold.ensures.kept c.in_ok-hold.ensures.room c.hold.ensures.few (c.in_ok-hold.ensures.claims c.args.units.now.tables),
     )
 
 pub returns-in_err-tail-clause-refused : goal.returns-in_err-tail-clause-refused

@@ -11,8 +11,8 @@ returns-clause-bytes c =
     let of = unit_of_tree c.self.inside in
     let few = c.self.invariant.chains.few in
     let functions = unit-few of.sections of.unit (λ (node : Node). is_kept of.sections of.unit node.entry) (nodes_of of.sections of.unit) c.self.invariant.chains.read in
-    rw (← c.self.view_is) (omega (arith, few, functions, c.ranges-2.ensures.ranges))
+    rw (← c.self.view_is) (omega (arith, few, functions, c.size.ensures.size))
 
 pub returns-clause-enough : goal.returns-clause-enough
 returns-clause-enough c =
-    rw (← c.self.view_is) (c.self.inside.chains, c.self.invariant.chains.chains, c.ranges-2.ensures.counted)
+    rw (← c.self.view_is) (c.self.inside.chains, c.self.invariant.chains.chains, c.size.ensures.counted)
