@@ -19,6 +19,7 @@ import sys
 SAID = {
     'linked': 'of the file linked, llvm-symbolizer says what ours says',
     'suffix': "as GNU's addr2line elsewhere, ours has the name of debug information, without a suffix that the symbol has",
+    'nameless': 'llvm-symbolizer names a function by a symbol that has no name, a label of RISC-V',
 }
 FIELDS = ('function', 'file', 'line')
 
@@ -125,12 +126,13 @@ class Tally:
             of_address = [replies[place] for replies in theirs], ours[place], linked and linked[place]
             self.add(f'{where} {address:#x}', *of_address, in_gnu)
 
-
-    def add_names(self, where, theirs, ours):
-        """Compares the readable names of the functions at an address."""
+    def add_names(self, where, theirs, ours, has_labels):
+        """Compares the readable names of the functions at an address, of a file that has labels without names or none."""
         theirs, ours = ([name for name, *_ in frames] for frames in (theirs, ours))
         if theirs == ours:
             self.readable += 1
+        elif has_labels and theirs[-1] is None and theirs[:-1] == ours[:-1]:
+            self.why['nameless'] += 1
         else:
             self.unlike.append(f'{where}: names {theirs} by llvm-symbolizer, {ours} by ours')
 
@@ -141,6 +143,7 @@ class Comparison:
     def __init__(self, words):
         self.words, self.path, self.tally = words, words.file, Tally(words.file)
         self.sections = sections_of_code(self.path)
+        self.has_labels = re.search(r' NOTYPE +LOCAL +DEFAULT +\d+ *$', shown('readelf', '-sW', self.path), re.MULTILINE)
 
     def llvm(self, addresses, path=None):
         return of_llvm([self.words.llvm], path or self.path, addresses)
@@ -171,7 +174,7 @@ class Comparison:
             readable = (of_llvm([self.words.llvm], self.path, addresses, '--demangle'),
                         as_llvm([self.words.tool, '--as=llvm-symbolizer'], self.path, addresses, '--demangle'))
             for address, theirs, ours in zip(addresses, *readable, strict=True):
-                self.tally.add_names(f'{name} {address:#x}', theirs, ours)
+                self.tally.add_names(f'{name} {address:#x}', theirs, ours, self.has_labels)
             self.compare_section(name, range(size), (by_llvm, self.gnu(range(size), name, path=twin)))
 
     def relocatable(self):

@@ -11,6 +11,7 @@ import subprocess
 
 SAID = {
     'symbols': 'both names are symbols of one address, of which llvm-symbolizer takes the last one for the outermost function',
+    'mangled': 'LLVM\'s tool leaves a name mangled that c++filt reads',
     'more': 'llvm-symbolizer has no name there, and a2l-symbolizer that of a symbol',
     'variable': 'llvm-symbolizer has the place of a variable from its debug information, which a2l doesn\'t read',
     'told': 'llvm-symbolizer writes of a file that it can\'t open into the report',
@@ -50,12 +51,26 @@ def are_of_one_address(name, other):
     return bool(symbols().get(name, set()) & symbols().get(other, set()))
 
 
+@functools.cache
+def readable(name):
+    """What c++filt makes of a name."""
+    return subprocess.run(['c++filt', name], check=True, capture_output=True, text=True).stdout
+
+
+def is_left_mangled(theirs, ours):
+    """Of words that differ, each of theirs is a mangled name, which c++filt reads as one with ours in it."""
+    unlike = [(word, other) for word, other in zip(theirs, ours) if word != other]
+    return len(theirs) == len(ours) and all(word.startswith('_Z') and other in readable(word) for word, other in unlike)
+
+
 def reason(theirs, ours):
     """Why two lines differ; else none."""
     words, others = theirs.split(), ours.split()
     unlike = [(word, other) for word, other in zip(words, others) if word != other]
     if len(words) == len(others) and all(are_of_one_address(word, other) for word, other in unlike):
         return 'symbols'
+    if is_left_mangled(words, others):
+        return 'mangled'
     if FRAME.match(theirs) and len(words) == 3 and words[2].startswith('(') and others[:2] == words[:2] and others[2] in symbols():
         return 'more'
     if VARIABLE.sub(r"\1'", theirs) == VARIABLE.sub(r"\1'", ours):
