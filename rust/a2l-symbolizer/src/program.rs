@@ -91,6 +91,11 @@ impl Program {
         }
     }
 
+    /// The bytes of the file itself, which may have no debug information.
+    pub fn file(&self) -> &Arc<File> {
+        &self.file.file.file
+    }
+
     fn with_debug_info(&self) -> &PlacedFile {
         self.debug.as_ref().unwrap_or(&self.file)
     }
