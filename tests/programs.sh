@@ -48,6 +48,16 @@ need_symbolizer() {
     [ -x "$symbolizer" ] || { echo "no program $symbolizer"; exit 1; }
 }
 
+# The program for crash logs, as `trace`, in the same way. The variable A2L_TRACE names another.
+need_trace() {
+    trace=${A2L_TRACE:-$here/rust/target/release/a2l-trace}
+    [ -n "${A2L_TRACE:-}" ] || {
+        has_crates "the program for crash logs" || exit 0
+        need_library trace
+    }
+    [ -x "$trace" ] || { echo "no program $trace"; exit 1; }
+}
+
 # Whether all commands are there; else says what is skipped for want of which.
 has() {
     local what=$1 command

@@ -1,6 +1,6 @@
 //! How a file lies in memory, by its program headers; and its build id.
 
-use object::elf::{FileHeader32, FileHeader64, ET_EXEC, PF_X, PT_LOAD};
+use object::elf::{FileHeader32, FileHeader64, PF_X, PT_LOAD};
 use object::read::elf::{FileHeader, ProgramHeader};
 use object::read::FileKind;
 use object::{Endianness, Object};
@@ -23,8 +23,6 @@ pub struct Layout {
     /// In the order of the program headers, which is that of addresses.
     pub segments: Vec<Segment>,
     pub build_id: Option<Vec<u8>>,
-    /// A program that is loaded at the addresses that it has (ET_EXEC).
-    pub unmoved: bool,
 }
 
 impl Layout {
@@ -44,6 +42,12 @@ impl Layout {
             _ => None,
         };
         layout.unwrap_or_default()
+    }
+
+    /// Whether an address of the file is in a segment of code.
+    pub fn has_code(&self, address: u64) -> bool {
+        let mut code = self.segments.iter().filter(|segment| segment.executable);
+        code.any(|segment| address.checked_sub(segment.address).is_some_and(|offset| offset < segment.size))
     }
 
     /// The address of the first page, from which libdw counts (`dwfl_module_info`): that of the
@@ -70,7 +74,7 @@ fn of_elf<Elf: FileHeader<Endian = Endianness>>(bytes: &[u8]) -> Option<Layout> 
         executable: header.p_flags(endian) & PF_X != 0,
         align: header.p_align(endian).into(),
     });
-    Some(Layout { segments: segments.collect(), build_id, unmoved: header.e_type(endian) == ET_EXEC })
+    Some(Layout { segments: segments.collect(), build_id })
 }
 
 #[cfg(test)]
@@ -81,7 +85,7 @@ mod tests {
     fn this_program() {
         let bytes = std::fs::read("/proc/self/exe").expect("this program");
         let layout = Layout::of_file(&bytes);
-        assert_eq!((layout.start(), layout.unmoved), (Some(0), false));
+        assert_eq!(layout.start(), Some(0));
         assert_eq!(layout.segments.iter().filter(|segment| segment.executable).count(), 1);
         assert_eq!(Layout::of_headers(&bytes[..4096]).segments, layout.segments);
         assert_eq!(Layout::of_file(b"\x7fELF"), Layout::default());
@@ -90,8 +94,10 @@ mod tests {
     #[test]
     fn the_start_is_that_of_the_alignment() {
         let segment = Segment { address: 0x401234, offset: 0x1234, size: 16, executable: true, align: 0x200000 };
-        let layout = Layout { segments: vec![segment], build_id: None, unmoved: true };
+        let layout = Layout { segments: vec![segment], build_id: None };
         assert_eq!(layout.start(), Some(0x400000));
+        let has: Vec<u64> = (0x401233..0x401246).filter(|&address| layout.has_code(address)).collect();
+        assert_eq!((has.first(), has.last()), (Some(&0x401234), Some(&0x401243)));
         assert_eq!(Layout::default().start(), None);
     }
 }

@@ -11,6 +11,7 @@ mod stream;
 
 // The files that are meant, and where in them an address is.
 mod answers;
+mod calls;
 mod layout;
 mod modules;
 mod process;

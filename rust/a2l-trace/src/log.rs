@@ -105,6 +105,9 @@ impl Log {
             return vec![found];
         }
         self.note(line);
+        if gdb::has_place(line) {
+            return Vec::new();
+        }
         let found = kernel::find(line);
         if !found.is_empty() || self.process().is_empty() {
             return found;

@@ -33,7 +33,7 @@ pub enum Reason {
     NoSymbol,
     /// Several symbols have the name.
     ManySymbols,
-    /// The log has an address of a program that isn't moved, and the file is moved.
+    /// The log has an address of a file that isn't moved, and this file has no code there.
     Moved,
 }
 
@@ -51,7 +51,7 @@ impl fmt::Display for Reason {
             Reason::NoAddress => f.write_str("its program headers don't lead to one address"),
             Reason::NoSymbol => f.write_str("it has no such symbol of that size"),
             Reason::ManySymbols => f.write_str("several symbols have this name"),
-            Reason::Moved => f.write_str("the log has a program that isn't moved, the file is another one"),
+            Reason::Moved => f.write_str("the file isn't at the addresses that it has, as it is in the log"),
         }
     }
 }

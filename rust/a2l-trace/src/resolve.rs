@@ -2,10 +2,11 @@
 
 use a2l_symbolizer::Frame;
 
+use crate::calls::can_follow_call;
 use crate::modules::{Found, Modules, Reason, Wanted};
 use crate::process::{Mapping, Process};
 use crate::scan::basename;
-use crate::sighting::{Kind, Place, Sighting};
+use crate::sighting::{Form, Kind, Place, Sighting};
 
 /// What is known of a frame.
 #[derive(Debug, Clone, PartialEq, Eq)]
@@ -63,8 +64,10 @@ pub fn resolve(
     let may_be_signal = matches!(sighting.kind, Kind::Return | Kind::Subtracted);
     let is_signal = may_be_signal && found.is_signal(address);
     let was_interrupted = is_signal || after_signal;
+    // What stands anywhere in a line can be the address of a function too.
+    let is_exact = sighting.form == Form::Bare && !can_follow_call(&found.file, address);
     let address = match sighting.kind {
-        Kind::Return if !was_interrupted => address.wrapping_sub(1),
+        Kind::Return if !was_interrupted && !is_exact => address.wrapping_sub(1),
         Kind::Subtracted if was_interrupted => address.wrapping_add(1),
         _ => address,
     };
@@ -86,7 +89,7 @@ fn file_address(
 ) -> Result<u64, Reason> {
     match sighting.place {
         Place::Address(address) => Ok(address),
-        Place::Unmoved(address) if found.layout.unmoved => Ok(address),
+        Place::Unmoved(address) if found.layout.has_code(address) => Ok(address),
         Place::Unmoved(_) => Err(Reason::Moved),
         Place::FromStart(offset) => {
             found.layout.start().map(|start| start.wrapping_add(offset)).ok_or(Reason::NoAddress)

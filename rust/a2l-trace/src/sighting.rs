@@ -68,7 +68,7 @@ impl Kind {
 pub enum Place<'l> {
     /// An address as the file has it.
     Address(u64),
-    /// An address as the file has it, if the file is one that isn't moved.
+    /// An address of the process that the file has too, since it isn't moved.
     Unmoved(u64),
     /// So many bytes after the first page of the file in memory.
     FromStart(u64),

@@ -1,6 +1,7 @@
 //! Addresses of a process whose mappings are known, wherever they stand in a line: `0x55d0a5d2e3f4`.
 //!
-//! Each is taken for a return address, as traces have them.
+//! Each is taken for a return address, as traces have them, where the file has a call before it; else
+//! for one of an instruction, as that of a function is.
 
 use memchr::memmem;
 

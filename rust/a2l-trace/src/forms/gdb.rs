@@ -17,7 +17,7 @@ pub fn find<'l>(frame: &Numbered<'l>) -> Option<Sighting<'l>> {
     let (process, rest) = prefixed(frame.rest)?;
     let rest = rest.strip_prefix(b" in ")?;
     memmem::find(rest, b" (")?;
-    if memmem::find(rest, b") at ").is_some() {
+    if has_place(frame.line) {
         return None;
     }
     Some(Sighting {
@@ -30,6 +30,11 @@ pub fn find<'l>(frame: &Numbered<'l>) -> Option<Sighting<'l>> {
         kind: if frame.number == 0 { Kind::Exact } else { Kind::Return },
         span: frame.start..frame.line.len(),
     })
+}
+
+/// The line is a frame that has its place already.
+pub fn has_place(line: &[u8]) -> bool {
+    line.trim_ascii_start().starts_with(b"#") && memmem::find(line, b") at ").is_some()
 }
 
 /// The line stands for the frame that the system makes for a signal.

@@ -1,5 +1,5 @@
 //! glibc's backtrace_symbols and backtrace_symbols_fd (debug/backtracesyms.c): `PATH(+0x1199)
-//! [0x55..]`, `PATH(NAME+0x1f)[0x55..]`, and of a program that isn't moved `PATH[0x401236]`.
+//! [0x55..]`, `PATH(NAME+0x1f)[0x55..]`, and of a file that isn't moved `PATH[0x401236]`.
 //!
 //! The address is what the unwinder returns (`_Unwind_GetIP`): a return address, in the first frame
 //! too, since `backtrace` was called there; where a signal came, the address that it interrupted.
