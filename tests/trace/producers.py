@@ -110,7 +110,7 @@ def markup(crash):
 
 def kernel(crash):
     """An oops of the frames that are in the program, as the kernel would write it; the one that ran is behind RIP."""
-    symbols = re.findall(r'(\w{16}) +(\d+) FUNC +\w+ +\w+ +\d+ (\w+)$', run('readelf', '-sW', crash.program).stdout.decode(), re.M)
+    symbols = re.findall(r'(\w{16}) +(\d+) FUNC +\w+ +\w+ +\d+ (\S+)$', run('readelf', '-sW', crash.program).stdout.decode(), re.M)
     lines = []
     for pc, exact, _ in crash.frames:
         path, address = crash.maps.place(pc)

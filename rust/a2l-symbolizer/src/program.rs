@@ -1,8 +1,9 @@
 //! A file that is asked about: who answers for it, and the answers.
 
 use std::path::Path;
+use std::sync::Arc;
 
-use a2l::{Tools, UnitFrames};
+use a2l::{File, Tools, UnitFrames};
 use object::Object;
 
 use crate::debug_files::DebugFiles;

@@ -3,7 +3,7 @@
 use std::path::PathBuf;
 use std::sync::Arc;
 
-use a2l::{CxxStyle, File};
+use a2l::{File, Tools};
 use a2l_symbolizer::{
     without_controls, CacheSize, DebugFiles, Frame, Length, Module, Names, Opener, Programs, Sources,
 };
@@ -24,8 +24,9 @@ impl Answers {
     /// at debuginfod's servers where these may be asked.
     pub fn new(debug_folders: &[PathBuf], may_ask: bool) -> Answers {
         let debug_files = DebugFiles::new(debug_folders, may_ask, Opener::Map);
-        let sources = Sources { debug_files, symbols: true, fallback: true, relative: false, most: SIZE.bytes };
-        Answers { programs: Programs::new(sources, Opener::Map, SIZE), names: Names::new(CxxStyle::Gnu, Length::Whole) }
+        let sources =
+            Sources { debug_files, symbols: Some(Tools::Gnu), fallback: true, relative: false, most: SIZE.bytes };
+        Answers { programs: Programs::new(sources, Opener::Map, SIZE), names: Names::new(Tools::Gnu, Length::Whole) }
     }
 
     /// The bytes of a file. The text of an error says why it can't be opened.
