@@ -9,19 +9,20 @@ VERSION := $(shell cat VERSION)
 PROGRAM = crates/a2l/out/a2l
 WHY = crates/a2l_why/out/a2l_why
 SYMBOLIZER = rust/target/release/a2l-symbolizer
+TRACE = rust/target/release/a2l-trace
 
 # The files of the module for Python.
 MODULE = __init__.py __main__.py py.typed liba2l.so
 
 # All that is installed, below PREFIX, and the folders that hold nothing else.
-INSTALLED = bin/a2l bin/a2l_why bin/a2l-symbolizer bin/llvm-symbolizer-a2l $(LIBDIR)/liba2l.a \
+INSTALLED = bin/a2l bin/a2l_why bin/a2l-symbolizer bin/llvm-symbolizer-a2l bin/a2l-trace $(LIBDIR)/liba2l.a \
     $(LIBDIR)/pkgconfig/a2l.pc include/a2l.h include/a2l_file.h share/man/man1/a2l.1 share/man/man1/a2l_why.1 \
-    share/man/man1/a2l-symbolizer.1 share/man/man3/liba2l.3 $(MODULE:%=lib/a2l/python/a2l/%) \
+    share/man/man1/a2l-symbolizer.1 share/man/man1/a2l-trace.1 share/man/man3/liba2l.3 $(MODULE:%=lib/a2l/python/a2l/%) \
     lib/a2l/tools/llvm-symbolizer lib/a2l/tools/addr2line
 FOLDERS = lib/a2l/python/a2l lib/a2l/python lib/a2l/tools lib/a2l
 
-.PHONY: all library shared program why symbolizer install install-files install-why install-symbolizer \
-    uninstall dist tarball deb wheel
+.PHONY: all library shared program why symbolizer trace install install-files install-why \
+    install-symbolizer install-trace uninstall dist tarball deb wheel
 
 all: library shared
 
@@ -50,8 +51,12 @@ why:
 symbolizer: library
 	A2L_LIB_DIR="$(CURDIR)/out" rust/cargo.sh build --release --package a2l-symbolizer
 
-install: library shared program why symbolizer
-	$(MAKE) install-files install-why install-symbolizer
+# The program for crash logs, in the same way.
+trace: library
+	A2L_LIB_DIR="$(CURDIR)/out" rust/cargo.sh build --release --package a2l-trace
+
+install: library shared program why symbolizer trace
+	$(MAKE) install-files install-why install-symbolizer install-trace
 
 # Puts a text in place, with the version and the folders that it names: $(call fill,FILE,PLACE).
 fill = sed -e 's|@PREFIX@|$(PREFIX)|g' -e 's|@LIBDIR@|$(LIBDIR)|g' -e 's|@VERSION@|$(VERSION)|g' $(1) \
@@ -85,6 +90,11 @@ install-symbolizer:
 	ln -sf a2l-symbolizer "$(DESTDIR)$(PREFIX)/bin/llvm-symbolizer-a2l"
 	ln -sf ../../../bin/a2l-symbolizer "$(DESTDIR)$(PREFIX)/lib/a2l/tools/llvm-symbolizer"
 	ln -sf ../../../bin/a2l-symbolizer "$(DESTDIR)$(PREFIX)/lib/a2l/tools/addr2line"
+
+install-trace:
+	install -d "$(DESTDIR)$(PREFIX)/bin" "$(DESTDIR)$(PREFIX)/share/man/man1"
+	install -m 755 $(TRACE) "$(DESTDIR)$(PREFIX)/bin/a2l-trace"
+	$(call fill,docs/a2l-trace.1,share/man/man1/a2l-trace.1)
 
 # Takes away what `make install` has put in place, with what Python has made of it, and the folders of a2l alone.
 uninstall:

@@ -91,7 +91,7 @@ Description: functions, files and lines of addresses, by DWARF 5
  a2l turns addresses of a program into function, file and line, with the
  functions inlined there. a2l_why says why an address has no answer. Sanitizers,
  perf and others start a2l-symbolizer in the place of llvm-symbolizer or
- addr2line.
+ addr2line. a2l-trace puts functions, files and lines into crash logs.
 END
 pack liba2l-dev << END
 Section: libdevel

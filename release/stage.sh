@@ -18,7 +18,7 @@ export SOURCE_DATE_EPOCH
 
 # Installs what is built below `root`, with some words of make, and without the names that only a debugger reads.
 stage() {
-    make -s -C "$here" install-files install-why install-symbolizer DESTDIR="$work/root" "$@"
+    make -s -C "$here" install-files install-why install-symbolizer install-trace DESTDIR="$work/root" "$@"
     find root -type f \( -path '*/bin/*' -o -name '*.so' \) -exec strip --strip-unneeded {} +
     find root -name '*.a' -exec strip --strip-debug {} +
 }

@@ -11,10 +11,11 @@
 # the library and the symbolizer are built here where they aren't yet.
 . "$(dirname "$0")/programs.sh"
 need_a2l
-parts=(crates/a2l/out/a2l crates/a2l_why/out/a2l_why out/liba2l.a out/liba2l.so rust/target/release/a2l-symbolizer)
+parts=(crates/a2l/out/a2l crates/a2l_why/out/a2l_why out/liba2l.a out/liba2l.so
+    rust/target/release/{a2l-symbolizer,a2l-trace})
 [ -x "$here/${parts[1]}" ] || { echo "skipped, a2l_why is not built: cd crates/a2l_why && rt run"; exit 0; }
 has_crates "a release" || exit 0
-for part in "${parts[@]}"; do [ -e "$here/$part" ] || need_library shared symbolizer; done
+for part in "${parts[@]}"; do [ -e "$here/$part" ] || need_library shared symbolizer trace; done
 unset SOURCE_DATE_EPOCH
 version=$(cat "$here/VERSION")
 name=a2l-$version-$(uname -m)-linux
@@ -47,6 +48,8 @@ answer_programs() {
     answer findings "$1/bin/a2l_why" -e "$sample"
     answer reply "$1/bin/llvm-symbolizer-a2l" -e "$sample" 0x401004
     answer reply "$1/lib/a2l/tools/llvm-symbolizer" -e "$sample" 0x401004
+    printf '%s[0x401004]\n' "$sample" > log
+    "$1/bin/a2l-trace" --json --module x=y log | grep -q '"form":"glibc"' || { echo "no row of a2l-trace"; exit 1; }
     answer lines "$1/lib/a2l/tools/addr2line" -a -f -i -e "$sample" 401004
 }
 
@@ -90,7 +93,7 @@ agree python/a2l "$(sed -nE "s/^__version__ = '([0-9.]+)'\$/\1/p" "$here/python/
 agree docs/PROMISES.md "$(sed -nE 's/^\| The version is ([0-9.]+)\. .*/\1/p' "$here/docs/PROMISES.md")"
 [ ! -e "$here/CHANGELOG.md" ] || agree CHANGELOG.md "$(sed -nE '/^## /{s/^## ([0-9.]+).*/\1/p;q}' "$here/CHANGELOG.md")"
 crates=$("$here/rust/cargo.sh" metadata --no-deps --format-version 1 | grep -oE '"version":"[^"]*"' | cut -d '"' -f 4)
-[ "$(wc -l <<< "$crates")" = 2 ] || { echo "other versions of the crates: $crates"; exit 1; }
+[ "$(wc -l <<< "$crates")" = 3 ] || { echo "other versions of the crates: $crates"; exit 1; }
 for crate in $crates; do agree rust "$crate"; done
 
 # Two clones, and what each packs.
@@ -100,8 +103,8 @@ for clone in one elsewhere/two; do
 done
 mkdir -p elsewhere/two/rust/target
 cp -a "$here/rust/target/release" elsewhere/two/rust/target/
-rm -rf elsewhere/two/out/liba2l.so elsewhere/two/rust/target/release/{a2l-symbolizer,.fingerprint/a2l-*,deps/*a2l*}
-quietly make -C elsewhere/two -o library shared symbolizer
+rm -rf elsewhere/two/out/liba2l.so elsewhere/two/rust/target/release/{a2l-symbolizer,a2l-trace,.fingerprint/a2l-*,deps/*a2l*}
+quietly make -C elsewhere/two -o library shared symbolizer trace
 grep -q 'Compiling a2l-symbolizer' quiet.log || { echo "the symbolizer is not built again"; exit 1; }
 find elsewhere/two -type f -exec touch -d 2001-02-03 {} +
 chmod -R go-rwx elsewhere/two
@@ -126,6 +129,7 @@ paths=$(grep -rlaF -e "$here/" -e "$work/" -e "${HOME:-/root}/" "$name") &&
 answer_programs "$release"
 answer_module "$release/python"
 agree a2l_version "$(PYTHONPATH=$release/python python3 -c 'import a2l; print(a2l.version())')"
+agree a2l-trace "$("$release/bin/a2l-trace" --version | sed -nE 's/^a2l-trace ([0-9.]+)$/\1/p')"
 agree a2l-symbolizer "$("$release/bin/a2l-symbolizer" --version | sed -nE 's/^a2l-symbolizer ([0-9.]+),.*/\1/p')"
 export PKG_CONFIG_PATH=$release/lib/pkgconfig
 # shellcheck disable=SC2046

@@ -17,15 +17,22 @@ pub struct Answers {
 }
 
 /// So much of files stays open.
-const SIZE: CacheSize = CacheSize { files: 64, ..CacheSize::USUAL };
+const SIZE: CacheSize = CacheSize { files: 64, bytes: 4 << 30 };
 
 impl Answers {
     /// No file is open yet. Debug files are looked for below these folders and the usual one, and
     /// at debuginfod's servers where these may be asked.
     pub fn new(debug_folders: &[PathBuf], may_ask: bool) -> Answers {
         let debug_files = DebugFiles::new(debug_folders, may_ask, Opener::Map);
-        let sources =
-            Sources { debug_files, symbols: Some(Tools::Gnu), fallback: true, relative: false, most: SIZE.bytes };
+        let sources = Sources {
+            debug_files,
+            symbols: Some(Tools::Gnu),
+            fallback: true,
+            relative: false,
+            starts: false,
+            skips_line_zero: false,
+            most: SIZE.bytes,
+        };
         Answers { programs: Programs::new(sources, Opener::Map, SIZE), names: Names::new(Tools::Gnu, Length::Whole) }
     }
 
