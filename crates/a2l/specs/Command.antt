@@ -2,7 +2,12 @@
 use Rattle.std.specs.Prelude.{◌≡◌, ◌≤◌, ℕ, List, Option, Some, None, Result, Ok, MatchResult}
 use Rattle.std.specs.Str.Parse.{IsNumeral, digits_value, without_leading_plus}
 use Rattle.a2l.specs.declared.command.ParseFault.{ParseFault}
-use Rattle.a2l.specs.declared.command.ParseFault.TheVariants.{Refused}
+use Rattle.a2l.specs.declared.command.ParseFault.TheVariants.{Refused, Memory}
+
+-- the number of each reason
+abbrev pub number_of_parse : ParseFault → ℕ
+number_of_parse Refused = 1
+number_of_parse Memory = 2
 
 -- a number of threads
 abbrev pub IsCount : ℕ → Type 0

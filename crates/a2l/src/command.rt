@@ -50,6 +50,21 @@ pub enum ParseFault {
     Memory,
 }
 
+impl ParseFault {
+    ghost use Rattle.std.specs.Prelude.{◌≡◌};
+    ghost use Rattle.a2l.specs.Command.{number_of_parse};
+
+    /// The number of the reason, 1 or 2.
+    pub fn number(&self) -> u8
+        ensures { result ≡ number_of_parse self.now }
+    {
+        match self {
+            ParseFault::Refused => 1,
+            ParseFault::Memory => 2,
+        }
+    }
+}
+
 impl From<AllocError> for ParseFault {
     ghost use Rattle.std.specs.Prelude.{◌≡◌};
     ghost use Rattle.a2l.specs.declared.command.ParseFault.TheVariants.{Memory};

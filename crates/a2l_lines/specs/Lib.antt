@@ -1,4 +1,5 @@
 pub mod Ends
+pub mod Faults
 pub mod Input
 pub mod Queries
 pub mod Listing

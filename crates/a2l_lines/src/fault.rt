@@ -16,6 +16,22 @@ pub enum RunFault {
     Memory,
 }
 
+impl RunFault {
+    ghost use Rattle.std.specs.Prelude.{◌≡◌};
+    ghost use Rattle.a2l_lines.specs.Faults.{number_of_run};
+
+    /// The number of the reason, 1 to 3.
+    pub fn number(&self) -> u8
+        ensures { result ≡ number_of_run self.now }
+    {
+        match self {
+            RunFault::Read => 1,
+            RunFault::Write => 2,
+            RunFault::Memory => 3,
+        }
+    }
+}
+
 impl From<AllocError> for RunFault {
     ghost use Rattle.std.specs.Prelude.{◌≡◌};
     ghost use Rattle.a2l_lines.specs.declared.fault.RunFault.TheVariants.{Memory};

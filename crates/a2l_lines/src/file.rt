@@ -19,6 +19,21 @@ pub enum LoadFault {
     Memory,
 }
 
+impl LoadFault {
+    ghost use Rattle.std.specs.Prelude.{◌≡◌};
+    ghost use Rattle.a2l_lines.specs.Faults.{number_of_load};
+
+    /// The number of the reason, 1 or 2.
+    pub fn number(&self) -> u8
+        ensures { result ≡ number_of_load self.now }
+    {
+        match self {
+            LoadFault::Device => 1,
+            LoadFault::Memory => 2,
+        }
+    }
+}
+
 impl From<AllocError> for LoadFault {
     fn from(_error: AllocError) -> Self {
         LoadFault::Memory
