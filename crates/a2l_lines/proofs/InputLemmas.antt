@@ -1,10 +1,9 @@
--- Addresses, spans and lines.
-use Rattle.std.proofs.Common.{◌≡◌, ◌^◌, ℕ, ◌+◌, ◌*◌, ◌<◌, ◌≤◌, Bool, true, false, List, [], ◌∷◌, ◌++◌, length, map, take, drop, Option, Some, None, refl, ap, ◌∙◌, append_assoc, arith, w64, Fits, add-one}
+-- The lines of a text.
+use Rattle.std.proofs.Common.{◌≡◌, ℕ, ◌+◌, ◌<◌, ◌≤◌, Bool, true, false, List, [], ◌∷◌, ◌++◌, length, map, take, drop, Option, Some, None, refl, ap, ◌∙◌, append_assoc, arith}
 use Rattle.std.specs.Prelude.{cond, nat_lt, ◌==◌}
 use Rattle.std.specs.List.{position_or_len, slice_split, All}
 use Rattle.std.specs.Option.{option_map_or}
 use Rattle.std.specs.Str.Lines.{lines, lines_of_parts, strip_carriage_return}
-use Rattle.std.proofs.Math.Nat.{pow-suc, pow-le-pow_right}
 use Rattle.std.proofs.lemmas.Bool.{ltb-true, ltb-false, ne_eqb}
 use Rattle.std.proofs.lemmas.List.{map_push}
 use Rattle.std.proofs.lemmas.List.Elements.{All-from_get_or}
@@ -14,22 +13,6 @@ use Rattle.dw_model.specs.Output.{query_in}
 use Rattle.dw_model.specs.Query.{Query}
 use Rattle.a2l_lines.specs.Input.{asked_by, first_line, after_line}
 use Rattle.a2l_lines.specs.declared.input.Input.{Input}
-
--- ---- digits
-
--- one digit more
-pub below-more : (i n d : ℕ) → n < 16 ^ i → d < 16 → n * 16 + d < 16 ^ (i + 1)
-below-more i n d below digit =
-    let e : 16 ^ (i + 1) ≡ 16 ^ i * 16 = ap (λ k. 16 ^ k) (add-one i) ∙ pow-suc 16 i in
-    omega (arith, e, below, digit)
-
--- sixteen digits fit
-pub digits-fit : (i n d : ℕ) → i < 16 → n < 16 ^ i → d < 16 → Fits w64 (n * 16 + d)
-digits-fit i n d within below digit =
-    let positive : 0 < 16 = omega arith in
-    let small : i + 1 ≤ 16 = omega (arith, within) in
-    let most : 16 ^ (i + 1) ≤ 16 ^ 16 = pow-le-pow_right positive small in
-    omega (arith, below-more i n d below digit, most)
 
 -- ---- lines
 

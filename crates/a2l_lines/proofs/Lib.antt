@@ -1,6 +1,7 @@
 pub mod WriteLemmas
 pub mod LineLemmas
 pub mod ReadLemmas
+pub mod DigitLemmas
 pub mod InputLemmas
 pub mod TextLemmas
 pub mod SymbolizeLemmas

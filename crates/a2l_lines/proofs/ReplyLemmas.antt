@@ -13,7 +13,7 @@ use Rattle.dw_symbols.specs.declared.answer.Answer.{Answer as Found}
 use Rattle.ticket_core.specs.declared.query.Query.{Query}
 use Rattle.a2l_lines.specs.declared.reply.Reply.{Reply}
 use Rattle.a2l_lines.specs.Sharing.{Shares}
-use Rattle.a2l_lines.specs.Pieces.{lines_of, pieces_of, pieces_for}
+use Rattle.a2l_lines.specs.Pieces.{pieces_of, pieces_for}
 use Rattle.a2l_lines.specs.Reply.{reply_to, reply_parts, AreReplies, parts_code, reply_shown, meant_reply}
 use Rattle.a2l_lines.proofs.TextLemmas.{list_any-map}
 

@@ -1,10 +1,7 @@
 -- Texts, and tests of lists.
-use Rattle.std.proofs.Common.{◌≡◌, ℕ, zero, suc, ◌-◌, ◌<◌, Bool, true, false, List, [], ◌∷◌, ◌++◌, length, map, get_or, refl, ap, arith}
-use Rattle.std.specs.Prelude.{◌||◌, flat_map, replicate}
-use Rattle.std.specs.Fmt.{padded_integral, format_spec, char_count}
-use native.Mathlib.Numerals.{unary_clauses}
+use Rattle.std.proofs.Common.{◌≡◌, ℕ, zero, suc, ◌<◌, Bool, true, false, List, [], ◌∷◌, ◌++◌, length, map, get_or, refl, ap, arith}
+use Rattle.std.specs.Prelude.{◌||◌, flat_map}
 use Rattle.std.specs.List.{list_any}
-use Rattle.std.proofs.lemmas.List.{append-nil}
 
 pub or_true : (b : Bool) → (b || true) ≡ true
 or_true true = refl
@@ -30,10 +27,3 @@ flat_map-map f g (x ∷ xs) = ap (λ rest. f (g x) ++ rest) (flat_map-map f g xs
 pub list_any-map : {X Y : Type 0} (p : Y → Bool) (f : X → Y) (xs : List X) → list_any p (map f xs) ≡ list_any (λ x. p (f x)) xs
 list_any-map p f [] = refl
 list_any-map p f (x ∷ xs) = ap (λ rest. p (f x) || rest) (list_any-map p f xs)
-
--- ---- sixteen digits
-
--- padding with zeros
-pub padded-digits : (digits : List ℕ) → padded_integral (format_spec 32 0 4 16 18446744073709551615) false [] digits ≡ replicate (16 - length digits) 48 ++ digits
-unfolding padded_integral char_count
-padded-digits digits = simp unary_clauses (ap (λ (rest : List ℕ). replicate (16 - length digits) 48 ++ rest) (append-nil digits))

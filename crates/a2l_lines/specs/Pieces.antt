@@ -1,5 +1,5 @@
 -- The text that inputs pick of the replies to queries.
-use Rattle.std.specs.Prelude.{◌≡◌, ℕ, List, [], ◌∷◌, map, flat_map, Option, slice_index_or}
+use Rattle.std.specs.Prelude.{ℕ, List, [], ◌∷◌, map, flat_map, Option, slice_index_or}
 use Rattle.dw_model.specs.Answer.{Answer}
 use Rattle.dw_model.specs.Output as model
 use Rattle.dw_symbols.specs.Told.{query_shown}

@@ -1,20 +1,14 @@
 //! What is asked for: the words of the command line, or the lines of the input.
 
-ghost use Rattle.std.specs.Prelude.{◌≡◌, ◌==◌, ◌<◌, ◌≤◌, if◌then◌else◌, length, map, position, option_map, IfOk};
-ghost use Rattle.std.specs.Prelude.{Some, None};
-ghost use Rattle.std.specs.List.{list_all};
-ghost use Rattle.std.specs.Char.{is_ascii_hexdigit};
+ghost use Rattle.std.specs.Prelude.{◌≡◌, ◌==◌, ◌<◌, length, map, position, option_map, IfOk};
 ghost use Rattle.std.specs.Str.Lines.{lines, strip_carriage_return};
-ghost use Rattle.std.specs.Str.Parse.{digits_value};
 ghost use Rattle.dw_model.specs.Output.{address_in, without_prefix, dash_in, span_between, query_in};
 ghost use Rattle.dw_symbols.specs.Told.{query_shown};
 ghost use Rattle.a2l_lines.specs.Input.{asked_by, word_shown, first_line, after_line};
 
+use crate::digits::{MOST_DIGITS, number};
 use std::alloc::{AllocError, Global};
 use ticket_core::Query;
-
-/// The most digits of an address.
-const MOST_DIGITS: usize = 16;
 
 /// A text that is asked for.
 #[derive(Clone, Copy, Debug, PartialEq, Eq)]
@@ -33,22 +27,6 @@ fn without_prefix(text: &[u8]) -> &[u8]
         return text.split_at(2).1;
     }
     text
-}
-
-/// The number that at most 16 hexadecimal digits write; none where one of them is no digit.
-fn number(digits: &[u8]) -> Option<u64>
-    requires { length digits.now ≤ 16 }
-    ensures { result ≡ if list_all is_ascii_hexdigit digits.now then Some (digits_value 16 digits.now) else None }
-{
-    let mut number = 0u64;
-    for digit in digits {
-        if !digit.is_ascii_hexdigit() {
-            return None;
-        }
-        let digit = (*digit as char).to_digit(16)?;
-        number = number * 16 + u64::from(digit);
-    }
-    Some(number)
 }
 
 /// The address that a text writes in 1 to 16 hexadecimal digits of either case, before which `0x`

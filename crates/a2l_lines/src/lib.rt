@@ -5,6 +5,7 @@
 mod blocks;
 mod contexts;
 mod crew;
+mod digits;
 mod fault;
 mod file;
 mod input;

@@ -1,13 +1,14 @@
 //! The lines that are written for inputs.
 
-ghost use Rattle.std.specs.Prelude.{◌≡◌, ◌++◌, OnOk, IfOk, map, string_bytes, option_map, decimal};
+ghost use Rattle.std.specs.Prelude.{◌≡◌, ◌++◌, OnOk, codes, map, option_map, decimal};
 ghost use Rattle.dw_model.specs.Output.{frame_lines, unknown_frame, shown, fault_line};
-ghost use Rattle.dw_model.specs.Output.{address_line, span_text, span_line, query_line, piece_line, piece_lines};
+ghost use Rattle.dw_model.specs.Output.{sixteen_digits, span_text, query_line, piece_line, piece_lines};
 ghost use Rattle.dw_symbols.specs.Answer.{frame_shown, code_shown, piece_shown};
 ghost use Rattle.dw_symbols.specs.Told.{query_shown};
 ghost use Rattle.a2l_lines.specs.Text.{options_shown, path_text, line_end, location_line, name_line};
 ghost use Rattle.a2l_lines.specs.Text.{frame_text, frames_text, answer_text, head_text, query_text};
 
+use crate::digits::sixteen_digits;
 use crate::options::Options;
 use dw_symbols::{Answer, Frame, Location, Piece, UnitFault};
 use itoa::Buffer;
@@ -138,33 +139,41 @@ fn push_unknown(text: &mut Vec<u8>, options: &Options<'_>) -> Result<(), AllocEr
     )
 }
 
-/// The first address of a span, and its end.
-fn span_text(alloc: Global, low: u64, high: u64) -> Result<String, AllocError>
-    ensures { IfOk result (λ text. string_bytes text ≡ span_text low high) }
+/// Adds `0x` and the 16 digits of an address.
+fn push_address(text: &mut Vec<u8>, address: u64) -> Result<(), AllocError>
+    ensures { OnOk result (text.new.items ≡ text.old.items ++ (codes "0x" ++ sixteen_digits address)) }
 {
-    let text = format!(in alloc; "0x{low:016x}-0x{high:016x}")?;
-    Ok(text)
+    text.extend_from_slice(b"0x")?;
+    text.extend_from_slice(&sixteen_digits(address))
+}
+
+/// Adds the first address of a span, and its end.
+fn push_span(text: &mut Vec<u8>, low: u64, high: u64) -> Result<(), AllocError>
+    ensures { OnOk result (text.new.items ≡ text.old.items ++ span_text low high) }
+{
+    push_address(text, low)?;
+    text.extend_from_slice(b"-")?;
+    push_address(text, high)
 }
 
 /// Adds the line of a piece: the addresses and their location.
-fn push_piece(alloc: Global, text: &mut Vec<u8>, piece: &Piece) -> Result<(), AllocError>
+fn push_piece(text: &mut Vec<u8>, piece: &Piece) -> Result<(), AllocError>
     ensures { OnOk result (text.new.items ≡ text.old.items ++ piece_line (piece_shown piece.now)) }
 {
-    let span = span_text(alloc, piece.begin, piece.end)?;
-    text.extend_from_slice(span.as_bytes())?;
+    push_span(text, piece.begin, piece.end)?;
     text.extend_from_slice(b" ")?;
     push_location(text, &piece.location)
 }
 
 /// Adds the lines of pieces; of none the line of an address of which nothing is known.
-fn push_pieces(alloc: Global, text: &mut Vec<u8>, pieces: &[Piece]) -> Result<(), AllocError>
+fn push_pieces(text: &mut Vec<u8>, pieces: &[Piece]) -> Result<(), AllocError>
     ensures { OnOk result (text.new.items ≡ text.old.items ++ piece_lines (map piece_shown pieces.now)) }
 {
     if pieces.is_empty() {
         return text.extend_from_slice(b"??:0\n");
     }
     for piece in pieces {
-        push_piece(alloc, text, piece)?;
+        push_piece(text, piece)?;
     }
     Ok(())
 }
@@ -182,51 +191,29 @@ fn push_answer(
         Answer::NotCovered => push_unknown(text, options),
         Answer::Fault { unit, code } => push_fault(alloc, text, *unit, *code),
         Answer::Found { frames, .. } => push_frames(text, options, shown(options, frames)),
-        Answer::Pieces(pieces) => push_pieces(alloc, text, pieces),
+        Answer::Pieces(pieces) => push_pieces(text, pieces),
     }
 }
 
-/// The line of an address itself.
-fn address_line(alloc: Global, address: u64) -> Result<String, AllocError>
-    ensures { IfOk result (λ line. string_bytes line ≡ address_line address) }
-{
-    let line = format!(in alloc; "0x{address:016x}\n")?;
-    Ok(line)
-}
-
-/// The line of a span itself.
-fn span_line(alloc: Global, low: u64, high: u64) -> Result<String, AllocError>
-    ensures { IfOk result (λ line. string_bytes line ≡ span_line low high) }
-{
-    let mut line = span_text(alloc, low, high)?;
-    line.push('\n')?;
-    Ok(line)
-}
-
-/// The line of a query itself.
-fn query_line(alloc: Global, query: Query) -> Result<String, AllocError>
-    ensures { IfOk result (λ line. string_bytes line ≡ query_line (query_shown query)) }
+/// Adds the line of a query itself.
+fn push_query_line(text: &mut Vec<u8>, query: Query) -> Result<(), AllocError>
+    ensures { OnOk result (text.new.items ≡ text.old.items ++ query_line (query_shown query)) }
 {
     match query.kind() {
-        QueryKind::Address(a) => address_line(alloc, a),
-        QueryKind::Span(low, high) => span_line(alloc, low, high),
+        QueryKind::Address(a) => push_address(text, a)?,
+        QueryKind::Span(low, high) => push_span(text, low, high)?,
     }
+    text.extend_from_slice(b"\n")
 }
 
 /// Adds the line of a query itself, with `-a`.
-fn push_head(
-    alloc: Global,
-    text: &mut Vec<u8>,
-    options: &Options<'_>,
-    query: Query,
-) -> Result<(), AllocError>
+fn push_head(text: &mut Vec<u8>, options: &Options<'_>, query: Query) -> Result<(), AllocError>
     ensures { OnOk result (text.new.items ≡ text.old.items ++ head_text options.now query) }
 {
     if !options.addresses {
         return Ok(());
     }
-    let line = query_line(alloc, query)?;
-    text.extend_from_slice(line.as_bytes())
+    push_query_line(text, query)
 }
 
 /// Adds the lines of a query: with `-a` the address or the span itself, then its answer.
@@ -239,6 +226,6 @@ pub fn push_query(
 ) -> Result<(), AllocError>
     ensures { OnOk result (text.new.items ≡ text.old.items ++ query_text options.now query answer.now) }
 {
-    push_head(alloc, text, options, query)?;
+    push_head(text, options, query)?;
     push_answer(alloc, text, options, answer)
 }
