@@ -23,6 +23,8 @@ static int middle(int x) {
     return inner(x + 1);
 }
 #ifdef SECTIONS
+static __thread int own;
+int each_thread(void) { return ++own; }
 __attribute__((section(".init.text"))) int begin(int x) {
     return inner(x) + two(x);
 }

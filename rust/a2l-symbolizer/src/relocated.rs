@@ -2,9 +2,11 @@
 
 use a2l::{File, Part};
 use object::elf::{
-    R_386_TLS_LDO_32, R_AARCH64_TLS_DTPREL, R_ARM_TLS_LDO32, R_RISCV_ADD16, R_RISCV_ADD32, R_RISCV_ADD64, R_RISCV_ADD8,
-    R_RISCV_SET16, R_RISCV_SET32, R_RISCV_SET8, R_RISCV_SUB16, R_RISCV_SUB32, R_RISCV_SUB64, R_RISCV_SUB8,
-    R_RISCV_TLS_DTPREL32, R_RISCV_TLS_DTPREL64, R_X86_64_DTPOFF32, R_X86_64_DTPOFF64,
+    R_386_TLS_LDO_32, R_390_TLS_LDO32, R_390_TLS_LDO64, R_AARCH64_TLS_DTPREL, R_ARM_TLS_LDO32, R_LARCH_TLS_DTPREL32,
+    R_LARCH_TLS_DTPREL64, R_MIPS_TLS_DTPREL32, R_MIPS_TLS_DTPREL64, R_PPC64_DTPREL64, R_PPC_DTPREL32, R_RISCV_ADD16,
+    R_RISCV_ADD32, R_RISCV_ADD64, R_RISCV_ADD8, R_RISCV_SET16, R_RISCV_SET32, R_RISCV_SET8, R_RISCV_SUB16,
+    R_RISCV_SUB32, R_RISCV_SUB64, R_RISCV_SUB8, R_RISCV_TLS_DTPREL32, R_RISCV_TLS_DTPREL64, R_X86_64_DTPOFF32,
+    R_X86_64_DTPOFF64,
 };
 use object::{
     Architecture, Object, ObjectSection, ObjectSymbol, Relocation, RelocationKind, RelocationTarget, Section,
@@ -28,6 +30,23 @@ enum Form {
     Bytes(usize),
     Leb128,
 }
+
+/// Relocations that say where a variable of a thread is, which isn't asked: the number stays.
+const OF_THREADS: [(Architecture, &[u32]); 13] = [
+    (Architecture::Aarch64, &[R_AARCH64_TLS_DTPREL]),
+    (Architecture::Arm, &[R_ARM_TLS_LDO32]),
+    (Architecture::I386, &[R_386_TLS_LDO_32]),
+    (Architecture::LoongArch64, &[R_LARCH_TLS_DTPREL32, R_LARCH_TLS_DTPREL64]),
+    (Architecture::Mips, &[R_MIPS_TLS_DTPREL32]),
+    (Architecture::Mips64, &[R_MIPS_TLS_DTPREL32, R_MIPS_TLS_DTPREL64]),
+    (Architecture::PowerPc, &[R_PPC_DTPREL32]),
+    (Architecture::PowerPc64, &[R_PPC64_DTPREL64]),
+    (Architecture::Riscv32, &[R_RISCV_TLS_DTPREL32]),
+    (Architecture::Riscv64, &[R_RISCV_TLS_DTPREL32, R_RISCV_TLS_DTPREL64]),
+    (Architecture::S390x, &[R_390_TLS_LDO32, R_390_TLS_LDO64]),
+    (Architecture::X86_64, &[R_X86_64_DTPOFF32, R_X86_64_DTPOFF64]),
+    (Architecture::X86_64_X32, &[R_X86_64_DTPOFF32]),
+];
 
 /// Those of RISC-V that `object` has no names for.
 const R_RISCV_SET_ULEB128: u32 = 60;
@@ -102,27 +121,24 @@ impl<'f, 'data> Relocations<'f, 'data> {
     }
 }
 
-/// What a relocation does; nothing where it says where a variable of a thread is, which isn't
-/// asked. One that isn't known leaves a number that would be wrong.
+/// What a relocation does, where it does something. One that isn't known would leave a wrong number.
 fn meaning(architecture: Architecture, relocation: &Relocation) -> Result<Option<(Change, Form)>, Error> {
-    let kind = match relocation.kind() {
-        RelocationKind::Absolute => {
+    match (architecture, relocation.kind()) {
+        (_, RelocationKind::Absolute) => {
             let change = if relocation.has_implicit_addend() { Change::Add } else { Change::Set };
-            return Ok(Some((change, Form::Bytes(usize::from(relocation.size() / 8).min(8)))));
+            Ok(Some((change, Form::Bytes(usize::from(relocation.size() / 8).min(8)))))
         }
-        RelocationKind::Elf(kind) => kind,
-        _ => return Err(Error::Relocation),
-    };
-    match (architecture, kind) {
-        (_, 0)
-        | (Architecture::X86_64 | Architecture::X86_64_X32, R_X86_64_DTPOFF32 | R_X86_64_DTPOFF64)
-        | (Architecture::I386, R_386_TLS_LDO_32)
-        | (Architecture::Arm, R_ARM_TLS_LDO32)
-        | (Architecture::Aarch64, R_AARCH64_TLS_DTPREL)
-        | (Architecture::Riscv32 | Architecture::Riscv64, R_RISCV_TLS_DTPREL32 | R_RISCV_TLS_DTPREL64) => Ok(None),
-        (Architecture::Riscv32 | Architecture::Riscv64, kind) => of_riscv(kind).map(Some).ok_or(Error::Relocation),
+        (_, RelocationKind::Elf(0)) => Ok(None),
+        (_, RelocationKind::Elf(kind)) if is_of_threads(architecture, kind) => Ok(None),
+        (Architecture::Riscv32 | Architecture::Riscv64, RelocationKind::Elf(kind)) => {
+            of_riscv(kind).map(Some).ok_or(Error::Relocation)
+        }
         _ => Err(Error::Relocation),
     }
+}
+
+fn is_of_threads(architecture: Architecture, kind: u32) -> bool {
+    OF_THREADS.iter().any(|(other, kinds)| *other == architecture && kinds.contains(&kind))
 }
 
 /// RISC-V writes a distance as a sum and a difference, since a linker makes code shorter.
