@@ -3,9 +3,10 @@
 # addr2line, all in one run: from its start to the first answer, 2,000 random addresses one by one, the
 # processor time of all, and the memory that is its own in the end. The words are programs or relocatable
 # files, or how many units of templates are to be built into one (36 and 60 without, about 60 and 100 MB),
-# or `joined`: a relocatable file of some 10 MB, of two such units in a static library. Each is run nine
-# times, in turn, and once where it takes more than 10 seconds; the medians count. Then the median of 21
-# reports of AddressSanitizer with either, of a program by clang 19. It prints ratios, and tests nothing.
+# or `joined`: a relocatable file of some 10 MB, of two such units in a static library, or `split`: one such
+# unit in a .dwo file, of which 1,000 addresses are asked. Each is run nine times, in turn, and once where it
+# takes more than 10 seconds; the medians count. Then the median of 21 reports of AddressSanitizer with
+# either, of a program by clang 19. It prints ratios, and tests nothing.
 . "$(dirname "$0")/../tests/programs.sh"
 need_symbolizer
 [ $# -gt 0 ] || set -- 36 60
@@ -25,7 +26,7 @@ import time
 from conversation import Conversation
 
 TIMES = 9
-COUNT = 2000
+COUNT = int(os.environ['COUNT'])
 
 def of_code(program):
     shown = subprocess.run(['readelf', '-SW', program], check=True, capture_output=True, text=True).stdout
@@ -81,8 +82,14 @@ if has "GNU addr2line" addr2line; then
     tools+=("a2l as addr2line=$symbolizer --as=addr2line -f -i" "addr2line=$(command -v addr2line) -f -i")
 fi
 for word in "$@"; do
-    asked=("${tools[@]}")
-    if [ "$word" = joined ]; then
+    asked=("${tools[@]}") count=2000
+    if [ "$word" = split ]; then
+        # GNU's addr2line doesn't read them
+        asked=("${tools[@]:0:2}") count=1000
+        write_large 1
+        g++ -std=c++17 -g -gdwarf-5 -O1 -gsplit-dwarf unit1.cc main.cc -o large
+        program=$work/large
+    elif [ "$word" = joined ]; then
         # GNU's addr2line takes a line without a number for address 0, which is code there: no reply has an end
         asked=("${tools[@]:0:2}")
         write_large 2
@@ -94,8 +101,8 @@ for word in "$@"; do
         need_large "$word"
     fi
     echo "a program of $(($(stat -Lc %s "$program") / 1000000)) MB, at a load of $(cut -d ' ' -f 1 /proc/loadavg)"
-    python3 conversing.py "$program" "${asked[@]}"
-    rm -f large unit*.cc* main.cc* objects
+    COUNT=$count python3 conversing.py "$program" "${asked[@]}"
+    rm -f large unit*.cc* main.cc* objects ./*.dwo
 done
 
 # A report of AddressSanitizer, in milliseconds: the median of 21 of each symbolizer, in turn.

@@ -126,21 +126,37 @@ class Files(Case):
             self.assertEqual(done.stderr.count(b'missing'), times, done.stderr)
 
     def test_section_that_claims_too_much(self):
-        """A compressed section is read; one that claims a terabyte is not, and leaves the symbols."""
-        outer = at(compiled('claims', NESTED, '-Wl,--compress-debug-sections=zlib')['outer'][0])
-        self.assertIn(b'claims.c:3', self.talk().ask(code('claims', outer)))
-        shown = run('readelf', '-SW', 'claims').decode()
-        offset = int(re.search(r' \.debug_info +PROGBITS +\w+ (\w+)', shown)[1], 16)
-        for size in (1 << 40, (1 << 64) - 1, 0):
-            shutil.copy('claims', 'claimed')
-            with open('claimed', 'r+b') as file:
-                file.seek(offset + 8)
-                file.write(struct.pack('<Q', size))
-            talk = self.talk()
-            self.assertRegex(talk.ask(code('claimed', outer)), rb'\Aouter\n[^\n]+\n\n\Z')
-            peak = pathlib.Path(f'/proc/{talk.tool.pid}/status').read_text().split('VmHWM:')[1].split()[0]
-            self.assertLess(int(peak), 100_000)
-            self.assert_known(talk)
+        """A compressed section is read; one that claims gigabytes is not, and leaves the symbols."""
+        outer = at(compiled('whole', NESTED)['outer'][0])
+        for kind in ('zlib', 'zstd'):
+            run('objcopy', f'--compress-debug-sections={kind}', 'whole', 'claims')
+            self.assertIn(b'whole.c:3', self.talk().ask(code('claims', outer)))
+            shown = run('readelf', '-SW', 'claims').decode()
+            offset = int(re.search(r' \.debug_info +PROGBITS +\w+ (\w+)', shown)[1], 16)
+            for size in (1 << 30, 1 << 40, (1 << 64) - 1, 0):
+                shutil.copy('claims', 'claimed')
+                with open('claimed', 'r+b') as file:
+                    file.seek(offset + 8)
+                    file.write(struct.pack('<Q', size))
+                talk = self.talk()
+                self.assertRegex(talk.ask(code('claimed', outer)), rb'\Aouter\n[^\n]+\n\n\Z')
+                peak = pathlib.Path(f'/proc/{talk.tool.pid}/status').read_text().split('VmHWM:')[1].split()[0]
+                self.assertLess(int(peak), 100_000)
+                self.assert_known(talk)
+
+    def test_package_that_cannot_be_read(self):
+        """It is reported once, and split units are in their own files."""
+        pathlib.Path('split.c').write_text(NESTED, encoding='ascii')
+        run('gcc', '-g', '-gdwarf-5', '-O1', '-gsplit-dwarf', 'split.c', '-o', 'split')
+        shown = run('nm', 'split').decode()
+        outer = at(int(re.search(r'^(\w+) . outer$', shown, re.MULTILINE)[1], 16))
+        pathlib.Path('noise').write_bytes(b'noise')
+        shutil.copy('noise', 'split.dwp')
+        for package, words in (('split.dwp', []), ('missing', ['--dwp=missing']), ('noise', ['--dwp', 'noise'])):
+            done = subprocess.run([*AS_LLVM, *words], input=(code('split', outer) + b'\n') * 3, capture_output=True,
+                                  check=True, timeout=20)
+            self.assertRegex(done.stdout, rb'\Ainner\n[^\n]+split\.c:2:\d+\nouter\n[^\n]+split\.c:3:\d+\n\n')
+            self.assertEqual(done.stderr.count(package.encode()), 1, done.stderr)
 
 
 if __name__ == '__main__':

@@ -120,6 +120,10 @@ impl<'u> UnitRef<'u> {
         &self.units.dwarf
     }
 
+    pub fn version(self) -> u16 {
+        self.unit.header.version()
+    }
+
     /// The unit without its entries; none where its first entry can't be read.
     pub fn read(self) -> Option<&'u Unit<Reader>> {
         self.unit.unit.get_or_init(|| self.dwarf().unit(self.unit.header.clone()).ok().map(Box::new)).as_deref()
@@ -129,7 +133,7 @@ impl<'u> UnitRef<'u> {
     pub fn is_served(self) -> bool {
         match self.unit.header.type_() {
             UnitType::Skeleton(_) => true,
-            UnitType::Compilation if self.unit.header.version() == 5 => true,
+            UnitType::Compilation if self.version() == 5 => true,
             // A split unit of version 4 has its addresses in this section.
             UnitType::Compilation if self.dwarf().debug_addr.reader().bytes().is_empty() => false,
             UnitType::Compilation => self.read().is_some_and(|unit| unit.dwo_id.is_some()),

@@ -64,7 +64,9 @@ impl SplitUnits {
         let unit = skeleton.read()?;
         let id = unit.dwo_id?;
         let file = self.file_of(skeleton.dwarf(), unit, id)?;
-        Some(ask(file.units.get(*file.by_id.get(&id.0)?)))
+        let split = file.units.get(*file.by_id.get(&id.0)?);
+        // The number of clang is of the entries alone, in whichever version they were written.
+        (split.version() == skeleton.version()).then(|| ask(split))
     }
 
     /// The package of the program that can't be read, and why.
