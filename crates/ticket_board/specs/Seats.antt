@@ -131,8 +131,8 @@ worker_shown taker = record {
   returned = taker.working.returned;
 }
 
--- some moves make a ring on which a worker knows what it knows, and what it has done is what its own
--- of them answered
+-- some moves make a ring on which a worker knows what it knows, and what it has done is what its
+-- own of them answered
 abbrev pub WorkerOccurs : Meaning → WorkerState → Type 0
 WorkerOccurs meaning worker =
     (working : Working) × WorkOccurs meaning worker.seat.shape worker.seat.key worker.seat.worker working

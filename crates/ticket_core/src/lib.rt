@@ -1,5 +1,5 @@
-//! Queries in order, each answered once: what a symbolizer's pool may do, as a state machine without
-//! threads.
+//! Queries in order, each answered once: what a symbolizer's pool may do, as a state machine
+//! without threads.
 //!
 //! Senders ask and collect, workers take, finish and give back. Each call of `Core` is one event of
 //! the state machine that `specs/` defines, and `law_of_runs` says what holds after every list of
