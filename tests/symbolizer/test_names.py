@@ -2,10 +2,11 @@
 
 import pathlib
 import re
+import struct
 import time
 import unittest
 
-from case import NESTED, Case, assembled, at, code, compiled
+from case import NESTED, TOOL, Case, assembled, at, code, compiled, run
 
 DIGITS = '0123456789ABCDEFGHIJKLMNOPQRSTUVWXYZ'
 
@@ -86,6 +87,32 @@ class Names(Case):
                 peak = pathlib.Path(f'/proc/{talk.tool.pid}/status').read_text().split('VmHWM:')[1].split()[0]
                 self.assertLess(int(peak), 200_000)
                 self.assert_known(talk)
+
+    def test_names_that_overlap(self):
+        """20,000 symbols, whose names are the ends of one of a megabyte, asked for by name."""
+        name = 'f' + 'x' * 1_000_000
+        assembled('many', ''.join(f'.globl s{n}\ns{n}:\n' for n in range(20_000)) +
+                  f'.globl {name}\n.type {name},@function\n{name}: nop\n.size {name}, .-{name}\n')
+        move_names('many', name)
+        for words in (['--as=llvm-symbolizer'], ['--as=addr2line', '-f']):
+            begun = time.monotonic()
+            found = run(TOOL, *words, '-e', 'many', input=f'{name}+0\n{name[5:]}+0\nnowhere+0\n'.encode()).split(b'\n')
+            self.assertLess(time.monotonic() - begun, 3)
+            self.assertGreater(len(found), 6)
+
+
+def move_names(path, name):
+    """Has the names of the symbols s0, s1, .. begin within another one, each somewhere else."""
+    file = bytearray(pathlib.Path(path).read_bytes())
+    (table,), (count,) = struct.unpack_from('<Q', file, 40), struct.unpack_from('<H', file, 60)
+    sections = [struct.unpack_from('<IIQQQQIIQQ', file, table + 64 * n) for n in range(count)]
+    symbols, strings = next((it, sections[it[6]]) for it in sections if it[1] == 2)
+    begin = file.index(name.encode(), strings[4]) - strings[4]
+    for n, at_byte in enumerate(range(symbols[4], symbols[4] + symbols[5], 24)):
+        first = strings[4] + struct.unpack_from('<I', file, at_byte)[0]
+        if re.match(rb's\d+\0', file[first:first + 9]):
+            struct.pack_into('<I', file, at_byte, begin + 1 + n)
+    pathlib.Path(path).write_bytes(file)
 
 
 if __name__ == '__main__':

@@ -2,6 +2,8 @@
 
 use std::cmp::Ordering;
 
+use crate::names::is_mangled;
+
 /// The places of symbols in order of the length of their names, and of the names of one length.
 ///
 /// It is made in time near linear in the bytes of the table, whatever names overlap: two names of one
@@ -57,6 +59,12 @@ impl NameIndex {
         let count = self.entries[begin..].partition_point(|entry| order(entry) == Ordering::Equal);
         &self.places[begin..begin + count]
     }
+
+    /// The names that are no longer than so many bytes, each with the place of its symbol.
+    pub fn up_to<'n>(&'n self, length: usize, names: &'n [u8]) -> impl Iterator<Item = (&'n [u8], u32)> {
+        let end = self.entries.partition_point(|entry| entry.length as usize <= length);
+        self.entries[..end].iter().zip(&self.places).map(|(entry, &place)| (entry.text(names), place))
+    }
 }
 
 /// A name without the version that linkers append to those of a shared library (name@VERSION,
@@ -66,13 +74,13 @@ pub fn without_version(name: &[u8]) -> &[u8] {
     end.map_or(name, |end| &name[..end + 1])
 }
 
-/// Whether a mangled name can stand for a readable one: the last part of that before its parameters is
-/// in both.
+/// Whether a name can be a mangled one that stands for a readable one: the last part of that before
+/// its parameters is in both.
 pub fn may_stand_for(mangled: &[u8], readable: &[u8]) -> bool {
     let is_part = |byte: &u8| byte.is_ascii_alphanumeric() || *byte == b'_';
     let name = readable.split(|byte| matches!(byte, b'(' | b'<')).next().unwrap_or_default();
     let part = name.rsplit(|byte| !is_part(byte)).next().unwrap_or_default();
-    !part.is_empty() && mangled.starts_with(b"_") && mangled.windows(part.len()).any(|window| window == part)
+    !part.is_empty() && is_mangled(mangled) && mangled.windows(part.len()).any(|window| window == part)
 }
 
 #[cfg(test)]

@@ -13,7 +13,7 @@ use crate::guard::guarded;
 /// A readable name isn't longer than this; a name of which it would be stays as it is.
 const LONGEST: usize = 64 << 10;
 /// A mangled name that is longer than this stays as it is too.
-const LONGEST_MANGLED: usize = 16 << 10;
+pub const LONGEST_MANGLED: usize = 16 << 10;
 
 /// How much of a name is shown.
 #[derive(Debug, Clone, Copy, PartialEq, Eq)]

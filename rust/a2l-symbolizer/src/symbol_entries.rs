@@ -62,13 +62,14 @@ where
     let endian = header.endian()?;
     let sections = header.sections(endian, data)?;
     let symbols = sections.symbols(endian, data, table)?;
-    let of_kind = OfKind { endian, sections: &sections, symbols: &symbols, placement, kind };
-    let mut entries = of_kind.entries();
-    put_in_order(&mut entries, tools);
     let names = sections.section(symbols.string_section()).ok().and_then(|section| section.file_range(endian));
     let names = names.and_then(|(offset, size)| {
         Part::new(file, usize::try_from(offset).ok()?..usize::try_from(offset.checked_add(size)?).ok()?)
     });
+    let text = names.as_deref().unwrap_or_default();
+    let of_kind = OfKind { endian, sections: &sections, symbols: &symbols, names: text, placement, kind };
+    let mut entries = of_kind.entries();
+    put_in_order(&mut entries, tools);
     Ok((entries, names))
 }
 
@@ -77,6 +78,7 @@ struct OfKind<'s, 'data, Elf: FileHeader> {
     endian: Endianness,
     sections: &'s SectionTable<'data, Elf>,
     symbols: &'s SymbolTable<'data, Elf>,
+    names: &'s [u8],
     placement: &'s Placement,
     kind: Kind,
 }
@@ -125,12 +127,14 @@ impl<Elf: FileHeader<Endian = Endianness>> OfKind<'_, '_, Elf> {
     /// kind of bytes there ($x, $d) and no place of debug information (.L0).
     fn may_be_function(&self, symbol: &Elf::Sym, section: &Elf::SectionHeader) -> bool {
         let flags: u64 = section.sh_flags(self.endian).into();
-        let named = symbol.name(self.endian, self.symbols.strings());
-        flags & u64::from(SHF_EXECINSTR) != 0
-            && named.is_ok_and(|name| !name.is_empty() && name[0] != b'$' && !name.starts_with(b".L"))
+        // No more than its begin is looked at, since a table can have many names that are long.
+        let name = self.names.get(symbol.st_name(self.endian) as usize..).unwrap_or_default();
+        flags & u64::from(SHF_EXECINSTR) != 0 && !matches!(name, [] | [0 | b'$', ..] | [b'.', b'L', ..])
     }
 }
 
+/// Ends the symbols that have no size, and sorts all, so that of those at one address the last one is
+/// taken.
 pub fn put_in_order(entries: &mut [Entry], tools: Tools) {
     entries.sort_by_key(|entry| entry.start);
     end_unsized(entries);

@@ -6,7 +6,7 @@ use a2l::{Part, Tools};
 use object::elf::{SHT_DYNSYM, SHT_SYMTAB};
 
 use crate::name_index::{may_stand_for, without_version, NameIndex};
-use crate::names::{Length, Names};
+use crate::names::{Length, Names, LONGEST_MANGLED};
 use crate::placement::PlacedFile;
 use crate::symbol_entries::{read, Entry};
 
@@ -87,9 +87,11 @@ impl Symbols {
 
     /// All symbols whose readable name this is, as GNU's tools write it, in order of address.
     pub fn named_readably(&self, name: &[u8]) -> Vec<Symbol<'_>> {
-        let mut names = Names::new(Tools::Gnu, Length::Whole);
-        let symbols = self.tables().flat_map(|table| table.entries.iter().filter_map(|entry| table.symbol(entry)));
-        symbols.filter(|symbol| may_stand_for(symbol.name, name) && names.readable(symbol.name) == name).collect()
+        if !name.iter().any(|byte| matches!(byte, b'(' | b':' | b'<')) {
+            return Vec::new();
+        }
+        let mut found = self.tables().map(|table| table.named_readably(name));
+        found.find(|found| !found.is_empty()).unwrap_or_default()
     }
 }
 
@@ -110,11 +112,25 @@ impl Table {
     }
 
     fn named(&self, name: &[u8]) -> Vec<Symbol<'_>> {
+        self.at_places(|names, index| index.find(names, name).to_vec())
+    }
+
+    fn named_readably(&self, name: &[u8]) -> Vec<Symbol<'_>> {
+        let mut readable = Names::new(Tools::Gnu, Length::Whole);
+        self.at_places(|names, index| {
+            let mut found = index.up_to(LONGEST_MANGLED, names).collect::<Vec<_>>();
+            found.retain(|(mangled, _)| may_stand_for(mangled, name) && readable.readable(mangled) == name);
+            found.into_iter().map(|(_, place)| place).collect()
+        })
+    }
+
+    /// The symbols at some places, in order of address.
+    fn at_places(&self, find: impl FnOnce(&[u8], &NameIndex) -> Vec<u32>) -> Vec<Symbol<'_>> {
         let Some(names) = &self.names else {
             return Vec::new();
         };
         let index = self.by_name.get_or_init(|| NameIndex::new(names, self.entries.iter().map(|entry| entry.name)));
-        let mut places = index.find(names, name).to_vec();
+        let mut places = find(names, index);
         places.sort_unstable();
         places.iter().filter_map(|&place| self.symbol(&self.entries[place as usize])).collect()
     }
