@@ -81,7 +81,7 @@ impl Placement {
     }
 
     /// The places of the sections of this file's debug file: those of the sections that have their
-    /// names here. None where one of the files is relocatable and the other isn't.
+    /// names and sizes here. None where one of the files is relocatable and the other isn't.
     pub fn of_debug_file(&self, object: &object::File<'_>) -> Option<Placement> {
         if self.is_relocatable() != (object.kind() == ObjectKind::Relocatable) {
             return None;
@@ -89,14 +89,14 @@ impl Placement {
         if !self.is_relocatable() {
             return Some(Placement::of(object));
         }
-        let mut begins = HashMap::<&[u8], Vec<u64>>::new();
+        let mut own = HashMap::<&[u8], Vec<&Placed>>::new();
         for section in self.loaded.iter().rev() {
-            begins.entry(&section.name).or_default().push(section.begin);
+            own.entry(&section.name).or_default().push(section);
         }
         let loaded = object.sections().filter_map(|section| {
             let section = Placed::of(&section)?;
-            let begin = begins.get_mut(&*section.name)?.pop()?;
-            Some(Placed { begin, ..section })
+            let same = own.get_mut(&*section.name)?.pop().filter(|same| same.size == section.size)?;
+            Some(Placed { begin: same.begin, ..section })
         });
         Some(Placement::relocatable(object, loaded.collect()))
     }

@@ -6,6 +6,7 @@ use object::elf::{
     EM_X86_64, ET_REL, R_X86_64_32, R_X86_64_64, R_X86_64_GOTOFF64, SHF_ALLOC, SHF_EXECINSTR, SHT_PROGBITS, SHT_RELA,
     SHT_STRTAB, SHT_SYMTAB,
 };
+use object::SectionIndex;
 
 /// A section: its name, kind, flags, link and what it is about, and its bytes.
 type Parts<'p> = (&'p str, u32, u32, u32, u32, Vec<u8>);
@@ -124,4 +125,23 @@ fn numbers_that_are_cut_off_stay() {
         assert_eq!(apply(&mut left, Change::Add, form, 5, true), None);
         assert_eq!(left, bytes);
     }
+}
+
+#[test]
+fn a_debug_file_has_the_places_of_its_program() {
+    let code = SHF_ALLOC | SHF_EXECINSTR;
+    let section = |name, size| (name, SHT_PROGBITS, code, 0, 0, vec![0; size]);
+    let names = || (".strtab", SHT_STRTAB, 0, 0, 0, Vec::new());
+    let program = file(vec![section(".text", 16), section(".init.text", 8), section(".init.text", 8), names()]);
+    let debug = file(vec![section(".init.text", 8), section(".init.text", 8), section(".text", 32), names()]);
+    let program = Placement::of(&object::File::parse(&*program).expect("a file that is made here"));
+    let object = object::File::parse(&*debug).expect("a file that is made here");
+    let debug = program.of_debug_file(&object).expect("both are relocatable");
+    // .text has another size there, and so no place
+    for (own, other) in [(2, 1), (3, 2)] {
+        let own = program.of_symbol(Some(SectionIndex(own)), 4);
+        assert_eq!(debug.of_symbol(Some(SectionIndex(other)), 4), own);
+    }
+    assert_eq!(debug.of_symbol(Some(SectionIndex(3)), 4), 4);
+    assert!(Placement::default().of_debug_file(&object).is_none());
 }
