@@ -119,7 +119,11 @@ impl Conversation {
         if self.settings.style == OutputStyle::Json {
             let objects: Vec<_> = lines
                 .iter()
-                .map(|line| self.with_reply(line, |settings, reply| json::object(&settings.shape, reply)))
+                .map(|line| {
+                    self.with_reply(line, |settings, reply| {
+                        json::object(&settings.shape, settings.module.as_ref(), reply)
+                    })
+                })
                 .collect();
             json::write(&serde_json::Value::from(objects), &mut replies);
         } else {
@@ -135,7 +139,7 @@ impl Conversation {
             (OutputStyle::Llvm, _) => llvm::write(&settings.shape, reply, out),
             (OutputStyle::Gnu, Identity::Addr2line) => gnu::write(&settings.shape, reply, out),
             (OutputStyle::Gnu, _) => llvm::write_short(&settings.shape, reply, out),
-            (OutputStyle::Json, _) => json::write(&json::object(&settings.shape, reply), out),
+            (OutputStyle::Json, _) => json::write(&json::object(&settings.shape, settings.module.as_ref(), reply), out),
         });
     }
 

@@ -5,8 +5,9 @@ use std::os::unix::ffi::OsStrExt;
 
 use serde_json::{json, Map, Value};
 
+use crate::llvm::module_of;
 use crate::reply::{Answer, Frame, Reply};
-use crate::request::{Kind, Module, Target};
+use crate::request::{Kind, Module, Request, Target};
 use crate::shape::Shape;
 use crate::source_lines::around;
 
@@ -16,17 +17,21 @@ pub fn write(value: &Value, out: &mut Vec<u8>) {
     out.push(b'\n');
 }
 
-/// The object of a reply, whose answer is as a shape shows it.
-pub fn object(shape: &Shape, reply: &Reply<'_>) -> Value {
-    let mut object = Map::new();
-    let module = reply.request.map_or(Cow::Borrowed(""), |request| module_name(&request.module));
-    object.insert("ModuleName".to_owned(), json!(module));
-    match reply.request.map(|request| &request.target) {
-        Some(Target::Address(address)) => object.insert("Address".to_owned(), json!(hexadecimal(*address))),
-        Some(Target::Symbol { name, .. }) => object.insert("SymName".to_owned(), json!(text(name))),
-        None => object.insert("SymName".to_owned(), json!(text(reply.line))),
+/// The object of a reply, whose answer is as a shape shows it. `given` is the module of the command
+/// line.
+pub fn object(shape: &Shape, given: Option<&Module>, reply: &Reply<'_>) -> Value {
+    let Some(request) = reply.request else {
+        let module = given.filter(|_| !reply.line.is_empty()).map(module_name);
+        let module = module.unwrap_or_else(|| text(module_of(reply.line)));
+        return json!({ "ModuleName": module, "Symbol": [symbol(&Frame::default())] });
     };
-    let (name, value) = content(shape, reply);
+    let mut object = Map::new();
+    object.insert("ModuleName".to_owned(), json!(module_name(&request.module)));
+    match &request.target {
+        Target::Address(address) => object.insert("Address".to_owned(), json!(hexadecimal(*address))),
+        Target::Symbol { name, .. } => object.insert("SymName".to_owned(), json!(text(name))),
+    };
+    let (name, value) = content(shape, request, reply);
     object.insert(name.to_owned(), value);
     Value::Object(object)
 }
@@ -36,21 +41,20 @@ pub fn unopened(module: &Module, why: &str) -> Value {
     json!({ "ModuleName": module_name(module), "Address": hexadecimal(0), "Error": { "Message": why } })
 }
 
-fn content(shape: &Shape, reply: &Reply<'_>) -> (&'static str, Value) {
+fn content(shape: &Shape, request: &Request, reply: &Reply<'_>) -> (&'static str, Value) {
     if let Some(message) = &reply.failure {
         return ("Error", json!({ "Message": message }));
     }
-    match (&reply.answer, reply.request) {
-        (_, None) => ("Loc", json!([])),
-        (Answer::Places(frames), _) => ("Loc", frames.iter().map(symbol).collect()),
-        (Answer::Frames(frames), _) if frames.is_empty() => ("Symbol", json!([symbol(&Frame::default())])),
-        (Answer::Frames(frames), _) => ("Symbol", frames.iter().map(|frame| with_source(shape, frame)).collect()),
-        (Answer::Variable(variable), _) => {
+    match &reply.answer {
+        Answer::Places(frames) => ("Loc", frames.iter().map(symbol).collect()),
+        Answer::Frames(frames) if frames.is_empty() => ("Symbol", json!([symbol(&Frame::default())])),
+        Answer::Frames(frames) => ("Symbol", frames.iter().map(|frame| with_source(shape, frame)).collect()),
+        Answer::Variable(variable) => {
             let (name, start, size) =
                 variable.as_ref().map_or((Cow::Borrowed(""), 0, 0), |it| (text(&it.name), it.start, it.size));
             ("Data", json!({ "Name": name, "Start": hexadecimal(start), "Size": hexadecimal(size) }))
         }
-        (Answer::Locals, Some(request)) => {
+        Answer::Locals => {
             debug_assert_eq!(request.kind, Kind::Frame);
             ("Frame", json!([]))
         }

@@ -105,6 +105,12 @@ pub fn parse(spelling: Spelling, given: Option<&Module>, line: &[u8]) -> Option<
     Some(Request { kind, module, target })
 }
 
+/// The module of a line that asks for nothing, as far as it has one.
+pub fn module_of(line: &[u8]) -> &[u8] {
+    let (_, rest) = kind(line);
+    first_word(rest.trim_ascii_start()).map_or(b"", |(name, _)| name)
+}
+
 /// The word before the module, if it is there.
 fn kind(line: &[u8]) -> (Kind, &[u8]) {
     let words: [(&[u8], Kind); 3] = [(b"CODE ", Kind::Code), (b"DATA ", Kind::Data), (b"FRAME ", Kind::Frame)];

@@ -191,7 +191,8 @@ impl Program {
             return;
         };
         folder.push(b'/');
-        for path in frames.iter_mut().filter_map(|frame| frame.path.as_mut()) {
+        let paths = frames.iter_mut().flat_map(|frame| [&mut frame.path, &mut frame.start.path]);
+        for path in paths.flatten() {
             if let Some(rest) = path.strip_prefix(&*folder).filter(|rest| !rest.is_empty()) {
                 *path = rest.to_vec();
             }
