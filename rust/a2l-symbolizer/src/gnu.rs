@@ -1,6 +1,6 @@
-//! What GNU's addr2line has of its own: how requests are spelled, and how replies are written, a line
-//! for each name and each place. `??` with `??:0` is a whole reply alone, by which clients find its
-//! end, and never a part of another one.
+//! What GNU's addr2line has of its own: how requests are spelled, and how replies are written, a
+//! line for each name and each place. `??` with `??:0` is a whole reply alone, by which clients find
+//! its end, and never a part of another one.
 
 use std::path::Path;
 
@@ -94,7 +94,8 @@ fn number(text: &[u8]) -> Option<u64> {
     leading_digits(digits, 16)
 }
 
-/// The number at the front of a text in C's spelling, after a sign or without; 0 where there is none.
+/// The number at the front of a text in C's spelling, after a sign or without; 0 where there is
+/// none.
 fn signed_number(text: &[u8]) -> u64 {
     let text = text.trim_ascii_start();
     let (is_negative, text) = match text {

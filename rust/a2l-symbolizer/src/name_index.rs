@@ -6,8 +6,8 @@ use crate::names::is_mangled;
 
 /// The places of symbols in order of the length of their names, and of the names of one length.
 ///
-/// It is made in time near linear in the bytes of the table, whatever names overlap: two names of one
-/// length that begin at different offsets have no byte in common.
+/// It is made in time near linear in the bytes of the table, whatever names overlap: two names of
+/// one length that begin at different offsets have no byte in common.
 #[derive(Debug)]
 pub struct NameIndex {
     entries: Vec<NameEntry>,

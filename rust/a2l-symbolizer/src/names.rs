@@ -93,9 +93,9 @@ fn rust(tools: Tools, name: &[u8]) -> Option<Vec<u8>> {
     Some(bounded.0.into_bytes())
 }
 
-/// Where a name of Rust's older scheme ends: it is one of C++ that ends in a hash (17h, 16 digits, of
-/// which at least five are different, as GNU's tools want it, and E), after which a compiler may have
-/// appended something.
+/// Where a name of Rust's older scheme ends: it is one of C++ that ends in a hash (17h, 16 digits,
+/// of which at least five are different, as GNU's tools want it, and E), after which a compiler may
+/// have appended something.
 fn end_of_hash(name: &[u8]) -> Option<usize> {
     let is_hash = |part: &[u8]| {
         let digits: HashSet<u8> = part[3..19].iter().copied().collect();
@@ -106,8 +106,8 @@ fn end_of_hash(name: &[u8]) -> Option<usize> {
     Some(at + 20)
 }
 
-/// A name of C++. The crate writes it into a bounded text first, unless the name is one of those that
-/// can't stand for a long text: it gets empty packs and conversions wrong.
+/// A name of C++. The crate writes it into a bounded text first, unless the name is one of those
+/// that can't stand for a long text; it gets empty packs and conversions wrong.
 fn cxx(tools: Tools, name: &[u8]) -> Option<Vec<u8>> {
     if !is_surely_short(name) {
         bounded_cxx(name, &DemangleOptions::new())?;

@@ -133,8 +133,8 @@ impl<Elf: FileHeader<Endian = Endianness>> OfKind<'_, '_, Elf> {
     }
 }
 
-/// Ends the symbols that have no size, and sorts all, so that of those at one address the last one is
-/// taken.
+/// Ends the symbols that have no size, and sorts all, so that of those at one address the last one
+/// is taken.
 pub fn put_in_order(entries: &mut [Entry], tools: Tools) {
     entries.sort_by_key(|entry| entry.start);
     end_unsized(entries);
