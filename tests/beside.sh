@@ -1,9 +1,10 @@
 #!/usr/bin/env bash
-# Programs, objects and modules of many kinds, built here by each compiler that is here, of which all addresses of code are
-# asked for in both protocols, beside llvm-symbolizer 19 and GNU addr2line 2.40. What both say of a function, its file or
-# its line, a2l-symbolizer has to say, but for the reasons in tests/clients/agreed.py, each with its evidence in the file.
-# The kinds stand in the table below, one a line: another kind is another line. It says which compilers are missing here.
-# The word is a pattern: then only cases whose names it matches are tried.
+# Programs, objects and modules of many kinds, built here by each compiler that is here, of which all
+# addresses of code are asked for in both protocols, beside llvm-symbolizer 19 and GNU addr2line 2.40.
+# What both say of a function, its file or its line, a2l-symbolizer has to say, but for the reasons in
+# tests/clients/agreed.py, each with its evidence in the file. The kinds stand in the table below:
+# another kind is another line. It says which compilers are missing here. The word is a pattern: then
+# only cases whose names it matches are tried.
 . "$(dirname "$0")/programs.sh"
 need_symbolizer
 has "all of it" llvm-symbolizer-19 addr2line || exit 0
@@ -145,8 +146,10 @@ link_twin() {
     readelf -SW "$1.o" | python3 -c '
 import re, sys
 names = dict.fromkeys(re.findall(r"\] (\S+) +\w+ +\w+ \w+ \w+ \w\w +\w*A\w* ", sys.stdin.read()))
-print("SECTIONS {", *(f"{name} {0x10000 * (place + 1):#x} : {{ *({name}) }}" for place, name in enumerate(names)), "}")' > "$1.ld"
-    "${linker[@]}" -T "$1.ld" -e 0 --no-relax --noinhibit-exec --unresolved-symbols=ignore-all "$1.o" -o "$1.twin" || true
+places = (f"{name} {0x10000 * (place + 1):#x} : {{ *({name}) }}" for place, name in enumerate(names))
+print("SECTIONS {", *places, "}")' > "$1.ld"
+    "${linker[@]}" -T "$1.ld" -e 0 --no-relax --noinhibit-exec --unresolved-symbols=ignore-all \
+        "$1.o" -o "$1.twin" || true
     options+=(--twin "$1.twin")
 }
 
@@ -192,29 +195,38 @@ try() {
     fi
 }
 
-# The kinds: a name, how it is built, the compilers, the machines, and the flags, of which each set after a comma is
-# another case.
+# The kinds: a name, how it is built, the compilers, the machines, and the flags, of which each set after
+# a comma is another case.
 table() {
     cat << 'END'
-linked  linked  gcc,clang-14,clang-19  x86-64,narrow,aarch64,riscv64  -g -gdwarf-5 -O0,-g -gdwarf-5 -O2,-g -gdwarf-5 -O2 -flto
-object  object  gcc,clang-14,clang-19  x86-64,narrow,aarch64,riscv64  -g -gdwarf-5 -O0,-g -gdwarf-5 -O2,-g -gdwarf-5 -O2 -ffunction-sections
-fat     object  gcc                    x86-64                         -g -gdwarf-5 -O2 -flto -ffat-lto-objects
-joined  joined  gcc,clang-14,clang-19  x86-64,narrow,aarch64,riscv64  -g -gdwarf-5 -O0,-g -gdwarf-5 -O2,-g -gdwarf-5 -O2 -ffunction-sections
-older   joined  gcc,clang-14,clang-19  x86-64,aarch64,riscv64         -g -gdwarf-4 -O2
-packed  joined  gcc,clang-14,clang-19  x86-64,aarch64,riscv64         -g -gdwarf-5 -O2 -gz=zlib
-zstd    zstd    gcc,clang-14,clang-19  x86-64,narrow,aarch64,riscv64  -g -gdwarf-5 -O2
-zstd-r  joined_zstd  gcc,clang-14,clang-19  x86-64,narrow             -g -gdwarf-5 -O2
-split   split   gcc,clang-14,clang-19  x86-64,narrow,aarch64          -g -gdwarf-4 -O0,-g -gdwarf-4 -O2,-g -gdwarf-5 -O0,-g -gdwarf-5 -O2
-dwp     dwp     gcc,clang-14,clang-19  x86-64,narrow                  -g -gdwarf-4 -O2
-llvmdwp llvm_dwp  gcc,clang-14,clang-19  x86-64,narrow                -g -gdwarf-4 -O2,-g -gdwarf-5 -O2
-apart   apart   gcc,clang-14,clang-19  x86-64,narrow,aarch64,riscv64  -g -gdwarf-5 -O2,-g -gdwarf-5 -O2 -gz=zlib
-fedora  resolved gcc,clang-14,clang-19 x86-64                         -g -gdwarf-5 -O2
-divided joined  gcc,clang-14,clang-19  x86-64                         -g -gdwarf-5 -O2 -gsplit-dwarf
-kept    kept    gcc,clang-14,clang-19  x86-64,narrow,aarch64,riscv64  -g -gdwarf-5 -O2
-classes cxx     gcc,clang-14,clang-19  x86-64                         -g -gdwarf-5 -O2,-g -gdwarf-5 -O2 -fdebug-types-section
-names   names   gcc                    x86-64                         -g -gdwarf-5 -O0,-g -gdwarf-5 -O2,-g -gdwarf-5 -O2 -flto
-names   names   clang-14,clang-19      x86-64,aarch64                 -g -gdwarf-5 -O0,-g -gdwarf-5 -O2,-g -gdwarf-5 -O2 -flto
-rust    rust    rustc                  x86-64                         -g -C dwarf-version=5 legacy,-g -O -C dwarf-version=5 v0
+linked  linked      gcc,clang-14,clang-19  x86-64,narrow,aarch64,riscv64  -g -gdwarf-5 -O0,-g -gdwarf-5 -O2
+linked  linked      gcc,clang-14,clang-19  x86-64,narrow,aarch64,riscv64  -g -gdwarf-5 -O2 -flto
+object  object      gcc,clang-14,clang-19  x86-64,narrow,aarch64,riscv64  -g -gdwarf-5 -O0,-g -gdwarf-5 -O2
+object  object      gcc,clang-14,clang-19  x86-64,narrow,aarch64,riscv64  -g -gdwarf-5 -O2 -ffunction-sections
+fat     object      gcc                    x86-64                         -g -gdwarf-5 -O2 -flto -ffat-lto-objects
+joined  joined      gcc,clang-14,clang-19  x86-64,narrow,aarch64,riscv64  -g -gdwarf-5 -O0,-g -gdwarf-5 -O2
+joined  joined      gcc,clang-14,clang-19  x86-64,narrow,aarch64,riscv64  -g -gdwarf-5 -O2 -ffunction-sections
+older   joined      gcc,clang-14,clang-19  x86-64,aarch64,riscv64         -g -gdwarf-4 -O2
+packed  joined      gcc,clang-14,clang-19  x86-64,aarch64,riscv64         -g -gdwarf-5 -O2 -gz=zlib
+zstd    zstd        gcc,clang-14,clang-19  x86-64,narrow,aarch64,riscv64  -g -gdwarf-5 -O2
+zstd-r  joined_zstd gcc,clang-14,clang-19  x86-64,narrow                  -g -gdwarf-5 -O2
+split   split       gcc,clang-14,clang-19  x86-64,narrow,aarch64          -g -gdwarf-4 -O0,-g -gdwarf-4 -O2
+split   split       gcc,clang-14,clang-19  x86-64,narrow,aarch64          -g -gdwarf-5 -O0,-g -gdwarf-5 -O2
+dwp     dwp         gcc,clang-14,clang-19  x86-64,narrow                  -g -gdwarf-4 -O2
+llvmdwp llvm_dwp    gcc,clang-14,clang-19  x86-64,narrow                  -g -gdwarf-4 -O2,-g -gdwarf-5 -O2
+apart   apart       gcc,clang-14,clang-19  x86-64,narrow,aarch64,riscv64  -g -gdwarf-5 -O2
+apart   apart       gcc,clang-14,clang-19  x86-64,narrow,aarch64,riscv64  -g -gdwarf-5 -O2 -gz=zlib
+fedora  resolved    gcc,clang-14,clang-19  x86-64                         -g -gdwarf-5 -O2
+divided joined      gcc,clang-14,clang-19  x86-64                         -g -gdwarf-5 -O2 -gsplit-dwarf
+kept    kept        gcc,clang-14,clang-19  x86-64,narrow,aarch64,riscv64  -g -gdwarf-5 -O2
+classes cxx         gcc,clang-14,clang-19  x86-64                         -g -gdwarf-5 -O2
+classes cxx         gcc,clang-14,clang-19  x86-64                         -g -gdwarf-5 -O2 -fdebug-types-section
+names   names       gcc                    x86-64                         -g -gdwarf-5 -O0,-g -gdwarf-5 -O2
+names   names       gcc                    x86-64                         -g -gdwarf-5 -O2 -flto
+names   names       clang-14,clang-19      x86-64,aarch64                 -g -gdwarf-5 -O0,-g -gdwarf-5 -O2
+names   names       clang-14,clang-19      x86-64,aarch64                 -g -gdwarf-5 -O2 -flto
+rust    rust        rustc                  x86-64                         -g -C dwarf-version=5 legacy
+rust    rust        rustc                  x86-64                         -g -O -C dwarf-version=5 v0
 END
 }
 

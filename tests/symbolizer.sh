@@ -5,7 +5,8 @@
 # says (100,000 without), in lockstep, of which each reply is framed as its kind demands and, where
 # llvm-symbolizer 19 is here, each of 10,000 is its reply to the byte, or differs for a reason that the
 # file bears out (tests/clients/noise.py). The second word is the seed of the lines, a new one without;
-# it is printed. Then 2,000 damaged relocatable files in both protocols (tests/clients/damaged.py). Then what `make install` puts in place, and its removal.
+# it is printed. Then 2,000 damaged relocatable files in both protocols (tests/clients/damaged.py), and
+# what `make install` puts in place, and its removal.
 . "$(dirname "$0")/programs.sh"
 need_symbolizer
 count=${1:-100000} seed=${2:-$RANDOM}

@@ -18,7 +18,7 @@ import sys
 # Why ours may be another one, beside which evidence.
 SAID = {
     'linked': 'of the file linked, llvm-symbolizer says what ours says',
-    'suffix': "as GNU's addr2line elsewhere, ours has the name of debug information, without a suffix that the symbol has",
+    'suffix': "as GNU's addr2line elsewhere, ours has the name of debug information, without the symbol's suffix",
     'nameless': 'llvm-symbolizer names a function by a symbol that has no name, a label of RISC-V',
 }
 FIELDS = ('function', 'file', 'line')
@@ -73,7 +73,8 @@ def as_gnu(words, path, addresses, section=None):
     """The same by either, in GNU's."""
     where = ['-j', section] if section else []
     text = run([*words, '-a', '-f', '-i', '-e', path, *where], addresses)
-    return [frames_of(reply.split('\n')[1:-1]) for reply in re.split(r'^(?=0x[0-9a-f]{8,16}$)', text, flags=re.MULTILINE)[1:]]
+    replies = re.split(r'^(?=0x[0-9a-f]{8,16}$)', text, flags=re.MULTILINE)[1:]
+    return [frames_of(reply.split('\n')[1:-1]) for reply in replies]
 
 
 def field_of(frames, index, field):
@@ -90,8 +91,7 @@ class Tally:
         self.asked, self.agreed, self.readable, self.why, self.unlike = 0, 0, 0, collections.Counter(), []
 
     def add(self, where, theirs, ours, linked, in_gnu):
-        """Compares the frames that ours has with those that both originals have, and with llvm-symbolizer's of the linked
-        twin."""
+        """Compares the frames that ours has with those of both originals, and with llvm-symbolizer's of the twin."""
         fewer, more = sorted(map(len, theirs))
         # where they have not as many frames, they agree on the innermost one at most
         for index in range(max(more, len(ours)) if fewer == more else 1):
@@ -112,7 +112,7 @@ class Tally:
                     self.unlike.append(f'{where}: frame {index}, {name}: {wanted} by both, {own} by ours')
 
     def is_as(self, own, wanted, may_be_shorter):
-        """Whether a field is the other one, or a name is it without what compilers append, and stands so in the file."""
+        """Whether a field is the other one, or a name without what compilers append, which stands so in the file."""
         is_shorter = may_be_shorter and own and wanted and re.fullmatch(re.escape(own) + r'(\.[a-z]+(\.\d+)?)+', wanted)
         return own == wanted or bool(is_shorter) and b'\0%s\0' % own.encode() in self.bytes
 
@@ -127,7 +127,7 @@ class Tally:
             self.add(f'{where} {address:#x}', *of_address, in_gnu)
 
     def add_names(self, where, theirs, ours, has_labels):
-        """Compares the readable names of the functions at an address, of a file that has labels without names or none."""
+        """Compares the readable names of the functions at an address; labels of the file may have no names."""
         theirs, ours = ([name for name, *_ in frames] for frames in (theirs, ours))
         if theirs == ours:
             self.readable += 1
@@ -143,7 +143,8 @@ class Comparison:
     def __init__(self, words):
         self.words, self.path, self.tally = words, words.file, Tally(words.file)
         self.sections = sections_of_code(self.path)
-        self.has_labels = re.search(r' NOTYPE +LOCAL +DEFAULT +\d+ *$', shown('readelf', '-sW', self.path), re.MULTILINE)
+        symbols = shown('readelf', '-sW', self.path)
+        self.has_labels = re.search(r' NOTYPE +LOCAL +DEFAULT +\d+ *$', symbols, re.MULTILINE)
 
     def llvm(self, addresses, path=None):
         return of_llvm([self.words.llvm], path or self.path, addresses)
@@ -178,9 +179,9 @@ class Comparison:
             self.compare_section(name, range(size), (by_llvm, self.gnu(range(size), name, path=twin)))
 
     def relocatable(self):
-        """A relocatable file: by sections, also as both originals answer for its linked twin, and by offsets alone, which
-        are in the first section that is so long. There llvm-symbolizer takes lines of one section and names of another
-        one, as what it says of the twin shows."""
+        """A relocatable file: by sections, also as both originals answer for its linked twin, and by offsets alone,
+        which are in the first section that is so long. There llvm-symbolizer takes lines of one section and names of
+        another one, as what it says of the twin shows."""
         begins, first = {name: begin for name, begin, _ in sections_of_code(self.words.twin)}, []
         for name, _, size in self.sections:
             if name not in begins:
@@ -208,9 +209,10 @@ def main():
     (comparison.relocatable if is_relocatable(words.file) else comparison.linked)()
     tally = comparison.tally
     told = ''.join(f', {count} {why}: {SAID[why]}' for why, count in tally.why.items())
+    told += f', {tally.readable} addresses with readable names' if tally.readable else ''
     print('\n'.join(tally.unlike[:8] + [
-        f'{words.name}: {tally.asked} addresses, {tally.agreed} fields that both originals agree on, {len(tally.unlike)} other ones'
-        f' by ours{told}' + (f', {tally.readable} addresses with readable names' if tally.readable else '')]), flush=True)
+        f'{words.name}: {tally.asked} addresses, {tally.agreed} fields that both originals agree on, '
+        f'{len(tally.unlike)} other ones by ours{told}']), flush=True)
     sys.exit(1 if tally.unlike or not tally.agreed else 0)
 
 

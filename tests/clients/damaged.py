@@ -25,8 +25,9 @@ def places_of(path):
     begin = int(re.search(r'Start of section headers: +(\d+)', shown)[1])
     rows = re.findall(r'\] (\S+) +(\w+) +[0-9a-f]+ ([0-9a-f]+) ([0-9a-f]+) ', shown)
     found = {name: (int(offset, 16), int(size, 16)) for name, kind, offset, size in rows if kind != 'NOBITS'}
-    wanted = [place for name, place in found.items() if re.match(r'\.rela?\.debug|\.debug|\.symtab|\.strtab', name) and place[1]]
-    relocations = [place for name, place in found.items() if re.match(r'\.rela?\.debug', name) and place[1]]
+    wanted = [found[name] for name in found if re.match(r'\.rela?\.debug|\.debug|\.symtab|\.strtab', name)]
+    wanted = [place for place in wanted if place[1]]
+    relocations = [found[name] for name in found if re.match(r'\.rela?\.debug', name) and found[name][1]]
     return wanted + relocations * 2 + [(0, 64)] + [(begin, os.path.getsize(path) - begin)] * 4
 
 
@@ -43,7 +44,8 @@ def damaged(draw, whole, places):
 
 def as_gnu(words, line, has_section):
     """Whether the reply in GNU's protocol has frames. A file that has lost its section is refused."""
-    done = subprocess.run([*words, *(['-j', '.text'] if has_section else [])], input=line + b'\n,\n', capture_output=True, timeout=20)
+    words = [*words, *(['-j', '.text'] if has_section else [])]
+    done = subprocess.run(words, input=line + b'\n,\n', capture_output=True, timeout=20)
     if has_section and done.returncode == 1 and b'cannot find section' in done.stderr:
         return False
     reply = done.stdout.removesuffix(UNKNOWN[1])
