@@ -18,7 +18,8 @@ SAID = {
 }
 # Names in GNU's style as LLVM's tools write them: lambdas, empty packs, pointers to members, closing brackets.
 STYLE = [(re.compile(r'\{lambda(\([^{}]*\))?#(\d+)\}'), lambda found: f"'lambda{_number(found[2])}'{found[1] or ''}"),
-         (re.compile(r'<, '), '<'), (re.compile(r', (?=, |>)'), ''), (re.compile(r'::\* \('), '::*('), (re.compile(r'> +(?=>)'), '>')]
+         (re.compile(r'<, '), '<'), (re.compile(r', (?=, |>)'), ''), (re.compile(r'::\* \('), '::*('),
+         (re.compile(r'> +(?=>)'), '>')]
 VARIABLE = re.compile(r"( defined in '[^':]*)[:\d]*'")
 FRAME = re.compile(r'^( *#\d+ +0x[0-9a-f]+) ')
 
