@@ -19,7 +19,6 @@ from conversation import Conversation
 FLAGS = ['--no-demangle', '--inlines', '--default-arch=x86_64']
 UNKNOWN = (b'??\n??:0:0\n\n', b'??\n0 0\n??:?\n\n')
 SAID = {
-    'outermost': 'llvm-symbolizer names the outermost function by a symbol that covers the address',
     'column': 'a row has a column and no line',
     'sizeless': 'llvm-symbolizer takes a symbol without a size for all behind it, in other sections too',
     'call': 'the addr2line crate knows no file of a call whose number is 0, as in DWARF 5 by clang',
@@ -64,9 +63,6 @@ class Program:
     def are_at(self, address, *names):
         return {name for begin, _, _, name in self.symbols if begin == address}.issuperset(names)
 
-    def is_covering(self, name, address):
-        return any(begin <= address < begin + size for begin, size, _, other in self.symbols if other == name)
-
     def is_sizeless(self, name):
         return any(size == 0 for _, size, _, other in self.symbols if other == name)
 
@@ -109,9 +105,6 @@ def reason(program, address, theirs, ours):
     theirs, ours = without_columns(frames(theirs)), without_columns(frames(ours))
     if theirs == ours:
         return 'column'
-    (name, place), (other, other_place) = theirs[-1], ours[-1]
-    if theirs[:-1] == ours[:-1] and place == other_place and program.is_covering(name, address):
-        return 'outermost'
     return 'call' if is_without_calls(theirs, ours) else None
 
 

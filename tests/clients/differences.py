@@ -10,7 +10,7 @@ import re
 import subprocess
 
 SAID = {
-    'symbols': 'both names are symbols of one address, of which llvm-symbolizer takes the last one for the outermost function',
+    'symbols': 'both names are symbols of one address; of aliases in assembly llvm-symbolizer takes the last entry, a2l the first',
     'mangled': 'LLVM\'s tool leaves a name mangled that c++filt reads',
     'more': 'llvm-symbolizer has no name there, and a2l-symbolizer that of a symbol',
     'variable': 'llvm-symbolizer has the place of a variable from its debug information, which a2l doesn\'t read',
