@@ -44,4 +44,10 @@ build_all() {
 # systemd-coredump reads them as another user
 chmod 755 "$work"
 build_all
+python3 "$traces/whole.py" "$trace" "$work"
+if has "how long logs take" g++; then
+    mkdir speed
+    (cd speed && write_large 1 && g++ -std=c++17 -g -gdwarf-5 -O1 -fPIC -shared unit1.cc -o large.so)
+    python3 "$traces/speed.py" "$trace" "$work/speed"
+fi
 python3 "$traces/run.py" "$trace" "$work" "${1:-.}"

@@ -3,7 +3,7 @@
 use std::borrow::Cow;
 use std::collections::HashMap;
 
-use memchr::memmem;
+use memchr::{memchr, memchr_iter, memmem};
 
 use crate::forms::markup::Markup;
 use crate::forms::{bare, coredump, eu_stack, gdb, glibc, kernel, maps, numbered, rust};
@@ -53,8 +53,9 @@ pub struct Row<'l> {
     pub inlined: u64,
 }
 
-/// Build ids of so many modules are kept at most.
-const MOST: usize = 1 << 16;
+/// Build ids of so many modules are kept at most, whose names are no longer.
+const MOST: usize = 1 << 14;
+const LONGEST: usize = 4096;
 
 impl Log {
     /// A log of a process, where one is known.
@@ -86,12 +87,14 @@ impl Log {
     /// What a line says, by the first form that it has. The module is that of eu-stack's frame in the
     /// line before.
     fn sightings<'l>(&mut self, line: &'l [u8], module: Option<Vec<u8>>) -> Vec<Sighting<'l>> {
-        if let Some(mapping) = maps::find(line) {
+        let marks = Marks::of(line);
+        let mapping = if marks.flags { maps::of_system(line) } else { None };
+        if let Some(mapping) = mapping.or_else(|| maps::of_gdb(line)) {
             let start = mapping.start;
             self.process.add_of_list(mapping, self.last_mapping.replace(start));
             return Vec::new();
         }
-        if memmem::find(line, b"{{{").is_some() {
+        if memchr(b'{', line).is_some_and(|at| memmem::find(&line[at..], b"{{{").is_some()) {
             return self.markup.read(line);
         }
         if let Some(found) = numbered(line) {
@@ -101,15 +104,16 @@ impl Log {
             let module = module.filter(|_| self.process().is_empty());
             return module.map(|module| Sighting { module: Some(Cow::Owned(module)), ..found }).into_iter().collect();
         }
-        if let Some(found) = glibc::find(line).or_else(|| rust::find(line)) {
-            return vec![found];
-        }
-        self.note(line);
-        if gdb::has_place(line) {
+        if !marks.number {
+            self.note(line);
             return Vec::new();
         }
-        let found = kernel::find(line);
-        if !found.is_empty() || self.process().is_empty() {
+        let of_glibc = if marks.bracket { glibc::find(line) } else { None };
+        if let Some(found) = of_glibc.or_else(|| rust::find(line)) {
+            return vec![found];
+        }
+        let found = if marks.plus { kernel::find(line) } else { Vec::new() };
+        if !found.is_empty() || self.process().is_empty() || gdb::has_place(line) {
             return found;
         }
         let is_code = |it: &Sighting<'_>| {
@@ -132,14 +136,14 @@ impl Log {
         Some(found)
     }
 
-    /// Keeps what a line says that has no frame.
+    /// Keeps what a line says that has no number.
     fn note(&mut self, line: &[u8]) {
         if gdb::is_signal(line) {
             let number = split(line, b"#").and_then(|(_, rest)| decimal(rest)).map(|(number, _)| number);
             let inlined = self.trace.as_ref().map_or(0, |trace| trace.inlined);
             self.trace = Some(Trace { form: Form::Gdb, number, is_signal: true, inlined });
         } else if let Some((module, id)) = coredump::build_id(line) {
-            if self.build_ids.len() < MOST {
+            if self.build_ids.len() < MOST && module.len() <= LONGEST {
                 self.build_ids.insert(module.to_vec(), id);
             }
         }
@@ -171,5 +175,32 @@ impl Trace {
             _ => false,
         };
         self.form == next.form && counts
+    }
+}
+
+/// What there is in a line, so that few forms are tried.
+#[derive(Debug, Default)]
+struct Marks {
+    /// `0x`, and that behind a bracket or a plus sign.
+    number: bool,
+    bracket: bool,
+    plus: bool,
+    /// The end of the flags of an executable mapping.
+    flags: bool,
+}
+
+impl Marks {
+    fn of(line: &[u8]) -> Marks {
+        let mut marks = Marks::default();
+        for at in memchr_iter(b'x', line) {
+            let (before, after) = (&line[..at], &line[at + 1..]);
+            marks.flags |= after.starts_with(b"p ") || after.starts_with(b"s ");
+            if let Some(before) = before.strip_suffix(b"0") {
+                marks.number = true;
+                marks.bracket |= before.ends_with(b"[");
+                marks.plus |= before.ends_with(b"+");
+            }
+        }
+        marks
     }
 }

@@ -124,7 +124,7 @@ pub struct Modules {
 }
 
 /// So many files are known at most.
-const KEPT: usize = 1024;
+const KEPT: usize = 128;
 
 impl Modules {
     pub fn new(places: Places, answers: Answers) -> Modules {

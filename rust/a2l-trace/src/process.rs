@@ -32,8 +32,9 @@ pub struct Process {
 
 /// Pages are of so many bytes, to which the system rounds what it maps.
 const PAGE: u64 = 4096;
-/// So many mappings are kept at most.
-const MOST: usize = 1 << 16;
+/// So many mappings are kept at most, of paths that the system takes.
+const MOST: usize = 1 << 14;
+const LONGEST: usize = 4096;
 
 impl Process {
     /// Adds a mapping, in the place of those that it overlaps. A list goes up, so one that doesn't
@@ -51,7 +52,7 @@ impl Process {
         let overlapped = self.mappings.range(..mapping.end).rev().take_while(|(_, other)| other.end > mapping.start);
         let gone: Vec<u64> = overlapped.map(|(&start, _)| start).collect();
         gone.iter().for_each(|start| drop(self.mappings.remove(start)));
-        if self.mappings.len() < MOST {
+        if self.mappings.len() < MOST && mapping.path.len() <= LONGEST {
             self.mappings.insert(mapping.start, mapping);
         }
     }

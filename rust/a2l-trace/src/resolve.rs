@@ -39,11 +39,14 @@ impl<'p> Meant<'p> {
         // The name of a library is often without its folder, which the process knows.
         let path = mapping.map(|mapping| mapping.path.as_slice());
         let path = path.filter(|path| said.is_empty() || basename(path) == said || sighting.place == Place::Process);
-        let name = path.unwrap_or(said).to_vec();
+        let name = Some(path.unwrap_or(said)).filter(|name| name.len() <= LONGEST).unwrap_or_default().to_vec();
         let in_memory = path.and_then(|path| process.headers(path)?.build_id.clone());
         Meant { name, build_id: sighting.build_id.clone().or(in_memory), mapping }
     }
 }
+
+/// The system takes no longer path.
+const LONGEST: usize = 4096;
 
 /// The answer for a frame. `after_signal` says that the frame before it, which it called or was
 /// interrupted for, is one that the system made for a signal.

@@ -4,9 +4,9 @@ use std::io::{self, Read, Write};
 use std::rc::Rc;
 
 use memchr::memmem::Finder;
-use memchr::{memchr, memchr_iter, memrchr};
+use memchr::{memchr, memchr3_iter, memchr_iter, memrchr};
 
-use crate::log::Log;
+use crate::log::{Log, Row};
 use crate::modules::Modules;
 use crate::output::{Line, Output};
 use crate::process::Process;
@@ -17,22 +17,6 @@ const BLOCK: usize = 256 << 10;
 /// A line that is longer is passed through, and no frame is looked for in it.
 const LONGEST: usize = 1 << 20;
 
-/// Each line that says anything has one of these words.
-const WORDS: [&[u8]; 12] = [
-    b"0x",
-    b"{{{",
-    b" pc ",
-    b"r--p ",
-    b"r-xp ",
-    b"rw-p ",
-    b"rwxp ",
-    b"--xp ",
-    b"r-xs ",
-    b"r--s ",
-    b" with build-id ",
-    b"<signal handler ",
-];
-
 /// What works on a text.
 pub struct Stream<'s> {
     pub modules: &'s mut Modules,
@@ -40,7 +24,7 @@ pub struct Stream<'s> {
     pub output: Output,
     log: Log,
     name: Option<Vec<u8>>,
-    words: Rc<[Finder<'static>]>,
+    build_id: Rc<Finder<'static>>,
     /// So many lines were passed, where rows want it.
     lines: u64,
 }
@@ -54,8 +38,8 @@ impl<'s> Stream<'s> {
         name: Option<Vec<u8>>,
         process: Option<Process>,
     ) -> Stream<'s> {
-        let words = WORDS.iter().map(|word| Finder::new(*word)).collect();
-        Stream { modules, reports, output, log: Log::new(process), name, words, lines: 0 }
+        let build_id = Rc::new(Finder::new(" with build-id "));
+        Stream { modules, reports, output, log: Log::new(process), name, build_id, lines: 0 }
     }
 
     /// Passes the text until it ends.
@@ -95,81 +79,101 @@ impl<'s> Stream<'s> {
 
     /// Passes bytes in which nothing is looked for.
     fn pass(&mut self, bytes: &[u8], output: &mut impl Write) -> io::Result<()> {
+        self.count(bytes);
         if self.output.has_text() {
             output.write_all(bytes)?;
-            return output.flush();
         }
-        self.lines += memchr_iter(b'\n', bytes).count() as u64;
-        Ok(())
+        output.flush()
     }
 
     /// Passes whole lines, of which the last one may have no end where the text ends.
     fn lines(&mut self, text: &[u8], output: &mut impl Write) -> io::Result<()> {
-        let (mut out, mut done) = (Vec::new(), 0);
-        let words = Rc::clone(&self.words);
-        let mut places = Places::new(&words, text);
+        let (mut out, mut written, mut done) = (Vec::new(), 0, 0);
+        let build_id = Rc::clone(&self.build_id);
+        let mut places = Places::new(&build_id, text);
         while let Some(at) = places.next(done) {
             let begin = memrchr(b'\n', &text[done..at]).map_or(done, |end| done + end + 1);
             let end = memchr(b'\n', &text[at..]).map_or(text.len(), |end| at + end + 1);
             if begin > done {
                 self.log.pass();
-                self.between(&text[done..begin], &mut out);
+                self.count(&text[done..begin]);
             }
-            self.line(&text[begin..end], &mut out);
+            let line = &text[begin..end];
+            self.lines += 1;
+            let rows = self.log.read(without_end(line), self.modules);
+            if !rows.is_empty() {
+                if self.output.has_text() {
+                    out.extend_from_slice(&text[written..begin]);
+                }
+                self.reports.note(&rows);
+                self.write(line, &rows, &mut out);
+                written = end;
+            }
             done = end;
         }
         if done == 0 {
             self.log.pass();
-            return self.pass(text, output);
         }
-        self.between(&text[done..], &mut out);
+        self.count(&text[done..]);
         output.write_all(&out)?;
+        if self.output.has_text() {
+            output.write_all(&text[written..])?;
+        }
         output.flush()
     }
 
-    /// Takes lines that say nothing.
-    fn between(&mut self, text: &[u8], out: &mut Vec<u8>) {
-        if self.output.has_text() {
-            out.extend_from_slice(text);
-        } else {
+    /// Counts lines, where rows want it.
+    fn count(&mut self, text: &[u8]) {
+        if !self.output.has_text() {
             self.lines += memchr_iter(b'\n', text).count() as u64;
         }
     }
 
-    /// Takes a line that may say something.
-    fn line(&mut self, line: &[u8], out: &mut Vec<u8>) {
-        let text = line.strip_suffix(b"\n").unwrap_or(line);
-        let text = text.strip_suffix(b"\r").unwrap_or(text);
-        self.lines += 1;
-        let rows = self.log.read(text, self.modules);
-        self.reports.note(&rows);
+    /// Writes a line that has frames.
+    fn write(&self, line: &[u8], rows: &[Row<'_>], out: &mut Vec<u8>) {
+        let text = without_end(line);
         let line = Line { log: self.name.as_deref(), number: self.lines, text, end: &line[text.len()..] };
-        self.output.write(&line, &rows, out);
+        self.output.write(&line, rows, out);
     }
 }
 
-/// The next place of each word in a text.
+fn without_end(line: &[u8]) -> &[u8] {
+    let text = line.strip_suffix(b"\n").unwrap_or(line);
+    text.strip_suffix(b"\r").unwrap_or(text)
+}
+
+/// The places of a text where something may be said.
 struct Places<'t> {
-    words: &'t [Finder<'static>],
+    build_id: &'t Finder<'static>,
     text: &'t [u8],
-    /// Of each word, or the end of the text.
-    next: Vec<usize>,
+    /// The next line with a build id, or the end of the text.
+    next: usize,
 }
 
 impl<'t> Places<'t> {
-    fn new(words: &'t [Finder<'static>], text: &'t [u8]) -> Places<'t> {
-        let next = words.iter().map(|word| word.find(text).unwrap_or(text.len())).collect();
-        Places { words, text, next }
+    fn new(build_id: &'t Finder<'static>, text: &'t [u8]) -> Places<'t> {
+        Places { build_id, text, next: build_id.find(text).unwrap_or(text.len()) }
     }
 
-    /// The first place of any word from some place on.
+    /// The first place from some place on.
     fn next(&mut self, from: usize) -> Option<usize> {
-        for (word, next) in self.words.iter().zip(&mut self.next) {
-            if *next < from {
-                *next = word.find(&self.text[from..]).map_or(self.text.len(), |at| from + at);
-            }
+        if self.next < from {
+            self.next = self.build_id.find(&self.text[from..]).map_or(self.text.len(), |at| from + at);
         }
-        self.next.iter().copied().min().filter(|&at| at < self.text.len())
+        let mut rare = memchr3_iter(b'x', b'#', b'{', &self.text[from..self.next]);
+        let found = rare.find(|&at| says(self.text, from + at)).map(|at| from + at);
+        found.or(Some(self.next).filter(|&at| at < self.text.len()))
+    }
+}
+
+/// Whether the word around a byte is one that all lines have which say anything: `0x`, the end of the
+/// flags of an executable mapping, the number of a frame, or the begin of markup.
+fn says(text: &[u8], at: usize) -> bool {
+    let after = &text[at + 1..];
+    match text[at] {
+        b'x' => text[..at].ends_with(b"0") || after.starts_with(b"p ") || after.starts_with(b"s "),
+        b'#' => after.first().is_some_and(u8::is_ascii_digit),
+        _ => after.starts_with(b"{{"),
     }
 }
 
@@ -218,6 +222,24 @@ mod tests {
                 }
             }
         }
+    }
+
+    #[test]
+    fn what_says_something() {
+        for text in [
+            "a 0x1",
+            "1-2 r-xp 0",
+            "#1 pc 10",
+            "#1  <signal handler called>",
+            "{{{reset}}}",
+            "Module a with build-id 0a",
+        ] {
+            let finder = Finder::new(" with build-id ");
+            assert!(Places::new(&finder, text.as_bytes()).next(0).is_some(), "{text}");
+        }
+        let finder = Finder::new(" with build-id ");
+        let mut places = Places::new(&finder, b"axe x y, issue # {{ max with build-ids");
+        assert_eq!(places.next(0), None);
     }
 
     #[test]

@@ -13,9 +13,12 @@ use memchr::memmem;
 use crate::scan::{offset_in, prefixed, split_last};
 use crate::sighting::{Form, Kind, Place, Sighting};
 
+/// So many addresses of a line are looked at; a frame is the first, unless a prefix has one.
+const MOST: usize = 4;
+
 /// The first frame of a line.
 pub fn find(line: &[u8]) -> Option<Sighting<'_>> {
-    memmem::find_iter(line, b"[0x").find_map(|at| {
+    memmem::find_iter(line, b"[0x").take(MOST).find_map(|at| {
         let (process, rest) = prefixed(&line[at + 1..])?;
         rest.starts_with(b"]").then_some(())?;
         let before = line[..at].strip_suffix(b" ").unwrap_or(&line[..at]);

@@ -7,13 +7,18 @@ use memchr::memchr_iter;
 use crate::process::Mapping;
 use crate::scan::{after_blanks, hexadecimal, prefixed};
 
-/// The mapping of a line, where it has one of a file.
+/// The mapping of a line of either kind.
 pub fn find(line: &[u8]) -> Option<Mapping> {
-    memchr_iter(b'-', line).find_map(|at| of_system(line, at)).or_else(|| of_gdb(line))
+    of_system(line).or_else(|| of_gdb(line))
 }
 
-/// That of a line of the system, with a dash between its first two numbers.
-fn of_system(line: &[u8], dash: usize) -> Option<Mapping> {
+/// That of a line of the system.
+pub fn of_system(line: &[u8]) -> Option<Mapping> {
+    memchr_iter(b'-', line).find_map(|at| around(line, at))
+}
+
+/// That with a dash between its first two numbers.
+fn around(line: &[u8], dash: usize) -> Option<Mapping> {
     let digits = line[..dash].iter().rev().take(17).take_while(|byte| byte.is_ascii_hexdigit()).count();
     let (start, b"") = hexadecimal(&line[dash - digits..dash])? else { return None };
     let (end, rest) = hexadecimal(&line[dash + 1..])?;
@@ -27,7 +32,7 @@ fn of_system(line: &[u8], dash: usize) -> Option<Mapping> {
 }
 
 /// That of a line of gdb, which may have permissions.
-fn of_gdb(line: &[u8]) -> Option<Mapping> {
+pub fn of_gdb(line: &[u8]) -> Option<Mapping> {
     let (start, rest) = prefixed(after_blanks(line))?;
     let (end, rest) = prefixed(after_blanks(rest))?;
     let (size, rest) = prefixed(after_blanks(rest))?;

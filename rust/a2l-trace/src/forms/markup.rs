@@ -35,8 +35,9 @@ struct Mapping {
     address: u64,
 }
 
-/// So many modules and mappings are kept at most.
-const MOST: usize = 1 << 16;
+/// So many modules and mappings are kept at most, with names that are no longer.
+const MOST: usize = 1 << 14;
+const LONGEST: usize = 4096;
 
 impl Markup {
     /// The frames of the elements of a line; what the others say is kept.
@@ -58,7 +59,7 @@ impl Markup {
             [b"reset"] => *self = Markup::default(),
             [b"module", id, name, b"elf", build_id] => {
                 let module = Module { name: name.to_vec(), build_id: bytes(build_id) };
-                let id = number(id).filter(|_| self.modules.len() < MOST)?;
+                let id = number(id).filter(|_| self.modules.len() < MOST && name.len() <= LONGEST)?;
                 self.modules.insert(id, module);
             }
             [b"mmap", start, size, b"load", module, _, address] => {

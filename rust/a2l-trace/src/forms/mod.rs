@@ -31,20 +31,16 @@ pub struct Numbered<'l> {
 
 /// The first frame of a line that has a number, by the producer whose form it has.
 pub fn numbered(line: &[u8]) -> Option<Sighting<'_>> {
-    memchr_iter(b'#', line).find_map(|start| {
+    let frame = memchr_iter(b'#', line).find_map(|start| {
         let (number, rest) = decimal(&line[start + 1..])?;
         let frame = Numbered { line, start, number, rest: after_blanks(rest) };
-        let finders = [tombstone::find, sanitizer::find, coredump::find, gdb::find, eu_stack::find];
-        let begins = frame.rest.len() < rest.len()
-            && [&b"0x"[..], b"pc ", b"<"].iter().any(|begin| frame.rest.starts_with(begin));
+        let begins = [&b"0x"[..], b"pc "].iter().any(|begin| frame.rest.starts_with(begin));
         // ThreadSanitizer has a name there, which can be anything; it is the first of its line.
-        let may_be_named = line[..start].iter().all(|&byte| byte == b' ');
-        if begins || may_be_named {
-            finders.iter().find_map(|find| find(&frame))
-        } else {
-            None
-        }
-    })
+        let may_be_named = || line[..start].iter().all(|&byte| byte == b' ');
+        (frame.rest.len() < rest.len() && (begins || may_be_named())).then_some(frame)
+    })?;
+    let finders = [tombstone::find, sanitizer::find, coredump::find, gdb::find, eu_stack::find];
+    finders.iter().find_map(|find| find(&frame))
 }
 
 /// The build id that ` (BuildId: HEX)` has at the end of a frame.
