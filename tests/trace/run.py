@@ -6,6 +6,7 @@ import os
 import re
 import sys
 
+import judges
 import producers
 from truth import Count, Maps, Truth, run
 
@@ -78,6 +79,9 @@ def main():
                     continue
                 check_text(log, *words)
                 count.compare(form, rows(log, *words), crash.truth, wanted, f'{program} {kind}')
+            judges.of_markup(count, crash, rows)
+            if program in ('crash-gcc', 'crash-gcc-fixed'):
+                judges.of_kernel(count, crash, TRACE)
     for form, log, words, truth, wanted in producers.of_others(gdb):
         if log is None:
             count.add(form, 'skipped')

@@ -113,7 +113,7 @@ def pipe():
     """A line comes out before the next one goes in."""
     global checks
     with subprocess.Popen([TRACE], stdin=subprocess.PIPE, stdout=subprocess.PIPE) as running:
-        for line in [b'one\n', b'0x10\n', b'./crash-gcc-fixed(main+0x1)[0x2]\n', b'last\n']:
+        for line in [b'one\n', b'0x10\n', b'./missing(+0x1)[0x2]\n', b'last\n']:
             running.stdin.write(line)
             running.stdin.flush()
             assert running.stdout.readline() == line

@@ -3,6 +3,9 @@
 /// A text without control characters but tabs: each is a question mark, those of ASCII and those
 /// that Unicode has at U+0080 to U+009F. So no name ends a line, or speaks to a terminal.
 pub fn without_controls(text: &[u8]) -> Vec<u8> {
+    if !text.iter().fold(false, |found, &byte| found | (byte < 0x20) | (byte == 0x7f) | (byte == 0xc2)) {
+        return text.to_vec();
+    }
     let (mut plain, mut rest) = (Vec::with_capacity(text.len()), text);
     while let Some((&byte, after)) = rest.split_first() {
         let is_unicode_control = byte == 0xc2 && matches!(after.first(), Some(0x80..=0x9f));

@@ -1,6 +1,7 @@
 //! The files of modules: which file a name or a build id of a log means, and that it is the one.
 
 use std::cell::OnceCell;
+use std::collections::HashSet;
 use std::ffi::OsStr;
 use std::fmt;
 use std::os::unix::ffi::OsStrExt;
@@ -121,6 +122,8 @@ pub struct Modules {
     places: Places,
     answers: Answers,
     found: LruCache<Wanted, Result<Found, Reason>>,
+    /// Those that were found or compared since the text was last read.
+    fresh: HashSet<Wanted>,
 }
 
 /// So many files are known at most.
@@ -128,7 +131,12 @@ const KEPT: usize = 128;
 
 impl Modules {
     pub fn new(places: Places, answers: Answers) -> Modules {
-        Modules { places, answers, found: LruCache::new(KEPT) }
+        Modules { places, answers, found: LruCache::new(KEPT), fresh: HashSet::new() }
+    }
+
+    /// More of the text was read, so that files may have changed since.
+    pub fn begin(&mut self) {
+        self.fresh.clear();
     }
 
     /// The functions at an address of a file, innermost first.
@@ -151,7 +159,9 @@ impl Modules {
         match self.found.get(wanted) {
             Some(Err(why)) => return Err(why.clone()),
             // A file that was changed since is opened again, and isn't the same then.
+            Some(Ok(found)) if self.fresh.contains(wanted) => return Ok(found.clone()),
             Some(Ok(found)) if self.answers.file(&found.module).is_ok_and(|file| Arc::ptr_eq(&file, &found.file)) => {
+                self.fresh.insert(wanted.clone());
                 return Ok(found.clone());
             }
             _ => {}

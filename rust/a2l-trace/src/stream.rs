@@ -90,6 +90,7 @@ impl<'s> Stream<'s> {
     fn lines(&mut self, text: &[u8], output: &mut impl Write) -> io::Result<()> {
         let (mut out, mut written, mut done) = (Vec::new(), 0, 0);
         let build_id = Rc::clone(&self.build_id);
+        self.modules.begin();
         let mut places = Places::new(&build_id, text);
         while let Some(at) = places.next(done) {
             let begin = memrchr(b'\n', &text[done..at]).map_or(done, |end| done + end + 1);

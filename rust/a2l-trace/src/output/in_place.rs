@@ -79,7 +79,7 @@ fn in_one_line(it: &Rewritten<'_>, frames: &[Frame], out: &mut Vec<u8>) {
             out.extend_from_slice(name(frame));
             place(" at ", frame, out);
         } else {
-            place("", frame, out);
+            place("", &without_column(frame), out);
         }
     }
     out.push(b')');
@@ -161,7 +161,11 @@ fn gdb(number: u64, process: u64, is_first: bool, frame: &Frame, out: &mut Vec<u
     }
     out.extend_from_slice(name(frame));
     out.extend_from_slice(b" ()");
-    place(" at ", &Frame { column: 0, ..frame.clone() }, out);
+    place(" at ", &without_column(frame), out);
+}
+
+fn without_column(frame: &Frame) -> Frame {
+    Frame { column: 0, ..frame.clone() }
 }
 
 /// As LLVM's filter writes elements: a frame has a number, an instruction its place in brackets.
