@@ -5,10 +5,10 @@ is a list of the parts in SPDX 2.3.
     notices.py FOLDER
 
 The parts are the crates of Rust that the programs of rust/ are linked from, without those that only run while they are
-built; the standard library of Rust; the two C++ runtimes that write names; and the crates of the toolchain that crates.txt
-names, with those that they stand on. A part brings the licence files beside its sources, or what Debian's package of it
-says. A crate of Rust without either ends the script. One commit and the same tools give the same bytes; the time is
-that of SOURCE_DATE_EPOCH.
+built; the standard library of Rust; the two C++ runtimes that write names; and the crates of the toolchain that
+crates.txt names, with those that they stand on. A part brings the licence files beside its sources, or what Debian's
+package of it says. A crate of Rust without either ends the script. One commit and the same tools give the same bytes;
+the time is that of SOURCE_DATE_EPOCH.
 """
 
 import glob
@@ -105,13 +105,14 @@ def library_of_rust():
 
 
 def runtimes_of_cxx():
-    """The demanglers that the symbolizer is linked with: the packages that have the archives."""
-    linked_with = re.findall(r'(/\S+/lib(?:stdc\+\+|c\+\+abi)\.a)', run('sh', '-c', 'cat "$0"/rust/target/release/build/'
-                                                                      'a2l-*/output 2> /dev/null || true', TOP))
-    for path in sorted(set(linked_with)):
+    """The demanglers that the symbolizer is linked with: the packages of the archives that rust/a2l/build.rs takes."""
+    versions = glob.glob('/usr/lib/llvm-*/lib/libc++abi.a')
+    newest = sorted(versions, key=lambda path: int(re.findall(r'llvm-(\d+)', path)[0]))
+    licences = {run('cc', '-print-file-name=libstdc++.a').strip(): 'GPL-3.0-or-later WITH GCC-exception-3.1'}
+    licences.update({path: 'Apache-2.0 WITH LLVM-exception' for path in newest[-1:]})
+    for path, licence in licences.items():
         package = run('dpkg', '-S', os.path.realpath(path)).split(':')[0]
         version = run('dpkg-query', '-W', '-f', '${Version}', package)
-        licence = 'Apache-2.0 WITH LLVM-exception' if 'c++abi' in path else 'GPL-3.0-or-later WITH GCC-exception-3.1'
         yield Part(package, version, licence, 'a library for C++', debian_copyright(package))
 
 

@@ -247,8 +247,11 @@ if __name__ == '__main__':
         assert (after.rows, after.parts, after.failed) == (whole.rows, whole.parts, 0), after
         last = failing(client)
         assert last.failed == 1 and last.parts < whole.parts, last
+    # new ones: of workers that were killed many times, Dask starts some no more
+    with symbolize.local(2) as cluster, Client(cluster) as client:
         limited = late(client)
         assert limited.failed == 1 and limited.parts == whole.parts, limited
+    with symbolize.local(2) as cluster, Client(cluster) as client:
         without_module(client)
     print(f'{whole.parts} parts of {whole.programs} programs, a worker killed when {count} were there, {ran} run twice')
 END_PY

@@ -2,12 +2,14 @@
 # A release, of what is built. The version is one and the same wherever it stands: in VERSION, the header, the
 # library, the manual, pkg-config, Cargo, the wheel and the packages. Two clones of the last commit, of which the
 # second lies elsewhere, has files of other times and modes, and links the shared library and the symbolizer itself,
-# give the same tarball and packages, byte for byte, without a path of this machine in them. The tarball's sums are
-# right, and what is in it answers: both programs, the symbolizer under each name, the examples and that of the manual
-# in C, the module for Python, and the crate of Rust, beside the library and by pkg-config. The manual declares what
-# the header does. lintian finds no error in the packages, which are installed, answer, and are removed without a
-# trace; so is what `make install` puts in place. pip makes a wheel of the repository and of the tarball, which
-# answers where it is installed. Run it after `rt run` in crates/a2l and in crates/a2l_why has built both programs;
+# give the same tarball, packages and wheel, byte for byte, without a path of this machine in them. The tarball's sums
+# are right, and what is in it answers: both programs, the symbolizer under each name, the examples and that of the
+# manual in C, the module for Python, and the crate of Rust, beside the library and by pkg-config. The manual declares
+# what the header does. Each file that a document names is there, in the tarball and in the package. lintian finds no
+# error in the packages, which are installed, answer, and are removed without a trace; so is what `make install` puts
+# in place. pip makes a wheel of the repository and of the tarball, which answers where it is installed; mypy finds its
+# types, and twine nothing wrong. A clean system of Debian (by debootstrap) has the packages, the wheel and the tarball
+# at last: they are installed, used and removed without network. Run it after `rt run` in crates/a2l and in crates/a2l_why has built both programs;
 # the library and the symbolizer are built here where they aren't yet.
 . "$(dirname "$0")/programs.sh"
 need_a2l
@@ -81,6 +83,18 @@ answer_library() {
     answer frames ./manual "$sample" 401004
 }
 
+# The files that the documents in a folder name have to be there.
+references=0
+follow_references() {
+    local page path
+    while read -r page; do
+        while read -r path; do
+            [ -e "$1/$path" ] || { echo "$page names $path, which isn't there"; exit 1; }
+            references=$((references + 1))
+        done < <(grep -oE '\b(bench|bin|crates|docs|examples|include|python|release|rust|samples|tests)/[A-Za-z0-9_./-]*[A-Za-z0-9_]' "$page")
+    done < <(find "$1" -maxdepth 2 -name '*.md' ! -path '*/python/*')
+}
+
 # A version that stands somewhere has to be that of the file VERSION. The first are those that somebody writes.
 versions=0
 agree() {
@@ -108,10 +122,10 @@ quietly make -C elsewhere/two -o library shared symbolizer trace
 grep -q 'Compiling a2l-symbolizer' quiet.log || { echo "the symbolizer is not built again"; exit 1; }
 find elsewhere/two -type f -exec touch -d 2001-02-03 {} +
 chmod -R go-rwx elsewhere/two
-quietly make -C one dist deb
-(umask 077 && TZ=Asia/Tokyo quietly make -C elsewhere/two dist deb)
+quietly make -C one dist
+(umask 077 && TZ=Asia/Tokyo quietly make -C elsewhere/two dist)
 packages=$(cd one/out/release && ls)
-[ "$(wc -l <<< "$packages")" = 4 ] || { echo "other files of a release: $packages"; exit 1; }
+[ "$(wc -l <<< "$packages")" = 5 ] || { echo "other files of a release: $packages"; exit 1; }
 for file in $packages; do
     cmp "one/out/release/$file" "elsewhere/two/out/release/$file" || { echo "another $file of another clone"; exit 1; }
 done
@@ -124,6 +138,7 @@ release=$work/$name
 (cd "$name" && quietly sha256sum --check --strict SHA256SUMS)
 sums=$(wc -l < "$name/SHA256SUMS")
 [ "$sums" = $(($(find "$name" -type f | wc -l) - 1)) ] || { echo "files without a sum"; exit 1; }
+follow_references "$name"
 paths=$(grep -rlaF -e "$here/" -e "$work/" -e "${HOME:-/root}/" "$name") &&
     { echo "a path of this machine: $paths"; exit 1; }
 answer_programs "$release"
@@ -149,6 +164,8 @@ for folder in "$name" alone; do
 done
 
 # The packages.
+for file in one/out/release/*.deb; do dpkg-deb -x "$file" unpacked; done
+follow_references unpacked/usr/share/doc/a2l
 mkdir -p root/var/lib/dpkg/{info,updates}
 touch root/var/lib/dpkg/{status,available}
 apart=(dpkg --root="$work/root" --force-script-chrootless --force-depends --log=/dev/null)
@@ -176,6 +193,54 @@ for folder in ${python:+one "$name"}; do
     agree "the wheel of $folder" "$(sed -n 's/^Version: //p' "wheel/$folder"/*.dist-info/METADATA)"
 done
 
+# A user's file has the types of the module, and the wheel's description can be shown.
+cat > user.py << 'END_PY'
+import a2l
+from typing import List
+
+
+def names(path: str) -> List[str]:
+    with a2l.open(path) as program:
+        return [frame.function or '' for frame in program.frames(1)]
+END_PY
+if has "types of the module" mypy && [ "$python" ]; then
+    MYPYPATH=$work/wheel/one quietly mypy --strict --no-site-packages user.py
+fi
+if has "the wheel's description" twine; then quietly twine check --strict one/out/release/*.whl; fi
+
+# In a clean system, without network.
+answer_in_chroot() {
+    cat > chroot/tmp/answers << 'END_SH'
+set -eu
+cd /tmp
+answer() { "$@" > found && cmp found "$wanted" || { echo "another answer: $*"; exit 1; }; }
+dpkg -i ./*.deb
+wanted=lines answer a2l -e inlined.elf -a -f -i 0x401004
+wanted=lines answer /usr/lib/a2l/tools/addr2line -a -f -i -e inlined.elf 401004
+wanted=findings answer a2l_why -e inlined.elf
+wanted=lines answer python3 -m a2l inlined.elf 401004
+dpkg --purge a2l liba2l-dev python3-a2l
+python3 -c 'import a2l' 2> /dev/null && { echo "the module is still there"; exit 1; }
+python3 -m venv venv
+venv/bin/pip install --quiet --no-index ./*.whl
+wanted=lines answer venv/bin/python -m a2l inlined.elf 401004
+venv/bin/pip uninstall --quiet --yes a2l
+tar -xzf ./*.tar.gz
+wanted=lines answer ./a2l-*/bin/a2l -e inlined.elf -a -f -i 0x401004
+wanted=reply answer ./a2l-*/bin/llvm-symbolizer-a2l -e inlined.elf 0x401004
+END_SH
+    cp one/out/release/* "$sample" lines findings reply chroot/tmp/
+    quietly unshare --net chroot chroot sh /tmp/answers
+    answers=$((answers + 7))
+}
+if has "a clean system" debootstrap && [ "$(id -u)" = 0 ]; then
+    if debootstrap --variant=minbase --include=python3-venv bookworm chroot > debootstrap.log 2>&1; then
+        answer_in_chroot
+    else
+        echo "skipped, debootstrap reaches no mirror: a clean system"
+    fi
+fi
+
 # What `make install` puts in place goes again, with what Python has made of it.
 place=(DESTDIR="$work/place" PREFIX=/opt/a2l)
 quietly make -C one -o library -o shared -o program -o why -o symbolizer install "${place[@]}"
@@ -189,4 +254,5 @@ left=$(find place ! -type d -o -path '*/a2l/*a2l*')
 [ -z "$left" ] || { echo "make uninstall leaves: $left"; exit 1; }
 
 sizes=$(cd one/out/release && stat -c '%n %s' -- * | paste -sd , | sed 's/,/, /g')
-echo "$versions places have version $version, $answers answers are right; bytes: $sizes"
+echo "$versions places have version $version, $answers answers are right, $references files are where documents name them;" \
+    "bytes: $sizes"

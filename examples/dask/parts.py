@@ -9,6 +9,7 @@ from __future__ import annotations
 import json
 import math
 import os
+import signal
 import threading
 import time
 import uuid
@@ -138,7 +139,7 @@ def within(limit: Optional[float]) -> Iterator[None]:
     if limit is None:
         yield
         return
-    timer = threading.Timer(limit, os._exit, (1,))
+    timer = threading.Timer(limit, os.kill, (os.getpid(), signal.SIGKILL))
     timer.daemon = True
     timer.start()
     try:
