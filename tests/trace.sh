@@ -5,8 +5,8 @@
 # what glibc, the sanitizers, systemd-coredump, eu-stack, gdb itself and Rust's standard library wrote of that process goes
 # through a2l-trace; each frame has to have the functions, files and lines of gdb's backtrace. LLVM's markup and
 # the kernel's form are made of the same addresses, and judged by llvm-symbolizer and decode_stacktrace.sh too. Then
-# what has to come out whole, and how long a log without frames and one of 100,000 frames take. It says which producers
-# are missing here. The word is a pattern: then only such programs are tried.
+# what has to come out whole. It says which producers are missing here; systemd-coredump isn't among tests/packages, since
+# its package changes kernel.core_pattern. The word is a pattern: then only such programs are tried.
 . "$(dirname "$0")/programs.sh"
 need_trace
 has "frames as gdb has them" gdb gcc readelf python3 || exit 0
@@ -45,9 +45,4 @@ build_all() {
 chmod 755 "$work"
 build_all
 python3 "$traces/whole.py" "$trace" "$work"
-if has "how long logs take" g++; then
-    mkdir speed
-    (cd speed && write_large 1 && g++ -std=c++17 -g -gdwarf-5 -O1 -fPIC -shared unit1.cc -o large.so)
-    python3 "$traces/speed.py" "$trace" "$work/speed"
-fi
 python3 "$traces/run.py" "$trace" "$work" "${1:-.}"

@@ -1,12 +1,14 @@
-"""How long 1 GB without frames takes beside `cat | grep -c 0x`, and 100,000 frames of twenty modules beside
-asan_symbolize with llvm-symbolizer 19. What is compared is processor time, of all processes together, since other work runs
-beside it; the time that passed is printed too. The words are the program a2l-trace and a folder with the library large.so."""
+"""trace.py A2L-TRACE FOLDER: how long 1 GB without frames takes beside `cat | grep -c 0x`, and 100,000 frames of twenty
+modules beside asan_symbolize with llvm-symbolizer 19. What is compared is processor time, of all processes together,
+since other work may run beside it; the time that passed is printed too. The folder gets the logs, and has the library
+large.so, as bench/trace.sh makes it."""
 import os
 import random
 import re
 import resource
 import shutil
 import subprocess
+import sys
 import sys
 import time
 
@@ -33,7 +35,8 @@ def plain():
     for number in range(100_000):
         text = ' '.join(drawn.choice(words) for _ in range(drawn.randrange(4, 14)))
         pointer = f' at {drawn.randrange(1 << 30):#x}' if number % 50 == 0 else ''
-        lines.append(f'2026-12-01 10:{number % 60:02}:{number % 59:02} host service[{drawn.randrange(30000)}]: {text}{pointer}\n')
+        time_of = f'10:{number % 60:02}:{number % 59:02}'
+        lines.append(f'2026-12-01 {time_of} host service[{drawn.randrange(30000)}]: {text}{pointer}\n')
     block = ''.join(lines).encode()
     with open('plain', 'wb') as log:
         for _ in range(GIGABYTE // len(block) + 1):
@@ -53,26 +56,24 @@ def frames():
             log.write(f'    #{number % 30} {0x7f0000000000 + address:#x}  ({path}+{address:#x})\n')
 
 
-def compare(what, ours, theirs, most):
+def compare(what, ours, theirs):
     (processor, passed), (other, other_passed) = ours, theirs
     print(f'{what}: {processor:.2f} s of processor time, {passed:.2f} s; beside it {other:.2f} s, {other_passed:.2f} s; '
-          f'{processor / other:.2f} times, at most {most}')
-    return processor <= most * other
+          f'{processor / other:.2f} and {passed / other_passed:.2f} times')
 
 
 def main():
     plain()
-    good = compare('1 GB without frames', cost(f'{TRACE} plain'), cost('cat plain | grep -c 0x | cat'), 1.2)
+    compare('1 GB without frames', cost(f'{TRACE} plain'), cost('cat plain | grep -c 0x | cat'))
     piped = cost(f'cat plain | {TRACE}')
     print(f'the same through a pipe: {piped[0]:.2f} s of processor time, {piped[1]:.2f} s')
     os.remove('plain')
     frames()
     if shutil.which('asan_symbolize-19') and shutil.which('llvm-symbolizer-19'):
-        theirs = cost('LLVM_SYMBOLIZER_PATH=$(command -v llvm-symbolizer-19) asan_symbolize-19 < frames', 1)
-        good &= compare(f'{FRAMES} frames of {MODULES} modules', cost(f'{TRACE} --in-place frames'), theirs, 0.3)
+        theirs = cost('LLVM_SYMBOLIZER_PATH=$(command -v llvm-symbolizer-19) asan_symbolize-19 < frames')
+        compare(f'{FRAMES} frames of {MODULES} modules', cost(f'{TRACE} --in-place frames'), theirs)
     else:
         print('skipped, no asan_symbolize-19 here: the time of frames')
-    sys.exit(not good)
 
 
 main()
