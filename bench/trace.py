@@ -9,7 +9,6 @@ import resource
 import shutil
 import subprocess
 import sys
-import sys
 import time
 
 TRACE = os.path.abspath(sys.argv[1])
