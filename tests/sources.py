@@ -4,7 +4,8 @@
 Each crate uses each crate that crates.txt names for it. No line of an .rt file or of a definition is longer than 120
 columns, but for attributes, and no line of a comment longer than 100. The text that an edit of must-fail/ replaces is
 in its file just once, and what it puts there differs; there are no more edits than the gate has time for. Each file
-that docs/ARCHITECTURE.md names in the section of a crate is in that crate, or in the one that it names beside it.
+that docs/ARCHITECTURE.md names in the section of a crate is in that crate, or in the one that it names beside it, and each
+file of a crate is named there, or its folder, but for those of tests, `lib.rt`, `main.rt` and `fault.rt`.
 shellcheck, if it is here, has nothing to say of a script but what .shellcheckrc wants. The last line counts crates and
 edits; it fails if one is wrong.
 """
@@ -75,6 +76,20 @@ def missing(crates):
                 yield f'docs/ARCHITECTURE.md: {", ".join(own)}: {name} is not there'
 
 
+def unnamed(crates):
+    """The files of the crates whose sections of docs/ARCHITECTURE.md don't name them, nor their folders."""
+    sections = read(os.path.join(TOP, 'docs', 'ARCHITECTURE.md')).split('\n## ')[1:]
+    for crate in crates:
+        text = ''.join(section for section in sections if re.search(rf'\b{crate}\b', section.split('\n')[0]))
+        source = os.path.join(TOP, 'crates', crate, 'src')
+        for path in files(source, '.rt'):
+            folder, name = os.path.split(os.path.relpath(path, source))
+            if 'test' in crate or folder == 'tests' or name in ('lib.rt', 'main.rt', 'fault.rt', 'tests.rt'):
+                continue
+            if not {f'`{name}`', f'`{os.path.join(folder, name)}`', f'`{folder}/`'} & set(re.findall(r'`[^`]+`', text)):
+                yield f'docs/ARCHITECTURE.md: {crate}: {os.path.join(folder, name)} is not named'
+
+
 def scripts():
     """What shellcheck says of the scripts."""
     if shutil.which('shellcheck') is None:
@@ -99,7 +114,8 @@ def main():
             wrong.append(wrong_edit(crate, path, fields))
     if tried > MOST_EDITS:
         wrong.append(f'{tried} edits are more than {MOST_EDITS}: a less telling one goes')
-    wrong.extend(missing([name.split()[0] for name, _ in crates]))
+    for check in (missing, unnamed):
+        wrong.extend(check([name.split()[0] for name, _ in crates]))
     for path in files(os.path.join(TOP, 'crates'), '.rt', '.antt'):
         if '/proofs/' in path:
             continue
