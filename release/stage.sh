@@ -26,9 +26,9 @@ stage() {
 # What the release is made of, and under which licences, in a folder: NOTICES and a2l.spdx.json.
 add_notices() { python3 "$here/release/notices.py" "$1" > /dev/null; }
 
-# What users read, and the samples that it shows, in a folder. The README ends there before what only the sources have.
+# What users read, with the examples and samples that it names, in a folder. The README ends there before what only the sources have.
 add_documents() {
-    add_sources "$1" CHANGELOG.md README.md SECURITY.md docs/ADDRESSES.md docs/SCALE.md docs/WHY.md samples
+    add_sources "$1" CHANGELOG.md README.md SECURITY.md docs/ADDRESSES.md docs/SCALE.md docs/WHY.md examples samples
     sed -i '/^## From the sources$/,$d' "$1/README.md"
     add_notices "$1"
 }

@@ -13,7 +13,7 @@ mv root/usr/local "$name"
 # it may be unpacked anywhere
 # shellcheck disable=SC2016
 sed -i 's|^prefix=.*|prefix=${pcfiledir}/../..|' "$name/lib/pkgconfig/a2l.pc"
-add_sources "$name" VERSION LICENSE examples python rust
+add_sources "$name" VERSION LICENSE python rust
 add_documents "$name"
 # once, beside what makes a wheel of it
 mv "$name/lib/a2l/python/a2l/liba2l.so" "$name/python/a2l/"

@@ -83,13 +83,13 @@ answer_library() {
     answer frames ./manual "$sample" 401004
 }
 
-# The files that the documents in a folder name have to be there.
+# The files that the documents in a folder name have to be there, or in a second folder.
 references=0
 follow_references() {
     local page path
     while read -r page; do
         while read -r path; do
-            [ -e "$1/$path" ] || { echo "$page names $path, which isn't there"; exit 1; }
+            [ -e "$1/$path" ] || [ -e "${2:-$1}/$path" ] || { echo "$page names $path, which isn't there"; exit 1; }
             references=$((references + 1))
         done < <(grep -oE '\b(bench|bin|crates|docs|examples|include|python|release|rust|samples|tests)/[A-Za-z0-9_./-]*[A-Za-z0-9_]' "$page")
     done < <(find "$1" -maxdepth 2 -name '*.md' ! -path '*/python/*')
@@ -165,7 +165,7 @@ done
 
 # The packages.
 for file in one/out/release/*.deb; do dpkg-deb -x "$file" unpacked; done
-follow_references unpacked/usr/share/doc/a2l
+follow_references unpacked/usr/share/doc/a2l unpacked/usr
 mkdir -p root/var/lib/dpkg/{info,updates}
 touch root/var/lib/dpkg/{status,available}
 apart=(dpkg --root="$work/root" --force-script-chrootless --force-depends --log=/dev/null)
