@@ -239,7 +239,7 @@ mod tests {
         {
             assert_eq!(path(places.clone(), name, None), Path::new(found));
         }
-        assert_eq!(path(Places::default(), "/a/b", Some("/proc/7/root")), Path::new("/proc/7/root/a/b"));
+        assert_eq!(path(Places::default(), "/a/b", Some("/their/files")), Path::new("/their/files/a/b"));
         assert_eq!(path(Places::default(), "./a", None), Path::new("./a"));
     }
 }
