@@ -82,6 +82,11 @@ add_notices notices
 add_documents documents
 rm documents/CHANGELOG.md $(cd notices && printf 'documents/%s ' *)
 mv documents debian/a2l/usr/share/doc/a2l
+# the samples are programs that the documents show
+mkdir -p debian/a2l/usr/share/lintian/overrides
+for tag in arch-dependent-file-in-usr-share statically-linked-binary unstripped-binary-or-object; do
+    echo "a2l: $tag [usr/share/doc/a2l/samples/*]"
+done > debian/a2l/usr/share/lintian/overrides/a2l
 for package in a2l liba2l-dev python3-a2l; do describe $package; done
 add_scripts
 pack a2l << END

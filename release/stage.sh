@@ -38,5 +38,5 @@ add_sources() {
     local folder=$1 files
     shift
     mapfile -t files < <(git -C "$here" ls-files -- "$@")
-    git -C "$here" archive HEAD -- "${files[@]}" | tar -x -C "$folder"
+    git -C "$here" archive HEAD -- "${files[@]}" | tar -x --no-same-permissions -C "$folder"
 }
