@@ -247,7 +247,7 @@ quietly make -C one -o library -o shared -o program -o why -o symbolizer install
 answer_programs "$work/place/opt/a2l"
 env -u PYTHONDONTWRITEBYTECODE PYTHONPATH="$work/place/opt/a2l/lib/a2l/python" python3 -c 'import a2l'
 for page in place/opt/a2l/share/man/man?/*; do
-    agree "${page##*/}" "$(sed -nE '1s/^\.TH .* "a2l ([^"]*)" .*$/\1/p' "$page")"
+    agree "${page##*/}" "$(sed -nE 's/^\.TH .* "a2l ([^"]*)" .*$/\1/p' "$page")"
 done
 quietly make -C one uninstall "${place[@]}"
 left=$(find place ! -type d -o -path '*/a2l/*a2l*')
